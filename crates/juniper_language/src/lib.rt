@@ -1,0 +1,6 @@
+//! The language layer: positions, scalars, values, the document as it is written, and the parser that reads it.
+#![tactic(auto)]
+
+pub mod position;
+
+pub use position::{SourcePosition, Span, Spanning};
