@@ -1,1 +1,6 @@
 pub mod Positions
+pub mod Scalars
+pub mod InputView
+pub mod ValueView
+pub mod TypeView
+pub mod DocumentView
