@@ -1,0 +1,4 @@
+pub mod AcceptedKinds
+pub mod Admitting
+pub mod Lists
+pub mod Schemas

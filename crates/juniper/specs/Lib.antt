@@ -1,0 +1,4 @@
+pub mod SchemaView
+pub mod Served
+pub mod DirectiveView
+pub mod Occurrences
