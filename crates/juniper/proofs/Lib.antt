@@ -1,0 +1,2 @@
+pub mod ErrorOrder
+pub mod ErrorSorting
