@@ -1,6 +1,8 @@
 //! The language layer: positions, scalars, values, the document as it is written, and the parser that reads it.
 #![tactic(auto)]
 
+pub mod error;
 pub mod position;
 
+pub use error::{LexerError, ParseError};
 pub use position::{SourcePosition, Span, Spanning};
