@@ -1,0 +1,4 @@
+pub mod Rooms
+pub mod Fronts
+pub mod LexSteps
+pub mod Boundaries

@@ -1,2 +1,5 @@
 pub mod Positions
 pub mod Refusals
+pub mod Lexing
+pub mod TokenViews
+pub mod Cursors

@@ -2,7 +2,9 @@
 #![tactic(auto)]
 
 pub mod error;
+mod lexer;
 pub mod position;
+mod token;
 
 pub use error::{LexerError, ParseError};
 pub use position::{SourcePosition, Span, Spanning};
