@@ -1,4 +1,5 @@
+pub mod DirectiveView
+pub mod ErrorView
+pub mod Occurrences
 pub mod SchemaView
 pub mod Served
-pub mod DirectiveView
-pub mod Occurrences

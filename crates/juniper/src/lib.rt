@@ -4,6 +4,10 @@
 mod admits;
 mod collect;
 pub mod meta;
+pub mod rules;
 mod schema;
+pub mod values;
 
+pub use rules::RuleError;
 pub use schema::{ScalarKinds, ScalarMeta, SchemaType};
+pub use values::{ExecutionError, ExecutionResult, FieldError, FieldResult, ResolveError};

@@ -1,3 +1,7 @@
 pub mod Documents
 pub mod Inputs
 pub mod Values
+pub mod Rooms
+pub mod Fronts
+pub mod LexSteps
+pub mod Boundaries

@@ -4,3 +4,7 @@ pub mod InputView
 pub mod ValueView
 pub mod TypeView
 pub mod DocumentView
+pub mod Refusals
+pub mod Lexing
+pub mod TokenViews
+pub mod Cursors

@@ -2,9 +2,12 @@
 #![tactic(auto)]
 
 pub mod ast;
+pub mod error;
 pub mod input;
+mod lexer;
 pub mod position;
 pub mod scalar;
+mod token;
 pub mod types;
 pub mod value;
 
@@ -12,6 +15,7 @@ pub use ast::{
     Definition, Directive, Document, Field, Fragment, FragmentSpread, Fragments, InlineFragment,
     Operation, OperationType, Selection, VariableDefinition, VariableDefinitions,
 };
+pub use error::{LexerError, ParseError};
 pub use input::{InputValue, Variables};
 pub use position::{SourcePosition, Span, Spanning};
 pub use scalar::{DefaultScalarValue, ScalarValue};

@@ -1,0 +1,5 @@
+//! Validation (section 5 of the Specification).
+
+pub mod error;
+
+pub use error::RuleError;

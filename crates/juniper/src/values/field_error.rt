@@ -1,0 +1,80 @@
+//! Field errors (section 6.4.4 of the Specification).
+
+ghost use Rattle.std.specs.Prelude.{◌≡◌, IfOk, IfSome};
+ghost use Rattle.juniper_language.specs.ValueView.{view_value};
+ghost use Rattle.juniper.specs.ErrorView.{view_error};
+ghost use Rattle.juniper.specs.declared.values.field_error.ResolveError.TheVariants.{Memory};
+
+use juniper_language::{ScalarValue, Value};
+use std::alloc::{AllocError, AllocFailed, Global};
+use std::fmt::Display;
+
+/// Why a field has no value: a message, and what more is said of it, which an answer shows as `extensions` (7.1.2).
+#[derive(Debug, PartialEq, Drop)]
+pub struct FieldError<S> {
+    message: String,
+    extensions: Value<S>,
+}
+
+impl<S: ScalarValue> FieldError<S> {
+    /// The error whose message is the text that `e` prints, with these extensions; an error where memory is refused.
+    pub fn new<T: Display + Drop>(
+        alloc: Global,
+        e: T,
+        extensions: Value<S>,
+    ) -> Result<Self, AllocError>
+        ensures message { IfOk result (λ made. IfSome (T.output e) (λ text. (view_error S.shown made).message ≡ text)) }
+        ensures extensions { IfOk result (λ made. (view_error S.shown made).extensions ≡ view_value S.shown extensions) }
+    {
+        let message = e.to_string(alloc)?;
+        Ok(FieldError {
+            message,
+            extensions,
+        })
+    }
+
+    /// The message.
+    pub fn message(&self) -> &str
+        ensures { result.now ≡ (view_error S.shown self.now).message }
+    {
+        self.message.as_str()
+    }
+
+    /// What more is said of the error; null where nothing is.
+    pub fn extensions(&self) -> &Value<S>
+        ensures { view_value S.shown result.now ≡ (view_error S.shown self.now).extensions }
+    {
+        &self.extensions
+    }
+}
+
+/// Why a resolver has no answer.
+#[derive(Debug, Drop)]
+pub enum ResolveError<S> {
+    /// The field fails.
+    Field(FieldError<S>),
+    /// Memory was refused, which ends the whole execution.
+    Memory,
+}
+
+impl<S> From<AllocError> for ResolveError<S> {
+    ghost from_gives = { λ _ made. made ≡ Memory };
+
+    fn from(_refused: AllocError) -> Self {
+        ResolveError::Memory
+    }
+}
+
+impl<S, X: Drop> From<AllocFailed<X>> for ResolveError<S> {
+    ghost from_gives = { λ _ made. made ≡ Memory };
+
+    fn from(_refused: AllocFailed<X>) -> Self {
+        ResolveError::Memory
+    }
+}
+
+/// A value, or the error of the field that has none.
+pub type FieldResult<T, S> = Result<T, FieldError<S>>;
+
+/// A value of an answer, or the error of the field that has none.
+pub type ExecutionResult<S> = FieldResult<Value<S>, S>;

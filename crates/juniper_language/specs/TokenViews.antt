@@ -1,0 +1,25 @@
+-- How the code's tokens are seen.
+use Rattle.std.specs.Prelude.{map}
+use Rattle.graphql_spec.specs.Tokens as spec
+use Rattle.juniper_language.specs.Positions.{view_position, view_span}
+use Rattle.juniper_language.specs.Lexing as read
+use Rattle.juniper_language.specs.declared.token.Lexeme.{Lexeme}
+use Rattle.juniper_language.specs.declared.token.Lexeme.TheVariants as lexeme
+use Rattle.juniper_language.specs.declared.token.Token.{Token}
+use Rattle.juniper_language.specs.declared.token.Ending.{Ending}
+use Rattle.juniper_language.specs.declared.token.Ending.TheVariants as ending
+use Rattle.juniper_language.specs.declared.token.Lexed.{Lexed}
+
+abbrev pub view_lexeme : Lexeme → spec.Lexeme
+view_lexeme (lexeme.Mark m) = spec.mark m
+view_lexeme (lexeme.Name s) = spec.name s.now
+
+abbrev pub view_token : Token → spec.Token
+view_token t = record { lexeme = view_lexeme t.lexeme; span = view_span t.span }
+
+abbrev pub view_ending : Ending → read.Ending
+view_ending (ending.Whole p) = read.whole (view_position p)
+view_ending (ending.Fault p) = read.fault (view_position p)
+
+abbrev pub view_lexed : Lexed → read.Lexed
+view_lexed l = record { tokens = map view_token l.tokens.items; ending = view_ending l.ending }
