@@ -6,8 +6,10 @@ mod collect;
 pub mod meta;
 pub mod rules;
 mod schema;
+pub mod types;
 pub mod values;
 
 pub use rules::RuleError;
 pub use schema::{ScalarKinds, ScalarMeta, SchemaType};
-pub use values::{ExecutionError, ExecutionResult, FieldError, FieldResult, ResolveError};
+pub use types::{EmptyMutation, EmptySubscription, Executor, GraphQLType, GraphQLValue, Resolved};
+pub use values::{Arguments, ExecutionError, ExecutionResult, FieldError, FieldResult, ResolveError};
