@@ -6,3 +6,4 @@ pub mod Occurrences
 pub mod ResolvedView
 pub mod SchemaView
 pub mod Served
+pub mod Walking

@@ -8,6 +8,7 @@ pub mod rules;
 mod schema;
 pub mod types;
 pub mod values;
+mod walk;
 
 pub use rules::RuleError;
 pub use schema::{ScalarKinds, ScalarMeta, SchemaType};

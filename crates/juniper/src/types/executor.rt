@@ -7,6 +7,7 @@ ghost use Rattle.juniper.specs.ExecutorView.{context_of, start_of};
 use juniper_language::{Field, SourcePosition, Span, Spanning};
 
 /// What a resolver may ask of the field that it resolves.
+#[derive(Drop)]
 pub struct Executor<'r, 'a, CtxT, S> {
     pub(crate) context: &'r CtxT,
     pub(crate) occurrence: &'r Spanning<Field<'a, S>, Span>,
