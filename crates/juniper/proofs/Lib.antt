@@ -9,4 +9,5 @@ pub mod Resolutions
 pub mod Schemas
 pub mod ServedTypes
 pub mod Settling
+pub mod Steps
 pub mod Turns

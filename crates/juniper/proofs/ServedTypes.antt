@@ -18,6 +18,9 @@ use Rattle.graphql_spec.specs.Rules.{is_introspection}
 use Rattle.graphql_spec.proofs.Lists.{same_true}
 use Rattle.juniper.specs.SchemaView.{schema_of, query_entry, scalar_entry}
 use Rattle.juniper.specs.Served.{served_field, has_scalar_fields, is_scalar, is_scalar_type, is_served_schema, is_served_head}
+use Rattle.graphql_spec.specs.Resolvers.{Reply, world_of}
+use Rattle.juniper.specs.Walking.{world_in}
+use Rattle.juniper.proofs.Steps.{IsServedWorld}
 use Rattle.juniper.proofs.Schemas.{served-is, all-found, query-entry-found}
 
 -- ## Scalars
@@ -251,3 +254,17 @@ not-missing s h served e = let some = served-some s h served in none-some some.0
 pub type-found : (s : Schema) (h : Head) (t : TypeRef) → IsTrue (is_served_head s h) → Some t ≡ option_map (λ d. d.of_type) (served_field s h.name.item) → declared_type (field_of s s.query h.name.item) ≡ t
 type-found s h t served e = let some = served-some s h served in
     declared-at s h.name.item some.0 some.1 ∙ sym (same_Some t some.0.of_type (e ∙ ap (option_map (λ d. d.of_type)) some.1))
+
+-- a world of a served schema has scalars at its served fields
+pub served-world : {Q I C N : Type 0} (concrete : Q → I → C → N → Name) (answer : Q → I → C → N → Name → Members → Reply N) (r : Q) (i : I) (c : C) (q : Name) (fs : List FieldDeclaration) (rest : List Entry) (vars : Variables) →
+    IsTrue (is_served_schema (schema_of q fs rest)) → list_all lists-none (query_entry q fs ∷ rest) ≡ true → IsServedWorld (schema_of q fs rest) (world_in concrete answer r i c (schema_of q fs rest) vars)
+unfolding world_of
+served-world concrete answer r i c q fs rest vars served none =
+    let s : Schema = schema_of q fs rest in
+    let scalar : (h : Head) → IsTrue (is_served_head s h) → is_scalar_type s (declared_type (field_of s q h.name.item)) ≡ true =
+        λ h at. let some = served-some s h at in ap (is_scalar_type s) (declared-at s h.name.item some.0 some.1) ∙ served-is-scalar q h.name.item fs rest some.0 served some.1 in
+    record {
+      typed = λ h at. (scalar-parts s (declared_type (field_of s q h.name.item)) (scalar h at)).0;
+      taken = λ h at x. accepts-as-entry s (innermost (declared_type (field_of s q h.name.item))) x (scalar-parts s (declared_type (field_of s q h.name.item)) (scalar h at)).1;
+      never = λ h at U. never-possible s none (innermost (declared_type (field_of s q h.name.item))) (scalar-parts s (declared_type (field_of s q h.name.item)) (scalar h at)).1 U;
+    }

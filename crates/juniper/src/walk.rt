@@ -1,7 +1,7 @@
 //! The walk over the fields of the query's root (sections 6.3 and 6.4 of the Specification): each occurrence of a field is
 //! resolved alone, and its value is joined with what its response key holds already.
 
-ghost use Rattle.std.specs.Prelude.{◌≡◌, IfOk, OnOk, IsTrue, option_map, map, length, string_bytes, ◌++◌, Some};
+ghost use Rattle.std.specs.Prelude.{◌≡◌, IfOk, OnOk, IsTrue, option_map, map, length, string_bytes, ◌++◌, ◌&&◌, Some};
 ghost use Rattle.std.specs.List.{list_all};
 ghost use Rattle.graphql_spec.specs.Values.{is_null, null};
 ghost use Rattle.graphql_spec.specs.Fields.{entry_named, leaf_accepts};
@@ -190,4 +190,36 @@ fn list_error<S: ScalarValue>(
         }
     }
     Ok(())
+}
+
+/// Whether a null rises past its field: the value is null at a non-null type.
+fn rises<S: ScalarValue>(value: &Value<S>, is_non_null: bool) -> bool
+    ensures { result ≡ (is_null (view_value S.shown value.now) && is_non_null) }
+{
+    value.is_null() && is_non_null
+}
+
+/// The object of a node for these fields, and the errors of the fields that fail (ExecuteSelectionSet, 6.3). A null at a
+/// non-null field ends the walk, and the object is null (6.4.4).
+pub(crate) fn object<Q: GraphQLValue<S>, S: ScalarValue>(
+    walk: &Walk<'_, Q, S>,
+    node: &Q::Node,
+    fields: &[&Spanning<Field<'_, S>, Span>],
+) -> Result<(Value<S>, Vec<ExecutionError<S>>), AllocError>
+    requires schema { IsTrue (is_served_schema (view_schema walk.now.schema.now)) }
+    requires served { IsTrue (list_all (λ f. is_served_head (view_schema walk.now.schema.now) (view_occurrence S.shown f.now).head) fields.now) }
+    requires agree { Agree (world_in Q.concrete Q.answer walk.now.resolver.now walk.now.info.now walk.now.context.now (view_schema walk.now.schema.now) (view_variables S.shown walk.now.variables.now)) 1 (view_schema walk.now.schema.now).query (map (λ f. view_occurrence S.shown f.now) fields.now) }
+    ensures { IfOk result (λ p. IsWalked (world_in Q.concrete Q.answer walk.now.resolver.now walk.now.info.now walk.now.context.now (view_schema walk.now.schema.now) (view_variables S.shown walk.now.variables.now)) (view_schema walk.now.schema.now).query node.now (map (λ f. view_occurrence S.shown f.now) fields.now) (view_value S.shown p.0) (map (view_listed S.shown) p.1.items)) }
+{
+    let mut data = Object::with_capacity(walk.alloc, fields.len())?;
+    let mut errors = Vec::new(walk.alloc);
+    for field in fields {
+        let done = complete_field(walk, node, field)?;
+        list_error(walk.alloc, &mut errors, field, done.error)?;
+        if rises(&done.value, done.is_non_null) {
+            return Ok((Value::Null, errors));
+        }
+        settle(walk.alloc, &mut data, response_key(field), done.value)?;
+    }
+    Ok((Value::Object(data), errors))
 }
