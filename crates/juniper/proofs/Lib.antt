@@ -5,8 +5,10 @@ pub mod ErrorOrder
 pub mod ErrorSorting
 pub mod FieldCompletion
 pub mod Lists
+pub mod PlainRules
 pub mod Resolutions
 pub mod Schemas
+pub mod SelectionLists
 pub mod ServedTypes
 pub mod Settling
 pub mod Steps

@@ -1,8 +1,8 @@
 -- Lists that a loop goes over.
 use Rattle.std.specs.List.{list_all}
 use Rattle.std.proofs.lemmas.Bool.{and_parts}
-use Rattle.std.proofs.Common.{◌≡◌, ℕ, zero, suc, Bool, true, arith, ◌+◌, ◌<◌, List, [], ◌∷◌, ◌++◌, length, get_or, drop, map, refl, sym, ap, ◌∙◌}
-use Rattle.std.proofs.lemmas.List.{drop_more}
+use Rattle.std.proofs.Common.{◌≡◌, ℕ, zero, suc, Bool, true, arith, ◌+◌, ◌-◌, ◌<◌, List, [], ◌∷◌, ◌++◌, length, get_or, take, drop, map, refl, sym, ap, ◌∙◌}
+use Rattle.std.proofs.lemmas.List.{drop_more, take_all, length-drop}
 
 -- what is left begins with the item of this turn
 pub left-is : {A : Type 0} (xs : List A) (i : ℕ) (x : A) → i < length xs → x ≡ get_or xs i x → drop i xs ≡ x ∷ drop (i + 1) xs
@@ -24,3 +24,7 @@ pub all-at : {A : Type 0} (P : A → Bool) (xs : List A) (i : ℕ) (x : A) → l
 all-at P [] i x all below is = absurd (omega arith)
 all-at P (y ∷ ys) zero x all below is = ap P is ∙ (and_parts (P y) (list_all P ys) all).0
 all-at P (y ∷ ys) (suc i) x all below is = all-at P ys i x (and_parts (P y) (list_all P ys) all).1 (omega arith) is
+
+-- what a slice from an index on holds
+pub rest-is : {A : Type 0} (xs : List A) (j : ℕ) → take (length xs - j) (drop j xs) ≡ drop j xs
+rest-is xs j = take_all (length xs - j) (drop j xs) (omega (arith, length-drop j xs))

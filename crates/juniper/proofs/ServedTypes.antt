@@ -268,3 +268,10 @@ served-world concrete answer r i c q fs rest vars served none =
       taken = λ h at x. accepts-as-entry s (innermost (declared_type (field_of s q h.name.item))) x (scalar-parts s (declared_type (field_of s q h.name.item)) (scalar h at)).1;
       never = λ h at U. never-possible s none (innermost (declared_type (field_of s q h.name.item))) (scalar-parts s (declared_type (field_of s q h.name.item)) (scalar h at)).1 U;
     }
+
+-- a field is not served where no type of it is found
+pub none_served : {A B C : Type 0} (f : A → C) (h : B → C) (o : Option A) (p : Option B) → option_map f o ≡ option_map h p → is_none o ≡ is_none p
+none_served f h None None e = refl
+none_served f h None (Some y) e = cc
+none_served f h (Some x) None e = cc
+none_served f h (Some x) (Some y) e = refl

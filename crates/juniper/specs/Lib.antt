@@ -3,6 +3,7 @@ pub mod DirectiveView
 pub mod ErrorView
 pub mod ExecutorView
 pub mod Occurrences
+pub mod PlainSelections
 pub mod ResolvedView
 pub mod SchemaView
 pub mod Served

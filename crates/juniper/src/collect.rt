@@ -2,6 +2,7 @@
 
 ghost use Rattle.std.specs.Prelude.{◌≡◌, IfOk, map};
 ghost use Rattle.graphql_spec.specs.Directives.{passes};
+ghost use Rattle.graphql_spec.specs.Documents.{response_key};
 ghost use Rattle.juniper_language.specs.InputView.{view_variables};
 ghost use Rattle.juniper_language.specs.DocumentView.{view_selections};
 ghost use Rattle.juniper.specs.Occurrences.{view_occurrence, admitted_fields};
@@ -31,4 +32,15 @@ pub(crate) fn collect<'s, 'a, S: ScalarValue>(
         }
     }
     Ok(fields)
+}
+
+/// The response key of a field: its alias, else its name.
+#[tactic(auto, unfolding(graphql_spec::specs::Documents::response_key, graphql_spec::specs::Documents::name_or))]
+pub(crate) fn response_key<'a, S: ScalarValue>(field: &Spanning<Field<'a, S>, Span>) -> &'a str
+    ensures { result.now ≡ response_key (view_occurrence S.shown field.now).head }
+{
+    match field.item.alias {
+        Some(alias) => alias.item,
+        None => field.item.name.item,
+    }
 }

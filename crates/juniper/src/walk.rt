@@ -7,7 +7,6 @@ ghost use Rattle.graphql_spec.specs.Values.{is_null, null};
 ghost use Rattle.graphql_spec.specs.Fields.{entry_named, leaf_accepts};
 ghost use Rattle.graphql_spec.specs.Execution.{reply_to};
 ghost use Rattle.graphql_spec.specs.Laws.{Agree};
-ghost use Rattle.graphql_spec.specs.Documents.{response_key};
 ghost use Rattle.juniper_language.specs.InputView.{view_variables};
 ghost use Rattle.juniper_language.specs.ValueView.{view_value, view_object};
 ghost use Rattle.juniper.specs.ErrorView.{view_error, view_listed};
@@ -17,6 +16,7 @@ ghost use Rattle.juniper.specs.SchemaView.{view_schema};
 ghost use Rattle.juniper.specs.Served.{is_served_schema, is_served_head};
 ghost use Rattle.juniper.specs.Walking.{world_in, is_leaf_value, settled, IsLeaf, IsCompleted, IsWalked, listed_of};
 
+use crate::collect::response_key;
 use crate::schema::{LeafType, SchemaType};
 use crate::types::{Executor, GraphQLValue, Resolved};
 use crate::values::{Arguments, ExecutionError, FieldError, ResolveError};
@@ -159,17 +159,6 @@ fn settle<S: ScalarValue>(
     let key = String::from_str(alloc, key)?;
     data.add_field(key, value)?;
     Ok(())
-}
-
-/// The response key of a field: its alias, else its name.
-#[tactic(auto, unfolding(graphql_spec::specs::Documents::response_key, graphql_spec::specs::Documents::name_or))]
-fn response_key<'a, S: ScalarValue>(field: &Spanning<Field<'a, S>, Span>) -> &'a str
-    ensures { result.now ≡ response_key (view_occurrence S.shown field.now).head }
-{
-    match field.item.alias {
-        Some(alias) => alias.item,
-        None => field.item.name.item,
-    }
 }
 
 /// Lists the error of a field, where it fails.
