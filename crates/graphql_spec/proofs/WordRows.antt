@@ -118,11 +118,15 @@ conditions : (passes without (conditioned (codes "skip") (i.scalar (boolean true
 unfolding outcome
 conditions = (refl, refl, refl, refl, refl, refl, refl, refl, refl)
 
--- `@include(if: $c)`: c is null; absent; true; a variable, which is not followed
+abbrev led : Variables
+led = λ n. elim (bytes_eq n (codes "c")) [ true ↦ Some (i.variable (codes "d")) | false ↦ Some (i.scalar (boolean true)) ]
+
+-- `@include(if: $c)`: c is null; absent; true; the variable `c`; the variable `d`, which is true: a variable is looked up once
 variables : (passes (given i.null) (conditioned (codes "include") (i.variable (codes "c"))) ≡ false) × (passes without (conditioned (codes "include") (i.variable (codes "c"))) ≡ false)
     × (passes (given (i.scalar (boolean true))) (conditioned (codes "include") (i.variable (codes "c"))) ≡ true) × (passes (given (i.variable (codes "c"))) (conditioned (codes "include") (i.variable (codes "c"))) ≡ false)
+    × (passes led (conditioned (codes "include") (i.variable (codes "c"))) ≡ false)
 unfolding outcome
-variables = (refl, refl, refl, refl)
+variables = (refl, refl, refl, refl, refl)
 
 -- each directive counts
 both : (admits (passes without) (conditioned (codes "skip") (i.scalar (boolean false)) ∷ conditioned (codes "include") (i.scalar (boolean true)) ∷ []) ≡ true)
