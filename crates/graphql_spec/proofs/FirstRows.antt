@@ -1,6 +1,7 @@
 -- worked rows of the first path: queries of plain fields on a small schema, from the document to the answer
-use Rattle.std.specs.Prelude.{◌≡◌, ℕ, Bool, true, false, codes, List, [], ◌∷◌, Option, None, Some}
+use Rattle.std.specs.Prelude.{◌≡◌, ℕ, length, Bool, true, false, codes, List, [], ◌∷◌, Option, None, Some}
 use Rattle.std.specs.List.{list_any}
+use Rattle.std.proofs.lemmas.Bool.{both_ways}
 use Rattle.std.proofs.Common.{refl, sym, ap, inl, inr, arith}
 use Rattle.graphql_spec.specs.Shown.{Text, Name, text, boolean}
 use Rattle.graphql_spec.specs.Inputs as i
@@ -11,7 +12,7 @@ use Rattle.graphql_spec.specs.Schema.{Schema, object_type, plain_field}
 use Rattle.graphql_spec.specs.Values.{Value, null, scalar, object, no_entries, entry}
 use Rattle.graphql_spec.specs.Resolvers.{World, Reply, answered, failed, leaf, world_of}
 use Rattle.graphql_spec.specs.Constants.{Members}
-use Rattle.graphql_spec.specs.Errors.{Place, key, Listed, keys_only, compare_positions, compare_steps, compare, not_greater, is_least, is_sorted}
+use Rattle.graphql_spec.specs.Errors.{Place, key, index, Listed, keys_only, compare_positions, compare_steps, compare, not_greater, is_least, is_sorted}
 use Rattle.graphql_spec.specs.Failures.{Failure, failures_of}
 use Rattle.graphql_spec.specs.Nulls.{null_or, standing, reply_standing, key_standing, nulls, nulls_of}
 use Rattle.graphql_spec.specs.Execution.{data_of}
@@ -192,3 +193,41 @@ not_elsewhere a = let b = a.belongs (failed_at 2) (inl refl) in elim b.1 [ inl e
 
 not_null : IsFirst null (failed_at 36 ∷ []) → ⊥
 not_null a = let e = a.is_data in cc
+
+-- { fail b: fail }: two failures, two errors in order; one of them alone, or both in the other order, are no answer
+abbrev failed_as : Text → ℕ → Listed
+failed_as k n = record { path = key k ∷ []; start = at n; error = bad (codes "failed") }
+
+abbrev failing_as : Text → ℕ → Failure
+failing_as k n = record { path = key k ∷ []; starts = at n ∷ []; error = bad (codes "failed"); rises_to = key k ∷ [] }
+
+abbrev two_nulls : Value
+two_nulls = object (entry (codes "fail") null (entry (codes "b") null no_entries))
+
+abbrev two_stand : List Place
+two_stand = (key (codes "fail") ∷ []) ∷ (key (codes "b") ∷ []) ∷ []
+
+two_fail : (gives (leaf_field (codes "fail") 2 (as_field (codes "b") (codes "fail") 7 end)) ≡ two_nulls) × (failing (leaf_field (codes "fail") 2 (as_field (codes "b") (codes "fail") 7 end)) ≡ failing_as (codes "fail") 2 ∷ failing_as (codes "b") 7 ∷ [])
+    × (standing_in (leaf_field (codes "fail") 2 (as_field (codes "b") (codes "fail") 7 end)) ≡ two_stand)
+unfolding gives failing standing_in
+two_fail = (refl, refl, refl)
+
+abbrev AreTwo : List Listed → Type 0
+AreTwo es = IsAnswer keys_only two_nulls (failing_as (codes "fail") 2 ∷ failing_as (codes "b") 7 ∷ []) two_stand two_nulls es
+
+unfoldable first_key_length : Place → ℕ
+first_key_length [] = 0
+first_key_length (key k ∷ ps) = length k
+first_key_length (index n ∷ ps) = 0
+
+not_half : AreTwo (failed_as (codes "fail") 2 ∷ []) → ⊥
+unfolding pair_at pairs told keys_only first_key_length
+not_half a = let t = a.explained (key (codes "b") ∷ []) (inr (inl refl)) in elim t.1 [
+  | inl e ↦ let f = ap (λ q. first_key_length q.rises_to) e in let g = ap first_key_length t.2 in omega (arith, f, g)
+  | inr (inl e) ↦ elim t.3 [ inl u ↦ let f = ap (λ q. q.start.index) e in let g = ap (λ x. x.start.index) u in omega (arith, f, g) | inr u ↦ absurd u ]
+  | inr (inr e) ↦ absurd e
+]
+
+not_unsorted : AreTwo (failed_as (codes "b") 7 ∷ failed_as (codes "fail") 2 ∷ []) → ⊥
+unfolding compare_positions compare_steps compare not_greater is_least is_sorted
+not_unsorted a = both_ways false refl a.sorted

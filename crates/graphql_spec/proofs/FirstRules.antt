@@ -386,55 +386,55 @@ module _ (s : Schema) (b : Built s) (a : is_flat s ≡ true) (hs : List Head) (p
   abbrev alone : Document
   alone = it ∷ []
 
-  rule1 : repeats_operation [] it ≡ false
+  no_repeated_operation : repeats_operation [] it ≡ false
   unfolding repeats_operation word_name asks
-  rule1 = refl
+  no_repeated_operation = refl
 
-  rule2 : is_not_alone alone it ≡ false
+  alone_there : is_not_alone alone it ≡ false
   unfolding is_not_alone operations asks
-  rule2 = refl
+  alone_there = refl
 
-  rule3 : repeats_fragment [] it ≡ false
+  no_repeated_fragment : repeats_fragment [] it ≡ false
   unfolding repeats_fragment asks
-  rule3 = refl
+  no_repeated_fragment = refl
 
-  rule4 : spreads_unknown alone it ≡ false
+  no_unknown_spread : spreads_unknown alone it ≡ false
   unfolding spreads_unknown selections_of asks
-  rule4 = rw (spreads-row hs) refl
+  no_unknown_spread = rw (spreads-row hs) refl
 
-  rule5 : spreads_itself alone it ≡ false
+  no_cycle : spreads_itself alone it ≡ false
   unfolding spreads_itself asks
-  rule5 = refl
+  no_cycle = refl
 
-  rule6 : repeats_variable it ≡ false
+  no_repeated_variable : repeats_variable it ≡ false
   unfolding repeats_variable defined_variables variables_of repeats asks
-  rule6 = refl
+  no_repeated_variable = refl
 
-  rule7 : repeats_argument it ≡ false
+  no_repeated_argument : repeats_argument it ≡ false
   unfolding repeats_argument repeats
-  rule7 = none (λ as'. repeats (map (λ a. a.name.item) as')) (argument_lists it) (argument_lists-every (λ as'. repeats (map (λ a. a.name.item) as') ≡ false) refl (λ a c. refl) hs p x)
+  no_repeated_argument = none (λ as'. repeats (map (λ a. a.name.item) as')) (argument_lists it) (argument_lists-every (λ as'. repeats (map (λ a. a.name.item) as') ≡ false) refl (λ a c. refl) hs p x)
 
-  rule8 : repeats_input_field it ≡ false
+  no_repeated_input_field : repeats_input_field it ≡ false
   unfolding repeats_input_field values_in defined_variables variables_of default_values field_repeats asks
-  rule8 = none field_repeats (values_in it) (every-append (λ v. field_repeats v ≡ false) (flat_map (λ as'. map (λ a. a.value.item) as') (argument_lists it)) []
+  no_repeated_input_field = none field_repeats (values_in it) (every-append (λ v. field_repeats v ≡ false) (flat_map (λ as'. map (λ a. a.value.item) as') (argument_lists it)) []
       (every-flat_map (λ v. field_repeats v ≡ false) (λ as'. map (λ a. a.value.item) as') (argument_lists it)
       (argument_lists-every (λ as'. Every (λ v. field_repeats v ≡ false) (map (λ a. a.value.item) as')) tt (λ a c. (rw (c.value_is) refl, tt)) hs p x)) tt)
 
-  rule9 : has_unknown_directive it ≡ false
+  no_unknown_directive : has_unknown_directive it ≡ false
   unfolding has_unknown_directive all_directives own_directives variables_of selections_of asks
-  rule9 = none (λ d. is_none (directive_named d.name.item)) (directives_in (row hs)) (every_as Plain (λ d. is_none (directive_named d.name.item) ≡ false) known_directive (directives_in (row hs)) (directives-row hs x))
+  no_unknown_directive = none (λ d. is_none (directive_named d.name.item)) (directives_in (row hs)) (every_as Plain (λ d. is_none (directive_named d.name.item) ≡ false) known_directive (directives_in (row hs)) (directives-row hs x))
 
-  rule10 : has_unknown_type s it ≡ false
+  no_unknown_type : has_unknown_type s it ≡ false
   unfolding has_unknown_type all_conditions variable_types defined_variables variables_of asks
-  rule10 = rw (conditions-row hs) refl
+  no_unknown_type = rw (conditions-row hs) refl
 
-  rule11 : has_other_condition s it ≡ false
+  no_other_condition : has_other_condition s it ≡ false
   unfolding has_other_condition all_conditions asks
-  rule11 = rw (conditions-row hs) refl
+  no_other_condition = rw (conditions-row hs) refl
 
-  rule12 : has_other_variable s it ≡ false
+  no_other_variable : has_other_variable s it ≡ false
   unfolding has_other_variable variable_types defined_variables variables_of asks
-  rule12 = refl
+  no_other_variable = refl
 
   wrong_set : (y : Placed) → FlatPlaced s y → (o : Option FieldDeclaration) → y.declared ≡ o → (elim o [ None ↦ false | Some d ↦ set_is_wrong s y.head.has_set d.of_type ]) ≡ false
   unfolding set_is_wrong is_flat_field
@@ -442,68 +442,68 @@ module _ (s : Schema) (b : Built s) (a : is_flat s ≡ true) (hs : List Head) (p
   wrong_set y f (Some d) q =
       let e = and_parts (no_declarations d.arguments) (is_leaf (type_named s (innermost d.of_type))) (f.flat d q) in rw (f.plain.no_set, fields_as_leaf (type_named s (innermost d.of_type)) e.1) refl
 
-  rule14 : has_wrong_set s it ≡ false
+  no_wrong_set : has_wrong_set s it ≡ false
   unfolding has_wrong_set placed_in root_type asks
-  rule14 = none (λ y. elim y.declared [ None ↦ false | Some d ↦ set_is_wrong s y.head.has_set d.of_type ]) (placed s s.query (row hs))
+  no_wrong_set = none (λ y. elim y.declared [ None ↦ false | Some d ↦ set_is_wrong s y.head.has_set d.of_type ]) (placed s s.query (row hs))
       (every_as (FlatPlaced s) (λ y. (elim y.declared [ None ↦ false | Some d ↦ set_is_wrong s y.head.has_set d.of_type ]) ≡ false) (λ y f. wrong_set y f y.declared refl) (placed s s.query (row hs)) (placed-row s b a hs x i))
 
-  rule15 : has_unknown_argument s it ≡ false
+  no_unknown_argument : has_unknown_argument s it ≡ false
   unfolding has_unknown_argument declaration_in condition_arguments plain_input call_of
-  rule15 = none (λ c. list_any (λ g. is_none (declaration_in c.declared g.name.item)) c.given) (calls s it)
+  no_unknown_argument = none (λ c. list_any (λ g. is_none (declaration_in c.declared g.name.item)) c.given) (calls s it)
       (calls-every s b a (λ c. list_any (λ g. is_none (declaration_in c.declared g.name.item)) c.given ≡ false) refl (λ g c. rw (c.name_is) refl) hs p x i)
 
-  rule16 : lacks_argument s it ≡ false
+  no_missing_argument : lacks_argument s it ≡ false
   unfolding lacks_argument must_be_written required must condition_arguments plain_input call_of
-  rule16 = none (λ c. list_any (λ d. must_be_written d && not (list_any (λ g. bytes_eq d.name g.name.item) c.given)) c.declared) (calls s it)
+  no_missing_argument = none (λ c. list_any (λ d. must_be_written d && not (list_any (λ g. bytes_eq d.name g.name.item) c.given)) c.declared) (calls s it)
       (calls-every s b a (λ c. list_any (λ d. must_be_written d && not (list_any (λ g. bytes_eq d.name g.name.item) c.given)) c.declared ≡ false) refl (λ g c. rw (c.name_is) refl) hs p x i)
 
-  rule17 : has_wrong_argument s it ≡ false
+  no_wrong_argument : has_wrong_argument s it ≡ false
   unfolding has_wrong_argument declaration_in condition_arguments plain_input fits through must call_of
-  rule17 = none (λ c. list_any (λ g. elim (declaration_in c.declared g.name.item) [ None ↦ false | Some d ↦ not (fits s false g.value.item d.of_type) ]) c.given) (calls s it)
+  no_wrong_argument = none (λ c. list_any (λ g. elim (declaration_in c.declared g.name.item) [ None ↦ false | Some d ↦ not (fits s false g.value.item d.of_type) ]) c.given) (calls s it)
       (calls-every s b a (λ c. list_any (λ g. elim (declaration_in c.declared g.name.item) [ None ↦ false | Some d ↦ not (fits s false g.value.item d.of_type) ]) c.given ≡ false) refl
       (λ g c. rw (c.name_is, c.value_is) (rw (b.boolean_fits c.value) refl)) hs p x i)
 
-  rule18 : has_wrong_default s it ≡ false
+  no_wrong_default : has_wrong_default s it ≡ false
   unfolding has_wrong_default defined_variables variables_of asks
-  rule18 = refl
+  no_wrong_default = refl
 
-  rule19 : uses_undefined s alone it ≡ false
+  no_undefined_variable : uses_undefined s alone it ≡ false
   unfolding uses_undefined all_defined parts reached as_definitions fragments names_used variables_in asks
-  rule19 = rw (nothing (λ as'. flat_map (λ a. variables_in a.value.item) as') (argument_lists it)
+  no_undefined_variable = rw (nothing (λ as'. flat_map (λ a. variables_in a.value.item) as') (argument_lists it)
       (argument_lists-every (λ as'. flat_map (λ a. variables_in a.value.item) as' ≡ []) refl (λ a c. rw (c.value_is) refl) hs p x)) (never (has_root s (record { kind = query; name = None; variables = None; directives = []; selections = row hs; span = p })))
     where
       never : (t : Bool) → (t && false) ≡ false
       never true = refl
       never false = refl
 
-  rule20 : misuses_variable s alone it ≡ false
+  no_misused_variable : misuses_variable s alone it ≡ false
   unfolding misuses_variable all_allowed uses uses_in_call uses_at at_declared parts reached as_definitions fragments declaration_in condition_arguments plain_input call_of asks
-  rule20 = rw (nothing (uses_in_call s) (calls s it)
+  no_misused_variable = rw (nothing (uses_in_call s) (calls s it)
       (calls-every s b a (λ c. uses_in_call s c ≡ []) refl (λ g c. rw (c.name_is, c.value_is) refl) hs p x i)) (never (has_root s (record { kind = query; name = None; variables = None; directives = []; selections = row hs; span = p })))
     where
       never : (t : Bool) → (t && false) ≡ false
       never true = refl
       never false = refl
 
-  rule22 : looks_at_schema s true it ≡ false
+  no_introspection : looks_at_schema s true it ≡ false
   unfolding looks_at_schema can_look has_root root_type selections_of asks
-  rule22 = rw (heads-row hs) (none (λ h. is_introspection h.name.item) hs i)
+  no_introspection = rw (heads-row hs) (none (λ h. is_introspection h.name.item) hs i)
 
   names_right : name_errors s true alone [] it ≡ []
   unfolding name_errors reported
-  names_right = rw (rule1, rule2, rule3, rule4, rule5, rule6, rule7, rule8, rule9, rule10) refl
+  names_right = rw (no_repeated_operation, alone_there, no_repeated_fragment, no_unknown_spread, no_cycle, no_repeated_variable, no_repeated_argument, no_repeated_input_field, no_unknown_directive, no_unknown_type) refl
 
   types_right : type_errors s true alone [] it ≡ reported (has_unknown_field s it) (codes "Unknown field") it
   unfolding type_errors reported
-  types_right = rw (rule11, rule12, rule14, rule15, rule16, rule17, rule18) (simp append-nothing)
+  types_right = rw (no_other_condition, no_other_variable, no_wrong_set, no_unknown_argument, no_missing_argument, no_wrong_argument, no_wrong_default) (simp append-nothing)
 
   uses_right : use_errors s true alone [] it ≡ reported (cannot_merge s alone it) (codes "Fields cannot be merged") it
   unfolding use_errors reported
-  uses_right = rw (rule19, rule20, rule22) (simp append-nothing)
+  uses_right = rw (no_undefined_variable, no_misused_variable, no_introspection) (simp append-nothing)
 
   fields_alone : field_errors s [] it ≡ reported (has_unknown_field s it) (codes "Unknown field") it
   unfolding field_errors lacks_field
-  fields_alone = rw rule22 (ap (λ t. reported t (codes "Unknown field") it) (or-nothing (has_unknown_field s it)))
+  fields_alone = rw no_introspection (ap (λ t. reported t (codes "Unknown field") it) (or-nothing (has_unknown_field s it)))
     where
       or-nothing : (t : Bool) → (t || false) ≡ t
       or-nothing true = refl
