@@ -1,282 +1,28 @@
 -- of plain queries on flat schemas the first rules find all that the rules find
-use Rattle.std.specs.Prelude.{◌≡◌, ◌⊎◌, Bool, true, false, not, ◌&&◌, ◌||◌, cond, codes, map, List, [], ◌∷◌, ◌++◌, Option, Some, None}
-use Rattle.std.specs.List.{list_all, list_any, flat_map}
-use Rattle.std.specs.Option.{is_some, is_none}
+use Rattle.std.specs.Prelude.{◌≡◌, Bool, true, false, not, ◌&&◌, ◌||◌, codes, map, List, [], ◌∷◌, ◌++◌, Option, Some, None}
+use Rattle.std.specs.List.{list_any, flat_map}
+use Rattle.std.specs.Option.{is_none}
 use Rattle.std.specs.Str.{bytes_eq}
-use Rattle.std.proofs.lemmas.Bool.{cases_Bool, and_parts, or_cases, or_parts, both_ways}
-use Rattle.std.proofs.Common.{refl, sym, ap, ◌∙◌, inl, inr, subst}
-use Rattle.graphql_spec.specs.Shown.{Name, Text, same_bool, shown_boolean, int, text, boolean}
-use Rattle.graphql_spec.specs.Positions.{Span, Spanned}
+use Rattle.std.proofs.lemmas.Bool.{and_parts, or_parts, both_ways}
+use Rattle.std.proofs.Common.{refl, sym, ap, inl, inr, subst}
+use Rattle.graphql_spec.specs.Shown.{Name, boolean}
+use Rattle.graphql_spec.specs.Positions.{Span}
 use Rattle.graphql_spec.specs.Types.{required, innermost}
-use Rattle.graphql_spec.specs.Inputs.{Input, null, scalar, enumerated, variable, list, object}
-use Rattle.graphql_spec.specs.Documents.{Argument, Directive, OperationType, Head, Selections, end, field, spread, inline, query, mutation, subscription, Operation, Definition, operation, fragment, Document, operations, fragments, variables_of, word_name, written}
-use Rattle.graphql_spec.specs.Directives.{skip_name, include_name, if_name, as_boolean}
-use Rattle.graphql_spec.specs.Grammar.{is_end}
-use Rattle.graphql_spec.specs.Fragments.{spreads}
-use Rattle.graphql_spec.specs.Schema.{ScalarKinds, InputDeclaration, FieldDeclaration, Shape, scalar_type, enum_type, object_type, interface_type, union_type, input_object_type, list_type, nullable_type, placeholder, Entry, Schema, plain_field, plain_input}
-use Rattle.graphql_spec.specs.BuiltIns.{must, introspection_types, condition_arguments, directives}
-use Rattle.graphql_spec.specs.Fields.{entry_in, shape_of, or_else, entry_named, type_named, is_composite, is_leaf, accepts_kind, fields_of, field_in, typename, typename_field, root_fields, meta_fields, field_of, declaration_in}
-use Rattle.graphql_spec.specs.Fits.{through, scalar_fits, fits}
-use Rattle.graphql_spec.specs.Executable.{no_declarations, accepts_just, scalar_if_there, built_ins_are_right}
-use Rattle.graphql_spec.specs.Written.{heads, conditions, directives_in, selections_of, defined_variables, own_directives, all_directives, all_conditions, argument_lists, default_values, values_in, repeats, field_repeats}
+use Rattle.graphql_spec.specs.Inputs.{scalar}
+use Rattle.graphql_spec.specs.Documents.{Argument, Directive, OperationType, Head, query, mutation, subscription, Operation, Definition, operation, fragment, Document, operations, fragments, variables_of, word_name, written}
+use Rattle.graphql_spec.specs.Directives.{if_name}
+use Rattle.graphql_spec.specs.Schema.{InputDeclaration, FieldDeclaration, Schema, plain_input}
+use Rattle.graphql_spec.specs.BuiltIns.{must, condition_arguments, directives}
+use Rattle.graphql_spec.specs.Fields.{type_named, is_leaf, field_of, declaration_in}
+use Rattle.graphql_spec.specs.Fits.{through, fits}
+use Rattle.graphql_spec.specs.Executable.{no_declarations}
+use Rattle.graphql_spec.specs.Written.{heads, directives_in, selections_of, defined_variables, own_directives, all_directives, all_conditions, argument_lists, default_values, values_in, repeats, field_repeats}
 use Rattle.graphql_spec.specs.Placed.{Placed, Call, directive_in, directive_named, directive_calls, if_declared, placed, placed_directives, root_type, placed_in, directives_placed, field_calls, calls}
 use Rattle.graphql_spec.specs.VariableUses.{reached, as_definitions, parts, variables_in, names_used, all_defined, at_declared, uses_at, uses_in_call, uses, all_allowed}
 use Rattle.graphql_spec.specs.Rules.{repeats_operation, is_not_alone, repeats_fragment, spreads_unknown, spreads_itself, repeats_variable, repeats_argument, repeats_input_field, has_unknown_directive, variable_types, has_unknown_type, has_other_condition, has_other_variable, has_unknown_field, set_is_wrong, has_wrong_set, has_unknown_argument, must_be_written, lacks_argument, has_wrong_argument, has_wrong_default, has_root, uses_undefined, misuses_variable, cannot_merge, is_introspection, can_look, looks_at_schema, reported, at_each, name_errors, type_errors, use_errors, first_found, rule_errors}
-use Rattle.graphql_spec.proofs.Lists.{same_true}
-use Rattle.graphql_spec.specs.FirstRules.{lacks_field, field_errors, merge_errors, first_rule_errors, is_plain_condition, is_plain_directive, is_plain_field, is_plain_selections, is_query, is_empty, is_plain_operation, is_plain_document, is_flat_field, is_flat, FirstRulesFindAll}
-
--- ## Lists
-
-abbrev Every : {A : Type 0} → (A → Type 0) → List A → Type 0
-Every P [] = Unit {0}
-Every P (x ∷ xs) = P x × Every P xs
-
-every_passing : {A : Type 0} (test : A → Bool) (P : A → Type 0) → ((x : A) → test x ≡ true → P x) → (xs : List A) → list_all test xs ≡ true → Every P xs
-every_passing test P f [] e = tt
-every_passing test P f (x ∷ xs) e = let p = and_parts (test x) (list_all test xs) e in (f x p.0, every_passing test P f xs p.1)
-
-every_failing : {A : Type 0} (test : A → Bool) (xs : List A) → list_any test xs ≡ false → Every (λ x. test x ≡ false) xs
-every_failing test [] e = tt
-every_failing test (x ∷ xs) e = let p = or_parts (test x) (list_any test xs) e in (p.0, every_failing test xs p.1)
-
-none : {A : Type 0} (test : A → Bool) (xs : List A) → Every (λ x. test x ≡ false) xs → list_any test xs ≡ false
-none test [] e = refl
-none test (x ∷ xs) e = rw (e.0) (none test xs e.1)
-
-nothing : {A B : Type 0} (f : A → List B) (xs : List A) → Every (λ x. f x ≡ []) xs → flat_map f xs ≡ []
-nothing f [] e = refl
-nothing f (x ∷ xs) e = rw (e.0) (nothing f xs e.1)
-
-every_as : {A : Type 0} (P Q : A → Type 0) → ((x : A) → P x → Q x) → (xs : List A) → Every P xs → Every Q xs
-every_as P Q f [] e = tt
-every_as P Q f (x ∷ xs) e = (f x e.0, every_as P Q f xs e.1)
-
-every-append : {A : Type 0} (P : A → Type 0) (xs ys : List A) → Every P xs → Every P ys → Every P (xs ++ ys)
-every-append P [] ys a b = b
-every-append P (x ∷ xs) ys a b = (a.0, every-append P xs ys a.1 b)
-
-every-map : {A B : Type 0} (P : B → Type 0) (f : A → B) (xs : List A) → Every (λ x. P (f x)) xs → Every P (map f xs)
-every-map P f [] e = tt
-every-map P f (x ∷ xs) e = (e.0, every-map P f xs e.1)
-
-every-flat_map : {A B : Type 0} (P : B → Type 0) (f : A → List B) (xs : List A) → Every (λ x. Every P (f x)) xs → Every P (flat_map f xs)
-every-flat_map P f [] e = tt
-every-flat_map P f (x ∷ xs) e = every-append P (f x) (flat_map f xs) e.0 (every-flat_map P f xs e.1)
-
--- ## Plain directives and fields
-
-record Plain (d : Directive) : Type 0 where
-  argument : Argument
-  value : Bool
-  written_is : written d.arguments ≡ argument ∷ []
-  name_is : argument.name.item ≡ if_name
-  value_is : argument.value.item ≡ scalar (boolean value)
-  called : (d.name.item ≡ skip_name) ⊎ (d.name.item ≡ include_name)
-
-is_some_boolean : (v : Input) → is_some (as_boolean v) ≡ true → (b : Bool) × (v ≡ scalar (boolean b))
-unfolding as_boolean shown_boolean
-is_some_boolean null e = absurd (both_ways false refl e)
-is_some_boolean (scalar (int i)) e = absurd (both_ways false refl e)
-is_some_boolean (scalar (text t)) e = absurd (both_ways false refl e)
-is_some_boolean (scalar (boolean b)) e = (b, refl)
-is_some_boolean (enumerated n) e = absurd (both_ways false refl e)
-is_some_boolean (variable x) e = absurd (both_ways false refl e)
-is_some_boolean (list is) e = absurd (both_ways false refl e)
-is_some_boolean (object fs) e = absurd (both_ways false refl e)
-
-condition_parts : (as' : List Argument) → is_plain_condition as' ≡ true → (a : Argument) × (b : Bool) × (as' ≡ a ∷ []) × (a.name.item ≡ if_name) × (a.value.item ≡ scalar (boolean b))
-unfolding is_plain_condition
-condition_parts [] e = absurd (both_ways false refl e)
-condition_parts (a ∷ []) e =
-    let p = and_parts (bytes_eq a.name.item if_name) (is_some (as_boolean a.value.item)) e in
-    let v = is_some_boolean a.value.item p.1 in (a, v.0, refl, same_true a.name.item if_name p.0, v.1)
-condition_parts (a ∷ (b ∷ cs)) e = absurd (both_ways false refl e)
-
-called_parts : (n : Name) → (bytes_eq n skip_name || bytes_eq n include_name) ≡ true → (n ≡ skip_name) ⊎ (n ≡ include_name)
-called_parts n e = elim (or_cases (bytes_eq n skip_name) (bytes_eq n include_name) e) [ inl a ↦ inl (same_true n skip_name a) | inr a ↦ inr (same_true n include_name a) ]
-
-plain_directive : (d : Directive) → is_plain_directive d ≡ true → Plain d
-unfolding is_plain_directive
-plain_directive d e =
-    let p = and_parts (bytes_eq d.name.item skip_name || bytes_eq d.name.item include_name) (is_plain_condition (written d.arguments)) e in
-    let c = condition_parts (written d.arguments) p.1 in record {
-      argument = c.0;
-      value = c.1;
-      written_is = c.2;
-      name_is = c.3;
-      value_is = c.4;
-      called = called_parts d.name.item p.0;
-    }
-
-no_argument : (o : Option (Spanned (List Argument))) → is_none o ≡ true → o ≡ None
-no_argument None e = refl
-no_argument (Some x) e = absurd (both_ways false refl e)
-
-not_true : (b : Bool) → not b ≡ true → b ≡ false
-not_true true e = absurd (both_ways false refl e)
-not_true false e = refl
-
-record PlainField (h : Head) : Type 0 where
-  no_arguments : h.arguments ≡ None
-  no_set : h.has_set ≡ false
-  plain : Every Plain h.directives
-
-plain_field_parts : (h : Head) → is_plain_field h ≡ true → PlainField h
-unfolding is_plain_field
-plain_field_parts h e =
-    let a = and_parts (is_none h.arguments) (not h.has_set && list_all is_plain_directive h.directives) e in
-    let b = and_parts (not h.has_set) (list_all is_plain_directive h.directives) a.1 in record {
-      no_arguments = no_argument h.arguments a.0;
-      no_set = not_true h.has_set b.0;
-      plain = every_passing is_plain_directive Plain plain_directive h.directives b.1;
-    }
-
--- ## Selections that are a row of fields
-
-row : List Head → Selections
-row [] = end
-row (h ∷ hs) = field h end (row hs)
-
-is_end-true : (s : Selections) → is_end s ≡ true → s ≡ end
-unfolding is_end
-is_end-true end e = refl
-is_end-true (field h below rest) e = absurd (both_ways false refl e)
-is_end-true (spread x rest) e = absurd (both_ways false refl e)
-is_end-true (inline x below rest) e = absurd (both_ways false refl e)
-
-plain_row : (s : Selections) → is_plain_selections s ≡ true → (hs : List Head) × Every PlainField hs × (s ≡ row hs)
-unfolding is_plain_selections row
-plain_row end e = ([], tt, refl)
-plain_row (field h below rest) e =
-    let a = and_parts (is_plain_field h) (is_end below && is_plain_selections rest) e in
-    let b = and_parts (is_end below) (is_plain_selections rest) a.1 in
-    let r = plain_row rest b.1 in (h ∷ r.0, (plain_field_parts h a.0, r.1), ap (λ z. field h z rest) (is_end-true below b.0) ∙ ap (field h end) r.2)
-plain_row (spread x rest) e = absurd (both_ways false refl e)
-plain_row (inline x below rest) e = absurd (both_ways false refl e)
-
-heads-row : (hs : List Head) → heads (row hs) ≡ hs
-unfolding heads row
-heads-row [] = refl
-heads-row (h ∷ hs) = ap (λ z. h ∷ z) (heads-row hs)
-
-conditions-row : (hs : List Head) → conditions (row hs) ≡ []
-unfolding conditions row
-conditions-row [] = refl
-conditions-row (h ∷ hs) = conditions-row hs
-
-spreads-row : (hs : List Head) → spreads (row hs) ≡ []
-unfolding spreads row
-spreads-row [] = refl
-spreads-row (h ∷ hs) = spreads-row hs
-
-directives-row : (hs : List Head) → Every PlainField hs → Every Plain (directives_in (row hs))
-unfolding directives_in row
-directives-row [] e = tt
-directives-row (h ∷ hs) e = every-append Plain h.directives (directives_in (row hs)) e.0.plain (directives-row hs e.1)
-
--- ## The schema
-
-fields_as_leaf : (x : Option Shape) → is_leaf x ≡ true → is_composite x ≡ false
-unfolding is_leaf is_composite
-fields_as_leaf None e = refl
-fields_as_leaf (Some (scalar_type k u)) e = refl
-fields_as_leaf (Some (enum_type vs)) e = refl
-fields_as_leaf (Some (object_type fs is)) e = absurd (both_ways false refl e)
-fields_as_leaf (Some (interface_type fs is)) e = absurd (both_ways false refl e)
-fields_as_leaf (Some (union_type ms)) e = absurd (both_ways false refl e)
-fields_as_leaf (Some (input_object_type ds)) e = refl
-fields_as_leaf (Some (list_type n t)) e = refl
-fields_as_leaf (Some (nullable_type t)) e = refl
-fields_as_leaf (Some placeholder) e = refl
-
-record Kind (i t b : Bool) (x : Option Shape) : Type 0 where
-  kinds : ScalarKinds
-  url : Option Text
-  shape_is : x ≡ Some (scalar_type kinds url)
-  takes_boolean : same_bool b kinds.boolean ≡ true
-
-kind_of : (i t b : Bool) (x : Option Shape) → accepts_just i t b x ≡ true → Kind i t b x
-unfolding accepts_just
-kind_of i t b None e = absurd (both_ways false refl e)
-kind_of i t b (Some (scalar_type k u)) e =
-    let p = and_parts (same_bool i k.int) (same_bool t k.text && same_bool b k.boolean) e in
-    let q = and_parts (same_bool t k.text) (same_bool b k.boolean) p.1 in record { kinds = k; url = u; shape_is = refl; takes_boolean = q.1 }
-kind_of i t b (Some (enum_type vs)) e = absurd (both_ways false refl e)
-kind_of i t b (Some (object_type fs is)) e = absurd (both_ways false refl e)
-kind_of i t b (Some (interface_type fs is)) e = absurd (both_ways false refl e)
-kind_of i t b (Some (union_type ms)) e = absurd (both_ways false refl e)
-kind_of i t b (Some (input_object_type ds)) e = absurd (both_ways false refl e)
-kind_of i t b (Some (list_type n w)) e = absurd (both_ways false refl e)
-kind_of i t b (Some (nullable_type w)) e = absurd (both_ways false refl e)
-kind_of i t b (Some placeholder) e = absurd (both_ways false refl e)
-
-shape_or_else : (o p : Option Entry) (x : Shape) → shape_of o ≡ Some x → shape_of (or_else o p) ≡ Some x
-unfolding shape_of or_else
-shape_or_else None p x e = cc
-shape_or_else (Some y) p x e = e
-
-type_from_entry : (s : Schema) (n : Name) (x : Shape) → entry_named s n ≡ Some x → type_named s n ≡ Some x
-unfolding entry_named type_named
-type_from_entry s n x e = shape_or_else (entry_in s.entries n) (entry_in introspection_types n) x e
-
-same_bool-true : (b : Bool) → same_bool true b ≡ true → b ≡ true
-unfolding same_bool
-same_bool-true b e = e
-
--- a schema whose `String` is a leaf and whose `Boolean` takes booleans
-record Built (s : Schema) : Type 0 where
-  string_is_leaf : is_leaf (type_named s (codes "String")) ≡ true
-  boolean_fits : (b : Bool) → scalar_fits false (boolean b) (type_named s (codes "Boolean")) ≡ true
-
-built : (s : Schema) → built_ins_are_right s ≡ true → Built s
-unfolding built_ins_are_right is_leaf scalar_fits accepts_kind
-built s e =
-    let p = and_parts (accepts_just false true false (entry_named s (codes "String"))) (accepts_just false false true (entry_named s (codes "Boolean"))
-    && (scalar_if_there true false false (entry_named s (codes "Int")) && scalar_if_there true true false (entry_named s (codes "ID")))) e in
-    let q = and_parts (accepts_just false false true (entry_named s (codes "Boolean"))) (scalar_if_there true false false (entry_named s (codes "Int")) && scalar_if_there true true false (entry_named s (codes "ID"))) p.1 in
-    let k = kind_of false true false (entry_named s (codes "String")) p.0 in
-    let m = kind_of false false true (entry_named s (codes "Boolean")) q.0 in record {
-      string_is_leaf = rw (type_from_entry s (codes "String") (scalar_type k.kinds k.url) k.shape_is) refl;
-      boolean_fits = λ b. rw (type_from_entry s (codes "Boolean") (scalar_type m.kinds m.url) m.shape_is) (same_bool-true m.kinds.boolean m.takes_boolean);
-    }
-
-or_else_parts : {A : Type 0} (o p : Option A) (d : A) → or_else o p ≡ Some d → (o ≡ Some d) ⊎ (p ≡ Some d)
-unfolding or_else
-or_else_parts None p d e = inr e
-or_else_parts (Some x) p d e = inl e
-
-field_in-flat : (s : Schema) (fs : List FieldDeclaration) (f : Name) (d : FieldDeclaration) → list_all (is_flat_field s) fs ≡ true → field_in fs f ≡ Some d → is_flat_field s d ≡ true
-unfolding field_in
-field_in-flat s [] f d a e = cc
-field_in-flat s (g ∷ gs) f d a e =
-    let p = and_parts (is_flat_field s g) (list_all (is_flat_field s) gs) a in
-    elim (cases_Bool (bytes_eq f g.name)) [
-      | inl q ↦ let h : Some g ≡ Some d = rw q at e in let i : g ≡ d = cc in subst (λ z. is_flat_field s z ≡ true) i p.0
-      | inr q ↦ field_in-flat s gs f d p.1 (rw q at e)
-    ]
-
-root_field-none : (b : Bool) (f : Name) → is_introspection f ≡ false → field_in (cond b root_fields []) f ≡ None
-unfolding is_introspection field_in root_fields plain_field plain_input
-root_field-none true f e = let p = or_parts (bytes_eq f (codes "__schema")) (bytes_eq f (codes "__type")) e in rw (p.0, p.1) refl
-root_field-none false f e = refl
-
-meta-flat : (s : Schema) → Built s → (f : Name) (d : FieldDeclaration) → is_introspection f ≡ false → field_in (meta_fields s s.query) f ≡ Some d → is_flat_field s d ≡ true
-unfolding meta_fields field_in typename_field plain_field is_flat_field no_declarations innermost
-meta-flat s b f d i e =
-    elim (cases_Bool (is_composite (type_named s s.query))) [
-      | inl q ↦ let e' = rw q at e in elim (cases_Bool (bytes_eq f typename)) [
-        | inl t ↦ let h : Some typename_field ≡ Some d = rw t at e' in let j : typename_field ≡ d = cc in subst (λ z. is_flat_field s z ≡ true) j b.string_is_leaf
-        | inr t ↦ let h : field_in (cond (bytes_eq s.query s.query) root_fields []) f ≡ Some d = rw t at e' in let n = root_field-none (bytes_eq s.query s.query) f i in cc
-      ]
-      | inr q ↦ let h : None ≡ Some d = rw q at e in cc
-    ]
-
-field_of-flat : (s : Schema) → Built s → is_flat s ≡ true → (f : Name) → is_introspection f ≡ false → (d : FieldDeclaration) → field_of s s.query f ≡ Some d → is_flat_field s d ≡ true
-unfolding field_of is_flat
-field_of-flat s b a f i d e = elim (or_else_parts (field_in (fields_of (type_named s s.query)) f) (field_in (meta_fields s s.query) f) d e) [
-  | inl p ↦ field_in-flat s (fields_of (type_named s s.query)) f d a p
-  | inr p ↦ meta-flat s b f d i p
-]
+use Rattle.graphql_spec.specs.FirstRules.{lacks_field, field_errors, merge_errors, first_rule_errors, is_plain_selections, is_query, is_empty, is_plain_operation, is_plain_document, is_flat_field, is_flat, FirstRulesFindAll}
+use Rattle.graphql_spec.proofs.PlainQueries.{Every, every_failing, none, nothing, every_as, every-append, every-map, every-flat_map, Plain, PlainField, row, plain_row, heads-row, conditions-row, spreads-row, directives-row}
+use Rattle.graphql_spec.proofs.FlatSchemas.{fields_as_leaf, Built, built, field_of-flat}
 
 -- ## Placed fields, and calls
 
@@ -386,55 +132,55 @@ module _ (s : Schema) (b : Built s) (a : is_flat s ≡ true) (hs : List Head) (p
   abbrev alone : Document
   alone = it ∷ []
 
-  rule1 : repeats_operation [] it ≡ false
+  no_repeated_operation : repeats_operation [] it ≡ false
   unfolding repeats_operation word_name asks
-  rule1 = refl
+  no_repeated_operation = refl
 
-  rule2 : is_not_alone alone it ≡ false
+  alone_there : is_not_alone alone it ≡ false
   unfolding is_not_alone operations asks
-  rule2 = refl
+  alone_there = refl
 
-  rule3 : repeats_fragment [] it ≡ false
+  no_repeated_fragment : repeats_fragment [] it ≡ false
   unfolding repeats_fragment asks
-  rule3 = refl
+  no_repeated_fragment = refl
 
-  rule4 : spreads_unknown alone it ≡ false
+  no_unknown_spread : spreads_unknown alone it ≡ false
   unfolding spreads_unknown selections_of asks
-  rule4 = rw (spreads-row hs) refl
+  no_unknown_spread = rw (spreads-row hs) refl
 
-  rule5 : spreads_itself alone it ≡ false
+  no_cycle : spreads_itself alone it ≡ false
   unfolding spreads_itself asks
-  rule5 = refl
+  no_cycle = refl
 
-  rule6 : repeats_variable it ≡ false
+  no_repeated_variable : repeats_variable it ≡ false
   unfolding repeats_variable defined_variables variables_of repeats asks
-  rule6 = refl
+  no_repeated_variable = refl
 
-  rule7 : repeats_argument it ≡ false
+  no_repeated_argument : repeats_argument it ≡ false
   unfolding repeats_argument repeats
-  rule7 = none (λ as'. repeats (map (λ a. a.name.item) as')) (argument_lists it) (argument_lists-every (λ as'. repeats (map (λ a. a.name.item) as') ≡ false) refl (λ a c. refl) hs p x)
+  no_repeated_argument = none (λ as'. repeats (map (λ a. a.name.item) as')) (argument_lists it) (argument_lists-every (λ as'. repeats (map (λ a. a.name.item) as') ≡ false) refl (λ a c. refl) hs p x)
 
-  rule8 : repeats_input_field it ≡ false
+  no_repeated_input_field : repeats_input_field it ≡ false
   unfolding repeats_input_field values_in defined_variables variables_of default_values field_repeats asks
-  rule8 = none field_repeats (values_in it) (every-append (λ v. field_repeats v ≡ false) (flat_map (λ as'. map (λ a. a.value.item) as') (argument_lists it)) []
+  no_repeated_input_field = none field_repeats (values_in it) (every-append (λ v. field_repeats v ≡ false) (flat_map (λ as'. map (λ a. a.value.item) as') (argument_lists it)) []
       (every-flat_map (λ v. field_repeats v ≡ false) (λ as'. map (λ a. a.value.item) as') (argument_lists it)
       (argument_lists-every (λ as'. Every (λ v. field_repeats v ≡ false) (map (λ a. a.value.item) as')) tt (λ a c. (rw (c.value_is) refl, tt)) hs p x)) tt)
 
-  rule9 : has_unknown_directive it ≡ false
+  no_unknown_directive : has_unknown_directive it ≡ false
   unfolding has_unknown_directive all_directives own_directives variables_of selections_of asks
-  rule9 = none (λ d. is_none (directive_named d.name.item)) (directives_in (row hs)) (every_as Plain (λ d. is_none (directive_named d.name.item) ≡ false) known_directive (directives_in (row hs)) (directives-row hs x))
+  no_unknown_directive = none (λ d. is_none (directive_named d.name.item)) (directives_in (row hs)) (every_as Plain (λ d. is_none (directive_named d.name.item) ≡ false) known_directive (directives_in (row hs)) (directives-row hs x))
 
-  rule10 : has_unknown_type s it ≡ false
+  no_unknown_type : has_unknown_type s it ≡ false
   unfolding has_unknown_type all_conditions variable_types defined_variables variables_of asks
-  rule10 = rw (conditions-row hs) refl
+  no_unknown_type = rw (conditions-row hs) refl
 
-  rule11 : has_other_condition s it ≡ false
+  no_other_condition : has_other_condition s it ≡ false
   unfolding has_other_condition all_conditions asks
-  rule11 = rw (conditions-row hs) refl
+  no_other_condition = rw (conditions-row hs) refl
 
-  rule12 : has_other_variable s it ≡ false
+  no_other_variable : has_other_variable s it ≡ false
   unfolding has_other_variable variable_types defined_variables variables_of asks
-  rule12 = refl
+  no_other_variable = refl
 
   wrong_set : (y : Placed) → FlatPlaced s y → (o : Option FieldDeclaration) → y.declared ≡ o → (elim o [ None ↦ false | Some d ↦ set_is_wrong s y.head.has_set d.of_type ]) ≡ false
   unfolding set_is_wrong is_flat_field
@@ -442,68 +188,68 @@ module _ (s : Schema) (b : Built s) (a : is_flat s ≡ true) (hs : List Head) (p
   wrong_set y f (Some d) q =
       let e = and_parts (no_declarations d.arguments) (is_leaf (type_named s (innermost d.of_type))) (f.flat d q) in rw (f.plain.no_set, fields_as_leaf (type_named s (innermost d.of_type)) e.1) refl
 
-  rule14 : has_wrong_set s it ≡ false
+  no_wrong_set : has_wrong_set s it ≡ false
   unfolding has_wrong_set placed_in root_type asks
-  rule14 = none (λ y. elim y.declared [ None ↦ false | Some d ↦ set_is_wrong s y.head.has_set d.of_type ]) (placed s s.query (row hs))
+  no_wrong_set = none (λ y. elim y.declared [ None ↦ false | Some d ↦ set_is_wrong s y.head.has_set d.of_type ]) (placed s s.query (row hs))
       (every_as (FlatPlaced s) (λ y. (elim y.declared [ None ↦ false | Some d ↦ set_is_wrong s y.head.has_set d.of_type ]) ≡ false) (λ y f. wrong_set y f y.declared refl) (placed s s.query (row hs)) (placed-row s b a hs x i))
 
-  rule15 : has_unknown_argument s it ≡ false
+  no_unknown_argument : has_unknown_argument s it ≡ false
   unfolding has_unknown_argument declaration_in condition_arguments plain_input call_of
-  rule15 = none (λ c. list_any (λ g. is_none (declaration_in c.declared g.name.item)) c.given) (calls s it)
+  no_unknown_argument = none (λ c. list_any (λ g. is_none (declaration_in c.declared g.name.item)) c.given) (calls s it)
       (calls-every s b a (λ c. list_any (λ g. is_none (declaration_in c.declared g.name.item)) c.given ≡ false) refl (λ g c. rw (c.name_is) refl) hs p x i)
 
-  rule16 : lacks_argument s it ≡ false
+  no_missing_argument : lacks_argument s it ≡ false
   unfolding lacks_argument must_be_written required must condition_arguments plain_input call_of
-  rule16 = none (λ c. list_any (λ d. must_be_written d && not (list_any (λ g. bytes_eq d.name g.name.item) c.given)) c.declared) (calls s it)
+  no_missing_argument = none (λ c. list_any (λ d. must_be_written d && not (list_any (λ g. bytes_eq d.name g.name.item) c.given)) c.declared) (calls s it)
       (calls-every s b a (λ c. list_any (λ d. must_be_written d && not (list_any (λ g. bytes_eq d.name g.name.item) c.given)) c.declared ≡ false) refl (λ g c. rw (c.name_is) refl) hs p x i)
 
-  rule17 : has_wrong_argument s it ≡ false
+  no_wrong_argument : has_wrong_argument s it ≡ false
   unfolding has_wrong_argument declaration_in condition_arguments plain_input fits through must call_of
-  rule17 = none (λ c. list_any (λ g. elim (declaration_in c.declared g.name.item) [ None ↦ false | Some d ↦ not (fits s false g.value.item d.of_type) ]) c.given) (calls s it)
+  no_wrong_argument = none (λ c. list_any (λ g. elim (declaration_in c.declared g.name.item) [ None ↦ false | Some d ↦ not (fits s false g.value.item d.of_type) ]) c.given) (calls s it)
       (calls-every s b a (λ c. list_any (λ g. elim (declaration_in c.declared g.name.item) [ None ↦ false | Some d ↦ not (fits s false g.value.item d.of_type) ]) c.given ≡ false) refl
       (λ g c. rw (c.name_is, c.value_is) (rw (b.boolean_fits c.value) refl)) hs p x i)
 
-  rule18 : has_wrong_default s it ≡ false
+  no_wrong_default : has_wrong_default s it ≡ false
   unfolding has_wrong_default defined_variables variables_of asks
-  rule18 = refl
+  no_wrong_default = refl
 
-  rule19 : uses_undefined s alone it ≡ false
+  no_undefined_variable : uses_undefined s alone it ≡ false
   unfolding uses_undefined all_defined parts reached as_definitions fragments names_used variables_in asks
-  rule19 = rw (nothing (λ as'. flat_map (λ a. variables_in a.value.item) as') (argument_lists it)
+  no_undefined_variable = rw (nothing (λ as'. flat_map (λ a. variables_in a.value.item) as') (argument_lists it)
       (argument_lists-every (λ as'. flat_map (λ a. variables_in a.value.item) as' ≡ []) refl (λ a c. rw (c.value_is) refl) hs p x)) (never (has_root s (record { kind = query; name = None; variables = None; directives = []; selections = row hs; span = p })))
     where
       never : (t : Bool) → (t && false) ≡ false
       never true = refl
       never false = refl
 
-  rule20 : misuses_variable s alone it ≡ false
+  no_misused_variable : misuses_variable s alone it ≡ false
   unfolding misuses_variable all_allowed uses uses_in_call uses_at at_declared parts reached as_definitions fragments declaration_in condition_arguments plain_input call_of asks
-  rule20 = rw (nothing (uses_in_call s) (calls s it)
+  no_misused_variable = rw (nothing (uses_in_call s) (calls s it)
       (calls-every s b a (λ c. uses_in_call s c ≡ []) refl (λ g c. rw (c.name_is, c.value_is) refl) hs p x i)) (never (has_root s (record { kind = query; name = None; variables = None; directives = []; selections = row hs; span = p })))
     where
       never : (t : Bool) → (t && false) ≡ false
       never true = refl
       never false = refl
 
-  rule22 : looks_at_schema s true it ≡ false
+  no_introspection : looks_at_schema s true it ≡ false
   unfolding looks_at_schema can_look has_root root_type selections_of asks
-  rule22 = rw (heads-row hs) (none (λ h. is_introspection h.name.item) hs i)
+  no_introspection = rw (heads-row hs) (none (λ h. is_introspection h.name.item) hs i)
 
   names_right : name_errors s true alone [] it ≡ []
   unfolding name_errors reported
-  names_right = rw (rule1, rule2, rule3, rule4, rule5, rule6, rule7, rule8, rule9, rule10) refl
+  names_right = rw (no_repeated_operation, alone_there, no_repeated_fragment, no_unknown_spread, no_cycle, no_repeated_variable, no_repeated_argument, no_repeated_input_field, no_unknown_directive, no_unknown_type) refl
 
   types_right : type_errors s true alone [] it ≡ reported (has_unknown_field s it) (codes "Unknown field") it
   unfolding type_errors reported
-  types_right = rw (rule11, rule12, rule14, rule15, rule16, rule17, rule18) (simp append-nothing)
+  types_right = rw (no_other_condition, no_other_variable, no_wrong_set, no_unknown_argument, no_missing_argument, no_wrong_argument, no_wrong_default) (simp append-nothing)
 
   uses_right : use_errors s true alone [] it ≡ reported (cannot_merge s alone it) (codes "Fields cannot be merged") it
   unfolding use_errors reported
-  uses_right = rw (rule19, rule20, rule22) (simp append-nothing)
+  uses_right = rw (no_undefined_variable, no_misused_variable, no_introspection) (simp append-nothing)
 
   fields_alone : field_errors s [] it ≡ reported (has_unknown_field s it) (codes "Unknown field") it
   unfolding field_errors lacks_field
-  fields_alone = rw rule22 (ap (λ t. reported t (codes "Unknown field") it) (or-nothing (has_unknown_field s it)))
+  fields_alone = rw no_introspection (ap (λ t. reported t (codes "Unknown field") it) (or-nothing (has_unknown_field s it)))
     where
       or-nothing : (t : Bool) → (t || false) ≡ t
       or-nothing true = refl

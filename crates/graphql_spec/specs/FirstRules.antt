@@ -50,10 +50,12 @@ is_plain_selections end = true
 is_plain_selections (field h below rest) = is_plain_field h && (is_end below && is_plain_selections rest)
 is_plain_selections _ = false
 
+-- an operation that only reads
 unfoldable pub is_query : OperationType → Bool
 is_query query = true
 is_query _ = false
 
+-- a list without elements
 unfoldable pub is_empty : {A : Type 0} → List A → Bool
 is_empty [] = true
 is_empty (x ∷ xs) = false
