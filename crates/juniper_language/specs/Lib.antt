@@ -1,4 +1,9 @@
 pub mod Positions
+pub mod Scalars
+pub mod InputView
+pub mod ValueView
+pub mod TypeView
+pub mod DocumentView
 pub mod Refusals
 pub mod Lexing
 pub mod TokenViews

@@ -1,10 +1,23 @@
 //! The language layer: positions, scalars, values, the document as it is written, and the parser that reads it.
 #![tactic(auto)]
 
+pub mod ast;
 pub mod error;
+pub mod input;
 mod lexer;
 pub mod position;
+pub mod scalar;
 mod token;
+pub mod types;
+pub mod value;
 
+pub use ast::{
+    Definition, Directive, Document, Field, Fragment, FragmentSpread, Fragments, InlineFragment,
+    Operation, OperationType, Selection, VariableDefinition, VariableDefinitions,
+};
 pub use error::{LexerError, ParseError};
+pub use input::{InputValue, Variables};
 pub use position::{SourcePosition, Span, Spanning};
+pub use scalar::{DefaultScalarValue, ScalarValue};
+pub use types::Type;
+pub use value::{Object, Value};
