@@ -5,3 +5,6 @@ pub mod Rooms
 pub mod Fronts
 pub mod LexSteps
 pub mod Boundaries
+pub mod Bytes
+pub mod Gaps
+pub mod LexLaws

@@ -2,8 +2,10 @@
 #![tactic(auto)]
 
 pub mod ast;
+mod cursor;
 pub mod error;
 pub mod input;
+mod laws;
 mod lexer;
 pub mod position;
 pub mod scalar;
