@@ -8,3 +8,9 @@ pub mod Boundaries
 pub mod Bytes
 pub mod Gaps
 pub mod LexLaws
+pub mod Loops
+pub mod StepLaws
+pub mod DirectiveLaws
+pub mod SelectionLaws
+pub mod Plain
+pub mod DocumentLaws

@@ -9,3 +9,4 @@ pub mod Lexing
 pub mod TokenViews
 pub mod Cursors
 pub mod Reading
+pub mod ParserViews
