@@ -15,7 +15,7 @@ pub data IsIgnored (bs : List ℕ) (n : ℕ) : Type 0 where
 
 pub data IsTaken (bs : List ℕ) (n : ℕ) : Type 0 where
   punctuator : (b : ℕ) (rest : List ℕ) → bs ≡ b ∷ rest → n ≡ 1 → is_mark b ≡ true → IsTaken bs n
-  word : (b : ℕ) (rest : List ℕ) → bs ≡ b ∷ rest → n ≡ prefix_len continues_name bs → starts_name b ≡ true → IsTaken bs n
+  letters : (b : ℕ) (rest : List ℕ) → bs ≡ b ∷ rest → n ≡ prefix_len continues_name bs → starts_name b ≡ true → IsTaken bs n
   dotted : (rest : List ℕ) → bs ≡ three_dots ++ rest → n ≡ 3 → IsTaken bs n
 
 begins : (bs p : List ℕ) → starts_with nat_eq bs p ≡ true → bs ≡ p ++ drop (length p) bs
@@ -41,7 +41,7 @@ taken_is [] some = absurd (some refl)
 taken_is (b ∷ bs) some = elim (cases_Bool (is_mark b)) [
   | inl e ↦ rw e (punctuator b bs refl refl e)
   | inr e ↦ elim (cases_Bool (starts_name b)) [
-      | inl f ↦ rw (e, f) (word b bs refl refl f)
+      | inl f ↦ rw (e, f) (letters b bs refl refl f)
       | inr f ↦ elim (cases_Bool (starts_with nat_eq (b ∷ bs) three_dots)) [
           | inl g ↦ rw (e, f, g) (dotted (drop 3 (b ∷ bs)) (begins (b ∷ bs) three_dots g) refl)
           | inr g ↦ absurd (some (rw (e, f, g) refl))
@@ -56,7 +56,7 @@ ignored_within bs n (byte_order rest is three) = rw (is, three) (omega arith)
 
 taken_within : (bs : List ℕ) (n : ℕ) → IsTaken bs n → n ≤ length bs
 taken_within bs n (punctuator b rest is one e) = rw (is, one) (omega arith)
-taken_within bs n (word b rest is run e) = rw run (prefix_len-le-length continues_name bs)
+taken_within bs n (letters b rest is run e) = rw run (prefix_len-le-length continues_name bs)
 taken_within bs n (dotted rest is three) = rw (is, three) (omega arith)
 
 pub ignored_fits : (bs : List ℕ) → ignored_len bs ≢ 0 → ignored_len bs ≤ length bs

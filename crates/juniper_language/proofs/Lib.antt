@@ -5,3 +5,12 @@ pub mod Rooms
 pub mod Fronts
 pub mod LexSteps
 pub mod Boundaries
+pub mod Bytes
+pub mod Gaps
+pub mod LexLaws
+pub mod Loops
+pub mod StepLaws
+pub mod DirectiveLaws
+pub mod SelectionLaws
+pub mod Plain
+pub mod DocumentLaws

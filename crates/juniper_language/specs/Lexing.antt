@@ -40,6 +40,10 @@ pub data Ending : Type 0 where
   whole : Position → Ending
   fault : Position → Ending
 
+abbrev pub is_whole : Ending → Bool
+is_whole (whole p) = true
+is_whole (fault p) = false
+
 pub record Lexed : Type 0 where
   pub tokens : List Token
   pub ending : Ending

@@ -8,3 +8,5 @@ pub mod Refusals
 pub mod Lexing
 pub mod TokenViews
 pub mod Cursors
+pub mod Reading
+pub mod ParserViews

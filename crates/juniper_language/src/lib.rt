@@ -2,9 +2,11 @@
 #![tactic(auto)]
 
 pub mod ast;
+mod cursor;
 pub mod error;
 pub mod input;
 mod lexer;
+pub mod parser;
 pub mod position;
 pub mod scalar;
 mod token;
@@ -17,6 +19,7 @@ pub use ast::{
 };
 pub use error::{LexerError, ParseError};
 pub use input::{InputValue, Variables};
+pub use parser::parse_document_source;
 pub use position::{SourcePosition, Span, Spanning};
 pub use scalar::{DefaultScalarValue, ScalarValue};
 pub use types::Type;

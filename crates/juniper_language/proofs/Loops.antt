@@ -1,0 +1,128 @@
+-- Steps of the parser's loops, and views of what they make.
+use Rattle.std.proofs.Common.{inl, inr, ◌≡◌, ◌≢◌, ℕ, zero, suc, ◌+◌, ◌-◌, ◌<◌, ◌≤◌, Bool, true, false, cond, List, [], ◌∷◌, ◌++◌, map, length, Vec, Global, Bor, Option, Some, None, option_map, refl, ap, sym, ◌∙◌, arith, rules, append_assoc, append-nil}
+use Rattle.graphql_spec.specs.Shown.{Shown, boolean}
+use Rattle.graphql_spec.specs.Inputs as spec
+use Rattle.graphql_spec.specs.Tokens.{Token}
+use Rattle.graphql_spec.specs.Documents.{Selections, end, field}
+use Rattle.graphql_spec.specs.Grammar.{At}
+use Rattle.juniper_language.specs.InputView.{view_input}
+use Rattle.juniper_language.specs.Positions.{view_span}
+use Rattle.juniper_language.specs.DocumentView.{put_selection, view_selections, view_word, view_directives, view_head, chain}
+use Rattle.juniper_language.specs.ParserViews.{view_label}
+use Rattle.juniper_language.specs.Reading.{Reader, Outcome, and_then, pure, refuse, next, sees, while_sees, until, prepend, put_first, placed, ◌>>=◌, Node, field_node, put, selections_of, selection, head_of}
+use Rattle.juniper_language.specs.declared.input.InputValue.{InputValue, Scalar}
+use Rattle.juniper_language.specs.declared.position.Spanning.{Spanning}
+use Rattle.juniper_language.specs.declared.position.Span.{Span}
+use Rattle.juniper_language.specs.declared.ast.Directive.{Directive}
+use Rattle.juniper_language.specs.declared.ast.Field.{roll-Field}
+use Rattle.juniper_language.specs.declared.ast.Selection.{Field}
+use Rattle.juniper_language.proofs.Inputs.{view-Scalar}
+use Rattle.juniper_language.proofs.Documents.{put-Field}
+
+pub view_truth : {S : Type 0} (shown : S → Shown) (x : S) (b : Bool) → shown x ≡ boolean b → view_input shown (Scalar x) ≡ spec.scalar (boolean b)
+view_truth shown x b e = view-Scalar shown x ∙ ap spec.scalar e
+
+pub prepend_nil : {A : Type 0} (o : Outcome (List A)) → prepend [] o ≡ o
+prepend_nil None = refl
+prepend_nil (Some p) = refl
+
+pub map_push : {A B : Type 0} (f : A → B) (xs : List A) (x : A) → map f (xs ++ x ∷ []) ≡ map f xs ++ f x ∷ []
+map_push f [] x = refl
+map_push f (y ∷ xs) x = ap (λ ys. f y ∷ ys) (map_push f xs x)
+
+left_suc : (e i : ℕ) → i < e → e - i ≡ suc (e - (i + 1))
+left_suc e i h = omega arith
+
+prepend_cons : {A : Type 0} (front : List A) (x : A) (o : Outcome (List A)) → prepend front (and_then o (λ xs. pure (x ∷ xs))) ≡ prepend (front ++ x ∷ []) o
+prepend_cons front x None = refl
+prepend_cons front x (Some p) = ap (λ v. Some (v, p.1)) (sym (append_assoc front (x ∷ []) p.0))
+
+-- ---- parts as long as a mark is seen
+
+abbrev pub behind_one : {A : Type 0} → ℕ → Reader A → ℕ → List A → Outcome A → Outcome (List A)
+behind_one m p k front (Some q) = prepend (front ++ q.0 ∷ []) (while_sees m p k q.1)
+behind_one m p k front None = None
+
+one_from : {A : Type 0} (m : ℕ) (p : Reader A) (k : ℕ) (front : List A) (o : Outcome A)
+    → prepend front (and_then o (λ x. while_sees m p k >>= (λ xs. pure (x ∷ xs)))) ≡ behind_one m p k front o
+one_from m p k front None = refl
+one_from m p k front (Some q) = prepend_cons front q.0 (while_sees m p k q.1)
+
+pub while_more : {A : Type 0} (m : ℕ) (p : Reader A) (e i : ℕ) (front : List A) (s : At) → i < e → sees m s ≡ true
+    → prepend front (while_sees m p (e - i) s) ≡ behind_one m p (e - (i + 1)) front (p s)
+unfolding while_sees
+while_more m p e i front s below seen = rw (left_suc e i below, seen) (one_from m p (e - (i + 1)) front (p s))
+
+pub while_done : {A : Type 0} (m : ℕ) (p : Reader A) (e i : ℕ) (front : List A) (s : At) → i < e → sees m s ≡ false
+    → prepend front (while_sees m p (e - i) s) ≡ Some (front, s)
+unfolding while_sees
+while_done m p e i front s below other = rw (left_suc e i below, other) (ap (λ v. Some (v, s)) (append-nil front))
+
+pub while_out : {A : Type 0} (m : ℕ) (p : Reader A) (e i : ℕ) (front : List A) (s : At) → e ≤ i → prepend front (while_sees m p (e - i) s) ≡ Some (front, s)
+unfolding while_sees
+while_out m p e i front s past = let z : e - i ≡ 0 = omega arith in rw z (ap (λ v. Some (v, s)) (append-nil front))
+
+pub while_none : {A : Type 0} (m : ℕ) (p : Reader A) (k : ℕ) (s : At) → sees m s ≡ false → while_sees m p k s ≡ Some ([], s)
+unfolding while_sees
+while_none m p zero s other = refl
+while_none m p (suc k) s other = rw other refl
+
+-- ---- selections up to the closing brace
+
+abbrev pub Putting : Type 0
+Putting = Selections → Selections
+
+abbrev pub behind_node : ℕ → ℕ → Putting → Outcome Putting → Outcome Selections
+behind_node m k front (Some q) = put_first (λ r. front (q.0 r)) (until m selection k q.1)
+behind_node m k front None = None
+
+abbrev pub at_mark : Putting → Outcome Token → Outcome Selections
+at_mark front (Some q) = Some (front end, q.1)
+at_mark front None = None
+
+put_cons : (front : Putting) (x : Node) (o : Outcome (List Node)) → put_first front (and_then o (λ xs. pure (x ∷ xs))) ≡ put_first (λ r. front (put x r)) o
+put_cons front x None = refl
+put_cons front x (Some p) = refl
+
+node_from : (m k : ℕ) (front : Putting) (o : Outcome Node)
+    → put_first front (and_then o (λ x. until m selection k >>= (λ xs. pure (x ∷ xs)))) ≡ behind_node m k front (and_then o (λ x. pure (put x)))
+node_from m k front None = refl
+node_from m k front (Some q) = put_cons front q.0 (until m selection k q.1)
+
+mark_from : (front : Putting) (o : Outcome Token) → put_first front (and_then o (λ t. pure [])) ≡ at_mark front o
+mark_from front None = refl
+mark_from front (Some q) = refl
+
+pub until_more : (m e i : ℕ) (front : Putting) (s : At) → i < e → sees m s ≡ false
+    → put_first front (until m selection (e - i) s) ≡ behind_node m (e - (i + 1)) front (placed s)
+unfolding until
+until_more m e i front s below other = rw (left_suc e i below, other) (node_from m (e - (i + 1)) front (selection s))
+
+pub until_end : (m e i : ℕ) (front : Putting) (s : At) → i < e → sees m s ≡ true → put_first front (until m selection (e - i) s) ≡ at_mark front (next s)
+unfolding until
+until_end m e i front s below close = rw (left_suc e i below, close) (mark_from front (next s))
+
+pub until_none : (m e i : ℕ) (front : Putting) (s : At) → e ≤ i → put_first front (until m selection (e - i) s) ≡ None
+unfolding until
+until_none m e i front s past = let z : e - i ≡ 0 = omega arith in rw z refl
+
+pub put_none : (o : Outcome (List Node)) → put_first (chain []) o ≡ and_then o (λ xs. pure (selections_of xs))
+put_none None = refl
+put_none (Some p) = refl
+
+pub chain_push : (fs : List Putting) (f : Putting) → ◌≡◌ {A = Putting} (chain (fs ++ f ∷ [])) (λ r. chain fs (f r))
+chain_push [] f = refl
+chain_push (g ∷ fs) f = ap {B = Putting} (λ (h : Putting). λ r. g (h r)) (chain_push fs f)
+
+-- one more selection, put behind those that are found
+pub turn_on : (m e i : ℕ) (fs gs : List Putting) (f : Putting) (s t : At) (o : Outcome Selections) → i < e → sees m s ≡ false → placed s ≡ Some (f, t) → gs ≡ fs ++ f ∷ []
+    → put_first (chain fs) (until m selection (e - i) s) ≡ o → put_first (chain gs) (until m selection (e - (i + 1)) t) ≡ o
+turn_on m e i fs gs f s t o below other one is kept =
+    let more : chain gs ≡ (λ r. chain fs (f r)) = ap chain is ∙ chain_push fs f in
+    ap (λ (g : Putting). put_first g (until m selection (e - (i + 1)) t)) more ∙ sym (until_more m e i (chain fs) s below other ∙ ap (behind_node m (e - (i + 1)) (chain fs)) one) ∙ kept
+
+-- a field without arguments and selections
+pub view_of_field : {S : Type 0} (shown : S → Shown) (alias : Option (Spanning (Bor (List ℕ)) Span)) (name : Spanning (Bor (List ℕ)) Span) (ds : Option (Vec (Spanning (Directive S) Span) Global)) (sp : Span)
+    → ◌≡◌ {A = Putting} (put_selection shown (Field (record { item = roll-Field S (record { alias = alias; name = name; arguments = None; directives = ds; selection_set = None }); span = sp })))
+    (put (field_node (head_of (option_map view_word alias, view_word name) (view_directives shown ds) (view_span sp)) end))
+view_of_field {S} shown alias name ds sp = λ i r. put-Field shown (record { item = roll-Field S (record { alias = alias; name = name; arguments = None; directives = ds; selection_set = None }); span = sp }) r i

@@ -1,0 +1,152 @@
+//! Where a reader of tokens stands.
+
+ghost use Rattle.std.specs.Prelude.{◌≡◌, ◌≢◌, length, map};
+ghost use Rattle.graphql_spec.specs.Grammar.{begin_of};
+ghost use Rattle.graphql_spec.specs.Served.{before_all};
+ghost use Rattle.juniper_language.specs.Positions.{view_position};
+ghost use Rattle.juniper_language.specs.DocumentView.{view_word};
+ghost use Rattle.juniper_language.specs.Reading as read;
+ghost use Rattle.juniper_language.specs.Reading.{Gives};
+ghost use Rattle.juniper_language.specs.TokenViews.{view_token};
+ghost use Rattle.juniper_language.specs.declared.error.ParseError.TheVariants.{Memory, UnexpectedToken};
+
+use crate::error::ParseError;
+use crate::position::{SourcePosition, Span, Spanning};
+use crate::token::{Ending, Lexeme, Token};
+use std::marker::Model;
+
+/// What a reader answers, or why it refuses and where.
+pub type ParseResult<T> = Result<T, Spanning<ParseError, Span>>;
+
+/// The tokens left, the end of the last one taken, and what stands after all of them.
+#[derive(Drop)]
+pub struct Parser<'t, 'a> {
+    tokens: &'t [Token<'a>],
+    last: SourcePosition,
+    ending: Ending,
+}
+
+impl<'t, 'a> Model for Parser<'t, 'a> {
+    ghost use Rattle.graphql_spec.specs.Grammar.{At};
+
+    ghost Value = { At };
+
+    ghost use Rattle.juniper_language.specs.Cursors.{view_at};
+
+    ghost view = { view_at };
+}
+
+impl<'t, 'a> Parser<'t, 'a> {
+    /// Before all tokens.
+    pub fn new(tokens: &'t [Token<'a>], ending: Ending) -> Self
+        ensures { result ≡ before_all (map view_token tokens.now) }
+    {
+        Parser {
+            tokens,
+            last: SourcePosition::new_origin(),
+            ending,
+        }
+    }
+
+    /// How many tokens are left.
+    pub fn left(&self) -> usize
+        ensures { result ≡ length self.now.ahead }
+    {
+        self.tokens.len()
+    }
+
+    #[tactic(auto, unfolding(graphql_spec::specs::Grammar::begin_of))]
+    /// Where the next token begins, and past all tokens where the last one ends.
+    pub fn begin(&self) -> SourcePosition
+        ensures { view_position result ≡ begin_of self.now.last self.now.ahead }
+    {
+        match self.tokens {
+            [] => self.last,
+            [first, ..] => first.span.start,
+        }
+    }
+
+    /// Where the last token that was taken ends.
+    pub fn last(&self) -> SourcePosition
+        ensures { view_position result ≡ self.now.last }
+    {
+        self.last
+    }
+
+    /// The refusal of what comes next: a token, a character that begins none, or the end of the text.
+    pub fn unexpected(&self) -> Spanning<ParseError, Span>
+        ensures { result.item ≢ Memory }
+    {
+        match self.tokens {
+            [first, ..] => Spanning::new(first.span, ParseError::UnexpectedToken),
+            [] => match self.ending {
+                Ending::Fault(at) => Spanning::new(Span { start: at, end: at }, ParseError::UnexpectedToken),
+                Ending::Whole(at) => Spanning::new(Span { start: at, end: at }, ParseError::UnexpectedEndOfFile),
+            },
+        }
+    }
+
+    /// Takes the next token.
+    pub fn next(&mut self) -> ParseResult<Token<'a>>
+        ensures { Gives view_token result self.new (read.next self.old) }
+    {
+        match self.tokens {
+            [] => Err(self.unexpected()),
+            [first, rest @ ..] => {
+                let token = *first;
+                self.tokens = rest;
+                self.last = token.span.end;
+                Ok(token)
+            }
+        }
+    }
+
+    /// Whether the next token is this punctuator.
+    pub fn sees(&self, mark: u8) -> bool
+        ensures { result ≡ read.sees mark self.now }
+    {
+        match self.tokens {
+            [] => false,
+            [first, ..] => match first.lexeme {
+                Lexeme::Mark(found) => found == mark,
+                Lexeme::Name(_) => false,
+            },
+        }
+    }
+
+    /// Takes this punctuator.
+    pub fn expect(&mut self, mark: u8) -> ParseResult<()>
+        ensures { Gives (λ _. tt) result self.new (read.expect mark self.old) }
+    {
+        let token = self.next()?;
+        match token.lexeme {
+            Lexeme::Mark(found) => {
+                if found == mark {
+                    Ok(())
+                } else {
+                    Err(refused(token.span))
+                }
+            }
+            Lexeme::Name(_) => Err(refused(token.span)),
+        }
+    }
+
+    /// Takes a name.
+    pub fn name(&mut self) -> ParseResult<Spanning<&'a str, Span>>
+        ensures { Gives view_word result self.new (read.a_name self.old) }
+    {
+        let token = self.next()?;
+        match token.lexeme {
+            Lexeme::Name(word) => Ok(Spanning::new(token.span, word)),
+            Lexeme::Mark(_) => Err(refused(token.span)),
+        }
+    }
+}
+
+/// The refusal of the token at the place.
+pub fn refused(place: Span) -> Spanning<ParseError, Span>
+    ensures kind { result.item ≡ UnexpectedToken }
+    ensures place { result.span ≡ place }
+{
+    Spanning::new(place, ParseError::UnexpectedToken)
+}

@@ -1,0 +1,257 @@
+//! The parser: from a text to the document that it spells (section 2 of the Specification).
+//!
+//! Served is one query that is written as its selection set alone, of fields without arguments and without selection
+//! sets, with any number of `@skip` and `@include` whose condition is `true` or `false`.
+
+ghost use Rattle.std.specs.Prelude.{◌≡◌, ◌≢◌, ℕ, length, map, option_map, MatchResult, true, false};
+ghost use Rattle.graphql_spec.specs.Documents as spec;
+ghost use Rattle.graphql_spec.specs.Served.{SpellsServed};
+ghost use Rattle.juniper_language.specs.DocumentView.{put_selection, view_argument, view_directive, view_directives, view_document, view_operation, view_selections, view_word};
+ghost use Rattle.juniper_language.specs.InputView.{view_input};
+ghost use Rattle.juniper_language.specs.Lexing as read_tokens;
+ghost use Rattle.juniper_language.specs.TokenViews.{view_ending};
+ghost use Rattle.juniper_language.specs.Reading as read;
+ghost use Rattle.juniper_language.specs.Reading.{Gives};
+ghost use Rattle.juniper_language.specs.ParserViews.{view_conditions, view_label};
+
+use crate::ast::{Arguments, Definition, Directive, Document, Field, Operation, OperationType, Selection};
+use crate::cursor::{ParseResult, Parser, refused};
+use crate::error::ParseError;
+use crate::input::InputValue;
+use crate::lexer::lex;
+use crate::position::{Span, Spanning};
+use crate::scalar::ScalarValue;
+use crate::token::Ending;
+use std::alloc::Global;
+
+/// A name of the text, and its place.
+type Word<'a> = Spanning<&'a str, Span>;
+
+/// An argument's name and value.
+type Argument<'a, S> = (Word<'a>, Spanning<InputValue<S>, Span>);
+
+/// `true` or `false` (2.9.3).
+#[tactic(auto, unfolding(crate::specs::Reading::truth), using(crate::proofs::Loops::view_truth))]
+fn truth<S: ScalarValue>(parser: &mut Parser<'_, '_>) -> ParseResult<InputValue<S>>
+    ensures { Gives (view_input S.shown) result parser.new (read.truth parser.old) }
+{
+    let word = parser.name()?;
+    if word.item == "true" {
+        Ok(InputValue::Scalar(S::from_bool(true)))
+    } else if word.item == "false" {
+        Ok(InputValue::Scalar(S::from_bool(false)))
+    } else {
+        Err(refused(word.span))
+    }
+}
+
+/// The name `if`.
+fn if_name<'a>(parser: &mut Parser<'_, 'a>) -> ParseResult<Word<'a>>
+    ensures { Gives view_word result parser.new (read.a_name_of read.is_if parser.old) }
+{
+    let word = parser.name()?;
+    if word.item == "if" {
+        Ok(word)
+    } else {
+        Err(refused(word.span))
+    }
+}
+
+/// The name of a directive that is served.
+fn directive_name<'a>(parser: &mut Parser<'_, 'a>) -> ParseResult<Word<'a>>
+    ensures { Gives view_word result parser.new (read.a_name_of read.is_conditional parser.old) }
+{
+    let word = parser.name()?;
+    if word.item == "skip" || word.item == "include" {
+        Ok(word)
+    } else {
+        Err(refused(word.span))
+    }
+}
+
+/// A directive's condition (3.13).
+#[tactic(auto, unfolding(crate::specs::Reading::condition, graphql_spec::specs::Grammar::span_of))]
+fn condition<'a, S: ScalarValue>(parser: &mut Parser<'_, 'a>) -> ParseResult<Argument<'a, S>>
+    ensures { Gives (view_argument S.shown) result parser.new (read.condition parser.old) }
+{
+    let name = if_name(parser)?;
+    parser.expect(b':')?;
+    let start = parser.begin();
+    let item = truth(parser)?;
+    let span = Span {
+        start,
+        end: parser.last(),
+    };
+    Ok((name, Spanning::new(span, item)))
+}
+
+/// A directive's condition in parentheses (2.6).
+#[tactic(auto, unfolding(crate::specs::Reading::conditions, graphql_spec::specs::Grammar::span_of))]
+fn conditions<'a, S: ScalarValue>(alloc: Global, parser: &mut Parser<'_, 'a>) -> ParseResult<Spanning<Arguments<'a, S>, Span>>
+    ensures { Gives (view_conditions S.shown) result parser.new (read.conditions parser.old) }
+{
+    let start = parser.begin();
+    parser.expect(b'(')?;
+    let argument = condition(parser)?;
+    parser.expect(b')')?;
+    let span = Span {
+        start,
+        end: parser.last(),
+    };
+    let mut items = Vec::new(alloc);
+    items.push(argument)?;
+    Ok(Spanning::new(span, Arguments { items }))
+}
+
+/// A directive (2.12).
+#[tactic(auto, unfolding(crate::specs::Reading::directive, graphql_spec::specs::Grammar::span_of))]
+fn directive<'a, S: ScalarValue>(alloc: Global, parser: &mut Parser<'_, 'a>) -> ParseResult<Spanning<Directive<'a, S>, Span>>
+    ensures { Gives (view_directive S.shown) result parser.new (read.directive parser.old) }
+{
+    let start = parser.begin();
+    parser.expect(b'@')?;
+    let name = directive_name(parser)?;
+    let arguments = Some(conditions(alloc, parser)?);
+    let span = Span {
+        start,
+        end: parser.last(),
+    };
+    Ok(Spanning::new(span, Directive { name, arguments }))
+}
+
+/// The directives that stand here, if there are some (2.12).
+#[tactic(auto, using(crate::proofs::Loops::while_more, crate::proofs::Loops::while_done, crate::proofs::Loops::while_out, crate::proofs::Loops::while_none, crate::proofs::Loops::prepend_nil, crate::proofs::Loops::map_push))]
+fn directives<'a, S: ScalarValue>(alloc: Global, parser: &mut Parser<'_, 'a>) -> ParseResult<Option<Vec<Spanning<Directive<'a, S>, Span>>>>
+    ensures { Gives (view_directives S.shown) result parser.new (read.directives parser.old) }
+{
+    if !parser.sees(b'@') {
+        return Ok(None);
+    }
+    let mut found = Vec::new(alloc);
+    for _turn in 0..parser.left() {
+        if !parser.sees(b'@') {
+            break;
+        }
+        found.push(directive(alloc, parser)?)?;
+    }
+    Ok(Some(found))
+}
+
+/// A field's name, and its alias before it (2.7).
+#[tactic(auto, unfolding(crate::specs::Reading::label))]
+fn label<'a>(parser: &mut Parser<'_, 'a>) -> ParseResult<(Option<Word<'a>>, Word<'a>)>
+    ensures { Gives view_label result parser.new (read.label parser.old) }
+{
+    let first = parser.name()?;
+    if !parser.sees(b':') {
+        return Ok((None, first));
+    }
+    parser.next()?;
+    let second = parser.name()?;
+    Ok((Some(first), second))
+}
+
+/// A field (2.5).
+#[tactic(auto, unfolding(crate::specs::Reading::selection, graphql_spec::specs::Grammar::span_of), using(crate::proofs::Loops::view_of_field))]
+fn selection<'a, S: ScalarValue>(alloc: Global, parser: &mut Parser<'_, 'a>) -> ParseResult<Selection<'a, S>>
+    ensures { Gives (put_selection S.shown) result parser.new (read.placed parser.old) }
+{
+    let start = parser.begin();
+    let (alias, name) = label(parser)?;
+    let directives = directives(alloc, parser)?;
+    let span = Span {
+        start,
+        end: parser.last(),
+    };
+    let item = Field {
+        alias,
+        name,
+        arguments: None,
+        directives,
+        selection_set: None,
+    };
+    Ok(Selection::Field(Spanning::new(span, item)))
+}
+
+/// The selections behind an open brace, up to the closing brace (2.4).
+#[tactic(auto, unfolding(crate::specs::Reading::selections), using(crate::proofs::Loops::until_more, crate::proofs::Loops::until_end, crate::proofs::Loops::until_none, crate::proofs::Loops::put_none, crate::proofs::Loops::map_push, crate::proofs::Loops::chain_push))]
+fn selections<'a, S: ScalarValue>(alloc: Global, parser: &mut Parser<'_, 'a>) -> ParseResult<Vec<Selection<'a, S>>>
+    ensures { Gives (λ v. view_selections S.shown v.items) result parser.new (read.selections parser.old) }
+{
+    if parser.sees(b'}') {
+        return Err(parser.unexpected());
+    }
+    let mut found = Vec::new(alloc);
+    for _turn in 0..parser.left() {
+        if parser.sees(b'}') {
+            parser.next()?;
+            return Ok(found);
+        }
+        found.push(selection(alloc, parser)?)?;
+    }
+    Err(parser.unexpected())
+}
+
+/// An operation that is its selection set alone (2.3).
+#[tactic(auto, unfolding(crate::specs::Reading::operation, graphql_spec::specs::Grammar::span_of))]
+fn operation<'a, S: ScalarValue>(alloc: Global, parser: &mut Parser<'_, 'a>) -> ParseResult<Spanning<Operation<'a, S>, Span>>
+    ensures { Gives (view_operation S.shown) result parser.new (read.operation parser.old) }
+{
+    let start = parser.begin();
+    parser.expect(b'{')?;
+    let selection_set = selections(alloc, parser)?;
+    let span = Span {
+        start,
+        end: parser.last(),
+    };
+    let item = Operation {
+        operation_type: OperationType::Query,
+        name: None,
+        variable_definitions: None,
+        directives: None,
+        selection_set,
+    };
+    Ok(Spanning::new(span, item))
+}
+
+/// One operation, and no token after it.
+#[tactic(auto, unfolding(crate::specs::Reading::document))]
+fn whole_operation<'a, S: ScalarValue>(alloc: Global, parser: &mut Parser<'_, 'a>) -> ParseResult<Spanning<Operation<'a, S>, Span>>
+    ensures { Gives (view_operation S.shown) result parser.new (read.document parser.old) }
+{
+    let found = operation(alloc, parser)?;
+    if parser.left() != 0 {
+        return Err(parser.unexpected());
+    }
+    Ok(found)
+}
+
+/// That the tokens went on to the end of the text.
+fn whole_text(ending: Ending) -> ParseResult<()>
+    ensures { MatchResult result (λ _. read_tokens.is_whole (view_ending ending) ≡ true) (λ _. read_tokens.is_whole (view_ending ending) ≡ false) }
+{
+    match ending {
+        Ending::Whole(_) => Ok(()),
+        Ending::Fault(at) => Err(refused(Span { start: at, end: at })),
+    }
+}
+
+/// The document that the text spells, in the part of the grammar that is served. Its names borrow the text.
+///
+/// # Errors
+/// Exactly where the text spells no such document, the first fault in reading order: a token or a character that may not
+/// stand there is [`ParseError::UnexpectedToken`], at the place where it begins; a text that ends too early is
+/// [`ParseError::UnexpectedEndOfFile`], at its end. Where memory is refused, [`ParseError::Memory`].
+pub fn parse_document_source<'a, S: ScalarValue>(alloc: Global, text: &'a str) -> Result<Document<'a, S>, Spanning<ParseError, Span>>
+    ensures { MatchResult result
+        (λ d. SpellsServed text.now (view_document S.shown d) × ((e : spec.Document) → SpellsServed text.now e → e ≡ view_document S.shown d))
+        (λ e. e.item ≢ ParseError.Memory → (d : spec.Document) → SpellsServed text.now d → ⊥) }
+{
+    let lexed = lex(alloc, text)?;
+    let mut parser = Parser::new(&lexed.tokens, lexed.ending);
+    let operation = whole_operation(alloc, &mut parser)?;
+    whole_text(lexed.ending)?;
+    let mut document = Vec::new(alloc);
+    document.push(Definition::Operation(operation))?;
+    Ok(document)
+}
