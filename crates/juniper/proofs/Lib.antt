@@ -1,2 +1,3 @@
 pub mod ErrorOrder
 pub mod ErrorSorting
+pub mod Messages

@@ -1,1 +1,2 @@
 pub mod ErrorView
+pub mod RequestErrors
