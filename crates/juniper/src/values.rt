@@ -3,6 +3,8 @@
 pub mod execution_error;
 pub mod field_error;
 pub(crate) mod sort;
+#[cfg(test)]
+mod tests;
 
 pub use execution_error::ExecutionError;
 pub use field_error::{ExecutionResult, FieldError, FieldResult, ResolveError};
