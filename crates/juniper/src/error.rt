@@ -16,11 +16,12 @@ use std::fmt;
 /// Why a request has no answer.
 #[derive(Debug, Eq, PartialEq, Drop)]
 pub enum GraphQLError {
-    /// The text is no document (2). Shown as the text of the [`ParseError`], which is never [`ParseError::Memory`].
+    /// The text is no document (2). Shown as the text of the [`ParseError`]. The conversion from an error of the parser
+    /// gives [`GraphQLError::OutOfMemory`] in place of [`ParseError::Memory`].
     ParseError(Spanning<ParseError, Span>),
     /// The document or the variables break rules (5, 6.1.2). Shown as the messages, one a line.
     ValidationError(Vec<RuleError>),
-    /// The document has no operation. Never made: [`GraphQLError::UnknownOperationName`] stands for it. Shown as
+    /// The document has no operation. No call makes it: [`GraphQLError::UnknownOperationName`] stands for it. Shown as
     /// `No operation provided`.
     NoOperationProvided,
     /// No name was given, and the document has several operations (6.1). Shown as `Multiple operations provided`.
@@ -29,7 +30,8 @@ pub enum GraphQLError {
     UnknownOperationName,
     /// The operation is a subscription (6.2.3). Shown as `Operation is a subscription`.
     IsSubscription,
-    /// The operation is no subscription. Never made: there are no streams. Shown as `Operation is not a subscription`.
+    /// The operation is no subscription. No call makes it, since there are no streams. Shown as
+    /// `Operation is not a subscription`.
     NotSubscription,
     /// The operation is a mutation, and the schema has no mutation type (6.2.2). Shown as `Mutations are not supported`.
     MutationNotSupported,
@@ -249,6 +251,7 @@ mod tests {
             parse == GraphQLError::ParseError(Spanning::new(span, ParseError::UnexpectedToken))
         );
         assert!(rt; GraphQLError::from(AllocError) == GraphQLError::OutOfMemory);
+        assert!(rt; GraphQLError::from(AllocFailed { value: 1u8 }) == GraphQLError::OutOfMemory);
         let rules = GraphQLError::from(vec![in alloc; broken(alloc, "One")?]?);
         assert!(rt; rules == GraphQLError::from_rule(alloc, broken(alloc, "One")?)?);
         Ok(())

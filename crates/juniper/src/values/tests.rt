@@ -1,7 +1,7 @@
 use crate::values::sort::sort_errors;
 use crate::values::{ExecutionError, FieldError, ResolveError};
 use juniper_language::{DefaultScalarValue, SourcePosition, Value};
-use std::alloc::{AllocError, Global};
+use std::alloc::{AllocError, AllocFailed, Global};
 use std::cmp::Ordering;
 use std::test::Fail;
 
@@ -40,11 +40,10 @@ fn a_field_error_has_what_it_is_given(rt: HostRuntime) -> Result<(), Fail> {
 
 #[test]
 fn refused_memory_ends_an_execution(rt: HostRuntime) {
-    let memory = matches!(
-        ResolveError::<DefaultScalarValue>::from(AllocError),
-        ResolveError::Memory
-    );
-    assert!(rt; memory);
+    let refused = ResolveError::<DefaultScalarValue>::from(AllocError);
+    assert!(rt; matches!(refused, ResolveError::Memory));
+    let kept = ResolveError::<DefaultScalarValue>::from(AllocFailed { value: 1u8 });
+    assert!(rt; matches!(kept, ResolveError::Memory));
 }
 
 #[test]
