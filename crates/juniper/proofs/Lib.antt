@@ -1,3 +1,14 @@
+pub mod AcceptedKinds
+pub mod Admitting
+pub mod Completing
 pub mod ErrorOrder
 pub mod ErrorSorting
+pub mod FieldCompletion
+pub mod Lists
 pub mod Messages
+pub mod Resolutions
+pub mod Schemas
+pub mod ServedTypes
+pub mod Settling
+pub mod Steps
+pub mod Turns

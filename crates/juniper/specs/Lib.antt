@@ -1,2 +1,10 @@
+pub mod ArgumentView
+pub mod DirectiveView
 pub mod ErrorView
+pub mod ExecutorView
+pub mod Occurrences
 pub mod RequestErrors
+pub mod ResolvedView
+pub mod SchemaView
+pub mod Served
+pub mod Walking

@@ -1,10 +1,18 @@
-//! A synchronous GraphQL executor.
+//! The executor: from a query text to data and errors.
 #![tactic(auto)]
 
+mod admits;
+mod collect;
 pub mod error;
+pub mod meta;
 pub mod rules;
+mod schema;
+pub mod types;
 pub mod values;
+mod walk;
 
 pub use error::GraphQLError;
 pub use rules::RuleError;
-pub use values::{ExecutionError, ExecutionResult, FieldError, FieldResult, ResolveError};
+pub use schema::{ScalarKinds, ScalarMeta, SchemaType};
+pub use types::{EmptyMutation, EmptySubscription, Executor, GraphQLType, GraphQLValue, Resolved};
+pub use values::{Arguments, ExecutionError, ExecutionResult, FieldError, FieldResult, ResolveError};

@@ -1,0 +1,19 @@
+use Rattle.std.proofs.Common.{◌≡◌, true, take, map, string_bytes}
+use Rattle.graphql_spec.specs.Values.{object, keys_differ}
+use Rattle.juniper_language.specs.InputView.{view_variables}
+use Rattle.juniper_language.specs.ValueView.{view_object}
+use Rattle.juniper.specs.ErrorView.{view_listed}
+use Rattle.juniper.specs.Occurrences.{view_occurrence}
+use Rattle.juniper.specs.SchemaView.{view_schema}
+use Rattle.juniper.specs.Walking.{world_in, IsWalked}
+use Rattle.juniper.proofs.walk.object.Given as goal
+
+-- the fields so far were walked, and no null rose
+abbrev pub invariant-loop-field : goal.invariant-loop-field
+invariant-loop-field g l =
+    let shown = g.S.ScalarValue.shown in
+    record {
+      walked : IsWalked (world_in g.Q.GraphQLValue.concrete g.Q.GraphQLValue.answer l.walk.resolver.now l.walk.info.now l.walk.context.now (view_schema l.walk.schema.now) (view_variables shown l.walk.variables.now))
+          (string_bytes l.walk.schema.now.query_name) l.node (map (λ f. view_occurrence shown f.now) (take l.field-index l.fields)) (object (view_object shown l.data)) (map (view_listed shown) l.errors.items);
+      differ : keys_differ (view_object shown l.data) ≡ true;
+    }

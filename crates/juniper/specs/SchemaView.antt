@@ -1,0 +1,38 @@
+-- How the code's schemas are seen (3).
+use Rattle.std.specs.Prelude.{ℕ, List, [], ◌∷◌, map, Some, None, string_bytes}
+use Rattle.graphql_spec.specs.Shown.{Name}
+use Rattle.graphql_spec.specs.Types.{TypeRef, named}
+use Rattle.graphql_spec.specs.Schema as spec
+use Rattle.graphql_spec.specs.Schema.{Schema, Entry, FieldDeclaration, object_type, scalar_type, plain_field}
+use Rattle.juniper_language.specs.TypeView.{view_type}
+use Rattle.juniper.specs.declared.meta.Field.{Field}
+use Rattle.juniper.specs.declared.schema.ScalarKinds.{ScalarKinds}
+use Rattle.juniper.specs.declared.schema.ScalarMeta.{ScalarMeta}
+use Rattle.juniper.specs.declared.schema.SchemaType.{SchemaType}
+use Rattle.juniper.specs.declared.schema.LeafType.{LeafType}
+
+-- the entry of an object type, and that of a scalar type, without descriptions
+abbrev pub query_entry : Name → List FieldDeclaration → Entry
+query_entry n fs = record { key = n; name = Some n; description = None; shape = object_type fs [] }
+
+abbrev pub scalar_entry : Name → spec.ScalarKinds → Entry
+scalar_entry n k = record { key = n; name = Some n; description = None; shape = scalar_type k None }
+
+-- a query type with its fields, and further entries
+abbrev pub schema_of : Name → List FieldDeclaration → List Entry → Schema
+schema_of q fs rest = record { entries = query_entry q fs ∷ rest; query = q; mutation = None }
+
+abbrev pub view_kinds : ScalarKinds → spec.ScalarKinds
+view_kinds k = record { int = k.int; text = k.text; boolean = k.boolean }
+
+abbrev pub view_field : Field → FieldDeclaration
+view_field f = plain_field (string_bytes f.name) [] (view_type (λ n. string_bytes n) f.field_type)
+
+abbrev pub view_scalar : ScalarMeta → Entry
+view_scalar m = scalar_entry (string_bytes m.name) (view_kinds m.kinds)
+
+abbrev pub view_schema : SchemaType → Schema
+view_schema s = schema_of (string_bytes s.query_name) (map view_field s.fields.items) (map view_scalar s.scalars.items)
+
+abbrev pub view_leaf_type : LeafType → TypeRef
+view_leaf_type t = named t.is_non_null t.name.now
