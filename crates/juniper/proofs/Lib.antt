@@ -5,6 +5,7 @@ pub mod ErrorOrder
 pub mod ErrorSorting
 pub mod FieldCompletion
 pub mod Lists
+pub mod Messages
 pub mod PlainRules
 pub mod Resolutions
 pub mod Schemas

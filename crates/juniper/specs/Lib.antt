@@ -4,6 +4,7 @@ pub mod ErrorView
 pub mod ExecutorView
 pub mod Occurrences
 pub mod PlainSelections
+pub mod RequestErrors
 pub mod ResolvedView
 pub mod SchemaView
 pub mod Served

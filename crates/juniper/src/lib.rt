@@ -3,6 +3,7 @@
 
 mod admits;
 mod collect;
+pub mod error;
 pub mod meta;
 pub mod rules;
 mod schema;
@@ -10,6 +11,7 @@ pub mod types;
 pub mod values;
 mod walk;
 
+pub use error::GraphQLError;
 pub use rules::RuleError;
 pub use schema::{ScalarKinds, ScalarMeta, SchemaType};
 pub use types::{EmptyMutation, EmptySubscription, Executor, GraphQLType, GraphQLValue, Resolved};

@@ -4,6 +4,8 @@ pub mod arguments;
 pub mod execution_error;
 pub mod field_error;
 pub(crate) mod sort;
+#[cfg(test)]
+mod tests;
 
 pub use arguments::Arguments;
 pub use execution_error::ExecutionError;
