@@ -4,7 +4,7 @@ use Rattle.std.specs.List.{list_all, list_any}
 use Rattle.std.proofs.lemmas.Bool.{cases_Bool, and_parts}
 use Rattle.graphql_spec.specs.Shown.{Name, same_bool}
 use Rattle.graphql_spec.specs.Types.{TypeRef, named, list_of, innermost}
-use Rattle.graphql_spec.specs.Documents.{Head, Selections, Directive, end, field, spread, inline, Operation, OperationType, query, mutation, subscription, Definition, operation, Document, response_key, written, fragments, Fragment, span_of_definition}
+use Rattle.graphql_spec.specs.Documents.{Head, Spread, Inline, Selections, Directive, end, field, spread, inline, Operation, OperationType, query, mutation, subscription, Definition, operation, Document, response_key, written, fragments, Fragment, span_of_definition}
 use Rattle.graphql_spec.specs.Directives.{admits}
 use Rattle.graphql_spec.specs.Grammar.{is_end}
 use Rattle.graphql_spec.specs.Fragments.{Contents, expand, plain, contents}
@@ -19,7 +19,8 @@ use Rattle.graphql_spec.specs.Constants.{same_members}
 use Rattle.graphql_spec.specs.Arguments.{written_meaning}
 use Rattle.graphql_spec.specs.Merging.{each_two, same_key, each_pair, same_name, same_arguments, type_at, fields_at, types_agree, shapes_agree, may_meet, merge, set_merges, sets_merge, definition_merges}
 use Rattle.graphql_spec.specs.Rules.{RuleError, has_unknown_field, looks_at_schema, can_look, has_root, is_introspection, cannot_merge, reported, at_each, first_found}
-use Rattle.graphql_spec.specs.FirstRules.{lacks_field, field_errors, merge_errors, first_rule_errors, is_plain_field, is_plain_directive, is_plain_selections, is_plain_operation, is_query, is_empty}
+use Rattle.graphql_spec.specs.FirstRules.{lacks_field, field_errors, merge_errors, first_rule_errors, is_plain_selections, is_plain_operation, is_query, is_empty}
+use Rattle.graphql_spec.specs.Served.{is_served_field, is_served_directive}
 use Rattle.graphql_spec.proofs.Lists.{same_refl, same_true}
 use Rattle.juniper.specs.Served.{served_field}
 use Rattle.juniper.specs.PlainSelections.{any_head, each_head, is_unserved, may_share, names_agree}
@@ -34,23 +35,23 @@ is_end-true (spread x rest) e = cc
 is_end-true (inline x below rest) e = cc
 
 -- a plain field, the end below it, and plain selections after it
-record Parts (h : Head) (below rest : Selections) : Type 0 where
-  head : is_plain_field h ≡ true
-  nothing_below : below ≡ end
-  after : is_plain_selections rest ≡ true
+pub record Parts (h : Head) (below rest : Selections) : Type 0 where
+  pub head : is_served_field h ≡ true
+  pub nothing_below : below ≡ end
+  pub after : is_plain_selections rest ≡ true
 
-parts : (h : Head) (below rest : Selections) → is_plain_selections (field h below rest) ≡ true → Parts h below rest
+pub parts : (h : Head) (below rest : Selections) → is_plain_selections (field h below rest) ≡ true → Parts h below rest
 unfolding is_plain_selections
 parts h below rest e =
-    let a = and_parts (is_plain_field h) (is_end below && is_plain_selections rest) e in
+    let a = and_parts (is_served_field h) (is_end below && is_plain_selections rest) e in
     let b = and_parts (is_end below) (is_plain_selections rest) a.1 in
     record { head = a.0; nothing_below = is_end-true below b.0; after = b.1 }
 
-not-plain : {A : Type 0} (x : _) (rest : Selections) → is_plain_selections (spread x rest) ≡ true → A
+pub not-plain : {A : Type 0} (x : Spread) (rest : Selections) → is_plain_selections (spread x rest) ≡ true → A
 unfolding is_plain_selections
 not-plain x rest e = absurd (cc)
 
-not-plain-inline : {A : Type 0} (x : _) (below rest : Selections) → is_plain_selections (inline x below rest) ≡ true → A
+pub not-plain-inline : {A : Type 0} (x : Inline) (below rest : Selections) → is_plain_selections (inline x below rest) ≡ true → A
 unfolding is_plain_selections
 not-plain-inline x below rest e = absurd (cc)
 
@@ -147,9 +148,9 @@ none-there : {A : Type 0} (o : Option A) → is_none o ≡ true → o ≡ None
 none-there None e = refl
 none-there (Some x) e = cc
 
-pub no-arguments-written : (h : Head) → is_plain_field h ≡ true → h.arguments ≡ None
-unfolding is_plain_field
-no-arguments-written h e = none-there h.arguments (and_parts (is_none h.arguments) (not h.has_set && list_all is_plain_directive h.directives) e).0
+pub no-arguments-written : (h : Head) → is_served_field h ≡ true → h.arguments ≡ None
+unfolding is_served_field
+no-arguments-written h e = none-there h.arguments (and_parts (is_none h.arguments) (not h.has_set && list_all is_served_directive h.directives) e).0
 
 same_bool-refl : (b : Bool) → same_bool b b ≡ true
 unfolding same_bool
