@@ -6,6 +6,7 @@ pub mod ErrorSorting
 pub mod FieldCompletion
 pub mod Lists
 pub mod Messages
+pub mod Outcomes
 pub mod PlainExecution
 pub mod PlainRules
 pub mod Resolutions

@@ -2,6 +2,7 @@
 use Rattle.std.proofs.Common.{◌≡◌, ℕ, zero, suc, max, Bool, true, false, not, ◌&&◌, ◌||◌, ◌⊎◌, cond, List, [], ◌∷◌, ◌++◌, map, length, Option, Some, None, is_none, is_some, bytes_eq, IsTrue, refl, sym, ap, ap₂, ◌∙◌, inl, inr, subst}
 use Rattle.std.specs.List.{list_all, list_any}
 use Rattle.std.proofs.lemmas.Bool.{cases_Bool, and_parts, and_from, or_parts}
+use Rattle.std.proofs.lemmas.List.Folds.{list_all-map}
 use Rattle.graphql_spec.specs.Shown.{Name}
 use Rattle.graphql_spec.specs.Values.{Value, is_null}
 use Rattle.graphql_spec.specs.Types.{named, required}
@@ -180,3 +181,16 @@ served-agree W T s test x none same e u n a b i j k =
     let first = all-in (λ o. is_served_head s o.head) (admitted_fields test x) a all i in
     let second = all-in (λ o. is_served_head s o.head) (admitted_fields test x) b all j in
     (one-name test x a b n i j k, same a.head first ∙ sym (same b.head second), λ U p. tt)
+
+-- ## The fields that were collected
+
+module _ {A : Type 0} (view : A → Occurrence) (fs : List A) (test : Directive → Bool) (x : Selections) (are : map view fs ≡ admitted_fields test x) (plain : is_plain_selections x ≡ true) where
+  pub served-fields : (s : Schema) → any_head (is_unserved s) x ≡ false → list_all (λ f. is_served_head s (view f).head) fs ≡ true
+  served-fields s served = sym (list_all-map (λ o. is_served_head s o.head) view fs) ∙ (ap (list_all (λ o. is_served_head s o.head)) are ∙ served-admitted s test x plain served)
+
+  pub fields-agree : {N : Type 0} (W : World N) (T : Name) (s : Schema) (none : Members) → ((h : Head) → IsTrue (is_served_head s h) → W.arguments T h ≡ none) → any_head (is_unserved s) x ≡ false → names_agree x ≡ true → Agree W 1 T (map view fs)
+  fields-agree W T s none same served agree = subst (Agree W 1 T) (sym are) (served-agree W T s test x none same plain served agree)
+
+  pub fields-answer : {N : Type 0} (W : World N) (T : Name) (m : N) (fragments : List Fragment) (v : Value) (es ds : List Listed) → IsWalked W T m (map view fs) v es →
+      ((p : Listed → Bool) → count_listed p ds ≡ count_listed p es) → IsTrue (is_sorted ds) → IsAnswerFor keys_only W T m (expand test fragments x) v ds
+  fields-answer W T m fragments v es ds walked = walked-answer W T m test fragments x plain v es ds (subst (λ os. IsWalked W T m os v es) are walked)

@@ -259,6 +259,7 @@ is_query-true subscription e = cc
 -- a plain operation is a query of plain selections, without variables
 record PlainParts (o : Operation) : Type 0 where
   kind : o.kind ≡ query
+  name : o.name ≡ None
   variables : o.variables ≡ None
   selections : is_plain_selections o.selections ≡ true
 
@@ -269,10 +270,13 @@ plain-parts o e =
     let b = and_parts (is_none o.name) (is_none o.variables && (is_empty o.directives && is_plain_selections o.selections)) a.1 in
     let c = and_parts (is_none o.variables) (is_empty o.directives && is_plain_selections o.selections) b.1 in
     let d = and_parts (is_empty o.directives) (is_plain_selections o.selections) c.1 in
-    record { kind = is_query-true o.kind a.0; variables = none-there o.variables c.0; selections = d.1 }
+    record { kind = is_query-true o.kind a.0; name = none-there o.name b.0; variables = none-there o.variables c.0; selections = d.1 }
 
 pub plain-query : (o : Operation) → is_plain_operation o ≡ true → o.kind ≡ query
 plain-query o e = (plain-parts o e).kind
+
+pub plain-name : (o : Operation) → is_plain_operation o ≡ true → o.name ≡ None
+plain-name o e = (plain-parts o e).name
 
 pub plain-variables : (o : Operation) → is_plain_operation o ≡ true → o.variables ≡ None
 plain-variables o e = (plain-parts o e).variables
@@ -290,3 +294,13 @@ module _ (s : Schema) (o : Operation) (k : o.kind ≡ query) (e : is_plain_selec
 
   pub nothing-found : any_head (is_unserved s) o.selections ≡ false → names_agree o.selections ≡ true → first_rule_errors s (operation o ∷ []) ≡ []
   nothing-found a b = first-rules-are s o k e ∙ rw (a, b) refl
+
+  -- where they find nothing, each field is served, and those of one response key agree
+  pub found-nothing : first_rule_errors s (operation o ∷ []) ≡ [] → (any_head (is_unserved s) o.selections ≡ false) × (names_agree o.selections ≡ true)
+  found-nothing none = elim (cases_Bool (any_head (is_unserved s) o.selections)) [
+    | inl a ↦ absurd (some-error (sym (unknown-found a) ∙ none))
+    | inr a ↦ elim (cases_Bool (names_agree o.selections)) [ inl b ↦ (a, b) | inr b ↦ absurd (some-error (sym (conflict-found a b) ∙ none)) ]
+  ]
+    where
+      some-error : {A : Type 0} {x : A} {xs : List A} → x ∷ xs ≡ [] → ⊥
+      some-error e = cc
