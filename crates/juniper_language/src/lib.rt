@@ -13,6 +13,9 @@ mod token;
 pub mod types;
 pub mod value;
 
+#[cfg(test)]
+mod tests;
+
 pub use ast::{
     Definition, Directive, Document, Field, Fragment, FragmentSpread, Fragments, InlineFragment,
     Operation, OperationType, Selection, VariableDefinition, VariableDefinitions,
