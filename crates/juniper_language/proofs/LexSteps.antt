@@ -1,6 +1,6 @@
 -- Steps of the lexer's loop.
-use Rattle.std.proofs.Common.{inl, inr, ◌≡◌, ◌≢◌, ℕ, zero, suc, ◌+◌, ◌-◌, ◌<◌, ◌≤◌, Bool, true, false, cond, ◌==◌, List, [], ◌∷◌, ◌++◌, length, take, drop, refl, ap, sym, ◌∙◌, arith, subst, append_assoc, append-nil}
-use Rattle.std.proofs.lemmas.Bool.{cases_Bool, eqb-true, eqb-false, eq-eqb, ne_eqb}
+use Rattle.std.proofs.Common.{inl, inr, ◌≡◌, ◌≢◌, ℕ, zero, suc, ◌<◌, ◌≤◌, true, false, ◌==◌, List, [], ◌∷◌, ◌++◌, length, drop, refl, ap, sym, ◌∙◌, arith, append_assoc, append-nil}
+use Rattle.std.proofs.lemmas.Bool.{cases_Bool, eqb-false, eq-eqb, ne_eqb}
 use Rattle.std.proofs.lemmas.List.{length-drop}
 use Rattle.graphql_spec.specs.Tokens.{Token, is_nil}
 use Rattle.juniper_language.specs.Lexing.{Front, Lexed, whole, fault, past, ignored_len, lexeme_len, token_of, at_end, at_fault, with_token, lex_step, lex, lex_from, behind}
@@ -24,16 +24,16 @@ step_same : (f g : Front → Lexed) (s : Front) → ((t : Front) → length t.ah
 step_same f g s same = elim (cases_Bool (is_nil s.ahead)) [
   | inl e ↦ rw e refl
   | inr e ↦ rw e (elim (cases_Bool (ignored_len s.ahead == 0)) [
-      | inl z ↦ rw z (elim (cases_Bool (lexeme_len s.ahead == 0)) [
-          | inl y ↦ rw y refl
-          | inr y ↦
-              let some : lexeme_len s.ahead ≢ 0 = eqb-false _ 0 y in
-              rw y (ap (with_token (token_of (lexeme_len s.ahead) s)) (same (past (lexeme_len s.ahead) s) (shorter s.ahead (lexeme_len s.ahead) some (taken_fits s.ahead some))))
-        ])
-      | inr z ↦
-          let some : ignored_len s.ahead ≢ 0 = eqb-false _ 0 z in
-          rw z (same (past (ignored_len s.ahead) s) (shorter s.ahead (ignored_len s.ahead) some (ignored_fits s.ahead some)))
+    | inl z ↦ rw z (elim (cases_Bool (lexeme_len s.ahead == 0)) [
+      | inl y ↦ rw y refl
+      | inr y ↦
+          let some : lexeme_len s.ahead ≢ 0 = eqb-false _ 0 y in
+          rw y (ap (with_token (token_of (lexeme_len s.ahead) s)) (same (past (lexeme_len s.ahead) s) (shorter s.ahead (lexeme_len s.ahead) some (taken_fits s.ahead some))))
     ])
+    | inr z ↦
+        let some : ignored_len s.ahead ≢ 0 = eqb-false _ 0 z in
+        rw z (same (past (ignored_len s.ahead) s) (shorter s.ahead (ignored_len s.ahead) some (ignored_fits s.ahead some)))
+  ])
 ]
 
 lex_none : (k : ℕ) (s : Front) → length s.ahead ≡ 0 → lex k s ≡ at_end s

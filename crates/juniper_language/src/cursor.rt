@@ -80,8 +80,14 @@ impl<'t, 'a> Parser<'t, 'a> {
         match self.tokens {
             [first, ..] => Spanning::new(first.span, ParseError::UnexpectedToken),
             [] => match self.ending {
-                Ending::Fault(at) => Spanning::new(Span { start: at, end: at }, ParseError::UnexpectedToken),
-                Ending::Whole(at) => Spanning::new(Span { start: at, end: at }, ParseError::UnexpectedEndOfFile),
+                Ending::Fault(at) => Spanning::new(
+                    Span { start: at, end: at },
+                    ParseError::UnexpectedToken,
+                ),
+                Ending::Whole(at) => Spanning::new(
+                    Span { start: at, end: at },
+                    ParseError::UnexpectedEndOfFile,
+                ),
             },
         }
     }

@@ -37,7 +37,10 @@ fn is_source_byte(b: u8) -> bool
 fn is_mark(b: u8) -> bool
     ensures { result ≡ tokens.is_mark b }
 {
-    matches!(b, b'!' | b'$' | b'&' | b'(' | b')' | b':' | b'=' | b'@' | b'[' | b']' | b'{' | b'|' | b'}')
+    matches!(
+        b,
+        b'!' | b'$' | b'&' | b'(' | b')' | b':' | b'=' | b'@' | b'[' | b']' | b'{' | b'|' | b'}'
+    )
 }
 
 /// What a name begins with (2.1.9).

@@ -9,12 +9,11 @@ mod lexer;
 pub mod parser;
 pub mod position;
 pub mod scalar;
+#[cfg(test)]
+mod tests;
 mod token;
 pub mod types;
 pub mod value;
-
-#[cfg(test)]
-mod tests;
 
 pub use ast::{
     Definition, Directive, Document, Field, Fragment, FragmentSpread, Fragments, InlineFragment,

@@ -14,14 +14,22 @@ type Place = (usize, usize, usize);
 
 /// A field: its alias, its name, its first and its last place, how many directives it has, and the last one's name and
 /// condition.
-type Row<'a> = (Option<&'a str>, &'a str, Place, Place, Option<(usize, &'a str, bool)>);
+type Row<'a> = (
+    Option<&'a str>,
+    &'a str,
+    Place,
+    Place,
+    Option<(usize, &'a str, bool)>,
+);
 
 fn place(position: SourcePosition) -> Place {
     (position.index(), position.line(), position.column())
 }
 
 /// How many directives a field has, and the last one's name and condition.
-fn directives_of<'d>(selection: &'d Selection<'_, DefaultScalarValue>) -> Option<(usize, &'d str, bool)> {
+fn directives_of<'d>(
+    selection: &'d Selection<'_, DefaultScalarValue>,
+) -> Option<(usize, &'d str, bool)> {
     let Selection::Field(field) = selection else {
         return None;
     };
@@ -30,7 +38,11 @@ fn directives_of<'d>(selection: &'d Selection<'_, DefaultScalarValue>) -> Option
     let arguments = last.item.arguments.as_ref()?;
     let (_, value) = arguments.item.items.first()?;
     match &value.item {
-        InputValue::Scalar(scalar) => Some((directives.len(), last.item.name.item, scalar.try_to_bool()?)),
+        InputValue::Scalar(scalar) => Some((
+            directives.len(),
+            last.item.name.item,
+            scalar.try_to_bool()?,
+        )),
         _ => None,
     }
 }
@@ -45,7 +57,13 @@ fn row_of<'d>(selection: &'d Selection<'_, DefaultScalarValue>) -> Option<Row<'d
     };
     let start = place(field.span.start);
     let end = place(field.span.end);
-    Some((alias, field.item.name.item, start, end, directives_of(selection)))
+    Some((
+        alias,
+        field.item.name.item,
+        start,
+        end,
+        directives_of(selection),
+    ))
 }
 
 /// Whether the text spells these fields, in a query at these places.
@@ -60,7 +78,10 @@ fn reads(alloc: Global, text: &str, start: Place, end: Place, rows: &[Row<'_>]) 
         return false;
     };
     let selections = operation.item.selection_set.as_slice();
-    if selections.len() != rows.len() || place(operation.span.start) != start || place(operation.span.end) != end {
+    if selections.len() != rows.len()
+        || place(operation.span.start) != start
+        || place(operation.span.end) != end
+    {
         return false;
     }
     for (selection, row) in selections.iter().zip(rows) {
@@ -90,11 +111,25 @@ fn fields_and_places(rt: HostRuntime) {
     let rows = [
         (None, "id", (2, 0, 2), (4, 0, 4), None),
         (Some("again"), "id", (5, 0, 5), (14, 0, 14), None),
-        (None, "name", (15, 0, 15), (35, 0, 35), Some((1, "skip", true))),
+        (
+            None,
+            "name",
+            (15, 0, 15),
+            (35, 0, 35),
+            Some((1, "skip", true)),
+        ),
         (None, "fail", (36, 0, 36), (40, 0, 40), None),
         (None, "id", (41, 0, 41), (43, 0, 43), None),
     ];
-    assert!(rt; reads(alloc, "{ id again: id name @skip(if: true) fail id }", (0, 0, 0), (45, 0, 45), &rows));
+    assert!(rt;
+        reads(
+            alloc,
+            "{ id again: id name @skip(if: true) fail id }",
+            (0, 0, 0),
+            (45, 0, 45),
+            &rows
+        )
+    );
 }
 
 #[test]
@@ -113,16 +148,38 @@ fn lines_and_characters(rt: HostRuntime) {
         (None, "id", (7, 0, 3), (9, 0, 5), None),
         (None, "name", (12, 0, 6), (16, 0, 10), None),
     ];
-    assert!(rt; reads(alloc, "\u{FEFF}{\u{FEFF}id\u{FEFF}name\u{FEFF}}#\u{1F600}", (3, 0, 1), (20, 0, 12), &marked));
+    assert!(rt;
+        reads(
+            alloc,
+            "\u{FEFF}{\u{FEFF}id\u{FEFF}name\u{FEFF}}#\u{1F600}",
+            (3, 0, 1),
+            (20, 0, 12),
+            &marked
+        )
+    );
     // A comment ends with its line and no sooner.
     let behind = [(None, "name", (9, 1, 0), (13, 1, 4), None)];
     assert!(rt; reads(alloc, "{ # id }\nname}", (0, 0, 0), (14, 1, 5), &behind));
     // Commas are ignored anywhere between tokens.
     let commas = [
         (None, "id", (4, 0, 4), (6, 0, 6), None),
-        (Some("x"), "name", (8, 0, 8), (39, 0, 39), Some((1, "include", false))),
+        (
+            Some("x"),
+            "name",
+            (8, 0, 8),
+            (39, 0, 39),
+            Some((1, "include", false)),
+        ),
     ];
-    assert!(rt; reads(alloc, ",,{,id,,x,:,name,@,include,(,if,:false),,}", (2, 0, 2), (42, 0, 42), &commas));
+    assert!(rt;
+        reads(
+            alloc,
+            ",,{,id,,x,:,name,@,include,(,if,:false),,}",
+            (2, 0, 2),
+            (42, 0, 42),
+            &commas
+        )
+    );
 }
 
 #[test]
@@ -142,7 +199,13 @@ fn words_and_directives(rt: HostRuntime) {
     assert!(rt; reads(alloc, text, (0, 0, 0), (64, 0, 64), &words));
     // Any number of directives, in order.
     let directives = [
-        (None, "id", (1, 0, 1), (56, 0, 56), Some((3, "include", true))),
+        (
+            None,
+            "id",
+            (1, 0, 1),
+            (56, 0, 56),
+            Some((3, "include", true)),
+        ),
         (None, "a", (57, 0, 57), (58, 0, 58), None),
     ];
     let conditions = "{id@skip(if:true)@skip(if: false)   @include(if : true ) a}";
@@ -196,7 +259,10 @@ fn refused_tokens(rt: HostRuntime) {
         ("\u{FEFF}\u{FEFF}\u{7}", (6, 0, 2)),
     ];
     for (text, at) in rows {
-        assert!(rt; refuses(alloc, text, &ParseError::UnexpectedToken, at), "{text}");
+        assert!(rt;
+            refuses(alloc, text, &ParseError::UnexpectedToken, at),
+            "{text}"
+        );
     }
 }
 
@@ -221,7 +287,10 @@ fn ends_too_early(rt: HostRuntime) {
         ("{ id @skip(if: true)", (20, 0, 20)),
     ];
     for (text, at) in rows {
-        assert!(rt; refuses(alloc, text, &ParseError::UnexpectedEndOfFile, at), "{text}");
+        assert!(rt;
+            refuses(alloc, text, &ParseError::UnexpectedEndOfFile, at),
+            "{text}"
+        );
     }
 }
 
@@ -229,10 +298,24 @@ fn ends_too_early(rt: HostRuntime) {
 fn errors_are_shown(rt: HostRuntime) -> Result<(), Fail> {
     let alloc = rt.alloc();
     let rows = [
-        (ParseError::LexerError(LexerError::UnknownEscapeSequence(String::from_str(alloc, "\\x")?)), "Unknown escape sequence \"\\x\" in string"),
-        (ParseError::LexerError(LexerError::UnterminatedString), "Unterminated string literal"),
-        (ParseError::LexerError(LexerError::UnknownCharacter), "Unknown character"),
-        (ParseError::LexerError(LexerError::InvalidNumber), "Invalid number literal"),
+        (
+            ParseError::LexerError(LexerError::UnknownEscapeSequence(String::from_str(
+                alloc, "\\x",
+            )?)),
+            "Unknown escape sequence \"\\x\" in string",
+        ),
+        (
+            ParseError::LexerError(LexerError::UnterminatedString),
+            "Unterminated string literal",
+        ),
+        (
+            ParseError::LexerError(LexerError::UnknownCharacter),
+            "Unknown character",
+        ),
+        (
+            ParseError::LexerError(LexerError::InvalidNumber),
+            "Invalid number literal",
+        ),
         (ParseError::UnexpectedToken, "Unexpected token"),
         (ParseError::UnexpectedEndOfFile, "Unexpected end of input"),
         (ParseError::FloatLiteral, "Float literals are not supported"),

@@ -1,9 +1,8 @@
-use Rattle.std.proofs.Common.{◌≡◌, ◌≢◌, ◌++◌, [], ◌∷◌, List, length, map, sym, ◌∙◌, ap, subst}
+use Rattle.std.proofs.Common.{◌≡◌, ◌≢◌, ◌++◌, [], ◌∷◌, length, map, sym, ◌∙◌, ap, subst}
 use Rattle.std.proofs.lemmas.Bool.{eqb-true, eqb-false}
 use Rattle.std.proofs.lemmas.List.{map-append}
 use Rattle.std.specs.Str.{IsUtf8}
-use Rattle.graphql_spec.specs.Tokens.{Token}
-use Rattle.juniper_language.specs.Lexing.{Front, ignored_len, lexeme_len, lex_from, behind, lexed, fault, whole}
+use Rattle.juniper_language.specs.Lexing.{Front, ignored_len, lexeme_len, lexed}
 use Rattle.juniper_language.specs.TokenViews.{view_token}
 use Rattle.juniper_language.proofs.Boundaries.{ignored_boundary}
 use Rattle.juniper_language.proofs.LexSteps.{ends_whole, ends_fault, goes_on}
@@ -23,7 +22,7 @@ loop-lexer-preserved-in-Continue-1 c =
     let some : length s.ahead ≢ 0 = λ none. eqb-false (length c.rest.result.now) 0 (sym c.loop-lexer-test.ensures) (ap length c.rest.ensures ∙ none) in
     let no_gap : ignored_len s.ahead ≡ 0 = sym (ap ignored_len (c.as_bytes.ensures.value ∙ c.rest-in-loop-lexer.ensures)) ∙ sym c.ignored_len-ignored.ensures ∙ c.if-ignored-eq0.true in
     let all : map view_token c.push.new.self.items ≡ map view_token c.loop-lexer.tokens.items ++ view_token c.in-Some.token ∷ [] =
-      ap (map view_token) c.in_ok-push-in-Some.ensures.items ∙ map-append view_token c.loop-lexer.tokens.items (c.in-Some.token ∷ []) in
+    ap (map view_token) c.in_ok-push-in-Some.ensures.items ∙ map-append view_token c.loop-lexer.tokens.items (c.in-Some.token ∷ []) in
     rw all (goes_on (map view_token c.loop-lexer.tokens.items) (view_token c.in-Some.token) s c.token.new.self (lexed c.args.text.now) some no_gap c.in-Some.ensures.0 c.in-Some.ensures.1 c.in-Some.ensures.2 c.loop-lexer.invariant)
 
 pub take-requires : goal.take-requires
