@@ -63,7 +63,8 @@ ignored_at : (bs : List ℕ) (n : ℕ) → IsUtf8 bs → IsIgnored bs n → IsCh
 ignored_at bs n u (blank b rest is one e) = front_boundary b rest bs n u is one (blank_small b e)
 ignored_at bs n u (comment rest is run) =
     let length_is : n ≡ 1 + prefix_len is_source_byte rest = omega (arith, run) in
-    rw length_is (subst (λ x. IsCharBoundary x (1 + prefix_len is_source_byte rest)) (sym is) (IsCharBoundary-from_rest (35 ∷ rest) 1 (prefix_len is_source_byte rest) (omega arith) (comment_boundary rest)))
+    let boundary = IsCharBoundary-from_rest (35 ∷ rest) 1 (prefix_len is_source_byte rest) (omega arith) (comment_boundary rest) in
+    rw length_is (subst (λ x. IsCharBoundary x (1 + prefix_len is_source_byte rest)) (sym is) boundary)
 ignored_at bs n u (byte_order rest is three) = rw three (mark_boundary rest bs u is)
 
 pub ignored_boundary : (bs : List ℕ) → ignored_len bs ≢ 0 → IsUtf8 bs → IsCharBoundary bs (ignored_len bs)

@@ -36,13 +36,15 @@ served_tokens : (bytes : List ℕ) (ts : List Token) (o : Operation) → IsText 
 served_tokens bytes ts o text h = lexed_complete bytes ts text (derives_plain ts o h)
 
 -- what is read is spelled
-read_spelled : (bytes : List ℕ) (p : Position) (o : Operation) (t : At) → (lexed bytes).ending ≡ whole p → read.document (before_all (lexed bytes).tokens) ≡ Some (o, t) → SpellsServed bytes (operation o ∷ [])
+read_spelled : (bytes : List ℕ) (p : Position) (o : Operation) (t : At) → (lexed bytes).ending ≡ whole p → read.document (before_all (lexed bytes).tokens) ≡ Some (o, t)
+    → SpellsServed bytes (operation o ∷ [])
 read_spelled bytes p o t ends given =
     let h = document_sound 254 (before_all (lexed bytes).tokens) t o given in
     ((lexed bytes).tokens, lexed_sound bytes p ends, derived (lexed bytes).tokens o (record { after = t; is_query = h.0; last = h.1 }))
 
 -- what is spelled is read, as itself
-spelled_read : (bytes : List ℕ) (d : Document) → SpellsServed bytes d → (o : Operation) × (t : At) × (p : Position) × (d ≡ operation o ∷ []) × ((lexed bytes).ending ≡ whole p) × (read.document (before_all (lexed bytes).tokens) ≡ Some (o, t))
+spelled_read : (bytes : List ℕ) (d : Document) → SpellsServed bytes d
+    → (o : Operation) × (t : At) × (p : Position) × (d ≡ operation o ∷ []) × ((lexed bytes).ending ≡ whole p) × (read.document (before_all (lexed bytes).tokens) ≡ Some (o, t))
 spelled_read bytes d (ts, text, served) =
     let h = derives ts d served in
     let all = served_tokens bytes ts h.0 text h.2 in (

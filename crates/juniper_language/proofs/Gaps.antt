@@ -155,7 +155,8 @@ third_waits : (tail : List ℕ) → is_ignored first_of_mark (187 ∷ []) tail �
 unfolding is_ignored ignore_byte
 third_waits tail = refl
 
-mark_second : (gap rest tail : List ℕ) → 187 ∷ 191 ∷ rest ≡ gap ++ tail → is_ignored first_of_mark gap tail ≡ true → (h : List ℕ) × (gap ≡ 187 ∷ 191 ∷ h) × (rest ≡ h ++ tail) × (is_ignored between h tail ≡ true)
+mark_second : (gap rest tail : List ℕ) → 187 ∷ 191 ∷ rest ≡ gap ++ tail → is_ignored first_of_mark gap tail ≡ true
+    → (h : List ℕ) × (gap ≡ 187 ∷ 191 ∷ h) × (rest ≡ h ++ tail) × (is_ignored between h tail ≡ true)
 unfolding is_ignored
 mark_second [] rest tail is ign = absurd (false≢true ign)
 mark_second (c ∷ []) rest tail is ign =

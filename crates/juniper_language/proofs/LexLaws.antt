@@ -264,7 +264,8 @@ token_complete f s t ts e z plain h more =
     let some : lexeme_len s.ahead ≢ 0 = λ none. read.some (sym count ∙ none) in
     let front : take (lexeme_len s.ahead) s.ahead ≡ w = ap₂ take count whole_is ∙ take-append_seam w rest in
     let back : drop (lexeme_len s.ahead) s.ahead ≡ rest = ap₂ drop count whole_is ∙ drop-append_seam w rest in
-    let token : token_of (lexeme_len s.ahead) s ≡ t = token_same (lexeme_of (take (lexeme_len s.ahead) s.ahead)) t.lexeme s.at.position (walk s.at (take (lexeme_len s.ahead) s.ahead)).position t.span.start t.span.end
+    let taken = token_of (lexeme_len s.ahead) s in
+    let token : taken ≡ t = token_same taken.lexeme t.lexeme taken.span.start taken.span.end t.span.start t.span.end
     (ap lexeme_of front ∙ read.is)
     (ap (λ (x : Spot). x.position) (sym here) ∙ sym h.6)
     (ap₂ (λ (x : Spot) y. (walk x y).position) (sym here) front ∙ sym h.7) in

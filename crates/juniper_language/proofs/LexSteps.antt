@@ -85,7 +85,9 @@ ends_fault found s l some e f kept = ap (λ ts. record { tokens = ts; ending = f
 pub goes_on : (found : List Token) (t : Token) (s u : Front) (l : Lexed) → length s.ahead ≢ 0 → ignored_len s.ahead ≡ 0 → lexeme_len s.ahead ≢ 0
     → t ≡ token_of (lexeme_len s.ahead) s → u ≡ past (lexeme_len s.ahead) s → behind found (lex_from s) ≡ l → behind (found ++ t ∷ []) (lex_from u) ≡ l
 goes_on found t s u l some e f is at kept =
-    rw (is, at) (ap (λ ts. record { tokens = ts; ending = (lex_from (past (lexeme_len s.ahead) s)).ending }) (append_assoc found (token_of (lexeme_len s.ahead) s ∷ []) _) ∙ sym (ap (behind found) (lex_token s some e f)) ∙ kept)
+    let first = token_of (lexeme_len s.ahead) s in
+    let rest : Lexed = lex_from (past (lexeme_len s.ahead) s) in
+    rw (is, at) (ap (λ ts. record { tokens = ts; ending = rest.ending }) (append_assoc found (first ∷ []) rest.tokens) ∙ sym (ap (behind found) (lex_token s some e f)) ∙ kept)
 
 pub goes_past : (found : List Token) (s u : Front) (l : Lexed) → length s.ahead ≢ 0 → ignored_len s.ahead ≢ 0 → u ≡ past (ignored_len s.ahead) s
     → behind found (lex_from s) ≡ l → behind found (lex_from u) ≡ l

@@ -121,7 +121,9 @@ turn_on m e i fs gs f s t o below other one is kept =
     ap (λ (g : Putting). put_first g (until m selection (e - (i + 1)) t)) more ∙ sym (until_more m e i (chain fs) s below other ∙ ap (behind_node m (e - (i + 1)) (chain fs)) one) ∙ kept
 
 -- a field without arguments and selections
-pub view_of_field : {S : Type 0} (shown : S → Shown) (alias : Option (Spanning (Bor (List ℕ)) Span)) (name : Spanning (Bor (List ℕ)) Span) (ds : Option (Vec (Spanning (Directive S) Span) Global)) (sp : Span)
+pub view_of_field : {S : Type 0} (shown : S → Shown) (alias : Option (Spanning (Bor (List ℕ)) Span)) (name : Spanning (Bor (List ℕ)) Span)
+    (ds : Option (Vec (Spanning (Directive S) Span) Global)) (sp : Span)
     → ◌≡◌ {A = Putting} (put_selection shown (Field (record { item = roll-Field S (record { alias = alias; name = name; arguments = None; directives = ds; selection_set = None }); span = sp })))
     (put (field_node (head_of (option_map view_word alias, view_word name) (view_directives shown ds) (view_span sp)) end))
-view_of_field {S} shown alias name ds sp = λ i r. put-Field shown (record { item = roll-Field S (record { alias = alias; name = name; arguments = None; directives = ds; selection_set = None }); span = sp }) r i
+view_of_field {S} shown alias name ds sp = λ i r.
+    put-Field shown (record { item = roll-Field S (record { alias = alias; name = name; arguments = None; directives = ds; selection_set = None }); span = sp }) r i

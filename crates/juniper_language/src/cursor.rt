@@ -55,8 +55,8 @@ impl<'t, 'a> Parser<'t, 'a> {
         self.tokens.len()
     }
 
-    #[tactic(auto, unfolding(graphql_spec::specs::Grammar::begin_of))]
     /// Where the next token begins, and past all tokens where the last one ends.
+    #[tactic(auto, unfolding(graphql_spec::specs::Grammar::begin_of))]
     pub fn begin(&self) -> SourcePosition
         ensures { view_position result ≡ begin_of self.now.last self.now.ahead }
     {

@@ -204,6 +204,7 @@ impl<'a> Lexer<'a> {
     fn new(text: &'a str) -> Self
         ensures { result ≡ record { at = beginning; ahead = text.now } }
     {
+        // The length of a text fits a `usize`, and so do the places in it.
         let _length = text.len();
         let spot = Spot {
             position: SourcePosition::new_origin(),
