@@ -271,17 +271,15 @@ pub fn lex<'a>(alloc: Global, text: &'a str) -> Result<Lexed<'a>, AllocError>
     let mut tokens = Vec::new(alloc);
     while !lexer.rest().is_empty() {
         let ignored = ignored_len(lexer.rest().as_bytes());
-        if ignored == 0 {
-            match lexer.token() {
-                None => {
-                    let ending = Ending::Fault(lexer.position());
-                    return Ok(Lexed { tokens, ending });
-                }
-                Some(token) => tokens.push(token)?,
-            }
-        } else {
+        if ignored > 0 {
             lexer.take(ignored);
+            continue;
         }
+        let Some(token) = lexer.token() else {
+            let ending = Ending::Fault(lexer.position());
+            return Ok(Lexed { tokens, ending });
+        };
+        tokens.push(token)?;
     }
     let ending = Ending::Whole(lexer.position());
     Ok(Lexed { tokens, ending })
