@@ -9,6 +9,8 @@ pub mod meta;
 mod root;
 pub mod rules;
 mod schema;
+#[cfg(test)]
+mod tests;
 pub mod types;
 pub mod values;
 mod walk;
