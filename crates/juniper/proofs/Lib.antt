@@ -13,6 +13,7 @@ pub mod Resolutions
 pub mod Schemas
 pub mod SelectionLists
 pub mod ServedTypes
+pub mod ServedTests
 pub mod Settling
 pub mod Steps
 pub mod Turns

@@ -10,4 +10,5 @@ pub mod ResolvedView
 pub mod RootView
 pub mod SchemaView
 pub mod Served
+pub mod TestRoot
 pub mod Walking

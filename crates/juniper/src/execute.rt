@@ -126,8 +126,8 @@ fn execute_document<Q: GraphQLValue<S>, M: GraphQLType<S>, Sub: GraphQLType<S>, 
 }
 
 /// Executes a request: reads the text, validates the document, chooses the operation and executes it (6.1). The answer is
-/// the data, which is that of the grouped execution on the query type and the root's node, and the errors of the fields that
-/// fail, sorted by place, path and message; there are none exactly where nothing fails. Otherwise the first step that fails
+/// the data, which is that of the grouped execution on the query type and the root's node, and errors of fields that fail,
+/// sorted by place, path and message; there are none exactly where nothing fails. Otherwise the first step that fails
 /// gives the error; [`GraphQLError::OutOfMemory`] may stand in place of any step. The context stays as it was.
 pub fn execute_sync<Q: GraphQLValue<S>, M: GraphQLType<S>, Sub: GraphQLType<S>, S: ScalarValue>(
     alloc: Global,

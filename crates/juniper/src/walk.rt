@@ -189,7 +189,7 @@ fn rises<S: ScalarValue>(value: &Value<S>, is_non_null: bool) -> bool
 }
 
 /// The object of a node for these fields, and the errors of the fields that fail (ExecuteSelectionSet, 6.3). A null at a
-/// non-null field ends the walk, and the object is null (6.4.4).
+/// non-null field ends the walk (6.3), and the object is null (6.4.4).
 pub(crate) fn object<Q: GraphQLValue<S>, S: ScalarValue>(
     walk: &Walk<'_, Q, S>,
     node: &Q::Node,
