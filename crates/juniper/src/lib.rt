@@ -4,7 +4,9 @@
 mod admits;
 mod collect;
 pub mod error;
+mod execute;
 pub mod meta;
+mod root;
 pub mod rules;
 mod schema;
 pub mod types;
@@ -12,6 +14,8 @@ pub mod values;
 mod walk;
 
 pub use error::GraphQLError;
+pub use execute::execute_sync;
+pub use root::RootNode;
 pub use rules::RuleError;
 pub use schema::{ScalarKinds, ScalarMeta, SchemaType};
 pub use types::{EmptyMutation, EmptySubscription, Executor, GraphQLType, GraphQLValue, Resolved};

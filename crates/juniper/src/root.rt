@@ -1,0 +1,60 @@
+//! The root of a server: a schema with its resolvers (section 3.3 of the Specification).
+
+ghost use Rattle.std.specs.Prelude.{◌≡◌, IsTrue};
+ghost use Rattle.juniper.specs.SchemaView.{view_schema};
+ghost use Rattle.juniper.specs.Served.{is_served_schema};
+
+use crate::schema::SchemaType;
+use crate::types::GraphQLType;
+use juniper_language::ScalarValue;
+use std::marker::PhantomData;
+
+/// A schema with the resolvers of its operations. Introspection is disabled, and neither mutations nor subscriptions are
+/// served.
+pub struct RootNode<Q: GraphQLType<S>, M: GraphQLType<S>, Sub: GraphQLType<S>, S: ScalarValue> {
+    pub(crate) query: Q,
+    pub(crate) mutation: M,
+    pub(crate) subscription: Sub,
+    pub(crate) schema: SchemaType,
+    pub(crate) query_info: Q::TypeInfo,
+    pub(crate) mutation_info: M::TypeInfo,
+    pub(crate) subscription_info: Sub::TypeInfo,
+    pub(crate) scalar: PhantomData<S>,
+    ghost served: { IsTrue (is_served_schema (view_schema schema)) },
+}
+
+impl<Q: GraphQLType<S>, M: GraphQLType<S>, Sub: GraphQLType<S>, S: ScalarValue> RootNode<Q, M, Sub, S> {
+    /// The root of these resolvers over a schema that is executable and whose query type has fields of scalar types alone.
+    pub fn of_parts(
+        query: Q,
+        mutation: M,
+        subscription: Sub,
+        schema: SchemaType,
+        query_info: Q::TypeInfo,
+        mutation_info: M::TypeInfo,
+        subscription_info: Sub::TypeInfo,
+    ) -> Self
+        requires { IsTrue (is_served_schema (view_schema schema)) }
+        ensures schema { result.schema ≡ schema }
+        ensures query { result.query ≡ query }
+        ensures info { result.query_info ≡ query_info }
+    {
+        RootNode {
+            query,
+            mutation,
+            subscription,
+            schema,
+            query_info,
+            mutation_info,
+            subscription_info,
+            scalar: PhantomData,
+        }
+    }
+
+    /// The schema.
+    pub fn schema(&self) -> &SchemaType
+        ensures { result.now ≡ self.now.schema }
+    {
+        &self.schema
+    }
+}
