@@ -11,6 +11,7 @@ use std::marker::PhantomData;
 
 /// A schema with the resolvers of its operations. Introspection is disabled, and neither mutations nor subscriptions are
 /// served.
+#[derive(Drop)]
 pub struct RootNode<Q: GraphQLType<S>, M: GraphQLType<S>, Sub: GraphQLType<S>, S: ScalarValue> {
     pub(crate) query: Q,
     pub(crate) mutation: M,

@@ -7,6 +7,7 @@ use juniper_language::ScalarValue;
 use std::marker::PhantomData;
 
 /// No mutation, beside a query of contexts `T` and nodes `N`.
+#[derive(Drop)]
 pub struct EmptyMutation<T, N> {
     query: PhantomData<(T, N)>,
 }
@@ -35,6 +36,7 @@ impl<S: ScalarValue, T, N> GraphQLType<S> for EmptyMutation<T, N> {
 }
 
 /// No subscription, beside a query of contexts `T`.
+#[derive(Drop)]
 pub struct EmptySubscription<T> {
     query: PhantomData<T>,
 }
