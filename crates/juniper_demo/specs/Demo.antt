@@ -4,6 +4,7 @@ use Rattle.std.specs.Str.{bytes_eq}
 use Rattle.graphql_spec.specs.Shown.{Name, text}
 use Rattle.graphql_spec.specs.Values.{null}
 use Rattle.graphql_spec.specs.Resolvers.{Reply, answered, failed, nothing, leaf}
+use Rattle.juniper_demo.specs.declared.demo.Demo.{Demo}
 use Rattle.juniper_demo.specs.declared.demo.DemoNode.{DemoNode}
 use Rattle.juniper_demo.specs.declared.demo.DemoNode.TheVariants.{Query}
 
@@ -22,3 +23,7 @@ query_reply field =
 -- the reply to a field of a node
 abbrev pub reply : DemoNode → Name → Reply DemoNode
 reply Query field = query_reply field
+
+-- the node of the root
+abbrev pub root_of : Demo → DemoNode
+root_of d = d.root

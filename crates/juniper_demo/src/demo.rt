@@ -2,7 +2,8 @@
 
 ghost use Rattle.std.specs.Prelude.{◌≡◌, Some, codes, pos};
 ghost use Rattle.juniper.specs.ResolvedView.{Answers};
-ghost use Rattle.juniper_demo.specs.Demo.{concrete_type, query_reply, reply};
+ghost use Rattle.juniper_demo.specs.Demo.{concrete_type, query_reply, reply, root_of};
+ghost use Rattle.juniper_demo.specs.declared.demo.DemoNode.TheVariants.{Query};
 
 use juniper::{
     Arguments, Executor, FieldError, GraphQLType, GraphQLValue, ResolveError, Resolved,
@@ -44,6 +45,7 @@ pub struct Demo {
 impl Demo {
     /// The demo's root.
     pub fn new() -> Self
+        ensures { root_of result ≡ Query }
     {
         Demo { root: DemoNode::Query }
     }
@@ -65,7 +67,7 @@ impl<S: ScalarValue> GraphQLValue<S> for Demo {
 
     ghost concrete = { λ _ _ _ node. concrete_type node };
     ghost answer = { λ _ _ _ node field _. reply node field };
-    ghost root = { λ demo. demo.root };
+    ghost root = { root_of };
 
     fn type_name<'i>(&self, _info: &'i Self::TypeInfo) -> Option<&'i str> {
         Some("Query")
