@@ -1,1 +1,5 @@
+pub mod Floatless
+pub mod Members
+pub mod Sending
 pub mod ServedDemo
+pub mod Sizes

@@ -4,7 +4,7 @@ use Rattle.graphql_spec.specs.Shown.{Text, Shown, int, text, boolean}
 use Rattle.graphql_spec.specs.Positions.{Position}
 use Rattle.graphql_spec.specs.Values as answers
 use Rattle.graphql_spec.specs.Values.{Value, Values, Entries}
-use Rattle.graphql_spec.specs.Errors.{Listed, Step, key, index, Place}
+use Rattle.graphql_spec.specs.Errors.{Listed, Step, key, index}
 use Rattle.serde_json.specs.Data as json
 use Rattle.serde_json.specs.Data.{Data, Items, Members, member, no_members, item, no_items, unsigned}
 use Rattle.serde_json.specs.Find.{of_integer}
@@ -35,41 +35,35 @@ unfoldable mutual
   entries_data answers.no_entries = no_members
   entries_data (answers.entry k v rest) = member k (value_data v) (entries_data rest)
 
--- the path of an error: its keys and its places in lists (7.1.2)
+-- a list
+unfoldable pub items_data : {A : Type 0} → (A → Data) → List A → Items
+items_data f [] = no_items
+items_data f (x ∷ rest) = item (f x) (items_data f rest)
+
+-- a step of an error's path: a key, or a place in a list (7.1.2)
 unfoldable pub step_data : Step → Data
 step_data (key k) = json.string k
 step_data (index n) = number n
 
-unfoldable pub path_data : Place → Items
-path_data [] = no_items
-path_data (s ∷ rest) = item (step_data s) (path_data rest)
-
 -- where an error is in the text: its line and column, both from 1 (7.1.2)
 unfoldable pub location_data : Position → Data
 location_data p = json.object (member (codes "line") (number (p.line + 1)) (member (codes "column") (number (p.column + 1)) no_members))
-
-unfoldable pub locations_data : Position → Data
-locations_data p = json.array (item (location_data p) no_items)
 
 -- the extensions of an error, but for null
 unfoldable pub extensions_data : Value → Members
 extensions_data answers.null = no_members
 extensions_data v = member (codes "extensions") (value_data v) no_members
 
--- an error (7.1.2)
+-- an error: its message, its one place in the text, its path (7.1.2)
 unfoldable pub error_data : Listed → Data
 error_data e = json.object (member (codes "message") (json.string e.error.message)
-    (member (codes "locations") (locations_data e.start)
-    (member (codes "path") (json.array (path_data e.path)) (extensions_data e.error.extensions))))
-
-unfoldable pub error_items : List Listed → Items
-error_items [] = no_items
-error_items (e ∷ es) = item (error_data e) (error_items es)
+    (member (codes "locations") (json.array (items_data location_data (e.start ∷ [])))
+    (member (codes "path") (json.array (items_data step_data e.path)) (extensions_data e.error.extensions))))
 
 -- the errors, where there are some
 unfoldable pub errors_data : List Listed → Members
 errors_data [] = no_members
-errors_data (e ∷ es) = member (codes "errors") (json.array (error_items (e ∷ es))) no_members
+errors_data es = member (codes "errors") (json.array (items_data error_data es)) no_members
 
 -- an answer with these data and errors (7.1)
 unfoldable pub answer_data : Value → List Listed → Data

@@ -1,14 +1,14 @@
 //! Answers as lines of JSON (section 7 of the Specification).
 
-ghost use Rattle.std.specs.Prelude.{◌≡◌, IfOk, OnOk, map, string_bytes};
+ghost use Rattle.std.specs.Prelude.{◌≡◌, ◌+◌, IfOk, OnOk, map, string_bytes, [], ◌∷◌};
 ghost use Rattle.graphql_spec.specs.Errors.{key};
 ghost use Rattle.juniper.specs.ErrorView.{view_listed};
 ghost use Rattle.juniper_language.specs.Positions.{view_position};
 ghost use Rattle.juniper_language.specs.Scalars.{default_shown};
 ghost use Rattle.juniper_language.specs.ValueView.{view_value, view_object, view_values};
 ghost use Rattle.serde_json.specs.Data.{array, object};
-ghost use Rattle.serde_json.specs.Events.{SendsValue, SendsMembers};
-ghost use Rattle.juniper_demo.specs.AnswerText.{answer_data, answer_text, scalar_data, value_data, values_data, entries_data, path_data, locations_data, extensions_data, error_data, error_items, errors_data};
+ghost use Rattle.serde_json.specs.Events.{SendsValue, SendsMembers, members_len};
+ghost use Rattle.juniper_demo.specs.AnswerText.{answer_data, answer_text, scalar_data, value_data, values_data, entries_data, items_data, location_data, step_data, extensions_data, error_data, errors_data};
 
 use juniper::ExecutionError;
 use juniper_language::{DefaultScalarValue, Object, SourcePosition, Value};
@@ -43,33 +43,46 @@ impl Described for Shown<'_> {
 
 impl Serialize for Shown<'_> {
     fn serialize<W: Serializer>(&self, out: &mut W) -> Result<(), W::Error> {
-        let members = if self.errors.is_empty() { 1 } else { 2 };
-        out.begin_map(Some(members))?;
+        out.begin_map(Some(answer_members(self.errors)))?;
         out.key("data")?;
         send_value(self.data, out)?;
         end_with_errors(self.errors, out)
     }
 }
 
+/// How many members an answer has: its data, and its errors where there are some.
+#[tactic(auto, unfolding(crate::specs::AnswerText::errors_data))]
+fn answer_members(errors: &[ExecutionError<DefaultScalarValue>]) -> usize
+    ensures { result ≡ 1 + members_len (errors_data (map (view_listed default_shown) errors.now)) }
+{
+    match errors {
+        [] => 1,
+        _ => 2,
+    }
+}
+
 /// Sends the last member of an answer, the errors where there are some, and the end.
+#[tactic(auto, unfolding(crate::specs::AnswerText::errors_data))]
 fn end_with_errors<W: Serializer>(
     errors: &[ExecutionError<DefaultScalarValue>],
     out: &mut W,
 ) -> Result<(), W::Error>
     ensures { OnOk result (SendsMembers (errors_data (map (view_listed default_shown) errors.now)) (W.written out.old) (W.written out.new)) }
 {
-    if !errors.is_empty() {
-        out.key("errors")?;
-        send_errors(errors, out)?;
+    if errors.is_empty() {
+        return out.end_map();
     }
+    out.key("errors")?;
+    send_errors(errors, out)?;
     out.end_map()
 }
 
+#[tactic(auto, unfolding(crate::specs::AnswerText::items_data))]
 fn send_errors<W: Serializer>(
     errors: &[ExecutionError<DefaultScalarValue>],
     out: &mut W,
 ) -> Result<(), W::Error>
-    ensures { OnOk result (SendsValue (array (error_items (map (view_listed default_shown) errors.now))) (W.written out.old) (W.written out.new)) }
+    ensures { OnOk result (SendsValue (array (items_data error_data (map (view_listed default_shown) errors.now))) (W.written out.old) (W.written out.new)) }
 {
     out.begin_seq(Some(errors.len()))?;
     for error in errors {
@@ -79,6 +92,7 @@ fn send_errors<W: Serializer>(
 }
 
 /// Sends an error with its place in the text and in the answer (7.1.2).
+#[tactic(auto, unfolding(crate::specs::AnswerText::error_data, crate::specs::AnswerText::items_data))]
 fn send_error<W: Serializer>(
     error: &ExecutionError<DefaultScalarValue>,
     out: &mut W,
@@ -87,8 +101,7 @@ fn send_error<W: Serializer>(
 {
     let field_error = error.error();
     let extensions = field_error.extensions();
-    let members = if extensions.is_null() { 3 } else { 4 };
-    out.begin_map(Some(members))?;
+    out.begin_map(Some(error_members(extensions)))?;
     out.key("message")?;
     out.str(field_error.message())?;
     out.key("locations")?;
@@ -99,8 +112,9 @@ fn send_error<W: Serializer>(
 }
 
 /// Sends the one place of an error, whose line and column count from 1.
+#[tactic(auto, unfolding(crate::specs::AnswerText::items_data, crate::specs::AnswerText::location_data))]
 fn send_locations<W: Serializer>(location: &SourcePosition, out: &mut W) -> Result<(), W::Error>
-    ensures { OnOk result (SendsValue (locations_data (view_position location.now)) (W.written out.old) (W.written out.new)) }
+    ensures { OnOk result (SendsValue (array (items_data location_data (view_position location.now ∷ []))) (W.written out.old) (W.written out.new)) }
 {
     out.begin_seq(Some(1))?;
     out.begin_map(Some(2))?;
@@ -112,8 +126,9 @@ fn send_locations<W: Serializer>(location: &SourcePosition, out: &mut W) -> Resu
     out.end_seq()
 }
 
+#[tactic(auto, unfolding(crate::specs::AnswerText::items_data, crate::specs::AnswerText::step_data))]
 fn send_path<W: Serializer>(path: &[String], out: &mut W) -> Result<(), W::Error>
-    ensures { OnOk result (SendsValue (array (path_data (map (λ k. key (string_bytes k)) path.now))) (W.written out.old) (W.written out.new)) }
+    ensures { OnOk result (SendsValue (array (items_data step_data (map (λ k. key (string_bytes k)) path.now))) (W.written out.old) (W.written out.new)) }
 {
     out.begin_seq(Some(path.len()))?;
     for key in path {
@@ -122,22 +137,33 @@ fn send_path<W: Serializer>(path: &[String], out: &mut W) -> Result<(), W::Error
     out.end_seq()
 }
 
+/// How many members an error has: three, and its extensions where they are not null.
+#[tactic(auto, using(crate::proofs::Members::none_count, crate::proofs::Members::some_count))]
+fn error_members(extensions: &Value<DefaultScalarValue>) -> usize
+    ensures { result ≡ 3 + members_len (extensions_data (view_value default_shown extensions.now)) }
+{
+    if extensions.is_null() { 3 } else { 4 }
+}
+
 /// Sends the last member of an error, its extensions where they are not null, and the end.
+#[tactic(auto, using(crate::proofs::Members::none_sent, crate::proofs::Members::some_sent))]
 fn end_with_extensions<W: Serializer>(
     extensions: &Value<DefaultScalarValue>,
     out: &mut W,
 ) -> Result<(), W::Error>
     ensures { OnOk result (SendsMembers (extensions_data (view_value default_shown extensions.now)) (W.written out.old) (W.written out.new)) }
 {
-    if !extensions.is_null() {
-        out.key("extensions")?;
-        send_value(extensions, out)?;
+    if extensions.is_null() {
+        return out.end_map();
     }
+    out.key("extensions")?;
+    send_value(extensions, out)?;
     out.end_map()
 }
 
 /// Sends a value of an answer.
 #[cycle(send)]
+#[tactic(auto, unfolding(crate::specs::AnswerText::value_data))]
 fn send_value<W: Serializer>(
     value: &Value<DefaultScalarValue>,
     out: &mut W,
@@ -148,11 +174,12 @@ fn send_value<W: Serializer>(
         Value::Null => out.unit(),
         Value::Scalar(scalar) => send_scalar(scalar, out),
         Value::List(items) => send_items(items.as_slice(), out),
-        Value::Object(object) => send_entries(object, out),
+        Value::Object(entries) => send_entries(entries, out),
     }
 }
 
 /// Sends a scalar.
+#[tactic(auto, unfolding(crate::specs::AnswerText::scalar_data))]
 fn send_scalar<W: Serializer>(scalar: &DefaultScalarValue, out: &mut W) -> Result<(), W::Error>
     ensures { OnOk result (SendsValue (scalar_data (default_shown scalar.now)) (W.written out.old) (W.written out.new)) }
 {
@@ -164,6 +191,7 @@ fn send_scalar<W: Serializer>(scalar: &DefaultScalarValue, out: &mut W) -> Resul
 }
 
 #[cycle(send)]
+#[tactic(auto, unfolding(crate::specs::AnswerText::values_data))]
 fn send_items<W: Serializer>(
     items: &[Value<DefaultScalarValue>],
     out: &mut W,
@@ -178,14 +206,15 @@ fn send_items<W: Serializer>(
 }
 
 #[cycle(send)]
+#[tactic(auto, unfolding(crate::specs::AnswerText::entries_data))]
 fn send_entries<W: Serializer>(
-    object: &Object<DefaultScalarValue>,
+    entries: &Object<DefaultScalarValue>,
     out: &mut W,
 ) -> Result<(), W::Error>
-    ensures { OnOk result (SendsValue (object (entries_data (view_object default_shown object.now))) (W.written out.old) (W.written out.new)) }
+    ensures { OnOk result (SendsValue (object (entries_data (view_object default_shown entries.now))) (W.written out.old) (W.written out.new)) }
 {
-    out.begin_map(Some(object.field_count()))?;
-    for (key, value) in object.iter() {
+    out.begin_map(Some(entries.field_count()))?;
+    for (key, value) in entries.iter() {
         out.key(key.as_str())?;
         send_value(value, out)?;
     }
