@@ -1,3 +1,4 @@
+pub mod Answering
 pub mod Floatless
 pub mod Members
 pub mod Sending

@@ -1,13 +1,15 @@
 //! What the program answers to the words that it is given.
 
-ghost use Rattle.std.specs.Prelude.{◌≡◌, ◌≢◌, IfOk, length, string_bytes, map};
-ghost use Rattle.juniper_demo.specs.Answers.{IsAnswerTo, IsAnswerToText};
+ghost use Rattle.std.specs.Prelude.{◌≡◌, IfOk, string_bytes, map};
+ghost use Rattle.juniper_language.specs.InputView.{view_variables};
+ghost use Rattle.juniper_language.specs.Scalars.{default_shown};
+ghost use Rattle.juniper_demo.specs.Answers.{IsAnswerTo, IsAnswerToText, no_values};
 
 use crate::demo::DemoContext;
 use crate::outcome::{Answer, show};
 use crate::schema::demo_root;
 use juniper::execute_sync;
-use juniper_language::Variables;
+use juniper_language::{DefaultScalarValue, Variables};
 use std::alloc::{AllocError, Global};
 
 /// What the program answers to its words: one word is the text of a request to the demo, and any other number of them gets
@@ -18,7 +20,7 @@ pub fn answer(
     context: &mut DemoContext,
 ) -> Result<Answer, AllocError>
     ensures answer { IfOk result (IsAnswerTo (map (λ w. string_bytes w) words.now)) }
-    ensures context { length words.now ≢ 1 → context.new ≡ context.old }
+    ensures context { context.new ≡ context.old }
 {
     match words {
         [text] => answer_to_text(alloc, text.as_str(), context),
@@ -35,12 +37,20 @@ fn answer_to_text(
     text: &str,
     context: &mut DemoContext,
 ) -> Result<Answer, AllocError>
-    ensures { IfOk result (IsAnswerToText text.now) }
+    ensures answer { IfOk result (IsAnswerToText text.now) }
+    ensures context { context.new ≡ context.old }
 {
     let root = demo_root(alloc)?;
-    let variables = Variables::new(alloc);
+    let variables = no_variables(alloc);
     let outcome = execute_sync(alloc, text, None, &root, &variables, context);
     show(alloc, &outcome)
+}
+
+/// The values of no variables.
+fn no_variables(alloc: Global) -> Variables<DefaultScalarValue>
+    ensures { view_variables default_shown result ≡ no_values }
+{
+    Variables::new(alloc)
 }
 
 #[cfg(test)]
