@@ -14,7 +14,7 @@ use Rattle.juniper_language.specs.Scalars.{default_shown}
 use Rattle.juniper_language.specs.ValueView.{view_value}
 use Rattle.juniper_language.specs.declared.scalar.DefaultScalarValue.{DefaultScalarValue}
 use Rattle.juniper_language.specs.declared.value.Value.{Value}
-use Rattle.juniper_demo.specs.Answers.{ShowsData, ShowsRefusal, IsAnswerToText, IsAnswerTo, no_values, demo_world}
+use Rattle.juniper_demo.specs.Answers.{ShowsData, ShowsRefusal, IsAnswerToText, IsAnswerTo, no_values}
 use Rattle.juniper_demo.specs.Demo.{concrete_type, reply}
 use Rattle.juniper_demo.specs.DemoSchema.{demo_schema}
 use Rattle.juniper_demo.specs.declared.demo.DemoNode.{DemoNode}

@@ -1,5 +1,5 @@
 -- An answer has no floats.
-use Rattle.std.proofs.Common.{◌≡◌, ℤ, pos, negsuc, List, [], ◌∷◌, Bool, false, ◌||◌, refl}
+use Rattle.std.proofs.Common.{◌≡◌, pos, negsuc, List, [], ◌∷◌, false, refl}
 use Rattle.graphql_spec.specs.Shown.{Shown, int, text, boolean}
 use Rattle.graphql_spec.specs.Positions.{Position}
 use Rattle.graphql_spec.specs.Values.{Value, Values, Entries, null, scalar, list, object, no_items, item, no_entries, entry}
@@ -17,6 +17,7 @@ scalar_has_none (boolean b) = refl
 
 mutual
   unfolding value_data values_data entries_data
+
   value_has_none : (v : Value) → has_float (value_data v) ≡ false
   value_has_none null = refl
   value_has_none (scalar x) = scalar_has_none x

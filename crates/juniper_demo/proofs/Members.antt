@@ -1,5 +1,5 @@
 -- Sending objects member by member.
-use Rattle.std.proofs.Common.{◌≡◌, ℕ, ◌+◌, List, [], ◌∷◌, Bool, true, false, codes, Some, refl, sym, subst, ◌∙◌, arith}
+use Rattle.std.proofs.Common.{◌≡◌, ℕ, ◌+◌, List, [], ◌∷◌, true, false, codes, Some, refl, subst, ◌∙◌, arith}
 use Rattle.graphql_spec.specs.Shown.{Text}
 use Rattle.graphql_spec.specs.Positions.{Position}
 use Rattle.graphql_spec.specs.Values.{Value, null, scalar, list, object, is_null}
@@ -50,11 +50,23 @@ unfolding error_data
 error_sent e fe m at p x n a b c d f g h i new is_error is_message is_start is_path is_extensions is_count begun named sent named_locations locations named_path path ended =
     let extensions : x ≡ e.error.extensions = cc in
     let message : m ≡ e.error.message = cc in
-    let count : n ≡ members_len (extensions_data e.error.extensions) + 3 = subst (λ v. n ≡ members_len (extensions_data v) + 3) extensions (omega arith) in
-    (b, subst (λ k. Logs a b (map_begins (Some k))) (count ∙ omega arith) begun,
-      (c, d, named, subst (λ t. Logs c d (text t)) message sent,
-        (f, g, named_locations, subst (λ q. SendsValue (array (items_data location_data (q ∷ []))) f g) is_start locations,
-          (h, i, named_path, subst (λ q. SendsValue (array (items_data step_data q)) h i) is_path path, subst (λ v. SendsMembers (extensions_data v) i new) extensions ended))))
+    let count : n ≡ members_len (extensions_data e.error.extensions) + 3 = subst (λ v. n ≡ members_len (extensions_data v) + 3) extensions (omega arith) in (
+      b,
+      subst (λ k. Logs a b (map_begins (Some k))) (count ∙ omega arith) begun,
+      (
+        c,
+        d,
+        named,
+        subst (λ t. Logs c d (text t)) message sent,
+        (
+          f,
+          g,
+          named_locations,
+          subst (λ q. SendsValue (array (items_data location_data (q ∷ []))) f g) is_start locations,
+          (h, i, named_path, subst (λ q. SendsValue (array (items_data step_data q)) h i) is_path path, subst (λ v. SendsMembers (extensions_data v) i new) extensions ended),
+        ),
+      ),
+    )
 
 -- ## Answers
 

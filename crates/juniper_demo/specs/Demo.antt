@@ -16,9 +16,9 @@ concrete_type Query = codes "Query"
 abbrev pub query_reply : Name → Reply DemoNode
 query_reply field =
     cond (bytes_eq field (codes "id")) (answered (leaf (text (codes "q1"))))
-      (cond (bytes_eq field (codes "name")) (answered (leaf (text (codes "demo"))))
-        (cond (bytes_eq field (codes "fail")) (failed (record { message = codes "failed"; extensions = null }))
-          (answered nothing)))
+    (cond (bytes_eq field (codes "name")) (answered (leaf (text (codes "demo"))))
+    (cond (bytes_eq field (codes "fail")) (failed (record { message = codes "failed"; extensions = null }))
+    (answered nothing)))
 
 -- the reply to a field of a node
 abbrev pub reply : DemoNode → Name → Reply DemoNode

@@ -5,9 +5,7 @@ ghost use Rattle.juniper.specs.ResolvedView.{Answers};
 ghost use Rattle.juniper_demo.specs.Demo.{concrete_type, query_reply, reply, root_of};
 ghost use Rattle.juniper_demo.specs.declared.demo.DemoNode.TheVariants.{Query};
 
-use juniper::{
-    Arguments, Executor, FieldError, GraphQLType, GraphQLValue, ResolveError, Resolved,
-};
+use juniper::{Arguments, Executor, FieldError, GraphQLType, GraphQLValue, ResolveError, Resolved};
 use juniper_language::{ScalarValue, Value};
 use std::alloc::Global;
 
@@ -47,7 +45,9 @@ impl Demo {
     pub fn new() -> Self
         ensures { root_of result ≡ Query }
     {
-        Demo { root: DemoNode::Query }
+        Demo {
+            root: DemoNode::Query,
+        }
     }
 }
 
@@ -63,10 +63,13 @@ impl<S: ScalarValue> GraphQLType<S> for Demo {
 
 impl<S: ScalarValue> GraphQLValue<S> for Demo {
     type Context = DemoContext;
+
     type Node = DemoNode;
 
     ghost concrete = { λ _ _ _ node. concrete_type node };
+
     ghost answer = { λ _ _ _ node field _. reply node field };
+
     ghost root = { root_of };
 
     fn type_name<'i>(&self, _info: &'i Self::TypeInfo) -> Option<&'i str> {

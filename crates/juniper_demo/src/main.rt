@@ -3,7 +3,7 @@
 
 mod answer;
 mod demo;
-mod out;
+mod line;
 mod outcome;
 mod schema;
 

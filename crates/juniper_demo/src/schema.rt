@@ -53,9 +53,21 @@ fn query_fields(alloc: Global) -> Result<Vec<Field>, AllocError>
     ensures { IfOk result (λ fields. map view_field fields.items ≡ demo_fields) }
 {
     Ok(vec![in alloc;
-        field(alloc, "id", Type::NonNullNamed(String::from_str(alloc, "ID")?))?,
-        field(alloc, "name", Type::NonNullNamed(String::from_str(alloc, "String")?))?,
-        field(alloc, "nothing", Type::Named(String::from_str(alloc, "String")?))?,
+        field(
+            alloc,
+            "id",
+            Type::NonNullNamed(String::from_str(alloc, "ID")?)
+        )?,
+        field(
+            alloc,
+            "name",
+            Type::NonNullNamed(String::from_str(alloc, "String")?)
+        )?,
+        field(
+            alloc,
+            "nothing",
+            Type::Named(String::from_str(alloc, "String")?)
+        )?,
         field(alloc, "fail", Type::Named(String::from_str(alloc, "Int")?))?,
     ]?)
 }

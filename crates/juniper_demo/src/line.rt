@@ -164,10 +164,7 @@ fn end_with_extensions<W: Serializer>(
 /// Sends a value of an answer.
 #[cycle(send)]
 #[tactic(auto, unfolding(crate::specs::AnswerText::value_data))]
-fn send_value<W: Serializer>(
-    value: &Value<DefaultScalarValue>,
-    out: &mut W,
-) -> Result<(), W::Error>
+fn send_value<W: Serializer>(value: &Value<DefaultScalarValue>, out: &mut W) -> Result<(), W::Error>
     ensures { OnOk result (SendsValue (value_data (view_value default_shown value.now)) (W.written out.old) (W.written out.new)) }
 {
     match value {
