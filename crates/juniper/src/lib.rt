@@ -17,7 +17,6 @@ mod walk;
 
 pub use error::GraphQLError;
 pub use execute::execute_sync;
-
 pub use root::RootNode;
 pub use rules::RuleError;
 pub use schema::{ScalarKinds, ScalarMeta, SchemaType};

@@ -1,0 +1,11 @@
+use Rattle.std.proofs.Common.{map, drop}
+use Rattle.juniper.specs.ErrorView.{view_listed}
+use Rattle.juniper_language.specs.Scalars.{default_shown}
+use Rattle.juniper_demo.specs.AnswerText.{items_data, error_data}
+use Rattle.juniper_demo.proofs.Sending.{Goes}
+use Rattle.juniper_demo.proofs.line.send_errors.Given as goal
+
+abbrev pub invariant-loop-error : goal.invariant-loop-error
+invariant-loop-error g l =
+    Goes (items_data error_data (map (view_listed default_shown) l.errors)) (g.W.Serializer.written l.initial.out)
+    (items_data error_data (map (view_listed default_shown) (drop l.error-index l.errors))) (g.W.Serializer.written l.out)

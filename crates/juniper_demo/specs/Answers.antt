@@ -1,0 +1,47 @@
+-- What the program answers.
+use Rattle.std.specs.Prelude.{◌≡◌, ◌⊎◌, List, [], ◌∷◌, ◌++◌, None, codes, string_bytes}
+use Rattle.graphql_spec.specs.Shown.{Text}
+use Rattle.graphql_spec.specs.Values.{Value}
+use Rattle.graphql_spec.specs.Inputs.{Variables}
+use Rattle.graphql_spec.specs.Errors.{Listed}
+use Rattle.graphql_spec.specs.Resolvers.{World, world_of}
+use Rattle.juniper.specs.Answering.{IsAnswered, IsRefusedWith}
+use Rattle.juniper.specs.RequestErrors.{RequestError, request_error_text}
+use Rattle.juniper_demo.specs.AnswerText.{answer_text}
+use Rattle.juniper_demo.specs.Demo.{concrete_type, reply}
+use Rattle.juniper_demo.specs.DemoSchema.{demo_schema}
+use Rattle.juniper_demo.specs.declared.demo.DemoNode.{DemoNode}
+use Rattle.juniper_demo.specs.declared.demo.DemoNode.TheVariants.{Query}
+use Rattle.juniper_demo.specs.declared.outcome.Answer.{Answer}
+
+-- the usage, with status 2
+abbrev pub IsUsage : Answer → Type 0
+IsUsage a = (a.status ≡ 2) × (string_bytes a.line ≡ codes "usage: juniper_demo TEXT [NAME] [VARIABLES]")
+
+-- the text of an answer with these data and errors, with status 0
+abbrev pub ShowsData : Value → List Listed → Answer → Type 0
+ShowsData v es a = (a.status ≡ 0) × (string_bytes a.line ≡ answer_text v es)
+
+-- why a request is refused, with status 1
+abbrev pub ShowsRefusal : RequestError → Answer → Type 0
+ShowsRefusal e a = (a.status ≡ 1) × (string_bytes a.line ≡ codes "refused: " ++ request_error_text e)
+
+-- no variable has a value
+abbrev pub no_values : Variables
+no_values = λ name. None
+
+-- what an execution on the demo asks, for the values of the variables (6.4.2)
+abbrev pub demo_world : Variables → World DemoNode
+demo_world vars = world_of demo_schema vars concrete_type (λ node field arguments. reply node field)
+
+-- the request of a text, without name and variables, on the demo: what its execution gives, or why it is refused (6.1)
+abbrev pub IsAnswerToText : Text → Answer → Type 0
+IsAnswerToText t a =
+    ((v : Value) × (es : List Listed) × IsAnswered t demo_schema None no_values demo_world Query v es × ShowsData v es a)
+    ⊎ ((e : RequestError) × IsRefusedWith t demo_schema None no_values e × ShowsRefusal e a)
+
+-- one word is the text of a request, and any other number of them gets the usage
+abbrev pub IsAnswerTo : List Text → Answer → Type 0
+IsAnswerTo [] a = IsUsage a
+IsAnswerTo (t ∷ []) a = IsAnswerToText t a
+IsAnswerTo (t ∷ (u ∷ rest)) a = IsUsage a

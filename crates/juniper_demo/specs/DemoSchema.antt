@@ -1,0 +1,26 @@
+-- The demo's schema (3).
+use Rattle.std.specs.Prelude.{codes, true, false, [], ◌∷◌, List}
+use Rattle.graphql_spec.specs.Types.{named}
+use Rattle.graphql_spec.specs.Schema.{Schema, Entry, FieldDeclaration, plain_field}
+use Rattle.juniper.specs.SchemaView.{schema_of, scalar_entry}
+
+-- the fields of the query type
+abbrev pub demo_fields : List FieldDeclaration
+demo_fields =
+    plain_field (codes "id") [] (named true (codes "ID"))
+    ∷ plain_field (codes "name") [] (named true (codes "String"))
+    ∷ plain_field (codes "nothing") [] (named false (codes "String"))
+    ∷ plain_field (codes "fail") [] (named false (codes "Int"))
+    ∷ []
+
+-- the scalar types, each with what it accepts (3.5)
+abbrev pub demo_scalars : List Entry
+demo_scalars =
+    scalar_entry (codes "ID") (record { int = true; text = true; boolean = false })
+    ∷ scalar_entry (codes "String") (record { int = false; text = true; boolean = false })
+    ∷ scalar_entry (codes "Int") (record { int = true; text = false; boolean = false })
+    ∷ scalar_entry (codes "Boolean") (record { int = false; text = false; boolean = true })
+    ∷ []
+
+abbrev pub demo_schema : Schema
+demo_schema = schema_of (codes "Query") demo_fields demo_scalars

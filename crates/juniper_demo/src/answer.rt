@@ -1,0 +1,130 @@
+//! What the program answers to the words that it is given.
+
+ghost use Rattle.std.specs.Prelude.{◌≡◌, IfOk, string_bytes, map};
+ghost use Rattle.juniper_language.specs.InputView.{view_variables};
+ghost use Rattle.juniper_language.specs.Scalars.{default_shown};
+ghost use Rattle.juniper_demo.specs.Answers.{IsAnswerTo, IsAnswerToText, no_values};
+
+use crate::demo::DemoContext;
+use crate::outcome::{Answer, show};
+use crate::schema::demo_root;
+use juniper::execute_sync;
+use juniper_language::{DefaultScalarValue, Variables};
+use std::alloc::{AllocError, Global};
+
+/// What the program answers to its words: one word is the text of a request to the demo, and any other number of them gets
+/// the usage. An error where memory is refused.
+pub fn answer(
+    alloc: Global,
+    words: &[String],
+    context: &mut DemoContext,
+) -> Result<Answer, AllocError>
+    ensures answer { IfOk result (IsAnswerTo (map (λ w. string_bytes w) words.now)) }
+    ensures context { context.new ≡ context.old }
+{
+    match words {
+        [text] => answer_to_text(alloc, text.as_str(), context),
+        _ => Ok(Answer {
+            status: 2,
+            line: String::from_str(alloc, "usage: juniper_demo TEXT [NAME] [VARIABLES]")?,
+        }),
+    }
+}
+
+/// What the program answers to the text of a request. An error where memory is refused.
+fn answer_to_text(
+    alloc: Global,
+    text: &str,
+    context: &mut DemoContext,
+) -> Result<Answer, AllocError>
+    ensures answer { IfOk result (IsAnswerToText text.now) }
+    ensures context { context.new ≡ context.old }
+{
+    let root = demo_root(alloc)?;
+    let variables = no_variables(alloc);
+    let outcome = execute_sync(alloc, text, None, &root, &variables, context);
+    show(alloc, &outcome)
+}
+
+/// The values of no variables.
+fn no_variables(alloc: Global) -> Variables<DefaultScalarValue>
+    ensures { view_variables default_shown result ≡ no_values }
+{
+    Variables::new(alloc)
+}
+
+#[cfg(test)]
+mod tests {
+    use super::*;
+    use std::test::Fail;
+
+    fn words_of(alloc: Global, texts: &[&str]) -> Result<Vec<String>, AllocError> {
+        let mut words = Vec::with_capacity(alloc, texts.len())?;
+        for text in texts {
+            words.push(String::from_str(alloc, text)?)?;
+        }
+        Ok(words)
+    }
+
+    #[test]
+    fn requests_are_answered(rt: HostRuntime) -> Result<(), Fail> {
+        let alloc = rt.alloc();
+        let rows = [
+            (
+                "{ id again: id name @skip(if: true) fail id }",
+                0,
+                r#"{"data":{"id":"q1","again":"q1","fail":null},"errors":[{"message":"failed","locations":[{"line":1,"column":37}],"path":["fail"]}]}"#,
+            ),
+            (
+                "{ nothing __typename }",
+                0,
+                r#"{"data":{"nothing":null,"__typename":"Query"}}"#,
+            ),
+            (
+                "{ id @skip(if: true) @include(if: true) }",
+                0,
+                r#"{"data":{}}"#,
+            ),
+            (
+                "{ fail b: fail }",
+                0,
+                r#"{"data":{"fail":null,"b":null},"errors":[{"message":"failed","locations":[{"line":1,"column":3}],"path":["fail"]},{"message":"failed","locations":[{"line":1,"column":8}],"path":["b"]}]}"#,
+            ),
+            (
+                "{ id\n  name fail }",
+                0,
+                r#"{"data":{"id":"q1","name":"demo","fail":null},"errors":[{"message":"failed","locations":[{"line":2,"column":8}],"path":["fail"]}]}"#,
+            ),
+            ("{ x }", 1, "refused: Unknown field"),
+            ("{ __schema }", 1, "refused: Unknown field"),
+            ("{ a: id a: name }", 1, "refused: Fields cannot be merged"),
+            ("{ id { a } }", 1, "refused: Unexpected token"),
+            ("", 1, "refused: Unexpected end of input"),
+        ];
+        for (text, status, line) in &rows {
+            let words = words_of(alloc, &[*text])?;
+            let mut context = DemoContext::new();
+            let answer = answer(alloc, words.as_slice(), &mut context)?;
+            assert_eq!(rt; answer.line.as_str(), *line, "{text}");
+            assert_eq!(rt; answer.status, *status, "{text}");
+            assert!(rt; context == DemoContext::new(), "{text}");
+        }
+        Ok(())
+    }
+
+    #[test]
+    fn other_words_get_the_usage(rt: HostRuntime) -> Result<(), Fail> {
+        let alloc = rt.alloc();
+        let usage = "usage: juniper_demo TEXT [NAME] [VARIABLES]";
+        let mut context = DemoContext::new();
+        let no_words = words_of(alloc, &[])?;
+        let nothing = answer(alloc, no_words.as_slice(), &mut context)?;
+        assert_eq!(rt; nothing.line.as_str(), usage);
+        assert_eq!(rt; nothing.status, 2);
+        let two_words = words_of(alloc, &["{ id }", ""])?;
+        let two = answer(alloc, two_words.as_slice(), &mut context)?;
+        assert_eq!(rt; two.line.as_str(), usage);
+        assert_eq!(rt; two.status, 2);
+        Ok(())
+    }
+}

@@ -1,0 +1,122 @@
+//! The demo's resolver.
+
+ghost use Rattle.std.specs.Prelude.{◌≡◌, Some, codes, pos};
+ghost use Rattle.juniper.specs.ResolvedView.{Answers};
+ghost use Rattle.juniper_demo.specs.Demo.{concrete_type, query_reply, reply, root_of};
+ghost use Rattle.juniper_demo.specs.declared.demo.DemoNode.TheVariants.{Query};
+
+use juniper::{Arguments, Executor, FieldError, GraphQLType, GraphQLValue, ResolveError, Resolved};
+use juniper_language::{ScalarValue, Value};
+use std::alloc::Global;
+
+/// What requests to the demo bring along: a running total, and how many additions made it.
+#[derive(Clone, Copy, Debug, PartialEq, Eq)]
+pub struct DemoContext {
+    /// The sum of all that was added.
+    pub total: i32,
+    /// How many numbers were added.
+    pub count: i32,
+}
+
+impl DemoContext {
+    /// The context of a server that starts: nothing is added yet.
+    pub fn new() -> Self
+        ensures { result ≡ record { total = pos 0; count = pos 0 } }
+    {
+        DemoContext { total: 0, count: 0 }
+    }
+}
+
+/// What stands for an object of the demo.
+#[derive(Clone, Copy, Debug, PartialEq, Eq, Drop)]
+pub enum DemoNode {
+    /// The root of queries.
+    Query,
+}
+
+/// The demo's root.
+#[derive(Debug, Drop)]
+pub struct Demo {
+    root: DemoNode,
+}
+
+impl Demo {
+    /// The demo's root.
+    pub fn new() -> Self
+        ensures { root_of result ≡ Query }
+    {
+        Demo {
+            root: DemoNode::Query,
+        }
+    }
+}
+
+impl<S: ScalarValue> GraphQLType<S> for Demo {
+    type TypeInfo = ();
+
+    ghost named = { λ _. Some (codes "Query") };
+
+    fn name(_info: &Self::TypeInfo) -> Option<&str> {
+        Some("Query")
+    }
+}
+
+impl<S: ScalarValue> GraphQLValue<S> for Demo {
+    type Context = DemoContext;
+
+    type Node = DemoNode;
+
+    ghost concrete = { λ _ _ _ node. concrete_type node };
+
+    ghost answer = { λ _ _ _ node field _. reply node field };
+
+    ghost root = { root_of };
+
+    fn type_name<'i>(&self, _info: &'i Self::TypeInfo) -> Option<&'i str> {
+        Some("Query")
+    }
+
+    fn root_node(&self) -> &Self::Node {
+        &self.root
+    }
+
+    fn concrete_type_name<'r>(
+        &'r self,
+        _context: &'r Self::Context,
+        _info: &'r Self::TypeInfo,
+        node: &'r Self::Node,
+    ) -> &'r str {
+        match node {
+            DemoNode::Query => "Query",
+        }
+    }
+
+    fn resolve_field(
+        &self,
+        alloc: Global,
+        _info: &Self::TypeInfo,
+        node: &Self::Node,
+        field_name: &str,
+        _arguments: &Arguments<'_, S>,
+        _executor: &Executor<'_, '_, Self::Context, S>,
+    ) -> Result<Resolved<Self::Node, S>, ResolveError<S>> {
+        match node {
+            DemoNode::Query => of_query(alloc, field_name),
+        }
+    }
+}
+
+/// The answer to a field of the root.
+fn of_query<S: ScalarValue>(
+    alloc: Global,
+    field_name: &str,
+) -> Result<Resolved<DemoNode, S>, ResolveError<S>>
+    ensures { Answers S.shown result (query_reply field_name.now) }
+{
+    match field_name {
+        "id" => Ok(Resolved::Scalar(S::from_text(String::from_str(alloc, "q1")?)?)),
+        "name" => Ok(Resolved::Scalar(S::from_text(String::from_str(alloc, "demo")?)?)),
+        "fail" => Err(ResolveError::Field(FieldError::new(alloc, "failed", Value::Null)?)),
+        _ => Ok(Resolved::Null),
+    }
+}

@@ -1,0 +1,36 @@
+//! The demo server: `juniper_demo TEXT` executes the request of the text and prints its answer as one line of JSON.
+#![tactic(auto)]
+
+mod answer;
+mod demo;
+mod line;
+mod outcome;
+mod schema;
+
+use answer::answer;
+use demo::DemoContext;
+use std::env;
+use std::process::ExitCode;
+
+fn main(rt: HostRuntime) -> ExitCode {
+    let alloc = rt.alloc();
+    let Ok(arguments) = env::args(&rt) else {
+        return ExitCode::from(1);
+    };
+    let mut context = DemoContext::new();
+    let answered = match arguments.skip(1).collect::<Vec<String>>(alloc) {
+        Ok(words) => answer(alloc, words.as_slice(), &mut context),
+        Err(refused) => Err(refused.into()),
+    };
+    let (status, written) = match answered {
+        Ok(answer) => {
+            let line = answer.line;
+            (answer.status, println!(rt; "{line}"))
+        }
+        Err(_) => (1, println!(rt; "refused: Out of memory")),
+    };
+    match written {
+        Ok(()) => ExitCode::from(status),
+        Err(_) => ExitCode::from(1),
+    }
+}
