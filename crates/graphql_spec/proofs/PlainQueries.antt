@@ -1,7 +1,7 @@
 -- queries of plain fields, as rows of fields
 use Rattle.std.specs.Prelude.{◌≡◌, ◌⊎◌, Bool, true, false, not, ◌&&◌, ◌||◌, map, List, [], ◌∷◌, ◌++◌, Option, Some, None}
 use Rattle.std.specs.List.{list_all, list_any, flat_map}
-use Rattle.std.specs.Option.{is_some, is_none}
+use Rattle.std.specs.Option.{is_none}
 use Rattle.std.specs.Str.{bytes_eq}
 use Rattle.std.proofs.lemmas.Bool.{and_parts, or_cases, or_parts, both_ways}
 use Rattle.std.proofs.Common.{refl, ap, ◌∙◌, inl, inr}

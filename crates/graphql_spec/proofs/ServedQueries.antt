@@ -1,10 +1,10 @@
 -- What is served is one plain query.
-use Rattle.std.proofs.Common.{◌≡◌, ℕ, zero, suc, Bool, true, false, not, ◌&&◌, List, [], ◌∷◌, Option, Some, None, is_none, IsTrue, refl, sym, ap, subst, cond}
+use Rattle.std.proofs.Common.{◌≡◌, ℕ, zero, suc, Bool, true, false, not, ◌&&◌, List, is_none, refl}
 use Rattle.std.proofs.lemmas.Bool.{and_parts}
 use Rattle.std.specs.List.{list_all}
-use Rattle.graphql_spec.specs.Documents.{Head, Selections, end, field, spread, inline, query, Operation, operation, Document}
+use Rattle.graphql_spec.specs.Documents.{Head, Selections, end, field, spread, inline, Document}
 use Rattle.graphql_spec.specs.Tokens.{Token}
-use Rattle.graphql_spec.specs.Grammar.{At, AreSelections, Set, OptSet, Mark, is_end, Shorthand, most_brackets}
+use Rattle.graphql_spec.specs.Grammar.{At, AreSelections, Set, OptSet, is_end, most_brackets}
 use Rattle.graphql_spec.specs.Served.{is_served_field, is_served_directive, are_served, IsServed, before_all}
 use Rattle.graphql_spec.specs.FirstRules.{is_plain_selections, is_plain_operation, is_plain_document, is_query, is_empty}
 

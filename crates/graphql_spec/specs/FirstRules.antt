@@ -1,11 +1,10 @@
 -- The rules that are served first: each field is one of its parent type (5.3.1), and fields of one response key merge (5.3.2).
 -- Introspection is not served yet, so `__schema` and `__type` count as fields that no type has.
-use Rattle.std.specs.Prelude.{◌≡◌, Bool, true, false, not, ◌&&◌, ◌||◌, codes, List, [], ◌∷◌}
+use Rattle.std.specs.Prelude.{◌≡◌, Bool, true, false, ◌&&◌, ◌||◌, codes, List, [], ◌∷◌}
 use Rattle.std.specs.List.{list_all, list_any}
-use Rattle.std.specs.Option.{is_some, is_none}
-use Rattle.std.specs.Str.{bytes_eq}
+use Rattle.std.specs.Option.{is_none}
 use Rattle.graphql_spec.specs.Types.{innermost}
-use Rattle.graphql_spec.specs.Documents.{Argument, Directive, Head, Selections, end, field, OperationType, query, Operation, Definition, operation, Document, written}
+use Rattle.graphql_spec.specs.Documents.{Selections, end, field, OperationType, query, Operation, Definition, operation, Document}
 use Rattle.graphql_spec.specs.Served.{is_served_field}
 use Rattle.graphql_spec.specs.Grammar.{is_end}
 use Rattle.graphql_spec.specs.Schema.{FieldDeclaration, Schema}

@@ -1,13 +1,13 @@
 -- What becomes of a request for one plain query.
-use Rattle.std.proofs.Common.{◌≡◌, ◌≢◌, Result, Ok, Err, MatchResult, ◌<◌, ◌≤◌, arith, ℕ, Bool, length, get_or, map, true, false, cond, List, [], ◌∷◌, Option, Some, None, is_none, is_some, option_map, refl, sym, ap, ◌∙◌, subst}
+use Rattle.std.proofs.Common.{◌≡◌, ◌≢◌, Result, Ok, Err, MatchResult, arith, ℕ, length, map, true, false, List, [], ◌∷◌, Option, Some, None, is_some, option_map, refl, sym, ap, ◌∙◌, subst}
 use Rattle.std.specs.Bool.{◌==◌}
 use Rattle.std.specs.List.{slice_get}
 use Rattle.std.proofs.lemmas.Bool.{eqb-true}
 use Rattle.std.proofs.lemmas.Option.{same_Some}
 use Rattle.std.specs.Result.{IsErr, IsErrAnd}
 use Rattle.graphql_spec.specs.Shown.{Name}
-use Rattle.graphql_spec.specs.Inputs.{Variables, Input}
-use Rattle.graphql_spec.specs.Documents.{Operation, Fragment, Definition, operation, fragment, query, Document, operations, variables_of, word_name}
+use Rattle.graphql_spec.specs.Inputs.{Variables}
+use Rattle.graphql_spec.specs.Documents.{Operation, Fragment, Definition, operation, fragment, Document, operations, variables_of, word_name}
 use Rattle.graphql_spec.specs.Schema.{Schema}
 use Rattle.graphql_spec.specs.Rules.{RuleError}
 use Rattle.graphql_spec.specs.FirstRules.{first_rule_errors, is_plain_operation, is_plain_document}

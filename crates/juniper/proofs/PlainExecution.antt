@@ -1,11 +1,10 @@
 -- The execution of plain queries: their occurrences, and that those of one response key agree.
-use Rattle.std.proofs.Common.{◌≡◌, ℕ, zero, suc, max, Bool, true, false, not, ◌&&◌, ◌||◌, ◌⊎◌, cond, List, [], ◌∷◌, ◌++◌, map, length, Option, Some, None, is_none, is_some, bytes_eq, IsTrue, refl, sym, ap, ap₂, ◌∙◌, inl, inr, subst}
-use Rattle.std.specs.List.{list_all, list_any}
-use Rattle.std.proofs.lemmas.Bool.{cases_Bool, and_parts, and_from, or_parts}
+use Rattle.std.proofs.Common.{◌≡◌, max, Bool, true, false, ◌⊎◌, List, [], ◌∷◌, map, length, Option, Some, None, is_none, is_some, bytes_eq, IsTrue, refl, sym, ap, ◌∙◌, inl, inr, subst}
+use Rattle.std.specs.List.{list_all}
+use Rattle.std.proofs.lemmas.Bool.{cases_Bool, and_parts, or_parts}
 use Rattle.std.proofs.lemmas.List.Folds.{list_all-map}
 use Rattle.graphql_spec.specs.Shown.{Name}
 use Rattle.graphql_spec.specs.Values.{Value, is_null}
-use Rattle.graphql_spec.specs.Types.{named, required}
 use Rattle.graphql_spec.specs.Documents.{Head, Selections, Directive, end, field, spread, inline, response_key, Fragment}
 use Rattle.graphql_spec.specs.Directives.{admits}
 use Rattle.graphql_spec.specs.Fragments.{Contents, expand, plain, contents}
@@ -14,21 +13,20 @@ use Rattle.graphql_spec.specs.Selections as forest
 use Rattle.graphql_spec.specs.Selections.{Forest, Occurrence, depth, occurrences, keys}
 use Rattle.graphql_spec.specs.Schema.{Schema}
 use Rattle.graphql_spec.specs.Resolvers.{World}
-use Rattle.graphql_spec.specs.Errors.{Place, Listed, keys_only, is_sorted}
+use Rattle.graphql_spec.specs.Errors.{Listed, keys_only, is_sorted}
 use Rattle.graphql_spec.specs.Execution.{grouped, data_of, whole_object, is_lost, entries}
-use Rattle.graphql_spec.specs.Failures.{Failure, failures, failures_of}
+use Rattle.graphql_spec.specs.Failures.{failures, failures_of}
 use Rattle.graphql_spec.specs.Nulls.{nulls, nulls_of}
 use Rattle.graphql_spec.specs.Laws.{In, Agree}
 use Rattle.graphql_spec.specs.Walk.{Met, IsAnswerFor, count_listed}
-use Rattle.graphql_spec.specs.Served.{is_served_field}
 use Rattle.graphql_spec.specs.FirstRules.{is_plain_selections}
-use Rattle.graphql_spec.proofs.Lists.{same_refl, same_true, same_sym}
+use Rattle.graphql_spec.proofs.Lists.{same_refl, same_true}
 use Rattle.graphql_spec.proofs.Answered.{walks_answer}
 use Rattle.juniper.specs.Occurrences.{admitted_fields}
 use Rattle.juniper.specs.PlainSelections.{any_head, each_head, is_unserved, may_share, names_agree}
 use Rattle.juniper.specs.Served.{is_served_head, served_field}
 use Rattle.juniper.specs.Walking.{IsWalked}
-use Rattle.juniper.proofs.PlainRules.{Parts, parts, not-plain, not-plain-inline, no-arguments-written}
+use Rattle.juniper.proofs.PlainRules.{parts, not-plain, not-plain-inline, no-arguments-written}
 
 -- ## Occurrences
 
@@ -98,9 +96,9 @@ module _ {N : Type 0} (W : World N) (T : Name) (m : N) where
       let os = occurrences-plain W.possible T test inside x e in
       let here : IsWalked W T m (occurrences W.possible T s) v es = subst (λ z. IsWalked W T m z v es) (sym os) w in
       walks_answer keys_only W T m s v es ds (here.value ∙ same-data s shallow)
-        (subst (λ z. Met keys_only (is_null v) es z [] (nulls_of W [] T m s)) (same-failures s shallow)
-          (subst (λ z. Met keys_only (is_null v) es (failures W 1 [] [] T m (occurrences W.possible T s)) [] z) (same-nulls s shallow) here.errors))
-        counts sorted
+      (subst (λ z. Met keys_only (is_null v) es z [] (nulls_of W [] T m s)) (same-failures s shallow)
+      (subst (λ z. Met keys_only (is_null v) es (failures W 1 [] [] T m (occurrences W.possible T s)) [] z) (same-nulls s shallow) here.errors))
+      counts sorted
 
 -- ## Occurrences of one response key
 

@@ -1,17 +1,17 @@
 -- The rules that are served, on plain selections.
-use Rattle.std.proofs.Common.{◌≡◌, ℕ, zero, suc, max, Bool, true, false, not, ◌&&◌, ◌||◌, ◌⊎◌, cond, List, [], ◌∷◌, ◌++◌, map, Option, Some, None, is_none, is_some, codes, bytes_eq, refl, sym, ap, ap₂, ◌∙◌, inl, inr, subst, arith}
+use Rattle.std.proofs.Common.{◌≡◌, ℕ, max, Bool, true, false, not, ◌&&◌, ◌||◌, ◌⊎◌, cond, List, [], ◌∷◌, ◌++◌, Option, Some, None, is_none, codes, bytes_eq, refl, sym, ap, ap₂, ◌∙◌, inl, inr, subst}
 use Rattle.std.specs.List.{list_all, list_any}
 use Rattle.std.proofs.lemmas.Bool.{cases_Bool, and_parts}
 use Rattle.graphql_spec.specs.Shown.{Name, same_bool}
 use Rattle.graphql_spec.specs.Types.{TypeRef, named, list_of, innermost}
-use Rattle.graphql_spec.specs.Documents.{Head, Spread, Inline, Selections, Directive, end, field, spread, inline, Operation, OperationType, query, mutation, subscription, Definition, operation, Document, response_key, written, fragments, Fragment, span_of_definition}
+use Rattle.graphql_spec.specs.Documents.{Head, Spread, Inline, Selections, Directive, end, field, spread, inline, Operation, OperationType, query, mutation, subscription, operation, Document, response_key, written, fragments, Fragment, span_of_definition}
 use Rattle.graphql_spec.specs.Directives.{admits}
 use Rattle.graphql_spec.specs.Grammar.{is_end}
-use Rattle.graphql_spec.specs.Fragments.{Contents, expand, plain, contents}
+use Rattle.graphql_spec.specs.Fragments.{Contents, expand, plain}
 use Rattle.graphql_spec.specs.Selections as forest
 use Rattle.graphql_spec.specs.Selections.{Forest, Occurrence, depth}
 use Rattle.graphql_spec.specs.Schema.{Schema, FieldDeclaration}
-use Rattle.graphql_spec.specs.Fields.{field_of, type_named, is_leaf, is_object, declared_type}
+use Rattle.graphql_spec.specs.Fields.{field_of, type_named, is_leaf, declared_type}
 use Rattle.graphql_spec.specs.Written.{heads, selections_of}
 use Rattle.graphql_spec.specs.Placed.{placed, placed_in, if_declared, root_type}
 use Rattle.graphql_spec.specs.Overlap.{Field, fields}
@@ -93,7 +93,7 @@ fields-unserved s end e = refl
 fields-unserved s (field h below rest) e =
     let p = parts h below rest e in
     subst (λ b. (list_any (λ p. is_none p.declared) (placed s s.query (field h b rest)) || list_any (λ h. is_introspection h.name.item) (heads (field h b rest))) ≡ any_head (is_unserved s) (field h b rest))
-      (sym p.nothing_below) (one-unserved s h rest (fields-unserved s rest p.after))
+    (sym p.nothing_below) (one-unserved s h rest (fields-unserved s rest p.after))
 fields-unserved s (spread x rest) e = not-plain x rest e
 fields-unserved s (inline x below rest) e = not-plain-inline x below rest e
 

@@ -1,5 +1,5 @@
 -- What a request is answered (6.1).
-use Rattle.std.specs.Prelude.{◌≡◌, List, [], ◌∷◌, Option, Some, None}
+use Rattle.std.specs.Prelude.{◌≡◌, List, Option, Some, None}
 use Rattle.graphql_spec.specs.Shown.{Text, Name}
 use Rattle.graphql_spec.specs.Values.{Value}
 use Rattle.graphql_spec.specs.Inputs.{Variables}

@@ -110,7 +110,7 @@ fn execute_document<Q: GraphQLValue<S>, M: GraphQLType<S>, Sub: GraphQLType<S>, 
     requires { IsTrue (is_plain_document (view_document S.shown document.now)) }
     ensures { MatchResult result
         (λ p. IsAnsweredDocument (view_document S.shown document.now) (view_schema (schema_of root_node.now)) (option_map (λ n. n.now) operation_name.entry) (view_variables S.shown variables.now)
-            (world_in Q.concrete Q.answer (resolver_of root_node.now) (info_of root_node.now) context.now (view_schema (schema_of root_node.now))) (Q.root (resolver_of root_node.now)) (view_value S.shown p.0) (map (view_listed S.shown) p.1.items))
+        (world_in Q.concrete Q.answer (resolver_of root_node.now) (info_of root_node.now) context.now (view_schema (schema_of root_node.now))) (Q.root (resolver_of root_node.now)) (view_value S.shown p.0) (map (view_listed S.shown) p.1.items))
         (λ e. IsRefusedDocument (view_document S.shown document.now) (view_schema (schema_of root_node.now)) (option_map (λ n. n.now) operation_name.entry) (view_variables S.shown variables.now) (view_request_error e)) }
 {
     let operation = only_operation(document);
@@ -140,7 +140,7 @@ pub fn execute_sync<Q: GraphQLValue<S>, M: GraphQLType<S>, Sub: GraphQLType<S>, 
     ensures context { context.new ≡ context.old }
     ensures answer { MatchResult result
         (λ p. IsAnswered document_source.now (view_schema (schema_of root_node.now)) (option_map (λ n. n.now) operation_name.entry) (view_variables S.shown variables.now)
-            (world_in Q.concrete Q.answer (resolver_of root_node.now) (info_of root_node.now) context.old (view_schema (schema_of root_node.now))) (Q.root (resolver_of root_node.now)) (view_value S.shown p.0) (map (view_listed S.shown) p.1.items))
+        (world_in Q.concrete Q.answer (resolver_of root_node.now) (info_of root_node.now) context.old (view_schema (schema_of root_node.now))) (Q.root (resolver_of root_node.now)) (view_value S.shown p.0) (map (view_listed S.shown) p.1.items))
         (λ e. IsRefusedWith document_source.now (view_schema (schema_of root_node.now)) (option_map (λ n. n.now) operation_name.entry) (view_variables S.shown variables.now) (view_request_error e)) }
 {
     let document = parse_document_source(alloc, document_source)?;

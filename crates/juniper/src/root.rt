@@ -24,7 +24,12 @@ pub struct RootNode<Q: GraphQLType<S>, M: GraphQLType<S>, Sub: GraphQLType<S>, S
     ghost served: { IsTrue (is_served_schema (view_schema schema)) },
 }
 
-impl<Q: GraphQLType<S>, M: GraphQLType<S>, Sub: GraphQLType<S>, S: ScalarValue> RootNode<Q, M, Sub, S> {
+impl<Q: GraphQLType<S>, M: GraphQLType<S>, Sub: GraphQLType<S>, S: ScalarValue> RootNode<
+    Q,
+    M,
+    Sub,
+    S,
+> {
     ghost use Rattle.juniper.specs.RootView.{schema_of, resolver_of, info_of};
 
     /// The root of these resolvers over a schema that is executable and whose query type has fields of scalar types alone.

@@ -91,8 +91,12 @@ impl<S: ScalarValue> GraphQLValue<S> for TestQuery {
     }
 }
 
-type TestRoot =
-    RootNode<TestQuery, EmptyMutation<Requests, ()>, EmptySubscription<Requests>, DefaultScalarValue>;
+type TestRoot = RootNode<
+    TestQuery,
+    EmptyMutation<Requests, ()>,
+    EmptySubscription<Requests>,
+    DefaultScalarValue,
+>;
 
 #[tactic(auto, using(crate::proofs::ServedTests::test_is_served))]
 fn test_root(alloc: Global) -> Result<TestRoot, AllocError> {
@@ -118,11 +122,27 @@ fn query_fields(alloc: Global) -> Result<Vec<Field>, AllocError>
     ensures { IfOk result (λ fields. map view_field fields.items ≡ test_fields) }
 {
     Ok(vec![in alloc;
-        field(alloc, "id", Type::NonNullNamed(String::from_str(alloc, "String")?))?,
-        field(alloc, "name", Type::NonNullNamed(String::from_str(alloc, "String")?))?,
-        field(alloc, "nothing", Type::Named(String::from_str(alloc, "String")?))?,
+        field(
+            alloc,
+            "id",
+            Type::NonNullNamed(String::from_str(alloc, "String")?)
+        )?,
+        field(
+            alloc,
+            "name",
+            Type::NonNullNamed(String::from_str(alloc, "String")?)
+        )?,
+        field(
+            alloc,
+            "nothing",
+            Type::Named(String::from_str(alloc, "String")?)
+        )?,
         field(alloc, "fail", Type::Named(String::from_str(alloc, "Int")?))?,
-        field(alloc, "boom", Type::NonNullNamed(String::from_str(alloc, "Int")?))?,
+        field(
+            alloc,
+            "boom",
+            Type::NonNullNamed(String::from_str(alloc, "Int")?)
+        )?,
     ]?)
 }
 
@@ -229,10 +249,7 @@ fn shown_data(alloc: Global, data: &Value<DefaultScalarValue>) -> Result<String,
     }
 }
 
-fn shown_object(
-    alloc: Global,
-    object: &Object<DefaultScalarValue>,
-) -> Result<String, AllocError> {
+fn shown_object(alloc: Global, object: &Object<DefaultScalarValue>) -> Result<String, AllocError> {
     let mut line = String::from_str(alloc, "{")?;
     for (key, value) in object.iter() {
         let text = match value {
@@ -251,15 +268,35 @@ fn shown_object(
 fn r1_rows(rt: HostRuntime) -> Result<(), Fail> {
     let alloc = rt.alloc();
     let rows = [
-        ("{ id again: id name @skip(if: true) fail id }", None, "{ id=q1 again=q1 fail=null } failed@36:fail"),
-        ("{ nothing __typename }", None, "{ nothing=null __typename=Query }"),
+        (
+            "{ id again: id name @skip(if: true) fail id }",
+            None,
+            "{ id=q1 again=q1 fail=null } failed@36:fail",
+        ),
+        (
+            "{ nothing __typename }",
+            None,
+            "{ nothing=null __typename=Query }",
+        ),
         ("{ id @skip(if: true) @include(if: true) }", None, "{ }"),
-        ("{ id @skip(if: false) @include(if: true) }", None, "{ id=q1 }"),
+        (
+            "{ id @skip(if: false) @include(if: true) }",
+            None,
+            "{ id=q1 }",
+        ),
         ("{ id boom }", None, "null exploded@5:boom"),
         ("{ boom id }", None, "null exploded@2:boom"),
         ("{ fail boom }", None, "null failed@2:fail exploded@7:boom"),
-        ("{ fail b: fail }", None, "{ fail=null b=null } failed@2:fail failed@7:b"),
-        ("{ fail fail }", None, "{ fail=null } failed@2:fail failed@7:fail"),
+        (
+            "{ fail b: fail }",
+            None,
+            "{ fail=null b=null } failed@2:fail failed@7:b",
+        ),
+        (
+            "{ fail fail }",
+            None,
+            "{ fail=null } failed@2:fail failed@7:fail",
+        ),
         ("{ x }", None, "Unknown field@0"),
         ("{ __schema }", None, "Unknown field@0"),
         ("{ a: id a: name }", None, "Fields cannot be merged@0"),
@@ -299,7 +336,10 @@ fn places_count_characters_and_lines(rt: HostRuntime) -> Result<(), Fail> {
     let rows = [
         ("{ # \u{1D11E}\r\n  fail }", SourcePosition::new(12, 1, 2)),
         ("{ # \u{1D11E}\r\n  id ? }", SourcePosition::new(15, 1, 5)),
-        ("{\r\n\r\n# \u{1F680}\n\tid: fail }", SourcePosition::new(13, 3, 1)),
+        (
+            "{\r\n\r\n# \u{1F680}\n\tid: fail }",
+            SourcePosition::new(13, 3, 1),
+        ),
     ];
     for (text, place) in &rows {
         let mut context = Requests { count: 0 };

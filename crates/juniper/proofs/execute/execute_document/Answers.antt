@@ -30,7 +30,7 @@ returns-then-not-is_empty g c =
     let d = view_document shown c.args.document.now in
     let o = view_operation shown c.only_operation-operation.result.now in
     refuses-invalid s given d o c.only_operation-operation.ensures c.requires (option_map (λ n. n.now) c.args.operation_name) (map view_rule_error c.in_ok-errors.errors.items) c.in_ok-errors.ensures
-      (some-seen view_rule_error c.in_ok-errors.errors.items c.in_ok-errors.errors.len c.in_ok-errors.errors.ok.0 c.if-not-is_empty.ensures) (view_request_error c.from.result) (ap view_request_error c.from.ensures)
+    (some-seen view_rule_error c.in_ok-errors.errors.items c.in_ok-errors.errors.len c.in_ok-errors.errors.ok.0 c.if-not-is_empty.ensures) (view_request_error c.from.result) (ap view_request_error c.from.ensures)
 
 pub returns-then-is_some : goal.returns-then-is_some
 returns-then-is_some g c =
@@ -40,7 +40,7 @@ returns-then-is_some g c =
     let d = view_document shown c.args.document.now in
     let o = view_operation shown c.only_operation-operation.result.now in
     refuses-named s given d o c.only_operation-operation.ensures c.requires (option_map (λ n. n.now) c.args.operation_name) (is-named c.args.operation_name (λ n. n.now) (sym c.if-is_some.ensures))
-      (sym c.in_ok-errors.ensures ∙ none-seen view_rule_error c.in_ok-errors.errors.items c.in_ok-errors.errors.len c.in_ok-errors.errors.ok.0 c.if-not-is_empty.ensures) unknown_operation refl
+    (sym c.in_ok-errors.ensures ∙ none-seen view_rule_error c.in_ok-errors.errors.items c.in_ok-errors.errors.len c.in_ok-errors.errors.ok.0 c.if-not-is_empty.ensures) unknown_operation refl
 
 pub coerce_variables-coerced-requires : goal.coerce_variables-coerced-requires
 coerce_variables-coerced-requires g c =
@@ -70,8 +70,8 @@ returns g c =
     let p = c.in_ok-execute_query.field-0 in
     let root = c.args.root_node.now in
     runs-alone s given d o c.only_operation-operation.ensures c.requires
-      (world_in g.Q.GraphQLValue.concrete g.Q.GraphQLValue.answer root.query root.query_info c.args.context.now s) (g.Q.GraphQLValue.root root.query)
-      (option_map (λ n. n.now) c.args.operation_name) (is-unnamed c.args.operation_name (λ n. n.now) (sym c.if-is_some.ensures))
-      (sym c.in_ok-errors.ensures ∙ none-seen view_rule_error c.in_ok-errors.errors.items c.in_ok-errors.errors.len c.in_ok-errors.errors.ok.0 c.if-not-is_empty.ensures)
-      (view_variables shown c.coerce_variables-coerced.result) c.coerce_variables-coerced.ensures
-      (view_value shown p.0) (map (view_listed shown) p.1.items) c.in_ok-execute_query.ensures
+    (world_in g.Q.GraphQLValue.concrete g.Q.GraphQLValue.answer root.query root.query_info c.args.context.now s) (g.Q.GraphQLValue.root root.query)
+    (option_map (λ n. n.now) c.args.operation_name) (is-unnamed c.args.operation_name (λ n. n.now) (sym c.if-is_some.ensures))
+    (sym c.in_ok-errors.ensures ∙ none-seen view_rule_error c.in_ok-errors.errors.items c.in_ok-errors.errors.len c.in_ok-errors.errors.ok.0 c.if-not-is_empty.ensures)
+    (view_variables shown c.coerce_variables-coerced.result) c.coerce_variables-coerced.ensures
+    (view_value shown p.0) (map (view_listed shown) p.1.items) c.in_ok-execute_query.ensures

@@ -41,10 +41,10 @@ object-requires-clause-agree g c =
     let plain = plain-fields o c.requires.plain in
     let found = found-nothing s o (plain-query o c.requires.plain) plain c.requires.valid in
     fields-agree (λ f. view_occurrence shown f.now) c.in_ok-occurrences.occurrences.fields.items (passes vars) o.selections (rw c.as_slice-selections.ensures.value at c.in_ok-occurrences.ensures) plain
-      W (string_bytes types.query_name) s no_members
-      (λ h served. no-arguments (string_bytes types.query_name) (map view_field types.fields.items) (map view_scalar types.scalars.items) vars h
-        (seen-declares-none view_field types.fields.items (λ x. refl)) served)
-      found.0 found.1
+    W (string_bytes types.query_name) s no_members
+    (λ h served. no-arguments (string_bytes types.query_name) (map view_field types.fields.items) (map view_scalar types.scalars.items) vars h
+    (seen-declares-none view_field types.fields.items (λ x. refl)) served)
+    found.0 found.1
 
 pub returns : goal.returns
 unfolding selected
@@ -56,6 +56,6 @@ returns g c =
     let o = view_operation shown c.args.operation.now in
     let W = world_in g.Q.GraphQLValue.concrete g.Q.GraphQLValue.answer walk.resolver.now walk.info.now walk.context.now (view_schema types) vars in
     fields-answer (λ f. view_occurrence shown f.now) c.in_ok-occurrences.occurrences.fields.items (passes vars) o.selections (rw c.as_slice-selections.ensures.value at c.in_ok-occurrences.ensures) (plain-fields o c.requires.plain)
-      W (string_bytes types.query_name) (g.Q.GraphQLValue.root walk.resolver.now) (fragments (operation o ∷ []))
-      (view_value shown c.in_ok-data.data) (map (view_listed shown) c.in_ok-data.errors.items) (map (view_listed shown) c.sort_errors.new.errors.items)
-      (rw c.root_node.ensures at c.in_ok-data.ensures) c.in_ok-sort_errors.ensures.counted c.in_ok-sort_errors.ensures.sorted
+    W (string_bytes types.query_name) (g.Q.GraphQLValue.root walk.resolver.now) (fragments (operation o ∷ []))
+    (view_value shown c.in_ok-data.data) (map (view_listed shown) c.in_ok-data.errors.items) (map (view_listed shown) c.sort_errors.new.errors.items)
+    (rw c.root_node.ensures at c.in_ok-data.ensures) c.in_ok-sort_errors.ensures.counted c.in_ok-sort_errors.ensures.sorted
