@@ -1,7 +1,7 @@
 -- What is served is a part of the grammar.
-use Rattle.std.proofs.Common.{◌≡◌, ◌≢◌, ℕ, List, [], ◌∷◌, refl, sym, ◌∙◌, inl, subst}
+use Rattle.std.proofs.Common.{◌≡◌, ◌≢◌, ℕ, List, [], ◌∷◌, refl, sym, inl, subst}
 use Rattle.graphql_spec.specs.Tokens.{Token}
-use Rattle.graphql_spec.specs.Documents.{Operation, Definition, operation, Document}
+use Rattle.graphql_spec.specs.Documents.{Definition, operation, Document}
 use Rattle.graphql_spec.specs.Grammar.{IsDerived, Spells}
 use Rattle.graphql_spec.specs.Served.{IsServed, SpellsServed}
 

@@ -1,7 +1,7 @@
 -- queries of plain fields, as rows of fields
 use Rattle.std.specs.Prelude.{◌≡◌, ◌⊎◌, Bool, true, false, not, ◌&&◌, ◌||◌, map, List, [], ◌∷◌, ◌++◌, Option, Some, None}
 use Rattle.std.specs.List.{list_all, list_any, flat_map}
-use Rattle.std.specs.Option.{is_some, is_none}
+use Rattle.std.specs.Option.{is_none}
 use Rattle.std.specs.Str.{bytes_eq}
 use Rattle.std.proofs.lemmas.Bool.{and_parts, or_cases, or_parts, both_ways}
 use Rattle.std.proofs.Common.{refl, ap, ◌∙◌, inl, inr}
@@ -9,12 +9,13 @@ use Rattle.graphql_spec.specs.Shown.{Name, shown_boolean, int, text, boolean}
 use Rattle.graphql_spec.specs.Positions.{Spanned}
 use Rattle.graphql_spec.specs.Inputs.{Input, null, scalar, enumerated, variable, list, object}
 use Rattle.graphql_spec.specs.Documents.{Argument, Directive, Head, Selections, end, field, spread, inline, written}
-use Rattle.graphql_spec.specs.Directives.{skip_name, include_name, if_name, as_boolean}
+use Rattle.graphql_spec.specs.Directives.{skip_name, include_name, if_name}
 use Rattle.graphql_spec.specs.Grammar.{is_end}
 use Rattle.graphql_spec.specs.Fragments.{spreads}
 use Rattle.graphql_spec.specs.Written.{heads, conditions, directives_in}
 use Rattle.graphql_spec.proofs.Lists.{same_true}
-use Rattle.graphql_spec.specs.FirstRules.{is_plain_condition, is_plain_directive, is_plain_field, is_plain_selections}
+use Rattle.graphql_spec.specs.FirstRules.{is_plain_selections}
+use Rattle.graphql_spec.specs.Served.{is_truth, is_condition, is_served_directive, is_served_field}
 
 -- ## Lists
 
@@ -64,8 +65,8 @@ pub record Plain (d : Directive) : Type 0 where
   pub value_is : argument.value.item ≡ scalar (boolean value)
   pub called : (d.name.item ≡ skip_name) ⊎ (d.name.item ≡ include_name)
 
-pub is_some_boolean : (v : Input) → is_some (as_boolean v) ≡ true → (b : Bool) × (v ≡ scalar (boolean b))
-unfolding as_boolean shown_boolean
+pub is_some_boolean : (v : Input) → is_truth v ≡ true → (b : Bool) × (v ≡ scalar (boolean b))
+unfolding is_truth shown_boolean
 is_some_boolean null e = absurd (both_ways false refl e)
 is_some_boolean (scalar (int i)) e = absurd (both_ways false refl e)
 is_some_boolean (scalar (text t)) e = absurd (both_ways false refl e)
@@ -75,21 +76,21 @@ is_some_boolean (variable x) e = absurd (both_ways false refl e)
 is_some_boolean (list is) e = absurd (both_ways false refl e)
 is_some_boolean (object fs) e = absurd (both_ways false refl e)
 
-pub condition_parts : (as' : List Argument) → is_plain_condition as' ≡ true → (a : Argument) × (b : Bool) × (as' ≡ a ∷ []) × (a.name.item ≡ if_name) × (a.value.item ≡ scalar (boolean b))
-unfolding is_plain_condition
+pub condition_parts : (as' : List Argument) → is_condition as' ≡ true → (a : Argument) × (b : Bool) × (as' ≡ a ∷ []) × (a.name.item ≡ if_name) × (a.value.item ≡ scalar (boolean b))
+unfolding is_condition
 condition_parts [] e = absurd (both_ways false refl e)
 condition_parts (a ∷ []) e =
-    let p = and_parts (bytes_eq a.name.item if_name) (is_some (as_boolean a.value.item)) e in
+    let p = and_parts (bytes_eq a.name.item if_name) (is_truth a.value.item) e in
     let v = is_some_boolean a.value.item p.1 in (a, v.0, refl, same_true a.name.item if_name p.0, v.1)
 condition_parts (a ∷ (b ∷ cs)) e = absurd (both_ways false refl e)
 
 pub called_parts : (n : Name) → (bytes_eq n skip_name || bytes_eq n include_name) ≡ true → (n ≡ skip_name) ⊎ (n ≡ include_name)
 called_parts n e = elim (or_cases (bytes_eq n skip_name) (bytes_eq n include_name) e) [ inl a ↦ inl (same_true n skip_name a) | inr a ↦ inr (same_true n include_name a) ]
 
-pub plain_directive : (d : Directive) → is_plain_directive d ≡ true → Plain d
-unfolding is_plain_directive
+pub plain_directive : (d : Directive) → is_served_directive d ≡ true → Plain d
+unfolding is_served_directive
 plain_directive d e =
-    let p = and_parts (bytes_eq d.name.item skip_name || bytes_eq d.name.item include_name) (is_plain_condition (written d.arguments)) e in
+    let p = and_parts (bytes_eq d.name.item skip_name || bytes_eq d.name.item include_name) (is_condition (written d.arguments)) e in
     let c = condition_parts (written d.arguments) p.1 in record {
       argument = c.0;
       value = c.1;
@@ -112,14 +113,14 @@ pub record PlainField (h : Head) : Type 0 where
   pub no_set : h.has_set ≡ false
   pub plain : Every Plain h.directives
 
-pub plain_field_parts : (h : Head) → is_plain_field h ≡ true → PlainField h
-unfolding is_plain_field
+pub plain_field_parts : (h : Head) → is_served_field h ≡ true → PlainField h
+unfolding is_served_field
 plain_field_parts h e =
-    let a = and_parts (is_none h.arguments) (not h.has_set && list_all is_plain_directive h.directives) e in
-    let b = and_parts (not h.has_set) (list_all is_plain_directive h.directives) a.1 in record {
+    let a = and_parts (is_none h.arguments) (not h.has_set && list_all is_served_directive h.directives) e in
+    let b = and_parts (not h.has_set) (list_all is_served_directive h.directives) a.1 in record {
       no_arguments = no_argument h.arguments a.0;
       no_set = not_true h.has_set b.0;
-      plain = every_passing is_plain_directive Plain plain_directive h.directives b.1;
+      plain = every_passing is_served_directive Plain plain_directive h.directives b.1;
     }
 
 -- ## Selections that are a row of fields
@@ -139,7 +140,7 @@ pub plain_row : (s : Selections) → is_plain_selections s ≡ true → (hs : Li
 unfolding is_plain_selections row
 plain_row end e = ([], tt, refl)
 plain_row (field h below rest) e =
-    let a = and_parts (is_plain_field h) (is_end below && is_plain_selections rest) e in
+    let a = and_parts (is_served_field h) (is_end below && is_plain_selections rest) e in
     let b = and_parts (is_end below) (is_plain_selections rest) a.1 in
     let r = plain_row rest b.1 in (h ∷ r.0, (plain_field_parts h a.0, r.1), ap (λ z. field h z rest) (is_end-true below b.0) ∙ ap (field h end) r.2)
 plain_row (spread x rest) e = absurd (both_ways false refl e)

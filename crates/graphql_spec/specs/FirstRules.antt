@@ -1,12 +1,11 @@
 -- The rules that are served first: each field is one of its parent type (5.3.1), and fields of one response key merge (5.3.2).
 -- Introspection is not served yet, so `__schema` and `__type` count as fields that no type has.
-use Rattle.std.specs.Prelude.{◌≡◌, Bool, true, false, not, ◌&&◌, ◌||◌, codes, List, [], ◌∷◌}
+use Rattle.std.specs.Prelude.{◌≡◌, Bool, true, false, ◌&&◌, ◌||◌, codes, List, [], ◌∷◌}
 use Rattle.std.specs.List.{list_all, list_any}
-use Rattle.std.specs.Option.{is_some, is_none}
-use Rattle.std.specs.Str.{bytes_eq}
+use Rattle.std.specs.Option.{is_none}
 use Rattle.graphql_spec.specs.Types.{innermost}
-use Rattle.graphql_spec.specs.Documents.{Argument, Directive, Head, Selections, end, field, OperationType, query, Operation, Definition, operation, Document, written}
-use Rattle.graphql_spec.specs.Directives.{skip_name, include_name, if_name, as_boolean}
+use Rattle.graphql_spec.specs.Documents.{Selections, end, field, OperationType, query, Operation, Definition, operation, Document}
+use Rattle.graphql_spec.specs.Served.{is_served_field}
 use Rattle.graphql_spec.specs.Grammar.{is_end}
 use Rattle.graphql_spec.specs.Schema.{FieldDeclaration, Schema}
 use Rattle.graphql_spec.specs.Fields.{type_named, is_leaf, fields_of}
@@ -31,23 +30,10 @@ first_rule_errors s d = first_found (at_each (field_errors s) [] d) (at_each (me
 
 -- ## Where the other rules find nothing
 
--- one argument `if`, which is `true` or `false`
-unfoldable pub is_plain_condition : List Argument → Bool
-is_plain_condition (a ∷ []) = bytes_eq a.name.item if_name && is_some (as_boolean a.value.item)
-is_plain_condition _ = false
-
--- `@skip` or `@include` with its condition (3.13.1, 3.13.2)
-unfoldable pub is_plain_directive : Directive → Bool
-is_plain_directive d = (bytes_eq d.name.item skip_name || bytes_eq d.name.item include_name) && is_plain_condition (written d.arguments)
-
--- a field without arguments and without a selection set (2.5)
-unfoldable pub is_plain_field : Head → Bool
-is_plain_field h = is_none h.arguments && (not h.has_set && list_all is_plain_directive h.directives)
-
--- such fields alone (2.4)
+-- fields alone, without arguments and selection sets, whose directives are literal conditions (2.4, 2.5, 3.13)
 unfoldable pub is_plain_selections : Selections → Bool
 is_plain_selections end = true
-is_plain_selections (field h below rest) = is_plain_field h && (is_end below && is_plain_selections rest)
+is_plain_selections (field h below rest) = is_served_field h && (is_end below && is_plain_selections rest)
 is_plain_selections _ = false
 
 -- an operation that only reads

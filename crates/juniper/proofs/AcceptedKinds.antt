@@ -1,5 +1,5 @@
 -- The kinds of scalars.
-use Rattle.std.proofs.Common.{◌≡◌, Bool, true, false, is_some, cond, refl}
+use Rattle.std.proofs.Common.{◌≡◌, is_some, cond, refl}
 use Rattle.graphql_spec.specs.Shown.{Shown, int, text, boolean, shown_int, shown_boolean}
 use Rattle.graphql_spec.specs.Schema.{ScalarKinds}
 use Rattle.graphql_spec.specs.Fields.{accepts_kind}

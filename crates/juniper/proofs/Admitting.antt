@@ -1,7 +1,7 @@
 -- A turn of the loop over directives, and one of the loop over selections.
-use Rattle.std.proofs.Common.{◌≡◌, ℕ, ◌+◌, ◌<◌, ◌≤◌, Bool, true, false, ◌&&◌, cond, List, [], ◌∷◌, ◌++◌, length, get_or, drop, map, refl, sym, ap, ◌∙◌, IsTrue, append_assoc, append-nil, arith}
+use Rattle.std.proofs.Common.{◌≡◌, ℕ, ◌+◌, ◌<◌, ◌≤◌, Bool, true, false, ◌&&◌, List, [], ◌∷◌, ◌++◌, length, get_or, drop, map, refl, sym, ap, ◌∙◌, append_assoc, append-nil}
 use Rattle.std.proofs.lemmas.List.{drop_all}
-use Rattle.graphql_spec.specs.Documents.{Directive, Selections, Head, end, field}
+use Rattle.graphql_spec.specs.Documents.{Directive, Selections}
 use Rattle.graphql_spec.specs.Directives.{admits}
 use Rattle.graphql_spec.specs.Shown.{Shown}
 use Rattle.graphql_spec.specs.Selections.{Occurrence}
@@ -41,7 +41,7 @@ module _ {S : Type 0} (shown : S → Shown) (test : Directive → Bool) (xs : Li
   takes-field found made f e taken pushed same =
       let seen : view_selections shown (drop i xs) ≡ put_selection shown (Field f) left = next-is ∙ ap (λ y. put_selection shown y left) e in
       rw pushed (append_assoc found (view_occurrence shown f ∷ []) (admitted_fields test left)
-        ∙ (ap (λ r. found ++ r) (sym (ap (admitted_fields test) (seen ∙ put-Field shown f left) ∙ rw taken refl)) ∙ same))
+      ∙ (ap (λ r. found ++ r) (sym (ap (admitted_fields test) (seen ∙ put-Field shown f left) ∙ rw taken refl)) ∙ same))
 
   -- after one that is left out
   pub leaves-field : (found : List Occurrence) (f : Spanning (FieldType S) Span) → x ≡ Field f → admits test (view_directives shown (out-Field S f.item).directives) ≡ false →

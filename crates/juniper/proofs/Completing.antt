@@ -1,17 +1,17 @@
 -- One field of a scalar type: its value, what fails, and which null stands for it.
-use Rattle.std.proofs.Common.{◌≡◌, Bool, true, false, not, ◌&&◌, cond, List, [], ◌∷◌, ◌++◌, Option, Some, None, refl, sym, ap, ◌∙◌, inl, inr, subst, arith}
-use Rattle.std.proofs.lemmas.Bool.{cases_Bool, both_ways}
+use Rattle.std.proofs.Common.{◌≡◌, Bool, true, false, ◌&&◌, cond, List, [], ◌∷◌, Option, Some, None, refl, inl, inr, arith}
+use Rattle.std.proofs.lemmas.Bool.{cases_Bool}
 use Rattle.graphql_spec.specs.Shown.{Name, Shown}
-use Rattle.graphql_spec.specs.Values.{Value, null, scalar, is_null}
+use Rattle.graphql_spec.specs.Values.{Value, is_null}
 use Rattle.graphql_spec.specs.Positions.{Position}
 use Rattle.graphql_spec.specs.Types.{TypeRef, named, required}
-use Rattle.graphql_spec.specs.Errors.{Place, Listed, wrong_shape, null_at_non_null}
+use Rattle.graphql_spec.specs.Errors.{Place, Listed}
 use Rattle.graphql_spec.specs.Resolvers.{Error, World, Tree, nothing, leaf, items, node, Reply, answered, failed}
 use Rattle.graphql_spec.specs.Execution.{complete, finish}
 use Rattle.graphql_spec.specs.Failures.{Failure, landing, faults, reply_faults}
 use Rattle.graphql_spec.specs.Nulls.{null_or, standing, reply_standing}
-use Rattle.graphql_spec.specs.Laws.{In, Pair, pairs, pair_at, count}
-use Rattle.graphql_spec.specs.Walk.{Met, told, count_listed, Told}
+use Rattle.graphql_spec.specs.Laws.{pairs, pair_at, count}
+use Rattle.graphql_spec.specs.Walk.{Met, told, count_listed}
 use Rattle.juniper.specs.Walking.{leaf_value, leaf_fault, reply_value, reply_fault}
 
 -- the failure of a field of the type t at a place, if it fails

@@ -1,15 +1,15 @@
 -- A field that was resolved is completed.
-use Rattle.std.proofs.Common.{◌≡◌, Bool, true, false, Option, Some, None, option_map, bytes_eq, refl, sym, ap, subst, ◌∙◌}
-use Rattle.graphql_spec.specs.Shown.{Name, Shown}
+use Rattle.std.proofs.Common.{◌≡◌, Bool, false, Option, Some, bytes_eq, refl, sym, subst}
+use Rattle.graphql_spec.specs.Shown.{Name}
 use Rattle.graphql_spec.specs.Values.{Value, null}
-use Rattle.graphql_spec.specs.Types.{TypeRef, named, required, innermost}
+use Rattle.graphql_spec.specs.Types.{named, required, innermost}
 use Rattle.graphql_spec.specs.Documents.{Head}
-use Rattle.graphql_spec.specs.Schema.{Schema, FieldDeclaration}
+use Rattle.graphql_spec.specs.Schema.{Schema}
 use Rattle.graphql_spec.specs.Fields.{entry_named, leaf_accepts, typename}
 use Rattle.graphql_spec.specs.Constants.{Members}
-use Rattle.graphql_spec.specs.Resolvers.{World, Tree, Reply, answered, failed, Error}
+use Rattle.graphql_spec.specs.Resolvers.{World, Tree, answered, failed, Error}
 use Rattle.graphql_spec.specs.Execution.{reply_to}
-use Rattle.juniper.specs.Walking.{IsLeaf, IsCompleted, type_at, taken_at, reply_value, reply_fault, leaf_value, leaf_fault}
+use Rattle.juniper.specs.Walking.{IsLeaf, IsCompleted, type_at, reply_value, reply_fault, leaf_value, leaf_fault}
 
 module _ {N : Type 0} (s : Schema) (W : World N) (m : N) (h : Head) (n : Name) (q : Bool) (at : type_at s W h ≡ named q n) where
   -- with an answer

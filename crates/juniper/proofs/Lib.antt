@@ -6,11 +6,14 @@ pub mod ErrorSorting
 pub mod FieldCompletion
 pub mod Lists
 pub mod Messages
+pub mod Outcomes
+pub mod PlainExecution
 pub mod PlainRules
 pub mod Resolutions
 pub mod Schemas
 pub mod SelectionLists
 pub mod ServedTypes
+pub mod ServedTests
 pub mod Settling
 pub mod Steps
 pub mod Turns

@@ -1,17 +1,17 @@
 -- The rules that are served, on plain selections.
-use Rattle.std.proofs.Common.{◌≡◌, ℕ, zero, suc, max, Bool, true, false, not, ◌&&◌, ◌||◌, ◌⊎◌, cond, List, [], ◌∷◌, ◌++◌, map, Option, Some, None, is_none, is_some, codes, bytes_eq, refl, sym, ap, ap₂, ◌∙◌, inl, inr, subst, arith}
+use Rattle.std.proofs.Common.{◌≡◌, ℕ, max, Bool, true, false, not, ◌&&◌, ◌||◌, ◌⊎◌, cond, List, [], ◌∷◌, ◌++◌, Option, Some, None, is_none, codes, bytes_eq, refl, sym, ap, ap₂, ◌∙◌, inl, inr, subst}
 use Rattle.std.specs.List.{list_all, list_any}
 use Rattle.std.proofs.lemmas.Bool.{cases_Bool, and_parts}
 use Rattle.graphql_spec.specs.Shown.{Name, same_bool}
 use Rattle.graphql_spec.specs.Types.{TypeRef, named, list_of, innermost}
-use Rattle.graphql_spec.specs.Documents.{Head, Selections, Directive, end, field, spread, inline, Operation, OperationType, query, mutation, subscription, Definition, operation, Document, response_key, written, fragments, Fragment, span_of_definition}
+use Rattle.graphql_spec.specs.Documents.{Head, Spread, Inline, Selections, Directive, end, field, spread, inline, Operation, OperationType, query, mutation, subscription, operation, Document, response_key, written, fragments, Fragment, span_of_definition}
 use Rattle.graphql_spec.specs.Directives.{admits}
 use Rattle.graphql_spec.specs.Grammar.{is_end}
-use Rattle.graphql_spec.specs.Fragments.{Contents, expand, plain, contents}
+use Rattle.graphql_spec.specs.Fragments.{Contents, expand, plain}
 use Rattle.graphql_spec.specs.Selections as forest
 use Rattle.graphql_spec.specs.Selections.{Forest, Occurrence, depth}
 use Rattle.graphql_spec.specs.Schema.{Schema, FieldDeclaration}
-use Rattle.graphql_spec.specs.Fields.{field_of, type_named, is_leaf, is_object, declared_type}
+use Rattle.graphql_spec.specs.Fields.{field_of, type_named, is_leaf, declared_type}
 use Rattle.graphql_spec.specs.Written.{heads, selections_of}
 use Rattle.graphql_spec.specs.Placed.{placed, placed_in, if_declared, root_type}
 use Rattle.graphql_spec.specs.Overlap.{Field, fields}
@@ -19,7 +19,8 @@ use Rattle.graphql_spec.specs.Constants.{same_members}
 use Rattle.graphql_spec.specs.Arguments.{written_meaning}
 use Rattle.graphql_spec.specs.Merging.{each_two, same_key, each_pair, same_name, same_arguments, type_at, fields_at, types_agree, shapes_agree, may_meet, merge, set_merges, sets_merge, definition_merges}
 use Rattle.graphql_spec.specs.Rules.{RuleError, has_unknown_field, looks_at_schema, can_look, has_root, is_introspection, cannot_merge, reported, at_each, first_found}
-use Rattle.graphql_spec.specs.FirstRules.{lacks_field, field_errors, merge_errors, first_rule_errors, is_plain_field, is_plain_directive, is_plain_selections, is_plain_operation, is_query, is_empty}
+use Rattle.graphql_spec.specs.FirstRules.{lacks_field, field_errors, merge_errors, first_rule_errors, is_plain_selections, is_plain_operation, is_query, is_empty}
+use Rattle.graphql_spec.specs.Served.{is_served_field, is_served_directive}
 use Rattle.graphql_spec.proofs.Lists.{same_refl, same_true}
 use Rattle.juniper.specs.Served.{served_field}
 use Rattle.juniper.specs.PlainSelections.{any_head, each_head, is_unserved, may_share, names_agree}
@@ -34,23 +35,23 @@ is_end-true (spread x rest) e = cc
 is_end-true (inline x below rest) e = cc
 
 -- a plain field, the end below it, and plain selections after it
-record Parts (h : Head) (below rest : Selections) : Type 0 where
-  head : is_plain_field h ≡ true
-  nothing_below : below ≡ end
-  after : is_plain_selections rest ≡ true
+pub record Parts (h : Head) (below rest : Selections) : Type 0 where
+  pub head : is_served_field h ≡ true
+  pub nothing_below : below ≡ end
+  pub after : is_plain_selections rest ≡ true
 
-parts : (h : Head) (below rest : Selections) → is_plain_selections (field h below rest) ≡ true → Parts h below rest
+pub parts : (h : Head) (below rest : Selections) → is_plain_selections (field h below rest) ≡ true → Parts h below rest
 unfolding is_plain_selections
 parts h below rest e =
-    let a = and_parts (is_plain_field h) (is_end below && is_plain_selections rest) e in
+    let a = and_parts (is_served_field h) (is_end below && is_plain_selections rest) e in
     let b = and_parts (is_end below) (is_plain_selections rest) a.1 in
     record { head = a.0; nothing_below = is_end-true below b.0; after = b.1 }
 
-not-plain : {A : Type 0} (x : _) (rest : Selections) → is_plain_selections (spread x rest) ≡ true → A
+pub not-plain : {A : Type 0} (x : Spread) (rest : Selections) → is_plain_selections (spread x rest) ≡ true → A
 unfolding is_plain_selections
 not-plain x rest e = absurd (cc)
 
-not-plain-inline : {A : Type 0} (x : _) (below rest : Selections) → is_plain_selections (inline x below rest) ≡ true → A
+pub not-plain-inline : {A : Type 0} (x : Inline) (below rest : Selections) → is_plain_selections (inline x below rest) ≡ true → A
 unfolding is_plain_selections
 not-plain-inline x below rest e = absurd (cc)
 
@@ -92,7 +93,7 @@ fields-unserved s end e = refl
 fields-unserved s (field h below rest) e =
     let p = parts h below rest e in
     subst (λ b. (list_any (λ p. is_none p.declared) (placed s s.query (field h b rest)) || list_any (λ h. is_introspection h.name.item) (heads (field h b rest))) ≡ any_head (is_unserved s) (field h b rest))
-      (sym p.nothing_below) (one-unserved s h rest (fields-unserved s rest p.after))
+    (sym p.nothing_below) (one-unserved s h rest (fields-unserved s rest p.after))
 fields-unserved s (spread x rest) e = not-plain x rest e
 fields-unserved s (inline x below rest) e = not-plain-inline x below rest e
 
@@ -147,9 +148,9 @@ none-there : {A : Type 0} (o : Option A) → is_none o ≡ true → o ≡ None
 none-there None e = refl
 none-there (Some x) e = cc
 
-pub no-arguments-written : (h : Head) → is_plain_field h ≡ true → h.arguments ≡ None
-unfolding is_plain_field
-no-arguments-written h e = none-there h.arguments (and_parts (is_none h.arguments) (not h.has_set && list_all is_plain_directive h.directives) e).0
+pub no-arguments-written : (h : Head) → is_served_field h ≡ true → h.arguments ≡ None
+unfolding is_served_field
+no-arguments-written h e = none-there h.arguments (and_parts (is_none h.arguments) (not h.has_set && list_all is_served_directive h.directives) e).0
 
 same_bool-refl : (b : Bool) → same_bool b b ≡ true
 unfolding same_bool
@@ -258,6 +259,7 @@ is_query-true subscription e = cc
 -- a plain operation is a query of plain selections, without variables
 record PlainParts (o : Operation) : Type 0 where
   kind : o.kind ≡ query
+  name : o.name ≡ None
   variables : o.variables ≡ None
   selections : is_plain_selections o.selections ≡ true
 
@@ -268,10 +270,13 @@ plain-parts o e =
     let b = and_parts (is_none o.name) (is_none o.variables && (is_empty o.directives && is_plain_selections o.selections)) a.1 in
     let c = and_parts (is_none o.variables) (is_empty o.directives && is_plain_selections o.selections) b.1 in
     let d = and_parts (is_empty o.directives) (is_plain_selections o.selections) c.1 in
-    record { kind = is_query-true o.kind a.0; variables = none-there o.variables c.0; selections = d.1 }
+    record { kind = is_query-true o.kind a.0; name = none-there o.name b.0; variables = none-there o.variables c.0; selections = d.1 }
 
 pub plain-query : (o : Operation) → is_plain_operation o ≡ true → o.kind ≡ query
 plain-query o e = (plain-parts o e).kind
+
+pub plain-name : (o : Operation) → is_plain_operation o ≡ true → o.name ≡ None
+plain-name o e = (plain-parts o e).name
 
 pub plain-variables : (o : Operation) → is_plain_operation o ≡ true → o.variables ≡ None
 plain-variables o e = (plain-parts o e).variables
@@ -289,3 +294,13 @@ module _ (s : Schema) (o : Operation) (k : o.kind ≡ query) (e : is_plain_selec
 
   pub nothing-found : any_head (is_unserved s) o.selections ≡ false → names_agree o.selections ≡ true → first_rule_errors s (operation o ∷ []) ≡ []
   nothing-found a b = first-rules-are s o k e ∙ rw (a, b) refl
+
+  -- where they find nothing, each field is served, and those of one response key agree
+  pub found-nothing : first_rule_errors s (operation o ∷ []) ≡ [] → (any_head (is_unserved s) o.selections ≡ false) × (names_agree o.selections ≡ true)
+  found-nothing none = elim (cases_Bool (any_head (is_unserved s) o.selections)) [
+    | inl a ↦ absurd (some-error (sym (unknown-found a) ∙ none))
+    | inr a ↦ elim (cases_Bool (names_agree o.selections)) [ inl b ↦ (a, b) | inr b ↦ absurd (some-error (sym (conflict-found a b) ∙ none)) ]
+  ]
+    where
+      some-error : {A : Type 0} {x : A} {xs : List A} → x ∷ xs ≡ [] → ⊥
+      some-error e = cc

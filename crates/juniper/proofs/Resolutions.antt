@@ -1,5 +1,5 @@
 -- A resolver's answer beside what it stands for, level by level.
-use Rattle.std.proofs.Common.{◌≡◌, List, Vec, Global, Option, Some, None, Bool, true, false, cond, map, refl, sym, ap, ◌∙◌, rules, codes}
+use Rattle.std.proofs.Common.{◌≡◌, Vec, Global, Option, Some, None, Bool, true, false, map, refl, rules}
 use Rattle.graphql_spec.specs.Shown.{Shown}
 use Rattle.graphql_spec.specs.Values.{Value, null, scalar}
 use Rattle.graphql_spec.specs.Resolvers as spec

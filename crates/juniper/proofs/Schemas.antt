@@ -1,5 +1,5 @@
 -- Looking fields up in a schema of one object type.
-use Rattle.std.proofs.Common.{◌≡◌, ℕ, Bool, true, false, ◌||◌, ◌&&◌, cond, List, [], ◌∷◌, Option, Some, None, option_map, codes, bytes_eq, IsTrue, refl, sym, ap, ◌∙◌, inl, inr}
+use Rattle.std.proofs.Common.{◌≡◌, Bool, true, false, ◌||◌, cond, List, [], ◌∷◌, Some, None, option_map, codes, bytes_eq, IsTrue, refl, sym, ap, ◌∙◌, inl, inr}
 use Rattle.std.specs.List.{list_all}
 use Rattle.std.proofs.lemmas.Bool.{cases_Bool, and_parts}
 use Rattle.std.proofs.lemmas.Option.{none-some, same_Some}
@@ -9,7 +9,7 @@ use Rattle.graphql_spec.specs.Schema.{Schema, Entry, FieldDeclaration, object_ty
 use Rattle.graphql_spec.specs.Fields.{entry_in, shape_of, or_else, entry_named, type_named, is_composite, fields_of, field_in, field_of, meta_fields, root_fields, typename_field, typename, leaf_accepts, accepts_kind}
 use Rattle.graphql_spec.specs.Rules.{is_introspection}
 use Rattle.graphql_spec.proofs.Lists.{same_refl}
-use Rattle.juniper.specs.SchemaView.{schema_of, query_entry, scalar_entry}
+use Rattle.juniper.specs.SchemaView.{schema_of, scalar_entry}
 use Rattle.juniper.specs.Served.{served_field, has_scalar_fields, is_scalar_type, as_named}
 
 -- the query type's entry is found

@@ -1,7 +1,7 @@
 -- The types of served fields: scalars of the schema.
-use Rattle.std.proofs.Common.{◌≡◌, ℕ, Bool, true, false, not, ◌&&◌, ◌||◌, cond, List, [], ◌∷◌, map, Option, Some, None, is_some, is_none, option_map, codes, bytes_eq, IsTrue, refl, sym, ap, ◌∙◌, inl, inr, subst}
-use Rattle.std.specs.List.{list_all, list_any}
-use Rattle.std.proofs.lemmas.Bool.{cases_Bool, and_parts, or_parts}
+use Rattle.std.proofs.Common.{◌≡◌, Bool, true, false, ◌&&◌, cond, List, [], ◌∷◌, map, Option, Some, None, is_some, is_none, option_map, codes, bytes_eq, IsTrue, refl, sym, ap, ◌∙◌, inl, inr}
+use Rattle.std.specs.List.{list_all}
+use Rattle.std.proofs.lemmas.Bool.{cases_Bool, and_parts}
 use Rattle.std.proofs.lemmas.Option.{none-some, same_Some}
 use Rattle.graphql_spec.specs.Shown.{Name, Shown}
 use Rattle.graphql_spec.specs.Types.{TypeRef, named, list_of, required, innermost}
@@ -48,9 +48,9 @@ string-is-scalar s e =
     let g = defaults_fit s in let i = interfaces_are_met s in let n = all_names_differ s in let t = types_are_known s in
     let b = built_ins_are_right s in
     let a : b ≡ true = and-last g b (and-last i (g && b) (and-last n (i && (g && b)) (and-last t (n && (i && (g && b)))
-        (and-last (roots_are_objects s) (t && (n && (i && (g && b)))) (and-last (entries_are_named s) (roots_are_objects s && (t && (n && (i && (g && b))))) e))))) in
+    (and-last (roots_are_objects s) (t && (n && (i && (g && b)))) (and-last (entries_are_named s) (roots_are_objects s && (t && (n && (i && (g && b))))) e))))) in
     just-is-scalar false true false (entry_named s (codes "String")) (and_parts (accepts_just false true false (entry_named s (codes "String"))) (accepts_just false false true (entry_named s (codes "Boolean"))
-        && (scalar_if_there true false false (entry_named s (codes "Int")) && scalar_if_there true true false (entry_named s (codes "ID")))) a).0
+    && (scalar_if_there true false false (entry_named s (codes "Int")) && scalar_if_there true true false (entry_named s (codes "ID")))) a).0
 
 -- the type of a served field
 pub served-is-scalar : (q f : Name) (fs : List FieldDeclaration) (rest : List Entry) (d : FieldDeclaration) → IsTrue (is_served_schema (schema_of q fs rest)) → served_field (schema_of q fs rest) f ≡ Some d →
@@ -66,9 +66,11 @@ served-is-scalar q f fs rest d h e =
     declared : (s : Schema) → is_executable s ≡ true → (t : Bool) → cond t (Some typename_field) None ≡ Some d → is_scalar_type s d.of_type ≡ true
     declared s x true g = ap (λ z. is_scalar_type s z.of_type) (sym (same_Some typename_field d g)) ∙ string-is-scalar s x
     declared s x false g = absurd (none-some d g)
+
     by-field : (s : Schema) → list_all (λ x. is_scalar_type s x.of_type) fs ≡ true → is_executable s ≡ true → (o : Option FieldDeclaration) (t : Bool) → field_in fs f ≡ o → or_else o (cond t (Some typename_field) None) ≡ Some d → is_scalar_type s d.of_type ≡ true
     by-field s all x None t at g = declared s x t g
     by-field s all x (Some y) t at g = all-found (λ z. is_scalar_type s z.of_type) fs f d all (at ∙ g)
+
     by-introspection : (s : Schema) → list_all (λ x. is_scalar_type s x.of_type) fs ≡ true → is_executable s ≡ true → (i : Bool) (o : Option FieldDeclaration) (t : Bool) → field_in fs f ≡ o →
         cond i None (or_else o (cond t (Some typename_field) None)) ≡ Some d → is_scalar_type s d.of_type ≡ true
     by-introspection s all x true o t at g = absurd (none-some d g)
@@ -209,9 +211,11 @@ served-has-no-arguments q f fs rest d all e =
     declared : (t : Bool) → cond t (Some typename_field) None ≡ Some d → d.arguments ≡ []
     declared true g = ap (λ z. z.arguments) (sym (same_Some typename_field d g))
     declared false g = absurd (none-some d g)
+
     by-field : (o : Option FieldDeclaration) (t : Bool) → field_in fs f ≡ o → or_else o (cond t (Some typename_field) None) ≡ Some d → d.arguments ≡ []
     by-field None t at g = declared t g
     by-field (Some y) t at g = none-declared d.arguments (all-found (λ z. no_declarations z.arguments) fs f d all (at ∙ g))
+
     by-introspection : (i : Bool) (o : Option FieldDeclaration) (t : Bool) → field_in fs f ≡ o → cond i None (or_else o (cond t (Some typename_field) None)) ≡ Some d → d.arguments ≡ []
     by-introspection true o t at g = absurd (none-some d g)
     by-introspection false o t at g = by-field o t at g
@@ -262,7 +266,7 @@ unfolding world_of
 served-world concrete answer r i c q fs rest vars served none =
     let s : Schema = schema_of q fs rest in
     let scalar : (h : Head) → IsTrue (is_served_head s h) → is_scalar_type s (declared_type (field_of s q h.name.item)) ≡ true =
-        λ h at. let some = served-some s h at in ap (is_scalar_type s) (declared-at s h.name.item some.0 some.1) ∙ served-is-scalar q h.name.item fs rest some.0 served some.1 in
+    λ h at. let some = served-some s h at in ap (is_scalar_type s) (declared-at s h.name.item some.0 some.1) ∙ served-is-scalar q h.name.item fs rest some.0 served some.1 in
     record {
       typed = λ h at. (scalar-parts s (declared_type (field_of s q h.name.item)) (scalar h at)).0;
       taken = λ h at x. accepts-as-entry s (innermost (declared_type (field_of s q h.name.item))) x (scalar-parts s (declared_type (field_of s q h.name.item)) (scalar h at)).1;

@@ -1,9 +1,9 @@
 -- Joining an object with one further key.
-use Rattle.std.proofs.Common.{◌≡◌, Bool, true, false, not, ◌&&◌, ◌||◌, cond, Option, Some, None, bytes_eq, refl, sym, ap, ap₂, ◌∙◌, inl, inr, subst}
-use Rattle.std.proofs.lemmas.Bool.{cases_Bool, or_parts, or_cases}
+use Rattle.std.proofs.Common.{◌≡◌, Bool, true, false, not, ◌&&◌, cond, Some, None, bytes_eq, refl, sym, ap, ap₂, ◌∙◌, inl, inr, subst}
+use Rattle.std.proofs.lemmas.Bool.{cases_Bool, or_parts}
 use Rattle.graphql_spec.specs.Shown.{Name, Shown}
 use Rattle.graphql_spec.specs.Values.{Value, null, scalar, list, object, Entries, no_entries, entry, is_null, look_up, has_entry, append, others, joined, join, join_entries, put, keys_differ}
-use Rattle.graphql_spec.proofs.Lists.{same_true, same_sym, same_refl}
+use Rattle.graphql_spec.proofs.Lists.{same_true, same_sym}
 use Rattle.graphql_spec.proofs.Objects.{join-null}
 use Rattle.juniper.specs.Walking.{is_leaf_value, settled}
 

@@ -3,23 +3,20 @@ use Rattle.std.proofs.Common.{◌≡◌, ℕ, ◌+◌, ◌<◌, ◌≤◌, Bool,
 use Rattle.std.proofs.lemmas.List.{take_more, take_all, map-append, take-append-drop}
 use Rattle.graphql_spec.specs.Shown.{Name, Shown}
 use Rattle.graphql_spec.specs.Values.{Value, null, object, Entries, no_entries, is_null, keys_differ}
-use Rattle.graphql_spec.specs.Positions.{Position}
-use Rattle.graphql_spec.specs.Types.{TypeRef, named, required, innermost}
+use Rattle.graphql_spec.specs.Types.{named, required, innermost}
 use Rattle.graphql_spec.specs.Documents.{Head, response_key}
 use Rattle.graphql_spec.specs.Schema.{Schema}
-use Rattle.graphql_spec.specs.Fields.{entry_named, leaf_accepts}
-use Rattle.graphql_spec.specs.Errors.{Place, Listed, key, keys_only}
+use Rattle.graphql_spec.specs.Errors.{Listed, key, keys_only}
 use Rattle.graphql_spec.specs.Selections.{Occurrence}
 use Rattle.graphql_spec.specs.Resolvers.{World, Error}
 use Rattle.graphql_spec.specs.Execution.{type_of, reply_of, reply_to}
 use Rattle.graphql_spec.specs.Laws.{Agree}
 use Rattle.graphql_spec.proofs.Walk.{Walked, one_entry}
 use Rattle.juniper.specs.Served.{is_served_head}
-use Rattle.juniper.specs.Walking.{IsCompleted, IsWalked, type_at, taken_at, settled, listed_of, reply_value, reply_fault, is_leaf_value}
+use Rattle.juniper.specs.Walking.{IsCompleted, IsWalked, type_at, taken_at, settled, listed_of, reply_fault, is_leaf_value}
 use Rattle.juniper.proofs.Lists.{left-is, seen-last}
 use Rattle.juniper.proofs.Completing.{listed_at}
 use Rattle.juniper.proofs.Turns.{walked-field, walked-none, turn-on, turn-stop, reply-is-leaf}
-use Rattle.juniper.proofs.Settling.{settled-differs}
 
 -- a world whose served fields are scalars
 pub record IsServedWorld {N : Type 0} (s : Schema) (W : World N) : Type 0 where
@@ -49,11 +46,11 @@ one-walked s W m o v e p world served done =
     let n = innermost (type_at s W o.head) in
     let base = walked-field keys_only W s.query m n (taken_at s W o.head) (world.taken o.head served) (world.never o.head served) (required (type_at s W o.head)) o (world.typed o.head served) [] [] in
     let a = subst (λ z. Walked keys_only W 1 [] [] s.query m (o ∷ []) (one_entry keys_only (response_key o.head) (named (required (type_at s W o.head)) n) z)
-        (listed_at (keys_only ([] ++ key (response_key o.head) ∷ [])) o.head.span.start (reply_fault (taken_at s W o.head) (required (type_at s W o.head)) (reply_to W s.query m o.head)))) (sym done.value) base in
+    (listed_at (keys_only ([] ++ key (response_key o.head) ∷ [])) o.head.span.start (reply_fault (taken_at s W o.head) (required (type_at s W o.head)) (reply_to W s.query m o.head)))) (sym done.value) base in
     let b = subst (λ z. Walked keys_only W 1 [] [] s.query m (o ∷ []) (one_entry keys_only (response_key o.head) (named (required (type_at s W o.head)) n) v)
-        (listed_at (keys_only ([] ++ key (response_key o.head) ∷ [])) o.head.span.start z)) (sym done.fault) a in
+    (listed_at (keys_only ([] ++ key (response_key o.head) ∷ [])) o.head.span.start z)) (sym done.fault) a in
     let c = subst (λ z. Walked keys_only W 1 [] [] s.query m (o ∷ []) (one_entry keys_only (response_key o.head) (named z n) v)
-        (listed_at (keys_only ([] ++ key (response_key o.head) ∷ [])) o.head.span.start e)) (sym done.non_null) b in
+    (listed_at (keys_only ([] ++ key (response_key o.head) ∷ [])) o.head.span.start e)) (sym done.non_null) b in
     subst (λ z. Walked keys_only W 1 [] [] s.query m (o ∷ []) (one_entry keys_only (response_key o.head) (named p n) v) z) (same-listed o e) c
 
 -- the list, cut at the field of this turn
@@ -73,9 +70,9 @@ module _ {N A : Type 0} (s : Schema) (W : World N) (m : N) (view : A → Occurre
       let agree : Agree W 1 s.query (front ++ o ∷ rest) = subst (λ z. Agree W 1 s.query z) (cut view fs i x below is) agrees in
       let leaf = ap is_leaf_value done.value ∙ reply-is-leaf (taken_at s W o.head) (reply_to W s.query m o.head) in
       let w = turn-on keys_only W 0 [] [] s.query m front rest o agree (response_key o.head) (innermost (type_at s W o.head)) p v es errors (listed_of o e) differ leaf kept
-        (to_walked W s.query m front (object es) errors walked) (one-walked s W m o v e p world served done) in
+      (to_walked W s.query m front (object es) errors walked) (one-walked s W m o v e p world served done) in
       subst (λ z. IsWalked W s.query m z (object (settled (response_key o.head) v es)) (errors ++ listed_of o e)) (sym (front-more view fs i x below is))
-        (from_walked W s.query m (front ++ o ∷ []) (object (settled (response_key o.head) v es)) (errors ++ listed_of o e) w)
+      (from_walked W s.query m (front ++ o ∷ []) (object (settled (response_key o.head) v es)) (errors ++ listed_of o e) w)
 
   -- the walk stops
   pub step-stop : (is_null v && p) ≡ true → IsWalked W s.query m (map view fs) null (errors ++ listed_of (view x) e)
@@ -83,7 +80,7 @@ module _ {N A : Type 0} (s : Schema) (W : World N) (m : N) (view : A → Occurre
       let front = map view (take i fs) in let rest = map view (drop (i + 1) fs) in let o = view x in
       let agree : Agree W 1 s.query (front ++ o ∷ rest) = subst (λ z. Agree W 1 s.query z) (cut view fs i x below is) agrees in
       let w = turn-stop keys_only W 0 [] [] s.query m front rest o agree (response_key o.head) (innermost (type_at s W o.head)) p v es errors (listed_of o e) lost
-        (to_walked W s.query m front (object es) errors walked) (one-walked s W m o v e p world served done) in
+      (to_walked W s.query m front (object es) errors walked) (one-walked s W m o v e p world served done) in
       subst (λ z. IsWalked W s.query m z null (errors ++ listed_of o e)) (sym (cut view fs i x below is)) (from_walked W s.query m (front ++ o ∷ rest) null (errors ++ listed_of o e) w)
 
 -- the last turn

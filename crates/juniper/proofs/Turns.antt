@@ -2,22 +2,21 @@
 use Rattle.std.proofs.Common.{◌≡◌, ℕ, zero, suc, Bool, true, false, ◌&&◌, cond, List, [], ◌∷◌, ◌++◌, Option, Some, None, refl, sym, ap, ◌∙◌, inl, inr, subst, append_assoc}
 use Rattle.std.proofs.lemmas.Bool.{cases_Bool}
 use Rattle.graphql_spec.specs.Shown.{Name, Shown}
-use Rattle.graphql_spec.specs.Values.{Value, null, scalar, object, Entries, no_entries, entry, is_null, join, keys_differ}
+use Rattle.graphql_spec.specs.Values.{Value, null, object, Entries, no_entries, entry, is_null, join, keys_differ}
 use Rattle.graphql_spec.specs.Documents.{response_key}
 use Rattle.graphql_spec.specs.Positions.{Position}
-use Rattle.graphql_spec.specs.Types.{TypeRef, named, required}
+use Rattle.graphql_spec.specs.Types.{named, required}
 use Rattle.graphql_spec.specs.Errors.{Place, Listed, key}
-use Rattle.graphql_spec.specs.Selections.{Occurrence, Forest, occurrences, all_below, keys}
+use Rattle.graphql_spec.specs.Selections.{Occurrence, keys}
 use Rattle.graphql_spec.specs.Resolvers.{Error, World, Tree, nothing, leaf, items, node, Reply, answered, failed}
-use Rattle.graphql_spec.specs.Execution.{type_of, reply_of, of_key, finish, grouped, whole_object, entries, is_lost}
-use Rattle.graphql_spec.specs.Failures.{failures, key_failures, starts_of, reply_faults}
-use Rattle.graphql_spec.specs.Nulls.{nulls, key_standing, reply_standing}
+use Rattle.graphql_spec.specs.Execution.{type_of, reply_of, of_key, grouped, whole_object, entries, is_lost}
+use Rattle.graphql_spec.specs.Failures.{failures, key_failures, starts_of}
+use Rattle.graphql_spec.specs.Nulls.{nulls, key_standing}
 use Rattle.graphql_spec.specs.Laws.{In, Agree}
 use Rattle.graphql_spec.specs.Walk.{Met}
 use Rattle.graphql_spec.proofs.Walk.{Walked, walked-join, walked-stop, walked-one, one_entry}
-use Rattle.graphql_spec.proofs.Grouping.{in_first, in_second}
 use Rattle.graphql_spec.proofs.Objects.{join-null}
-use Rattle.juniper.specs.Walking.{is_leaf_value, settled, leaf_value, leaf_fault, reply_value, reply_fault}
+use Rattle.juniper.specs.Walking.{is_leaf_value, settled, leaf_value, reply_value, reply_fault}
 use Rattle.juniper.proofs.Settling.{join-settled}
 use Rattle.juniper.proofs.Completing.{failure_at, listed_at, stands_at, finish-is, reply_faults-is, reply_standing-is, met-clear, met-fault, reply-clear, reply-failing}
 
@@ -58,10 +57,10 @@ module _ (tell : Place → Place) {N : Type 0} (W : World N) (T : Name) (m : N) 
         let place : Place = here ++ key (response_key o.head) ∷ [] in
         let start = o.head.span.start in
         subst (λ z. Walked tell W (suc zero) here above T m (o ∷ []) (one_entry tell (response_key o.head) z (reply_value takes reply)) (listed_at (tell place) start (reply_fault takes q reply))) t
-          (walked-one tell W zero here above T m o (reply_value takes reply) (listed_at (tell place) start (reply_fault takes q reply))
-            (sym (rw t (finish-is W n takes same never _ q reply)))
-            (rw (t, reply_faults-is W n takes same never _ place (start ∷ []) above q reply, reply_standing-is W n takes same never _ _ place q reply)
-              (met-some tell place above start n takes q reply (reply_fault takes q reply) refl)))
+        (walked-one tell W zero here above T m o (reply_value takes reply) (listed_at (tell place) start (reply_fault takes q reply))
+        (sym (rw t (finish-is W n takes same never _ q reply)))
+        (rw (t, reply_faults-is W n takes same never _ place (start ∷ []) above q reply, reply_standing-is W n takes same never _ _ place q reply)
+        (met-some tell place above start n takes q reply (reply_fault takes q reply) refl)))
 
 -- where all of a list agree, so do parts of it
 pub agree-part : {N : Type 0} (W : World N) (d : ℕ) (T : Name) (os ps : List Occurrence) → ((x : Occurrence) → In x ps → In x os) → Agree W (suc d) T os → Agree W (suc d) T ps
@@ -112,7 +111,7 @@ module _ (tell : Place → Place) {N : Type 0} (W : World N) (d : ℕ) (here abo
   turn-stop k n q u es errors more lost before one =
       let joined' = walked-join tell W (suc d) here above T m front (o ∷ []) (object es) (one_entry tell k (named q n) u) errors more agrees-front before one in
       let stopped : Walked tell W (suc d) here above T m (front ++ o ∷ []) null (errors ++ more) =
-          subst (λ z. Walked tell W (suc d) here above T m (front ++ o ∷ []) z (errors ++ more)) (ap (join (object es)) (one_entry-lost tell k n q u lost) ∙ join-null (object es)) joined' in
+      subst (λ z. Walked tell W (suc d) here above T m (front ++ o ∷ []) z (errors ++ more)) (ap (join (object es)) (one_entry-lost tell k n q u lost) ∙ join-null (object es)) joined' in
       let whole : (front ++ o ∷ []) ++ rest ≡ front ++ o ∷ rest = append_assoc front (o ∷ []) rest in
       subst (λ z. Walked tell W (suc d) here above T m z null (errors ++ more)) whole
-        (walked-stop tell W (suc d) here above T m (front ++ o ∷ []) rest (errors ++ more) (subst (λ z. Agree W (suc d) T z) (sym whole) agrees) stopped)
+      (walked-stop tell W (suc d) here above T m (front ++ o ∷ []) rest (errors ++ more) (subst (λ z. Agree W (suc d) T z) (sym whole) agrees) stopped)

@@ -1,3 +1,4 @@
+pub mod Answering
 pub mod ArgumentView
 pub mod DirectiveView
 pub mod ErrorView
@@ -6,6 +7,8 @@ pub mod Occurrences
 pub mod PlainSelections
 pub mod RequestErrors
 pub mod ResolvedView
+pub mod RootView
 pub mod SchemaView
 pub mod Served
+pub mod TestRoot
 pub mod Walking

@@ -1,5 +1,5 @@
 -- How the code's schemas are seen (3).
-use Rattle.std.specs.Prelude.{ℕ, List, [], ◌∷◌, map, Some, None, string_bytes}
+use Rattle.std.specs.Prelude.{List, [], ◌∷◌, map, Some, None, string_bytes}
 use Rattle.graphql_spec.specs.Shown.{Name}
 use Rattle.graphql_spec.specs.Types.{TypeRef, named}
 use Rattle.graphql_spec.specs.Schema as spec

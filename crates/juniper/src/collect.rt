@@ -11,13 +11,19 @@ use crate::admits::{admits, lent};
 use juniper_language::{Field, ScalarValue, Selection, Span, Spanning, Variables};
 use std::alloc::{AllocError, Global};
 
+/// Fields of a document, one after the other.
+#[derive(Drop)]
+pub(crate) struct Occurrences<'d, 'a, S> {
+    pub(crate) fields: Vec<&'d Spanning<Field<'a, S>, Span>>,
+}
+
 /// The admitted fields of selections that are fields, in document order; fragments are not served yet.
-pub(crate) fn collect<'s, 'a, S: ScalarValue>(
+pub(crate) fn collect<'d, 'a, S: ScalarValue>(
     alloc: Global,
-    selections: &'s [Selection<'a, S>],
+    selections: &'d [Selection<'a, S>],
     variables: &Variables<S>,
-) -> Result<Vec<&'s Spanning<Field<'a, S>, Span>>, AllocError>
-    ensures { IfOk result (λ v. map (λ f. view_occurrence S.shown f.now) v.items ≡ admitted_fields (passes (view_variables S.shown variables.now)) (view_selections S.shown selections.now)) }
+) -> Result<Occurrences<'d, 'a, S>, AllocError>
+    ensures { IfOk result (λ o. map (λ f. view_occurrence S.shown f.now) o.fields.items ≡ admitted_fields (passes (view_variables S.shown variables.now)) (view_selections S.shown selections.now)) }
 {
     let mut fields = Vec::new(alloc);
     for selection in selections {
@@ -31,7 +37,7 @@ pub(crate) fn collect<'s, 'a, S: ScalarValue>(
             Selection::InlineFragment(_) => {}
         }
     }
-    Ok(fields)
+    Ok(Occurrences { fields })
 }
 
 /// The response key of a field: its alias, else its name.

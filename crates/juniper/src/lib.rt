@@ -9,6 +9,8 @@ pub mod meta;
 mod root;
 pub mod rules;
 mod schema;
+#[cfg(test)]
+mod tests;
 pub mod types;
 pub mod values;
 mod walk;
@@ -19,4 +21,6 @@ pub use root::RootNode;
 pub use rules::RuleError;
 pub use schema::{ScalarKinds, ScalarMeta, SchemaType};
 pub use types::{EmptyMutation, EmptySubscription, Executor, GraphQLType, GraphQLValue, Resolved};
-pub use values::{Arguments, ExecutionError, ExecutionResult, FieldError, FieldResult, ResolveError};
+pub use values::{
+    Arguments, ExecutionError, ExecutionResult, FieldError, FieldResult, ResolveError,
+};

@@ -24,7 +24,14 @@ pub struct RootNode<Q: GraphQLType<S>, M: GraphQLType<S>, Sub: GraphQLType<S>, S
     ghost served: { IsTrue (is_served_schema (view_schema schema)) },
 }
 
-impl<Q: GraphQLType<S>, M: GraphQLType<S>, Sub: GraphQLType<S>, S: ScalarValue> RootNode<Q, M, Sub, S> {
+impl<Q: GraphQLType<S>, M: GraphQLType<S>, Sub: GraphQLType<S>, S: ScalarValue> RootNode<
+    Q,
+    M,
+    Sub,
+    S,
+> {
+    ghost use Rattle.juniper.specs.RootView.{schema_of, resolver_of, info_of};
+
     /// The root of these resolvers over a schema that is executable and whose query type has fields of scalar types alone.
     pub fn of_parts(
         query: Q,
@@ -36,9 +43,9 @@ impl<Q: GraphQLType<S>, M: GraphQLType<S>, Sub: GraphQLType<S>, S: ScalarValue> 
         subscription_info: Sub::TypeInfo,
     ) -> Self
         requires { IsTrue (is_served_schema (view_schema schema)) }
-        ensures schema { result.schema ≡ schema }
-        ensures query { result.query ≡ query }
-        ensures info { result.query_info ≡ query_info }
+        ensures schema { schema_of result ≡ schema }
+        ensures resolver { resolver_of result ≡ query }
+        ensures info { info_of result ≡ query_info }
     {
         RootNode {
             query,
@@ -54,7 +61,7 @@ impl<Q: GraphQLType<S>, M: GraphQLType<S>, Sub: GraphQLType<S>, S: ScalarValue> 
 
     /// The schema.
     pub fn schema(&self) -> &SchemaType
-        ensures { result.now ≡ self.now.schema }
+        ensures { result.now ≡ schema_of self.now }
     {
         &self.schema
     }

@@ -16,7 +16,7 @@ ghost use Rattle.juniper.specs.SchemaView.{view_schema};
 ghost use Rattle.juniper.specs.Served.{is_served_schema, is_served_head};
 ghost use Rattle.juniper.specs.Walking.{world_in, is_leaf_value, settled, IsLeaf, IsCompleted, IsWalked, listed_of};
 
-use crate::collect::response_key;
+use crate::collect::{Occurrences, response_key};
 use crate::schema::{LeafType, SchemaType};
 use crate::types::{Executor, GraphQLValue, Resolved};
 use crate::values::{Arguments, ExecutionError, FieldError, ResolveError};
@@ -189,20 +189,21 @@ fn rises<S: ScalarValue>(value: &Value<S>, is_non_null: bool) -> bool
 }
 
 /// The object of a node for these fields, and the errors of the fields that fail (ExecuteSelectionSet, 6.3). A null at a
-/// non-null field ends the walk, and the object is null (6.4.4).
+/// non-null field ends the walk (6.3), and the object is null (6.4.4).
 pub(crate) fn object<Q: GraphQLValue<S>, S: ScalarValue>(
     walk: &Walk<'_, Q, S>,
     node: &Q::Node,
-    fields: &[&Spanning<Field<'_, S>, Span>],
+    occurrences: &Occurrences<'_, '_, S>,
 ) -> Result<(Value<S>, Vec<ExecutionError<S>>), AllocError>
     requires schema { IsTrue (is_served_schema (view_schema walk.now.schema.now)) }
-    requires served { IsTrue (list_all (λ f. is_served_head (view_schema walk.now.schema.now) (view_occurrence S.shown f.now).head) fields.now) }
-    requires agree { Agree (world_in Q.concrete Q.answer walk.now.resolver.now walk.now.info.now walk.now.context.now (view_schema walk.now.schema.now) (view_variables S.shown walk.now.variables.now)) 1 (view_schema walk.now.schema.now).query (map (λ f. view_occurrence S.shown f.now) fields.now) }
-    ensures { IfOk result (λ p. IsWalked (world_in Q.concrete Q.answer walk.now.resolver.now walk.now.info.now walk.now.context.now (view_schema walk.now.schema.now) (view_variables S.shown walk.now.variables.now)) (view_schema walk.now.schema.now).query node.now (map (λ f. view_occurrence S.shown f.now) fields.now) (view_value S.shown p.0) (map (view_listed S.shown) p.1.items)) }
+    requires served { IsTrue (list_all (λ f. is_served_head (view_schema walk.now.schema.now) (view_occurrence S.shown f.now).head) occurrences.now.fields.items) }
+    requires agree { Agree (world_in Q.concrete Q.answer walk.now.resolver.now walk.now.info.now walk.now.context.now (view_schema walk.now.schema.now) (view_variables S.shown walk.now.variables.now)) 1 (view_schema walk.now.schema.now).query (map (λ f. view_occurrence S.shown f.now) occurrences.now.fields.items) }
+    ensures { IfOk result (λ p. IsWalked (world_in Q.concrete Q.answer walk.now.resolver.now walk.now.info.now walk.now.context.now (view_schema walk.now.schema.now) (view_variables S.shown walk.now.variables.now)) (view_schema walk.now.schema.now).query node.now (map (λ f. view_occurrence S.shown f.now) occurrences.now.fields.items) (view_value S.shown p.0) (map (view_listed S.shown) p.1.items)) }
 {
-    let mut data = Object::with_capacity(walk.alloc, fields.len())?;
+    let mut data = Object::with_capacity(walk.alloc, occurrences.fields.len())?;
     let mut errors = Vec::new(walk.alloc);
-    for field in fields {
+    for i in 0..occurrences.fields.len() {
+        let field = occurrences.fields[i];
         let done = complete_field(walk, node, field)?;
         list_error(walk.alloc, &mut errors, field, done.error)?;
         if rises(&done.value, done.is_non_null) {

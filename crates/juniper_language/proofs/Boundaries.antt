@@ -1,9 +1,9 @@
 -- No character is cut where a token or what is ignored ends.
-use Rattle.std.proofs.Common.{inl, inr, ◌≡◌, ◌≢◌, ℕ, suc, zero, ◌+◌, ◌<◌, ◌≤◌, Bool, true, false, cond, ◌==◌, List, [], ◌∷◌, ◌++◌, length, take, drop, get_or, refl, ap, sym, ◌∙◌, arith, subst}
-use Rattle.std.proofs.lemmas.Bool.{cases_Bool, cases_lt, eqb-true}
+use Rattle.std.proofs.Common.{inl, inr, ◌≡◌, ◌≢◌, ℕ, ◌+◌, ◌<◌, true, false, List, [], ◌∷◌, ◌++◌, length, get_or, sym, arith, subst}
+use Rattle.std.proofs.lemmas.Bool.{cases_Bool, cases_lt}
 use Rattle.std.proofs.lemmas.Bool.Decides.{nat_tests}
 use Rattle.std.proofs.lemmas.Str.{IsUtf8-drop, IsCharBoundary-after_ascii, IsCharBoundary-before_ascii, IsCharBoundary-start, IsCharBoundary-end, IsCharBoundary-past_char, IsCharBoundary-from_rest}
-use Rattle.std.proofs.lemmas.List.Sums.{prefix_len-le-length, prefix_len_stops, prefix_len_passes}
+use Rattle.std.proofs.lemmas.List.Sums.{prefix_len-le-length, prefix_len_stops}
 use Rattle.std.specs.List.{prefix_len}
 use Rattle.std.specs.Str.{IsUtf8, IsCharBoundary}
 use Rattle.graphql_spec.specs.Tokens.{is_blank, is_mark, is_source_byte, starts_name, continues_name}
@@ -63,7 +63,8 @@ ignored_at : (bs : List ℕ) (n : ℕ) → IsUtf8 bs → IsIgnored bs n → IsCh
 ignored_at bs n u (blank b rest is one e) = front_boundary b rest bs n u is one (blank_small b e)
 ignored_at bs n u (comment rest is run) =
     let length_is : n ≡ 1 + prefix_len is_source_byte rest = omega (arith, run) in
-    rw length_is (subst (λ x. IsCharBoundary x (1 + prefix_len is_source_byte rest)) (sym is) (IsCharBoundary-from_rest (35 ∷ rest) 1 (prefix_len is_source_byte rest) (omega arith) (comment_boundary rest)))
+    let boundary = IsCharBoundary-from_rest (35 ∷ rest) 1 (prefix_len is_source_byte rest) (omega arith) (comment_boundary rest) in
+    rw length_is (subst (λ x. IsCharBoundary x (1 + prefix_len is_source_byte rest)) (sym is) boundary)
 ignored_at bs n u (byte_order rest is three) = rw three (mark_boundary rest bs u is)
 
 pub ignored_boundary : (bs : List ℕ) → ignored_len bs ≢ 0 → IsUtf8 bs → IsCharBoundary bs (ignored_len bs)

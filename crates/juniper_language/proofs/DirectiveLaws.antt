@@ -1,19 +1,19 @@
 -- A directive that is read is spelled so, and one that is served and spelled so is read.
-use Rattle.std.proofs.Common.{inl, inr, ◌≡◌, ◌≢◌, ◌⊎◌, ℕ, zero, suc, ◌<◌, ◌≤◌, ◌==◌, ◌&&◌, ◌||◌, Bool, true, false, cond, List, [], ◌∷◌, length, Option, Some, None, refl, ap, sym, ◌∙◌, subst, arith}
+use Rattle.std.proofs.Common.{inl, inr, ◌≡◌, ℕ, zero, suc, ◌<◌, ◌≤◌, Bool, true, false, List, [], ◌∷◌, length, Some, None, refl, ap, sym, ◌∙◌, subst, arith}
 use Rattle.std.proofs.lemmas.Option.{none-some}
-use Rattle.std.proofs.lemmas.Bool.{cases_Bool, false≢true, and_parts, and_from}
+use Rattle.std.proofs.lemmas.Bool.{false≢true, and_parts, and_from}
 use Rattle.std.proofs.lemmas.Slice.Eq.{bytes_eq-Decides}
 use Rattle.std.specs.List.{list_all}
 use Rattle.std.specs.Str.{bytes_eq}
-use Rattle.graphql_spec.specs.Shown.{Name, Shown, boolean, text, int as int_shown, shown_boolean}
-use Rattle.graphql_spec.specs.Positions.{Position, Span, Spanned}
-use Rattle.graphql_spec.specs.Tokens.{Lexeme, mark, name}
+use Rattle.graphql_spec.specs.Shown.{boolean, text, int as int_shown, shown_boolean}
+use Rattle.graphql_spec.specs.Positions.{Span, Spanned}
+use Rattle.graphql_spec.specs.Tokens.{mark, name}
 use Rattle.graphql_spec.specs.Inputs.{Input, null, scalar, enumerated, variable, list, object}
 use Rattle.graphql_spec.specs.Documents.{Word, Argument, Directive, Arguments, written}
-use Rattle.graphql_spec.specs.Directives.{if_name, skip_name, include_name}
-use Rattle.graphql_spec.specs.Grammar.{At, Takes, Mark, Keyword, IsWord, span_of, Opt, Many, Between, IsValue, IsArgument, IsArguments, IsDirective, AreDirectives, true_word, false_word, boolean_word}
+use Rattle.graphql_spec.specs.Directives.{if_name}
+use Rattle.graphql_spec.specs.Grammar.{At, Mark, Keyword, IsWord, span_of, Opt, Many, Between, IsValue, IsArgument, IsArguments, IsDirective, AreDirectives, true_word, false_word, boolean_word}
 use Rattle.graphql_spec.specs.Served.{is_truth, is_condition, is_served_directive}
-use Rattle.juniper_language.specs.Reading.{Outcome, Reader, and_then, pure, refuse, next, sees, expect, a_name, a_name_of, with_span, spanned, while_sees, truth_of, truth, is_if, is_conditional, condition, conditions, directive, directives}
+use Rattle.juniper_language.specs.Reading.{Reader, and_then, pure, refuse, sees, expect, a_name, a_name_of, with_span, spanned, truth_of, truth, is_if, is_conditional, condition, conditions, directive, directives}
 use Rattle.juniper_language.proofs.StepLaws.{bind_some, pure_some, picked, fewer, mark_seen, other_seen, expect_sound, expect_read, name_sound, name_read, name_of_sound, name_of_read, spanned_is, while_sound, while_read, IsSound, IsPart, many_map}
 
 -- ---- values
@@ -33,9 +33,9 @@ truth_sound c n s t v e =
     elim (picked (bytes_eq q.0.0.item true_word) (pure (scalar (boolean true))) _ q.0.1 (v, t) q.2) [
       | inl here ↦ truth_by true c n q.0.0 v s q.0.1 t ((bytes_eq-Decides q.0.0.item true_word).0 here.0) word here.1
       | inr other ↦ elim (picked (bytes_eq q.0.0.item false_word) (pure (scalar (boolean false))) refuse q.0.1 (v, t) other.1) [
-          | inl here ↦ truth_by false c n q.0.0 v s q.0.1 t ((bytes_eq-Decides q.0.0.item false_word).0 here.0) word here.1
-          | inr none ↦ absurd (none-some (v, t) none.1)
-        ]
+        | inl here ↦ truth_by false c n q.0.0 v s q.0.1 t ((bytes_eq-Decides q.0.0.item false_word).0 here.0) word here.1
+        | inr none ↦ absurd (none-some (v, t) none.1)
+      ]
     ]
 
 truth_is : (b : Bool) (t : At) → truth_of (boolean_word b) t ≡ Some (scalar (boolean b), t)
@@ -74,7 +74,7 @@ condition_sound c n s t x e =
     let given = spanned_is r.0.1 (truth r.0.1) v.0 v.1 in
     let value = truth_sound c n r.0.1 v.0.1 v.0.0.item given.0 in
     let made : IsCondition c n (record { name = q.0.0; value = v.0.0 }) s v.0.1 =
-      ((q.0.1, r.0.1, word.0, expect_sound 58 q.0.1 r.0.1 r.0.0 r.1, value.0, given.1), word.1, value.1) in
+    ((q.0.1, r.0.1, word.0, expect_sound 58 q.0.1 r.0.1 r.0.0 r.1, value.0, given.1), word.1, value.1) in
     subst (λ y. IsCondition c n y s t) same.0 (subst (λ u. IsCondition c n (record { name = q.0.0; value = v.0.0 }) s u) same.1 made)
 
 pub condition_read : (c : Bool) (n : ℕ) (x : Argument) (s t : At) → IsCondition c n x s t → condition s ≡ Some (x, t)
@@ -106,7 +106,7 @@ conditions_sound c n s t as' e =
     let given = spanned_is s (inner s) (as', t) e in
     let h = conditions_from c n s t as'.item given.0 in
     let made : AreConditions c (suc n) (record { item = h.0 ∷ []; span = as'.span }) s t =
-      (((h.2, h.3, h.4, (h.3, h.5.0, refl), h.6), given.1), and_from _ _ h.5.1 h.5.2) in
+    (((h.2, h.3, h.4, (h.3, h.5.0, refl), h.6), given.1), and_from _ _ h.5.1 h.5.2) in
     subst (λ xs. AreConditions c (suc n) (record { item = xs; span = as'.span }) s t) (sym h.1) made
 
 conditions_spelled : (c : Bool) (xs : List Argument) (n : ℕ) (s t : At) → Between 40 41 (IsArgument c) xs n s t → is_condition xs ≡ true → inner s ≡ Some (xs, t)

@@ -1,10 +1,10 @@
 -- What the public call promises, from what reading gives.
-use Rattle.std.proofs.Common.{◌≡◌, ◌≢◌, ℕ, zero, suc, true, false, List, [], ◌∷◌, Option, Some, None, refl, ap, sym, ◌∙◌, subst}
+use Rattle.std.proofs.Common.{◌≡◌, ℕ, true, false, List, [], ◌∷◌, Some, None, refl, ap, sym, ◌∙◌}
 use Rattle.std.proofs.lemmas.Bool.{false≢true}
 use Rattle.std.proofs.lemmas.Option.{none-some, same_Some}
 use Rattle.graphql_spec.specs.Positions.{Position, beginning}
 use Rattle.graphql_spec.specs.Tokens.{Token, IsText}
-use Rattle.graphql_spec.specs.Documents.{Operation, Definition, operation, Document}
+use Rattle.graphql_spec.specs.Documents.{Operation, operation, Document}
 use Rattle.graphql_spec.specs.Grammar.{At, most_brackets}
 use Rattle.graphql_spec.specs.Served.{IsServed, SpellsServed, before_all}
 use Rattle.juniper_language.specs.Lexing.{Lexed, Ending, is_whole, whole, fault, lexed}
@@ -36,13 +36,15 @@ served_tokens : (bytes : List ℕ) (ts : List Token) (o : Operation) → IsText 
 served_tokens bytes ts o text h = lexed_complete bytes ts text (derives_plain ts o h)
 
 -- what is read is spelled
-read_spelled : (bytes : List ℕ) (p : Position) (o : Operation) (t : At) → (lexed bytes).ending ≡ whole p → read.document (before_all (lexed bytes).tokens) ≡ Some (o, t) → SpellsServed bytes (operation o ∷ [])
+read_spelled : (bytes : List ℕ) (p : Position) (o : Operation) (t : At) → (lexed bytes).ending ≡ whole p → read.document (before_all (lexed bytes).tokens) ≡ Some (o, t)
+    → SpellsServed bytes (operation o ∷ [])
 read_spelled bytes p o t ends given =
     let h = document_sound 254 (before_all (lexed bytes).tokens) t o given in
     ((lexed bytes).tokens, lexed_sound bytes p ends, derived (lexed bytes).tokens o (record { after = t; is_query = h.0; last = h.1 }))
 
 -- what is spelled is read, as itself
-spelled_read : (bytes : List ℕ) (d : Document) → SpellsServed bytes d → (o : Operation) × (t : At) × (p : Position) × (d ≡ operation o ∷ []) × ((lexed bytes).ending ≡ whole p) × (read.document (before_all (lexed bytes).tokens) ≡ Some (o, t))
+spelled_read : (bytes : List ℕ) (d : Document) → SpellsServed bytes d
+    → (o : Operation) × (t : At) × (p : Position) × (d ≡ operation o ∷ []) × ((lexed bytes).ending ≡ whole p) × (read.document (before_all (lexed bytes).tokens) ≡ Some (o, t))
 spelled_read bytes d (ts, text, served) =
     let h = derives ts d served in
     let all = served_tokens bytes ts h.0 text h.2 in (
@@ -65,8 +67,8 @@ spells_alone bytes l o t is ends given =
     let same : read.document (before_all (lexed bytes).tokens) ≡ Some (o, t) = ap (λ (x : Lexed). read.document (before_all x.tokens)) (sym is) ∙ given in (
       read_spelled bytes end.0 o t (ap (λ (x : Lexed). x.ending) (sym is) ∙ end.1) same,
       λ e h.
-        let found = spelled_read bytes e h in
-        found.3 ∙ ap (λ (q : Operation × At). operation q.0 ∷ []) (same_Some (found.0, found.1) (o, t) (sym found.5 ∙ same)),
+          let found = spelled_read bytes e h in
+          found.3 ∙ ap (λ (q : Operation × At). operation q.0 ∷ []) (same_Some (found.0, found.1) (o, t) (sym found.5 ∙ same)),
     )
 
 pub nothing_read : (bytes : List ℕ) (l : Lexed) → l ≡ lexed bytes → read.document (before_all l.tokens) ≡ None → (d : Document) → SpellsServed bytes d → ⊥

@@ -1,7 +1,7 @@
 -- What stands at the front of a text, where something is ignored or taken there.
-use Rattle.std.proofs.Common.{inl, inr, ◌≡◌, ◌≢◌, ℕ, zero, suc, ◌+◌, ◌-◌, ◌<◌, ◌≤◌, Bool, true, false, cond, ◌==◌, nat_eq, List, [], ◌∷◌, ◌++◌, length, take, drop, refl, ap, sym, ◌∙◌, arith, subst}
+use Rattle.std.proofs.Common.{inl, inr, ◌≡◌, ◌≢◌, ℕ, ◌+◌, ◌≤◌, true, ◌==◌, nat_eq, List, [], ◌∷◌, ◌++◌, length, drop, refl, ap, sym, arith}
 use Rattle.std.proofs.lemmas.Bool.{cases_Bool, eqb-true}
-use Rattle.std.proofs.lemmas.Bool.Decides.{Decides-eqb, nat_tests}
+use Rattle.std.proofs.lemmas.Bool.Decides.{Decides-eqb}
 use Rattle.std.proofs.lemmas.Slice.Eq.{starts_is}
 use Rattle.std.proofs.lemmas.List.Sums.{prefix_len-le-length}
 use Rattle.std.specs.List.{prefix_len, starts_with}
@@ -27,12 +27,12 @@ ignored_is [] some = absurd (some refl)
 ignored_is (b ∷ bs) some = elim (cases_Bool (is_blank b)) [
   | inl e ↦ rw e (blank b bs refl refl e)
   | inr e ↦ elim (cases_Bool (b == 35)) [
-      | inl f ↦ rw (e, f) (comment bs (ap (λ c. c ∷ bs) (eqb-true b 35 f)) refl)
-      | inr f ↦ elim (cases_Bool (starts_with nat_eq (b ∷ bs) order_mark)) [
-          | inl g ↦ rw (e, f, g) (byte_order (drop 3 (b ∷ bs)) (begins (b ∷ bs) order_mark g) refl)
-          | inr g ↦ absurd (some (rw (e, f, g) refl))
-        ]
+    | inl f ↦ rw (e, f) (comment bs (ap (λ c. c ∷ bs) (eqb-true b 35 f)) refl)
+    | inr f ↦ elim (cases_Bool (starts_with nat_eq (b ∷ bs) order_mark)) [
+      | inl g ↦ rw (e, f, g) (byte_order (drop 3 (b ∷ bs)) (begins (b ∷ bs) order_mark g) refl)
+      | inr g ↦ absurd (some (rw (e, f, g) refl))
     ]
+  ]
 ]
 
 pub taken_is : (bs : List ℕ) → lexeme_len bs ≢ 0 → IsTaken bs (lexeme_len bs)
@@ -41,12 +41,12 @@ taken_is [] some = absurd (some refl)
 taken_is (b ∷ bs) some = elim (cases_Bool (is_mark b)) [
   | inl e ↦ rw e (punctuator b bs refl refl e)
   | inr e ↦ elim (cases_Bool (starts_name b)) [
-      | inl f ↦ rw (e, f) (letters b bs refl refl f)
-      | inr f ↦ elim (cases_Bool (starts_with nat_eq (b ∷ bs) three_dots)) [
-          | inl g ↦ rw (e, f, g) (dotted (drop 3 (b ∷ bs)) (begins (b ∷ bs) three_dots g) refl)
-          | inr g ↦ absurd (some (rw (e, f, g) refl))
-        ]
+    | inl f ↦ rw (e, f) (letters b bs refl refl f)
+    | inr f ↦ elim (cases_Bool (starts_with nat_eq (b ∷ bs) three_dots)) [
+      | inl g ↦ rw (e, f, g) (dotted (drop 3 (b ∷ bs)) (begins (b ∷ bs) three_dots g) refl)
+      | inr g ↦ absurd (some (rw (e, f, g) refl))
     ]
+  ]
 ]
 
 ignored_within : (bs : List ℕ) (n : ℕ) → IsIgnored bs n → n ≤ length bs

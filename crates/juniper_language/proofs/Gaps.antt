@@ -1,13 +1,10 @@
 -- What is ignored at the front of a text, and the text after it.
-use Rattle.std.proofs.Common.{inl, inr, ◌≡◌, ◌≢◌, ℕ, zero, suc, ◌+◌, ◌<◌, ◌≤◌, ◌==◌, Bool, true, false, not, cond, Option, Some, None, List, [], ◌∷◌, ◌++◌, length, take, drop, refl, ap, sym, ◌∙◌, arith, subst, append_assoc, append-nil}
-use Rattle.std.proofs.lemmas.Bool.{cases_Bool, eqb-true, eqb-false, false≢true}
-use Rattle.std.proofs.lemmas.List.{take-append-drop}
+use Rattle.std.proofs.Common.{inl, inr, ◌≡◌, ◌≢◌, ℕ, suc, ◌+◌, ◌==◌, true, false, Some, None, List, [], ◌∷◌, ◌++◌, take, drop, refl, ap, sym, ◌∙◌, arith, subst}
+use Rattle.std.proofs.lemmas.Bool.{cases_Bool, eqb-true, false≢true}
 use Rattle.std.specs.List.{prefix_len}
-use Rattle.graphql_spec.specs.Positions.{Spot, walk}
-use Rattle.graphql_spec.specs.Tokens.{Token, IsText, is_nil, is_blank, is_line_end, is_source_byte, is_ignored, Ignoring, between, in_comment, first_of_mark, second_of_mark, ignore_byte}
+use Rattle.graphql_spec.specs.Tokens.{is_nil, is_blank, is_line_end, is_source_byte, is_ignored, between, in_comment, first_of_mark, second_of_mark, ignore_byte}
 use Rattle.juniper_language.specs.Lexing.{order_mark, ignored_len}
-use Rattle.juniper_language.proofs.Rooms.{walk-append}
-use Rattle.juniper_language.proofs.Bytes.{at_token, may_begin, token_begins, source_no_end, end_no_source, end_blank, no_gap, begins_source, begins_no_gap, run_suc, run_zero}
+use Rattle.juniper_language.proofs.Bytes.{at_token, source_no_end, end_blank, no_gap, begins_source, begins_no_gap, run_suc, run_zero}
 use Rattle.juniper_language.proofs.Fronts.{IsIgnored, blank, comment, byte_order}
 
 blank_goes : (b : ℕ) → is_blank b ≡ true → ignore_byte between b ≡ Some between
@@ -138,11 +135,11 @@ comment_splits (c ∷ gap) rest tail is ign = elim (cases_Bool (is_source_byte c
       let more = comment_splits gap (gap ++ tail) tail refl (sym (past_source c gap tail e) ∙ ign) in
       rw (is, run) (record { gap_left = more.gap_left; front = ap (λ g. c ∷ g) more.front; back = more.back; ignored = more.ignored })
   | inr e ↦ elim (cases_Bool (is_line_end c)) [
-      | inl ends ↦
-          let run = run_zero is_source_byte c (gap ++ tail) e in
-          rw (is, run) (record { gap_left = c ∷ gap; front = refl; back = refl; ignored = past_blank c gap tail (end_blank c ends) ∙ sym (past_end c gap tail ends) ∙ ign })
-      | inr goes ↦ absurd (false≢true (sym (stops_comment c gap tail e goes) ∙ ign))
-    ]
+    | inl ends ↦
+        let run = run_zero is_source_byte c (gap ++ tail) e in
+        rw (is, run) (record { gap_left = c ∷ gap; front = refl; back = refl; ignored = past_blank c gap tail (end_blank c ends) ∙ sym (past_end c gap tail ends) ∙ ign })
+    | inr goes ↦ absurd (false≢true (sym (stops_comment c gap tail e goes) ∙ ign))
+  ]
 ]
 
 no_blank_tail : (b : ℕ) (rest : List ℕ) → at_token (b ∷ rest) ≡ true → (is_blank b ≡ false) × (b == 35 ≡ false) × (b == 239 ≡ false)
@@ -158,7 +155,8 @@ third_waits : (tail : List ℕ) → is_ignored first_of_mark (187 ∷ []) tail �
 unfolding is_ignored ignore_byte
 third_waits tail = refl
 
-mark_second : (gap rest tail : List ℕ) → 187 ∷ 191 ∷ rest ≡ gap ++ tail → is_ignored first_of_mark gap tail ≡ true → (h : List ℕ) × (gap ≡ 187 ∷ 191 ∷ h) × (rest ≡ h ++ tail) × (is_ignored between h tail ≡ true)
+mark_second : (gap rest tail : List ℕ) → 187 ∷ 191 ∷ rest ≡ gap ++ tail → is_ignored first_of_mark gap tail ≡ true
+    → (h : List ℕ) × (gap ≡ 187 ∷ 191 ∷ h) × (rest ≡ h ++ tail) × (is_ignored between h tail ≡ true)
 unfolding is_ignored
 mark_second [] rest tail is ign = absurd (false≢true ign)
 mark_second (c ∷ []) rest tail is ign =
@@ -243,14 +241,14 @@ unfolding ignored_len
 seen c gap tail ign none = elim (cases_Bool (is_blank c)) [
   | inl e ↦ let one : 1 ≡ 0 = rw e at none in absurd (omega (arith, one))
   | inr e ↦ elim (cases_Bool (c == 35)) [
-      | inl f ↦ let some : prefix_len is_source_byte (gap ++ tail) + 1 ≡ 0 = rw (e, f) at none in absurd (omega (arith, some))
-      | inr f ↦ elim (cases_Bool (c == 239)) [
-          | inl g ↦
-              let first = eqb-true c 239 g in
-              let more = marked gap tail (sym (first_goes gap tail) ∙ ap (λ x. is_ignored between (x ∷ gap) tail) (sym first) ∙ ign) in
-              let three : ignored_len (order_mark ++ (more.0 ++ tail)) ≡ 0 = subst (λ x. ignored_len (x ++ tail) ≡ 0) (ap (λ x. x ∷ gap) first ∙ ap (λ g. 239 ∷ g) more.1) none in
-              absurd (omega (arith, three, len_of_mark (more.0 ++ tail)))
-          | inr g ↦ absurd (false≢true (sym (stops_gap c gap tail e f g) ∙ ign))
-        ]
+    | inl f ↦ let some : prefix_len is_source_byte (gap ++ tail) + 1 ≡ 0 = rw (e, f) at none in absurd (omega (arith, some))
+    | inr f ↦ elim (cases_Bool (c == 239)) [
+      | inl g ↦
+          let first = eqb-true c 239 g in
+          let more = marked gap tail (sym (first_goes gap tail) ∙ ap (λ x. is_ignored between (x ∷ gap) tail) (sym first) ∙ ign) in
+          let three : ignored_len (order_mark ++ (more.0 ++ tail)) ≡ 0 = subst (λ x. ignored_len (x ++ tail) ≡ 0) (ap (λ x. x ∷ gap) first ∙ ap (λ g. 239 ∷ g) more.1) none in
+          absurd (omega (arith, three, len_of_mark (more.0 ++ tail)))
+      | inr g ↦ absurd (false≢true (sym (stops_gap c gap tail e f g) ∙ ign))
     ]
+  ]
 ]

@@ -1,17 +1,17 @@
 -- The tokens that are read are those of the text, and of names and punctuators a text has just those.
-use Rattle.std.proofs.Common.{inl, inr, ◌≡◌, ◌≢◌, ℕ, zero, suc, ◌+◌, ◌<◌, ◌≤◌, ◌==◌, ◌||◌, ◌⊎◌, Bool, true, false, not, cond, IsTrue, Option, Some, None, List, [], ◌∷◌, ◌++◌, length, take, drop, refl, ap, ap₂, sym, ◌∙◌, arith, subst, append_assoc, append-nil}
-use Rattle.std.proofs.lemmas.Bool.{cases_Bool, cases_eq, eqb-true, eqb-false, eq-eqb, ne_eqb, false≢true, and_parts, and_from, or_cases}
+use Rattle.std.proofs.Common.{inl, inr, ◌≡◌, ◌≢◌, ℕ, zero, suc, ◌≤◌, ◌==◌, ◌||◌, ◌⊎◌, true, false, IsTrue, List, [], ◌∷◌, ◌++◌, length, take, drop, refl, ap, ap₂, sym, ◌∙◌, arith, subst, append_assoc, append-nil}
+use Rattle.std.proofs.lemmas.Bool.{cases_Bool, cases_eq, eqb-true, eq-eqb, ne_eqb, false≢true, and_parts, and_from, or_cases}
 use Rattle.std.proofs.lemmas.List.{take-append-drop, nil_from_length, length-append}
 use Rattle.std.proofs.Math.Seq.{take-append_seam, drop-append_seam}
 use Rattle.std.specs.List.{prefix_len, list_all}
-use Rattle.graphql_spec.specs.Positions.{Position, Spot, Span, beginning, walk}
+use Rattle.graphql_spec.specs.Positions.{Position, Spot, beginning, walk}
 use Rattle.graphql_spec.specs.Tokens.{Lexeme, mark, name, int, string, Token, IsToken, IsText, is_nil, is_mark, dots, mark_text, is_name, starts_name, continues_name, ends_before, is_ignored, between}
-use Rattle.juniper_language.specs.Lexing.{Front, Lexed, Ending, whole, fault, past, three_dots, ignored_len, lexeme_len, lexeme_of, token_of, at_end, at_fault, with_token, lex_step, lex, lex_from, lexed}
+use Rattle.juniper_language.specs.Lexing.{Front, Lexed, whole, fault, past, three_dots, ignored_len, lexeme_len, lexeme_of, token_of, at_end, at_fault, with_token, lex_step, lex, lex_from, lexed}
 use Rattle.juniper_language.proofs.Rooms.{walk-append}
 use Rattle.juniper_language.proofs.Bytes.{at_token, token_begins, mark_no_name, name_no_mark, mark_no_dot, starts_continues, run_suc, run_exact, run_all, run_ends}
 use Rattle.juniper_language.proofs.Fronts.{IsIgnored, IsTaken, punctuator, letters, dotted, ignored_is, taken_is, ignored_fits, taken_fits}
-use Rattle.juniper_language.proofs.Gaps.{joins, splits, seen, Left}
-use Rattle.juniper_language.proofs.LexSteps.{shorter, lex_is}
+use Rattle.juniper_language.proofs.Gaps.{joins, splits, seen}
+use Rattle.juniper_language.proofs.LexSteps.{shorter}
 
 -- ---- one step on a text
 
@@ -204,18 +204,18 @@ lex_sound zero s enough = λ p ends. subst (λ bs. is_ignored between bs [] ≡ 
 lex_sound (suc k) s enough = elim (cases_Bool (is_nil s.ahead)) [
   | inl e ↦ subst (Sound s) (sym (step_nil (lex k) s e)) (λ p ends. nil_text s.at s.ahead e)
   | inr e ↦ elim (cases_eq (ignored_len s.ahead) 0) [
-      | inr gap ↦
-          let n = ignored_len s.ahead in
-          let less = shorter s.ahead n gap (ignored_fits s.ahead gap) in
-          subst (Sound s) (sym (step_gap (lex k) s e gap)) (λ p ends. text_behind s.at (lex k (past n s)).tokens s.ahead n (ignored_is s.ahead gap) (lex_sound k (past n s) (omega arith) p ends))
-      | inl z ↦ elim (cases_eq (lexeme_len s.ahead) 0) [
-          | inl y ↦ subst (Sound s) (sym (step_fault (lex k) s e z y)) (λ p ends. absurd (fault_not_whole s.at.position p ends))
-          | inr some ↦
-              let n = lexeme_len s.ahead in
-              let less = shorter s.ahead n some (taken_fits s.ahead some) in
-              subst (Sound s) (sym (step_token (lex k) s e z some)) (token_sound s (lex k (past n s)) some (lex_sound k (past n s) (omega arith)))
-        ]
+    | inr gap ↦
+        let n = ignored_len s.ahead in
+        let less = shorter s.ahead n gap (ignored_fits s.ahead gap) in
+        subst (Sound s) (sym (step_gap (lex k) s e gap)) (λ p ends. text_behind s.at (lex k (past n s)).tokens s.ahead n (ignored_is s.ahead gap) (lex_sound k (past n s) (omega arith) p ends))
+    | inl z ↦ elim (cases_eq (lexeme_len s.ahead) 0) [
+      | inl y ↦ subst (Sound s) (sym (step_fault (lex k) s e z y)) (λ p ends. absurd (fault_not_whole s.at.position p ends))
+      | inr some ↦
+          let n = lexeme_len s.ahead in
+          let less = shorter s.ahead n some (taken_fits s.ahead some) in
+          subst (Sound s) (sym (step_token (lex k) s e z some)) (token_sound s (lex k (past n s)) some (lex_sound k (past n s) (omega arith)))
     ]
+  ]
 ]
 
 abbrev pub Complete : List Token → Lexed → Type 0
@@ -264,12 +264,13 @@ token_complete f s t ts e z plain h more =
     let some : lexeme_len s.ahead ≢ 0 = λ none. read.some (sym count ∙ none) in
     let front : take (lexeme_len s.ahead) s.ahead ≡ w = ap₂ take count whole_is ∙ take-append_seam w rest in
     let back : drop (lexeme_len s.ahead) s.ahead ≡ rest = ap₂ drop count whole_is ∙ drop-append_seam w rest in
-    let token : token_of (lexeme_len s.ahead) s ≡ t = token_same (lexeme_of (take (lexeme_len s.ahead) s.ahead)) t.lexeme s.at.position (walk s.at (take (lexeme_len s.ahead) s.ahead)).position t.span.start t.span.end
-      (ap lexeme_of front ∙ read.is)
-      (ap (λ (x : Spot). x.position) (sym here) ∙ sym h.6)
-      (ap₂ (λ (x : Spot) y. (walk x y).position) (sym here) front ∙ sym h.7) in
+    let taken = token_of (lexeme_len s.ahead) s in
+    let token : taken ≡ t = token_same taken.lexeme t.lexeme taken.span.start taken.span.end t.span.start t.span.end
+    (ap lexeme_of front ∙ read.is)
+    (ap (λ (x : Spot). x.position) (sym here) ∙ sym h.6)
+    (ap₂ (λ (x : Spot) y. (walk x y).position) (sym here) front ∙ sym h.7) in
     let text : IsText (walk s.at (take (lexeme_len s.ahead) s.ahead)) ts (drop (lexeme_len s.ahead) s.ahead) =
-      subst (λ x. IsText (walk s.at (take (lexeme_len s.ahead) s.ahead)) ts x) (sym back) (subst (λ x. IsText x ts rest) (ap₂ walk here (sym front)) h.8) in
+    subst (λ x. IsText (walk s.at (take (lexeme_len s.ahead) s.ahead)) ts x) (sym back) (subst (λ x. IsText x ts rest) (ap₂ walk here (sym front)) h.8) in
     let after = more some text in
     (after.0, step_token f s e z some ∙ ap₂ with_token token after.1)
 
@@ -289,15 +290,15 @@ lex_complete (suc k) s ts enough text plain = elim (cases_Bool (is_nil s.ahead))
       let none = none_left s.at ts s.ahead (nil_length s.ahead e) text plain in
       (s.at.position, step_nil (lex k) s e ∙ ap (λ x. record { tokens = x; ending = whole s.at.position }) (sym none))
   | inr e ↦ elim (cases_eq (ignored_len s.ahead) 0) [
-      | inr gap ↦
-          let n = ignored_len s.ahead in
-          let less = shorter s.ahead n gap (ignored_fits s.ahead gap) in
-          let after = lex_complete k (past n s) ts (omega arith) (text_after s.at ts s.ahead n (ignored_is s.ahead gap) text) plain in
-          (after.0, step_gap (lex k) s e gap ∙ after.1)
-      | inl z ↦
-          tokens_complete (lex k) s ts e z text plain (λ us some after are.
-            let less = shorter s.ahead (lexeme_len s.ahead) some (taken_fits s.ahead some) in lex_complete k (past (lexeme_len s.ahead) s) us (omega arith) after are)
-    ]
+    | inr gap ↦
+        let n = ignored_len s.ahead in
+        let less = shorter s.ahead n gap (ignored_fits s.ahead gap) in
+        let after = lex_complete k (past n s) ts (omega arith) (text_after s.at ts s.ahead n (ignored_is s.ahead gap) text) plain in
+        (after.0, step_gap (lex k) s e gap ∙ after.1)
+    | inl z ↦
+        tokens_complete (lex k) s ts e z text plain (λ us some after are.
+        let less = shorter s.ahead (lexeme_len s.ahead) some (taken_fits s.ahead some) in lex_complete k (past (lexeme_len s.ahead) s) us (omega arith) after are)
+  ]
 ]
 
 -- the tokens that are read to the end of a text are its tokens

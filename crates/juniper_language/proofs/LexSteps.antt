@@ -1,6 +1,6 @@
 -- Steps of the lexer's loop.
-use Rattle.std.proofs.Common.{inl, inr, ◌≡◌, ◌≢◌, ℕ, zero, suc, ◌+◌, ◌-◌, ◌<◌, ◌≤◌, Bool, true, false, cond, ◌==◌, List, [], ◌∷◌, ◌++◌, length, take, drop, refl, ap, sym, ◌∙◌, arith, subst, append_assoc, append-nil}
-use Rattle.std.proofs.lemmas.Bool.{cases_Bool, eqb-true, eqb-false, eq-eqb, ne_eqb}
+use Rattle.std.proofs.Common.{inl, inr, ◌≡◌, ◌≢◌, ℕ, zero, suc, ◌<◌, ◌≤◌, true, false, ◌==◌, List, [], ◌∷◌, ◌++◌, length, drop, refl, ap, sym, ◌∙◌, arith, append_assoc, append-nil}
+use Rattle.std.proofs.lemmas.Bool.{cases_Bool, eqb-false, eq-eqb, ne_eqb}
 use Rattle.std.proofs.lemmas.List.{length-drop}
 use Rattle.graphql_spec.specs.Tokens.{Token, is_nil}
 use Rattle.juniper_language.specs.Lexing.{Front, Lexed, whole, fault, past, ignored_len, lexeme_len, token_of, at_end, at_fault, with_token, lex_step, lex, lex_from, behind}
@@ -24,16 +24,16 @@ step_same : (f g : Front → Lexed) (s : Front) → ((t : Front) → length t.ah
 step_same f g s same = elim (cases_Bool (is_nil s.ahead)) [
   | inl e ↦ rw e refl
   | inr e ↦ rw e (elim (cases_Bool (ignored_len s.ahead == 0)) [
-      | inl z ↦ rw z (elim (cases_Bool (lexeme_len s.ahead == 0)) [
-          | inl y ↦ rw y refl
-          | inr y ↦
-              let some : lexeme_len s.ahead ≢ 0 = eqb-false _ 0 y in
-              rw y (ap (with_token (token_of (lexeme_len s.ahead) s)) (same (past (lexeme_len s.ahead) s) (shorter s.ahead (lexeme_len s.ahead) some (taken_fits s.ahead some))))
-        ])
-      | inr z ↦
-          let some : ignored_len s.ahead ≢ 0 = eqb-false _ 0 z in
-          rw z (same (past (ignored_len s.ahead) s) (shorter s.ahead (ignored_len s.ahead) some (ignored_fits s.ahead some)))
+    | inl z ↦ rw z (elim (cases_Bool (lexeme_len s.ahead == 0)) [
+      | inl y ↦ rw y refl
+      | inr y ↦
+          let some : lexeme_len s.ahead ≢ 0 = eqb-false _ 0 y in
+          rw y (ap (with_token (token_of (lexeme_len s.ahead) s)) (same (past (lexeme_len s.ahead) s) (shorter s.ahead (lexeme_len s.ahead) some (taken_fits s.ahead some))))
     ])
+    | inr z ↦
+        let some : ignored_len s.ahead ≢ 0 = eqb-false _ 0 z in
+        rw z (same (past (ignored_len s.ahead) s) (shorter s.ahead (ignored_len s.ahead) some (ignored_fits s.ahead some)))
+  ])
 ]
 
 lex_none : (k : ℕ) (s : Front) → length s.ahead ≡ 0 → lex k s ≡ at_end s
@@ -85,7 +85,9 @@ ends_fault found s l some e f kept = ap (λ ts. record { tokens = ts; ending = f
 pub goes_on : (found : List Token) (t : Token) (s u : Front) (l : Lexed) → length s.ahead ≢ 0 → ignored_len s.ahead ≡ 0 → lexeme_len s.ahead ≢ 0
     → t ≡ token_of (lexeme_len s.ahead) s → u ≡ past (lexeme_len s.ahead) s → behind found (lex_from s) ≡ l → behind (found ++ t ∷ []) (lex_from u) ≡ l
 goes_on found t s u l some e f is at kept =
-    rw (is, at) (ap (λ ts. record { tokens = ts; ending = (lex_from (past (lexeme_len s.ahead) s)).ending }) (append_assoc found (token_of (lexeme_len s.ahead) s ∷ []) _) ∙ sym (ap (behind found) (lex_token s some e f)) ∙ kept)
+    let first = token_of (lexeme_len s.ahead) s in
+    let rest : Lexed = lex_from (past (lexeme_len s.ahead) s) in
+    rw (is, at) (ap (λ ts. record { tokens = ts; ending = rest.ending }) (append_assoc found (first ∷ []) rest.tokens) ∙ sym (ap (behind found) (lex_token s some e f)) ∙ kept)
 
 pub goes_past : (found : List Token) (s u : Front) (l : Lexed) → length s.ahead ≢ 0 → ignored_len s.ahead ≢ 0 → u ≡ past (ignored_len s.ahead) s
     → behind found (lex_from s) ≡ l → behind found (lex_from u) ≡ l

@@ -1,16 +1,15 @@
 -- Steps of the parser's loops, and views of what they make.
-use Rattle.std.proofs.Common.{inl, inr, ◌≡◌, ◌≢◌, ℕ, zero, suc, ◌+◌, ◌-◌, ◌<◌, ◌≤◌, Bool, true, false, cond, List, [], ◌∷◌, ◌++◌, map, length, Vec, Global, Bor, Option, Some, None, option_map, refl, ap, sym, ◌∙◌, arith, rules, append_assoc, append-nil}
+use Rattle.std.proofs.Common.{◌≡◌, ℕ, zero, suc, ◌+◌, ◌-◌, ◌<◌, ◌≤◌, Bool, true, false, List, [], ◌∷◌, ◌++◌, map, Vec, Global, Bor, Option, Some, None, option_map, refl, ap, sym, ◌∙◌, arith, append_assoc, append-nil}
 use Rattle.graphql_spec.specs.Shown.{Shown, boolean}
 use Rattle.graphql_spec.specs.Inputs as spec
 use Rattle.graphql_spec.specs.Tokens.{Token}
-use Rattle.graphql_spec.specs.Documents.{Selections, end, field}
+use Rattle.graphql_spec.specs.Documents.{Selections, end}
 use Rattle.graphql_spec.specs.Grammar.{At}
 use Rattle.juniper_language.specs.InputView.{view_input}
 use Rattle.juniper_language.specs.Positions.{view_span}
-use Rattle.juniper_language.specs.DocumentView.{put_selection, view_selections, view_word, view_directives, view_head, chain}
-use Rattle.juniper_language.specs.ParserViews.{view_label}
-use Rattle.juniper_language.specs.Reading.{Reader, Outcome, and_then, pure, refuse, next, sees, while_sees, until, prepend, put_first, placed, ◌>>=◌, Node, field_node, put, selections_of, selection, head_of}
-use Rattle.juniper_language.specs.declared.input.InputValue.{InputValue, Scalar}
+use Rattle.juniper_language.specs.DocumentView.{put_selection, view_word, view_directives, chain}
+use Rattle.juniper_language.specs.Reading.{Reader, Outcome, and_then, pure, next, sees, while_sees, until, prepend, put_first, placed, ◌>>=◌, Node, field_node, put, selections_of, selection, head_of}
+use Rattle.juniper_language.specs.declared.input.InputValue.{Scalar}
 use Rattle.juniper_language.specs.declared.position.Spanning.{Spanning}
 use Rattle.juniper_language.specs.declared.position.Span.{Span}
 use Rattle.juniper_language.specs.declared.ast.Directive.{Directive}
@@ -122,7 +121,9 @@ turn_on m e i fs gs f s t o below other one is kept =
     ap (λ (g : Putting). put_first g (until m selection (e - (i + 1)) t)) more ∙ sym (until_more m e i (chain fs) s below other ∙ ap (behind_node m (e - (i + 1)) (chain fs)) one) ∙ kept
 
 -- a field without arguments and selections
-pub view_of_field : {S : Type 0} (shown : S → Shown) (alias : Option (Spanning (Bor (List ℕ)) Span)) (name : Spanning (Bor (List ℕ)) Span) (ds : Option (Vec (Spanning (Directive S) Span) Global)) (sp : Span)
+pub view_of_field : {S : Type 0} (shown : S → Shown) (alias : Option (Spanning (Bor (List ℕ)) Span)) (name : Spanning (Bor (List ℕ)) Span)
+    (ds : Option (Vec (Spanning (Directive S) Span) Global)) (sp : Span)
     → ◌≡◌ {A = Putting} (put_selection shown (Field (record { item = roll-Field S (record { alias = alias; name = name; arguments = None; directives = ds; selection_set = None }); span = sp })))
     (put (field_node (head_of (option_map view_word alias, view_word name) (view_directives shown ds) (view_span sp)) end))
-view_of_field {S} shown alias name ds sp = λ i r. put-Field shown (record { item = roll-Field S (record { alias = alias; name = name; arguments = None; directives = ds; selection_set = None }); span = sp }) r i
+view_of_field {S} shown alias name ds sp = λ i r.
+    put-Field shown (record { item = roll-Field S (record { alias = alias; name = name; arguments = None; directives = ds; selection_set = None }); span = sp }) r i

@@ -1,13 +1,13 @@
 -- Of what is served each token is a name or a punctuator.
-use Rattle.std.proofs.Common.{◌≡◌, ◌≢◌, ℕ, zero, suc, ◌&&◌, Bool, true, false, List, [], ◌∷◌, Option, Some, None, refl, ap, sym, ◌∙◌, subst}
+use Rattle.std.proofs.Common.{◌≡◌, ℕ, zero, suc, Bool, true, false, List, [], ◌∷◌, Option, Some, None, sym, subst}
 use Rattle.std.proofs.lemmas.Bool.{false≢true, and_parts}
 use Rattle.std.specs.List.{list_all}
-use Rattle.graphql_spec.specs.Shown.{Shown, boolean, text, int as int_shown, shown_boolean}
-use Rattle.graphql_spec.specs.Positions.{Span, Spanned}
-use Rattle.graphql_spec.specs.Tokens.{Lexeme, mark, name, Token}
+use Rattle.graphql_spec.specs.Shown.{boolean, text, int as int_shown, shown_boolean}
+use Rattle.graphql_spec.specs.Positions.{Span}
+use Rattle.graphql_spec.specs.Tokens.{Lexeme, mark, name}
 use Rattle.graphql_spec.specs.Inputs.{Input, null, scalar, enumerated, variable, list, object}
-use Rattle.graphql_spec.specs.Documents.{Word, Argument, Arguments, Directive, Head, Selections, end, field, spread, inline, written}
-use Rattle.graphql_spec.specs.Grammar.{At, Takes, Mark, Keyword, IsWord, Opt, Many, Between, IsValue, IsArgument, IsArguments, IsDirective, AreDirectives, Alias, OptSet, IsField, AreSelections, boolean_word}
+use Rattle.graphql_spec.specs.Documents.{Word, Argument, Arguments, Directive, Selections, end, field, spread, inline, written}
+use Rattle.graphql_spec.specs.Grammar.{At, Takes, Mark, IsWord, Opt, Between, IsValue, IsArgument, IsArguments, AreDirectives, Alias, IsField, AreSelections, boolean_word}
 use Rattle.graphql_spec.specs.Served.{is_truth, is_condition, is_served_directive, is_served_field, are_served}
 use Rattle.juniper_language.proofs.LexLaws.{IsPlain, ArePlain}
 
@@ -62,7 +62,7 @@ directives_plain c n (d ∷ ds) s t h e =
     let parts = and_parts (is_served_directive d) (list_all is_served_directive ds) e in
     let one = h.1 in
     λ rest.
-      mark_plain 64 s one.0 one.2 (word_plain d.name one.0 one.1 one.3 (given_plain c n d.arguments one.1 h.0 one.4 (and_parts _ _ parts.0).1 (directives_plain c n ds h.0 t h.2 parts.1 rest)))
+    mark_plain 64 s one.0 one.2 (word_plain d.name one.0 one.1 one.3 (given_plain c n d.arguments one.1 h.0 one.4 (and_parts _ _ parts.0).1 (directives_plain c n ds h.0 t h.2 parts.1 rest)))
 
 alias_plain : (alias : Option Word) (s t : At) → Opt Alias alias s t → Plain s t
 alias_plain None s t h = same_plain s t h

@@ -1,8 +1,8 @@
 -- Counting places over a text.
-use Rattle.std.proofs.Common.{inl, inr, ◌≡◌, ℕ, zero, suc, ◌+◌, ◌-◌, ◌<◌, ◌≤◌, ◌^◌, Bool, true, false, cond, ◌==◌, List, [], ◌∷◌, ◌++◌, length, take, drop, get_or, refl, ap, sym, ◌∙◌, arith, subst, add-one, drop-cons}
+use Rattle.std.proofs.Common.{inl, inr, ◌≡◌, ℕ, suc, ◌+◌, ◌<◌, ◌≤◌, Bool, true, false, cond, ◌==◌, List, [], ◌∷◌, ◌++◌, length, drop, get_or, refl, arith, add-one, drop-cons}
 use Rattle.std.proofs.lemmas.Bool.{cases_Bool}
 use Rattle.std.proofs.lemmas.List.{drop_all}
-use Rattle.graphql_spec.specs.Positions.{Spot, Position, past_byte, next_line, continues_character, walk}
+use Rattle.graphql_spec.specs.Positions.{Spot, past_byte, next_line, continues_character, walk}
 use Rattle.juniper_language.specs.Cursors.{HasRoom}
 
 -- what a step keeps
@@ -13,8 +13,12 @@ room_cond false s t n p q = q
 pub room_past_byte : (s : Spot) (b n : ℕ) → HasRoom s (suc n) → HasRoom (past_byte s b) n
 unfolding past_byte next_line
 room_past_byte s b n h =
-    room_cond (b == 13) _ _ n (record { index = omega (arith, h.index); line = omega (arith, h.line); column = omega arith })
-    (room_cond (b == 10) _ _ n (room_cond s.after_return _ _ n (record { index = omega (arith, h.index); line = omega (arith, h.line); column = omega arith }) (record { index = omega (arith, h.index); line = omega (arith, h.line); column = omega arith }))
+    let same_line : HasRoom (record { position = record { index = s.position.index + 1; line = s.position.line; column = 0 }; after_return = false }) n =
+    record { index = omega (arith, h.index); line = omega (arith, h.line); column = omega arith } in
+    let new_line : (r : Bool) → HasRoom (record { position = record { index = s.position.index + 1; line = s.position.line + 1; column = 0 }; after_return = r }) n =
+    λ r. record { index = omega (arith, h.index); line = omega (arith, h.line); column = omega arith } in
+    room_cond (b == 13) _ _ n (new_line true)
+    (room_cond (b == 10) _ _ n (room_cond s.after_return _ _ n same_line (new_line false))
     (elim (cases_Bool (continues_character b)) [
       | inl e ↦ rw e (record { index = omega (arith, h.index); line = omega (arith, h.line); column = omega (arith, h.column) })
       | inr e ↦ rw e (record { index = omega (arith, h.index); line = omega (arith, h.line); column = omega (arith, h.column) })

@@ -1,14 +1,13 @@
 -- Selections that are read are spelled so, and those that are served and spelled so are read.
-use Rattle.std.proofs.Common.{inl, inr, ◌≡◌, ◌≢◌, ◌⊎◌, ℕ, zero, suc, ◌<◌, ◌≤◌, ◌==◌, ◌&&◌, not, is_none, Bool, true, false, cond, List, [], ◌∷◌, length, Option, Some, None, refl, ap, ap₂, sym, ◌∙◌, subst, arith}
+use Rattle.std.proofs.Common.{inl, inr, ◌≡◌, ℕ, zero, suc, ◌<◌, ◌≤◌, Bool, true, false, List, [], ◌∷◌, length, Option, Some, None, refl, ap, ap₂, sym, ◌∙◌, subst, arith}
 use Rattle.std.proofs.lemmas.Option.{none-some}
-use Rattle.std.proofs.lemmas.Bool.{cases_Bool, false≢true, true≢false, and_parts, and_from}
-use Rattle.std.specs.List.{list_all}
-use Rattle.graphql_spec.specs.Positions.{Position, Span, Spanned}
+use Rattle.std.proofs.lemmas.Bool.{false≢true, true≢false, and_parts, and_from}
+use Rattle.graphql_spec.specs.Positions.{Span}
 use Rattle.graphql_spec.specs.Tokens.{Token, mark, name}
-use Rattle.graphql_spec.specs.Documents.{Word, Argument, Arguments, Directive, Head, Selections, end, field, spread, inline, Operation, query}
-use Rattle.graphql_spec.specs.Grammar.{At, Takes, Mark, IsWord, span_of, Opt, Many, IsArguments, AreDirectives, Alias, OptSet, IsField, AreSelections, is_end, Set, Shorthand}
-use Rattle.graphql_spec.specs.Served.{is_served_directive, is_served_field, are_served}
-use Rattle.juniper_language.specs.Reading.{Outcome, Reader, and_then, pure, refuse, next, sees, expect, a_name, while_sees, until, some_until, directives, Node, field_node, put, selections_of, label, head_of, selection, selections, query_of, operation, if_last, document}
+use Rattle.graphql_spec.specs.Documents.{Word, Arguments, Directive, Head, Selections, end, field, spread, inline, Operation, query}
+use Rattle.graphql_spec.specs.Grammar.{At, Mark, IsWord, span_of, Opt, Many, AreDirectives, Alias, IsField, AreSelections, is_end, Shorthand}
+use Rattle.graphql_spec.specs.Served.{is_served_field, are_served}
+use Rattle.juniper_language.specs.Reading.{pure, next, sees, expect, a_name, some_until, directives, Node, field_node, selections_of, label, head_of, selection, selections, query_of, operation, if_last, document}
 use Rattle.juniper_language.proofs.StepLaws.{bind_some, pure_some, chosen, fewer, mark_seen, other_seen, seen_mark, takes_next, expect_sound, expect_read, name_sound, name_read, name_first, until_sound, until_read, IsSound, IsPart}
 use Rattle.juniper_language.proofs.DirectiveLaws.{directives_sound, directives_read, directives_first, directives_fewer}
 
@@ -139,7 +138,7 @@ selections_sound n s t x e =
           let h = until_sound 125 selection (One (suc n)) (selection_sound n) (length s.ahead) s q.0.1 q.0.0 some.1 in
           let all = many_selections (suc n) q.0.0 s h.0 h.1 in
           let made : Braced (selections_of q.0.0) (suc n) s q.0.1 =
-            record { before_brace = h.0; inside = all.0; closes = h.2; some = some_selections 125 q.0.0 (One (suc n)) s h.0 q.0.1 h.1 h.2 some.0; served = all.1 } in
+          record { before_brace = h.0; inside = all.0; closes = h.2; some = some_selections 125 q.0.0 (One (suc n)) s h.0 q.0.1 h.1 h.2 some.0; served = all.1 } in
           subst (λ y. Braced y (suc n) s t) same.0 (subst (λ u. Braced (selections_of q.0.0) (suc n) s u) same.1 made)
     ]
 
@@ -205,7 +204,7 @@ operation_sound n s t o e =
     let same = pure_some found o x.0.1 t x.2 in
     let h = selections_sound n q.0.1 x.0.1 x.0.0 x.1 in
     let made : IsQuery found (suc (suc n)) s x.0.1 =
-      record { short = (refl, refl, refl, refl, (h.some, q.0.1, h.before_brace, expect_sound 123 s q.0.1 q.0.0 q.1, h.inside, h.closes)); span = refl; served = h.served } in
+    record { short = (refl, refl, refl, refl, (h.some, q.0.1, h.before_brace, expect_sound 123 s q.0.1 q.0.0 q.1, h.inside, h.closes)); span = refl; served = h.served } in
     subst (λ y. IsQuery y (suc (suc n)) s t) same.0 (subst (λ u. IsQuery found (suc (suc n)) s u) same.1 made)
 
 query_is : (o : Operation) (place : Span) → o.kind ≡ query → o.name ≡ None → o.variables ≡ None → o.directives ≡ [] → o.span ≡ place → query_of o.selections place ≡ o

@@ -1,5 +1,5 @@
 -- Reading tokens as a function: names and punctuators, step by step. Only private clauses cite it.
-use Rattle.std.specs.Prelude.{ℕ, zero, suc, Bool, true, false, ◌+◌, ◌==◌, cond, nat_eq, take, drop, length, map, List, [], ◌∷◌, ◌++◌}
+use Rattle.std.specs.Prelude.{ℕ, zero, suc, Bool, true, false, ◌+◌, ◌==◌, cond, nat_eq, take, drop, length, List, [], ◌∷◌, ◌++◌}
 use Rattle.std.specs.List.{prefix_len, starts_with}
 use Rattle.graphql_spec.specs.Positions.{Position, Spot, Span, beginning, walk}
 use Rattle.graphql_spec.specs.Tokens.{Lexeme, mark, name, Token, is_mark, dots, starts_name, continues_name, is_source_byte, is_blank, is_nil}

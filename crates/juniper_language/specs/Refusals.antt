@@ -1,5 +1,5 @@
 -- What an error of the parser says.
-use Rattle.std.specs.Prelude.{ℕ, List, codes, ◌++◌, string_bytes}
+use Rattle.std.specs.Prelude.{codes, ◌++◌, string_bytes}
 use Rattle.graphql_spec.specs.Shown.{Text}
 use Rattle.juniper_language.specs.declared.error.LexerError.{LexerError}
 use Rattle.juniper_language.specs.declared.error.LexerError.TheVariants as lexer

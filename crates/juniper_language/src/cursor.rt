@@ -55,8 +55,8 @@ impl<'t, 'a> Parser<'t, 'a> {
         self.tokens.len()
     }
 
-    #[tactic(auto, unfolding(graphql_spec::specs::Grammar::begin_of))]
     /// Where the next token begins, and past all tokens where the last one ends.
+    #[tactic(auto, unfolding(graphql_spec::specs::Grammar::begin_of))]
     pub fn begin(&self) -> SourcePosition
         ensures { view_position result ≡ begin_of self.now.last self.now.ahead }
     {
@@ -80,8 +80,14 @@ impl<'t, 'a> Parser<'t, 'a> {
         match self.tokens {
             [first, ..] => Spanning::new(first.span, ParseError::UnexpectedToken),
             [] => match self.ending {
-                Ending::Fault(at) => Spanning::new(Span { start: at, end: at }, ParseError::UnexpectedToken),
-                Ending::Whole(at) => Spanning::new(Span { start: at, end: at }, ParseError::UnexpectedEndOfFile),
+                Ending::Fault(at) => Spanning::new(
+                    Span { start: at, end: at },
+                    ParseError::UnexpectedToken,
+                ),
+                Ending::Whole(at) => Spanning::new(
+                    Span { start: at, end: at },
+                    ParseError::UnexpectedEndOfFile,
+                ),
             },
         }
     }

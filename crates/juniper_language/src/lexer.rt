@@ -37,7 +37,10 @@ fn is_source_byte(b: u8) -> bool
 fn is_mark(b: u8) -> bool
     ensures { result ≡ tokens.is_mark b }
 {
-    matches!(b, b'!' | b'$' | b'&' | b'(' | b')' | b':' | b'=' | b'@' | b'[' | b']' | b'{' | b'|' | b'}')
+    matches!(
+        b,
+        b'!' | b'$' | b'&' | b'(' | b')' | b':' | b'=' | b'@' | b'[' | b']' | b'{' | b'|' | b'}'
+    )
 }
 
 /// What a name begins with (2.1.9).
@@ -201,6 +204,7 @@ impl<'a> Lexer<'a> {
     fn new(text: &'a str) -> Self
         ensures { result ≡ record { at = beginning; ahead = text.now } }
     {
+        // The length of a text fits a `usize`, and so do the places in it.
         let _length = text.len();
         let spot = Spot {
             position: SourcePosition::new_origin(),
@@ -267,17 +271,15 @@ pub fn lex<'a>(alloc: Global, text: &'a str) -> Result<Lexed<'a>, AllocError>
     let mut tokens = Vec::new(alloc);
     while !lexer.rest().is_empty() {
         let ignored = ignored_len(lexer.rest().as_bytes());
-        if ignored == 0 {
-            match lexer.token() {
-                None => {
-                    let ending = Ending::Fault(lexer.position());
-                    return Ok(Lexed { tokens, ending });
-                }
-                Some(token) => tokens.push(token)?,
-            }
-        } else {
+        if ignored > 0 {
             lexer.take(ignored);
+            continue;
         }
+        let Some(token) = lexer.token() else {
+            let ending = Ending::Fault(lexer.position());
+            return Ok(Lexed { tokens, ending });
+        };
+        tokens.push(token)?;
     }
     let ending = Ending::Whole(lexer.position());
     Ok(Lexed { tokens, ending })

@@ -9,6 +9,8 @@ mod lexer;
 pub mod parser;
 pub mod position;
 pub mod scalar;
+#[cfg(test)]
+mod tests;
 mod token;
 pub mod types;
 pub mod value;

@@ -14,7 +14,9 @@ ghost use Rattle.juniper_language.specs.Reading as read;
 ghost use Rattle.juniper_language.specs.Reading.{Gives};
 ghost use Rattle.juniper_language.specs.ParserViews.{view_conditions, view_label};
 
-use crate::ast::{Arguments, Definition, Directive, Document, Field, Operation, OperationType, Selection};
+use crate::ast::{
+    Arguments, Definition, Directive, Document, Field, Operation, OperationType, Selection,
+};
 use crate::cursor::{ParseResult, Parser, refused};
 use crate::error::ParseError;
 use crate::input::InputValue;
@@ -87,7 +89,10 @@ fn condition<'a, S: ScalarValue>(parser: &mut Parser<'_, 'a>) -> ParseResult<Arg
 
 /// A directive's condition in parentheses (2.6).
 #[tactic(auto, unfolding(crate::specs::Reading::conditions, graphql_spec::specs::Grammar::span_of))]
-fn conditions<'a, S: ScalarValue>(alloc: Global, parser: &mut Parser<'_, 'a>) -> ParseResult<Spanning<Arguments<'a, S>, Span>>
+fn conditions<'a, S: ScalarValue>(
+    alloc: Global,
+    parser: &mut Parser<'_, 'a>,
+) -> ParseResult<Spanning<Arguments<'a, S>, Span>>
     ensures { Gives (view_conditions S.shown) result parser.new (read.conditions parser.old) }
 {
     let start = parser.begin();
@@ -105,7 +110,10 @@ fn conditions<'a, S: ScalarValue>(alloc: Global, parser: &mut Parser<'_, 'a>) ->
 
 /// A directive (2.12).
 #[tactic(auto, unfolding(crate::specs::Reading::directive, graphql_spec::specs::Grammar::span_of))]
-fn directive<'a, S: ScalarValue>(alloc: Global, parser: &mut Parser<'_, 'a>) -> ParseResult<Spanning<Directive<'a, S>, Span>>
+fn directive<'a, S: ScalarValue>(
+    alloc: Global,
+    parser: &mut Parser<'_, 'a>,
+) -> ParseResult<Spanning<Directive<'a, S>, Span>>
     ensures { Gives (view_directive S.shown) result parser.new (read.directive parser.old) }
 {
     let start = parser.begin();
@@ -121,7 +129,10 @@ fn directive<'a, S: ScalarValue>(alloc: Global, parser: &mut Parser<'_, 'a>) -> 
 
 /// The directives that stand here, if there are some (2.12).
 #[tactic(auto, using(crate::proofs::Loops::while_more, crate::proofs::Loops::while_done, crate::proofs::Loops::while_out, crate::proofs::Loops::while_none, crate::proofs::Loops::prepend_nil, crate::proofs::Loops::map_push))]
-fn directives<'a, S: ScalarValue>(alloc: Global, parser: &mut Parser<'_, 'a>) -> ParseResult<Option<Vec<Spanning<Directive<'a, S>, Span>>>>
+fn directives<'a, S: ScalarValue>(
+    alloc: Global,
+    parser: &mut Parser<'_, 'a>,
+) -> ParseResult<Option<Vec<Spanning<Directive<'a, S>, Span>>>>
     ensures { Gives (view_directives S.shown) result parser.new (read.directives parser.old) }
 {
     if !parser.sees(b'@') {
@@ -153,7 +164,10 @@ fn label<'a>(parser: &mut Parser<'_, 'a>) -> ParseResult<(Option<Word<'a>>, Word
 
 /// A field (2.5).
 #[tactic(auto, unfolding(crate::specs::Reading::selection, graphql_spec::specs::Grammar::span_of), using(crate::proofs::Loops::view_of_field))]
-fn selection<'a, S: ScalarValue>(alloc: Global, parser: &mut Parser<'_, 'a>) -> ParseResult<Selection<'a, S>>
+fn selection<'a, S: ScalarValue>(
+    alloc: Global,
+    parser: &mut Parser<'_, 'a>,
+) -> ParseResult<Selection<'a, S>>
     ensures { Gives (put_selection S.shown) result parser.new (read.placed parser.old) }
 {
     let start = parser.begin();
@@ -175,7 +189,10 @@ fn selection<'a, S: ScalarValue>(alloc: Global, parser: &mut Parser<'_, 'a>) -> 
 
 /// The selections behind an open brace, up to the closing brace (2.4).
 #[tactic(auto, unfolding(crate::specs::Reading::selections), using(crate::proofs::Loops::until_more, crate::proofs::Loops::until_end, crate::proofs::Loops::until_none, crate::proofs::Loops::put_none, crate::proofs::Loops::map_push, crate::proofs::Loops::chain_push))]
-fn selections<'a, S: ScalarValue>(alloc: Global, parser: &mut Parser<'_, 'a>) -> ParseResult<Vec<Selection<'a, S>>>
+fn selections<'a, S: ScalarValue>(
+    alloc: Global,
+    parser: &mut Parser<'_, 'a>,
+) -> ParseResult<Vec<Selection<'a, S>>>
     ensures { Gives (λ v. view_selections S.shown v.items) result parser.new (read.selections parser.old) }
 {
     if parser.sees(b'}') {
@@ -194,7 +211,10 @@ fn selections<'a, S: ScalarValue>(alloc: Global, parser: &mut Parser<'_, 'a>) ->
 
 /// An operation that is its selection set alone (2.3).
 #[tactic(auto, unfolding(crate::specs::Reading::operation, graphql_spec::specs::Grammar::span_of))]
-fn operation<'a, S: ScalarValue>(alloc: Global, parser: &mut Parser<'_, 'a>) -> ParseResult<Spanning<Operation<'a, S>, Span>>
+fn operation<'a, S: ScalarValue>(
+    alloc: Global,
+    parser: &mut Parser<'_, 'a>,
+) -> ParseResult<Spanning<Operation<'a, S>, Span>>
     ensures { Gives (view_operation S.shown) result parser.new (read.operation parser.old) }
 {
     let start = parser.begin();
@@ -216,7 +236,10 @@ fn operation<'a, S: ScalarValue>(alloc: Global, parser: &mut Parser<'_, 'a>) -> 
 
 /// One operation, and no token after it.
 #[tactic(auto, unfolding(crate::specs::Reading::document))]
-fn whole_operation<'a, S: ScalarValue>(alloc: Global, parser: &mut Parser<'_, 'a>) -> ParseResult<Spanning<Operation<'a, S>, Span>>
+fn whole_operation<'a, S: ScalarValue>(
+    alloc: Global,
+    parser: &mut Parser<'_, 'a>,
+) -> ParseResult<Spanning<Operation<'a, S>, Span>>
     ensures { Gives (view_operation S.shown) result parser.new (read.document parser.old) }
 {
     let found = operation(alloc, parser)?;
@@ -242,7 +265,10 @@ fn whole_text(ending: Ending) -> ParseResult<()>
 /// Exactly where the text spells no such document, the first fault in reading order: a token or a character that may not
 /// stand there is [`ParseError::UnexpectedToken`], at the place where it begins; a text that ends too early is
 /// [`ParseError::UnexpectedEndOfFile`], at its end. Where memory is refused, [`ParseError::Memory`].
-pub fn parse_document_source<'a, S: ScalarValue>(alloc: Global, text: &'a str) -> Result<Document<'a, S>, Spanning<ParseError, Span>>
+pub fn parse_document_source<'a, S: ScalarValue>(
+    alloc: Global,
+    text: &'a str,
+) -> Result<Document<'a, S>, Spanning<ParseError, Span>>
     ensures { MatchResult result
         (λ d. SpellsServed text.now (view_document S.shown d) × ((e : spec.Document) → SpellsServed text.now e → e ≡ view_document S.shown d))
         (λ e. e.item ≢ ParseError.Memory → (d : spec.Document) → SpellsServed text.now d → ⊥) }

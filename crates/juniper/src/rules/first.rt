@@ -53,10 +53,7 @@ fn alone(
 }
 
 /// Whether some field is none that is served.
-fn has_unserved_field<S: ScalarValue>(
-    schema: &SchemaType,
-    selections: &[Selection<'_, S>],
-) -> bool
+fn has_unserved_field<S: ScalarValue>(schema: &SchemaType, selections: &[Selection<'_, S>]) -> bool
     requires { IsTrue (has_scalar_fields (view_schema schema.now)) }
     ensures { result ≡ any_head (is_unserved (view_schema schema.now)) (view_selections S.shown selections.now) }
 {
@@ -76,10 +73,7 @@ fn has_unserved_field<S: ScalarValue>(
 
 /// Whether the query type has no such field that is served.
 #[tactic(auto, using(crate::proofs::ServedTypes::none_served), unfolding(crate::specs::PlainSelections::is_unserved))]
-fn is_unserved<S: ScalarValue>(
-    schema: &SchemaType,
-    field: &Spanning<Field<'_, S>, Span>,
-) -> bool
+fn is_unserved<S: ScalarValue>(schema: &SchemaType, field: &Spanning<Field<'_, S>, Span>) -> bool
     requires { IsTrue (has_scalar_fields (view_schema schema.now)) }
     ensures { result ≡ is_unserved (view_schema schema.now) (view_occurrence S.shown field.now).head }
 {

@@ -1,4 +1,4 @@
-use Rattle.std.proofs.Common.{◌≡◌, ◌++◌, drop, map, IsTrue}
+use Rattle.std.proofs.Common.{◌≡◌, ◌++◌, drop, map}
 use Rattle.graphql_spec.specs.Directives.{passes}
 use Rattle.juniper_language.specs.InputView.{view_variables}
 use Rattle.juniper_language.specs.DocumentView.{view_selections}
@@ -10,4 +10,4 @@ abbrev pub invariant-loop-selection : goal.invariant-loop-selection
 invariant-loop-selection g l =
     let shown = g.S.ScalarValue.shown in
     map (λ f. view_occurrence shown f.now) l.fields.items ++ admitted_fields (passes (view_variables shown l.variables)) (view_selections shown (drop l.selection-index l.selections))
-      ≡ admitted_fields (passes (view_variables shown l.variables)) (view_selections shown l.selections)
+    ≡ admitted_fields (passes (view_variables shown l.variables)) (view_selections shown l.selections)

@@ -1,4 +1,4 @@
-use Rattle.std.proofs.Common.{◌≡◌, refl, sym, ap, ◌∙◌, Some, option_map}
+use Rattle.std.proofs.Common.{refl, Some, option_map}
 use Rattle.graphql_spec.specs.Resolvers.{world_of}
 use Rattle.juniper_language.specs.InputView.{view_variables}
 use Rattle.juniper_language.specs.ValueView.{view_value}
@@ -29,7 +29,7 @@ returns-in_ok-complete-in-Ok g c =
     let t = c.in-Some.field_type in
     let d = c.in_ok-complete-in-Ok.field-0 in
     completed-answer s W c.args.node.now h t.name.now t.is_non_null (type-found s h (view_leaf_type t) c.requires.served c.in-Some.ensures)
-      (view_resolved shown c.in-Ok.resolved) (view_value shown d.value) (option_map (view_error shown) d.error) d.is_non_null c.in-Ok.ensures c.in_ok-complete-in-Ok.ensures
+    (view_resolved shown c.in-Ok.resolved) (view_value shown d.value) (option_map (view_error shown) d.error) d.is_non_null c.in-Ok.ensures c.in_ok-complete-in-Ok.ensures
 
 pub returns-in-Err-Field : goal.returns-in-Err-Field
 unfolding world_of
@@ -41,4 +41,4 @@ returns-in-Err-Field g c =
     let h = (view_occurrence shown c.args.field.now).head in
     let t = c.in-Some.field_type in
     completed-error s W c.args.node.now h t.name.now t.is_non_null (type-found s h (view_leaf_type t) c.requires.served c.in-Some.ensures)
-      (view_error shown c.in-Err-Field.error) _ (Some (view_error shown c.in-Err-Field.error)) t.is_non_null (rw c.in-Err-Field.field-0-is at c.in-Err-Field.ensures) (view-Null shown) refl refl
+    (view_error shown c.in-Err-Field.error) _ (Some (view_error shown c.in-Err-Field.error)) t.is_non_null (rw c.in-Err-Field.field-0-is at c.in-Err-Field.ensures) (view-Null shown) refl refl

@@ -1,5 +1,5 @@
-use Rattle.std.proofs.Common.{◌≡◌, ◌++◌, true, map, string_bytes, refl, sym, ap, subst, ◌∙◌, Some, None, option_map}
-use Rattle.graphql_spec.specs.Values.{object, null, keys_differ, no_entries}
+use Rattle.std.proofs.Common.{◌<◌, length, arith, map, string_bytes, refl, sym, ap, ◌∙◌, option_map}
+use Rattle.graphql_spec.specs.Values.{object, keys_differ}
 use Rattle.graphql_spec.specs.Schema.{plain_field}
 use Rattle.juniper_language.specs.InputView.{view_variables}
 use Rattle.juniper_language.specs.ValueView.{view_value, view_object}
@@ -8,16 +8,16 @@ use Rattle.juniper.specs.ErrorView.{view_error, view_listed}
 use Rattle.juniper.specs.Occurrences.{view_occurrence}
 use Rattle.juniper.specs.SchemaView.{view_schema, view_field, view_scalar, view_kinds}
 use Rattle.juniper.specs.Served.{is_served_head}
-use Rattle.juniper.specs.Walking.{world_in, IsWalked}
+use Rattle.juniper.specs.Walking.{world_in}
 use Rattle.juniper.proofs.Lists.{all-at}
 use Rattle.juniper.proofs.Settling.{settled-differs}
 use Rattle.juniper.proofs.Steps.{none-walked, step-on, step-stop, all-walked}
 use Rattle.juniper.proofs.ServedTypes.{served-world, seen-lists-none, seen-scalar-lists-none}
 use Rattle.juniper.proofs.walk.object.Goals as goal
 
-pub loop-field-init : goal.loop-field-init
+pub loop-i-init : goal.loop-i-init
 unfolding keys_differ
-loop-field-init g c =
+loop-i-init g c =
     let shown = g.S.ScalarValue.shown in
     let walk = c.args.walk.now in
     let s = walk.schema.now in
@@ -30,44 +30,47 @@ loop-field-init g c =
 pub complete_field-requires-clause-served : goal.complete_field-requires-clause-served
 complete_field-requires-clause-served g c =
     let shown = g.S.ScalarValue.shown in
-    all-at (λ f. is_served_head (view_schema c.args.walk.now.schema.now) (view_occurrence shown f.now).head) c.args.fields.now c.loop-field.field-index c.field-item.result c.requires.served c.loop-field-test.true c.field-item.is
+    let below : c.loop-i.i < length c.args.occurrences.now.fields.items = omega (arith, c.len-i-end.ensures, c.args.occurrences.now.fields.ok.0) in
+    all-at (λ f. is_served_head (view_schema c.args.walk.now.schema.now) (view_occurrence shown f.now).head) c.args.occurrences.now.fields.items c.loop-i.i c.index-field.result.now c.requires.served below c.index-field.ensures
 
 pub returns-then-rises : goal.returns-then-rises
 unfolding plain_field
 returns-then-rises g c =
     let shown = g.S.ScalarValue.shown in
+    let below : c.loop-i.i < length c.args.occurrences.now.fields.items = omega (arith, c.len-i-end.ensures, c.args.occurrences.now.fields.ok.0) in
     let walk = c.args.walk.now in
     let s = walk.schema.now in
     let vars = view_variables shown walk.variables.now in
     let W = world_in g.Q.GraphQLValue.concrete g.Q.GraphQLValue.answer walk.resolver.now walk.info.now walk.context.now (view_schema s) vars in
     let world = served-world g.Q.GraphQLValue.concrete g.Q.GraphQLValue.answer walk.resolver.now walk.info.now walk.context.now (string_bytes s.query_name) (map view_field s.fields.items) (map view_scalar s.scalars.items) vars c.requires.schema
-        (seen-lists-none (string_bytes s.query_name) (map view_field s.fields.items) view_scalar s.scalars.items (λ m. seen-scalar-lists-none (string_bytes m.name) (view_kinds m.kinds))) in
-    let served = all-at (λ f. is_served_head (view_schema s) (view_occurrence shown f.now).head) c.args.fields.now c.loop-field.field-index c.field-item.result c.requires.served c.loop-field-test.true c.field-item.is in
+    (seen-lists-none (string_bytes s.query_name) (map view_field s.fields.items) view_scalar s.scalars.items (λ m. seen-scalar-lists-none (string_bytes m.name) (view_kinds m.kinds))) in
+    let served = all-at (λ f. is_served_head (view_schema s) (view_occurrence shown f.now).head) c.args.occurrences.now.fields.items c.loop-i.i c.index-field.result.now c.requires.served below c.index-field.ensures in
     let d = c.in_ok-done.done in
     rw (view-Null shown, c.in_ok-list_error.ensures)
-      (step-stop (view_schema s) W c.args.node.now (λ f. view_occurrence shown f.now) c.args.fields.now c.loop-field.field-index c.field-item.result c.loop-field-test.true c.field-item.is c.requires.agree world served
-        _ (map (view_listed shown) c.loop-field.errors.items) (view_value shown d.value) (option_map (view_error shown) d.error) d.is_non_null c.in_ok-done.ensures c.loop-field.invariant.walked
-        (sym c.if-rises.ensures))
+    (step-stop (view_schema s) W c.args.node.now (λ f. view_occurrence shown f.now) c.args.occurrences.now.fields.items c.loop-i.i c.index-field.result.now below c.index-field.ensures c.requires.agree world served
+    _ (map (view_listed shown) c.loop-i.errors.items) (view_value shown d.value) (option_map (view_error shown) d.error) d.is_non_null c.in_ok-done.ensures c.loop-i.invariant.walked
+    (sym c.if-rises.ensures))
 
-pub loop-field-preserved : goal.loop-field-preserved
+pub loop-i-preserved : goal.loop-i-preserved
 unfolding plain_field
-loop-field-preserved g c =
+loop-i-preserved g c =
     let shown = g.S.ScalarValue.shown in
+    let below : c.loop-i.i < length c.args.occurrences.now.fields.items = omega (arith, c.len-i-end.ensures, c.args.occurrences.now.fields.ok.0) in
     let walk = c.args.walk.now in
     let s = walk.schema.now in
     let vars = view_variables shown walk.variables.now in
     let W = world_in g.Q.GraphQLValue.concrete g.Q.GraphQLValue.answer walk.resolver.now walk.info.now walk.context.now (view_schema s) vars in
     let world = served-world g.Q.GraphQLValue.concrete g.Q.GraphQLValue.answer walk.resolver.now walk.info.now walk.context.now (string_bytes s.query_name) (map view_field s.fields.items) (map view_scalar s.scalars.items) vars c.requires.schema
-        (seen-lists-none (string_bytes s.query_name) (map view_field s.fields.items) view_scalar s.scalars.items (λ m. seen-scalar-lists-none (string_bytes m.name) (view_kinds m.kinds))) in
-    let served = all-at (λ f. is_served_head (view_schema s) (view_occurrence shown f.now).head) c.args.fields.now c.loop-field.field-index c.field-item.result c.requires.served c.loop-field-test.true c.field-item.is in
+    (seen-lists-none (string_bytes s.query_name) (map view_field s.fields.items) view_scalar s.scalars.items (λ m. seen-scalar-lists-none (string_bytes m.name) (view_kinds m.kinds))) in
+    let served = all-at (λ f. is_served_head (view_schema s) (view_occurrence shown f.now).head) c.args.occurrences.now.fields.items c.loop-i.i c.index-field.result.now c.requires.served below c.index-field.ensures in
     let d = c.in_ok-done.done in
-    let es = view_object shown c.loop-field.data in
+    let es = view_object shown c.loop-i.data in
     record {
       walked = rw (c.in_ok-settle.ensures, c.in_ok-list_error.ensures, c.response_key.ensures)
-        (step-on (view_schema s) W c.args.node.now (λ f. view_occurrence shown f.now) c.args.fields.now c.loop-field.field-index c.field-item.result c.loop-field-test.true c.field-item.is c.requires.agree world served
-          es (map (view_listed shown) c.loop-field.errors.items) (view_value shown d.value) (option_map (view_error shown) d.error) d.is_non_null c.in_ok-done.ensures c.loop-field.invariant.walked
-          c.loop-field.invariant.differ (sym c.if-rises.ensures));
-      differ = ap keys_differ c.in_ok-settle.ensures ∙ settled-differs _ _ es c.loop-field.invariant.differ;
+          (step-on (view_schema s) W c.args.node.now (λ f. view_occurrence shown f.now) c.args.occurrences.now.fields.items c.loop-i.i c.index-field.result.now below c.index-field.ensures c.requires.agree world served
+          es (map (view_listed shown) c.loop-i.errors.items) (view_value shown d.value) (option_map (view_error shown) d.error) d.is_non_null c.in_ok-done.ensures c.loop-i.invariant.walked
+          c.loop-i.invariant.differ (sym c.if-rises.ensures));
+      differ = ap keys_differ c.in_ok-settle.ensures ∙ settled-differs _ _ es c.loop-i.invariant.differ;
     }
 
 pub returns : goal.returns
@@ -76,6 +79,6 @@ returns g c =
     let walk = c.args.walk.now in
     let s = walk.schema.now in
     let W = world_in g.Q.GraphQLValue.concrete g.Q.GraphQLValue.answer walk.resolver.now walk.info.now walk.context.now (view_schema s) (view_variables shown walk.variables.now) in
-    rw (view-Object shown c.loop-field.data)
-      (all-walked W (string_bytes s.query_name) c.args.node.now (λ f. view_occurrence shown f.now) c.args.fields.now c.loop-field.field-index (object (view_object shown c.loop-field.data)) (map (view_listed shown) c.loop-field.errors.items)
-        c.loop-field-test.false c.loop-field.invariant.walked)
+    rw (view-Object shown c.loop-i.data)
+    (all-walked W (string_bytes s.query_name) c.args.node.now (λ f. view_occurrence shown f.now) c.args.occurrences.now.fields.items c.loop-i.i (object (view_object shown c.loop-i.data)) (map (view_listed shown) c.loop-i.errors.items)
+    (omega (arith, c.len-i-end.ensures, c.args.occurrences.now.fields.ok.0)) c.loop-i.invariant.walked)

@@ -21,8 +21,8 @@ returns g c =
     let W = world_in g.Q.GraphQLValue.concrete g.Q.GraphQLValue.answer walk.resolver.now walk.info.now walk.context.now (view_schema s) (view_variables shown walk.variables.now) in
     let h = (view_occurrence shown c.args.field.now).head in
     subst (Answers shown c.resolve_field.result)
-      (sym (asked W (string_bytes s.query_name) c.args.node.now h (view_arguments shown c.none-arguments.result) (sym c.if-eq.ensures)
-        (no-arguments (string_bytes s.query_name) (map view_field s.fields.items) (map view_scalar s.scalars.items) (view_variables shown walk.variables.now) h
-            (seen-declares-none view_field s.fields.items (λ x. refl)) c.requires
-          ∙ sym c.none-arguments.ensures)))
-      c.resolve_field.ensures
+    (sym (asked W (string_bytes s.query_name) c.args.node.now h (view_arguments shown c.none-arguments.result) (sym c.if-eq.ensures)
+    (no-arguments (string_bytes s.query_name) (map view_field s.fields.items) (map view_scalar s.scalars.items) (view_variables shown walk.variables.now) h
+    (seen-declares-none view_field s.fields.items (λ x. refl)) c.requires
+    ∙ sym c.none-arguments.ensures)))
+    c.resolve_field.ensures

@@ -1,11 +1,10 @@
-use Rattle.std.proofs.Common.{◌≡◌, [], ◌∷◌, ◌++◌, List, map, Some, None, true, false, ap, sym, ◌∙◌, subst}
+use Rattle.std.proofs.Common.{◌≡◌, [], ◌∷◌, ◌++◌, map, Some, ap, sym, ◌∙◌, subst}
 use Rattle.std.proofs.lemmas.Result.{err_from_is_err_and}
 use Rattle.graphql_spec.specs.Documents as spec
-use Rattle.graphql_spec.specs.Grammar.{At}
 use Rattle.graphql_spec.specs.Served.{SpellsServed, before_all}
-use Rattle.juniper_language.specs.Lexing.{Lexed, lexed, is_whole}
+use Rattle.juniper_language.specs.Lexing.{Lexed}
 use Rattle.juniper_language.specs.Reading as read
-use Rattle.juniper_language.specs.TokenViews.{view_lexed, view_token, view_ending}
+use Rattle.juniper_language.specs.TokenViews.{view_lexed, view_token}
 use Rattle.juniper_language.specs.DocumentView.{view_operation, view_definition, view_document}
 use Rattle.juniper_language.specs.declared.ast.Definition.TheVariants.{Operation}
 use Rattle.juniper_language.proofs.DocumentLaws.{spells_alone, nothing_read, fault_spells}

@@ -1,4 +1,4 @@
-use Rattle.std.proofs.Common.{◌++◌, [], ◌∷◌, map, sym, ◌∙◌, ap}
+use Rattle.std.proofs.Common.{map, sym, ◌∙◌, ap}
 use Rattle.juniper_language.specs.DocumentView.{put_selection}
 use Rattle.juniper_language.proofs.Loops.{turn_on, map_push}
 use Rattle.juniper_language.proofs.parser.selections.Goals as goal

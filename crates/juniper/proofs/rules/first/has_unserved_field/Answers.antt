@@ -1,6 +1,5 @@
 use Rattle.std.proofs.Common.{sym}
-use Rattle.juniper.specs.Occurrences.{view_occurrence}
-use Rattle.juniper.specs.PlainSelections.{any_head, is_unserved}
+use Rattle.juniper.specs.PlainSelections.{is_unserved}
 use Rattle.juniper.specs.SchemaView.{view_schema}
 use Rattle.juniper.proofs.SelectionLists.{any-here, any-later, any-past_spread, any-past_inline, any-end}
 use Rattle.juniper.proofs.rules.first.has_unserved_field.Goals as goal
@@ -10,7 +9,7 @@ pub returns-then-is_unserved : goal.returns-then-is_unserved
 returns-then-is_unserved g c =
     let shown = g.S.ScalarValue.shown in
     any-here shown c.args.selections.now c.loop-selection.selection-index c.selection-item.result c.loop-selection-test.true c.selection-item.is (is_unserved (view_schema c.args.schema.now)) c.loop-selection.invariant
-      c.in-Field.field c.in-Field.is (sym c.if-is_unserved.ensures)
+    c.in-Field.field c.in-Field.is (sym c.if-is_unserved.ensures)
 
 pub loop-selection-preserved : goal.loop-selection-preserved
 loop-selection-preserved g c =

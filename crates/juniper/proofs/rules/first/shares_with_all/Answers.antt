@@ -1,6 +1,6 @@
 use Rattle.std.proofs.Common.{sym}
 use Rattle.juniper.specs.Occurrences.{view_occurrence}
-use Rattle.juniper.specs.PlainSelections.{each_head, may_share}
+use Rattle.juniper.specs.PlainSelections.{may_share}
 use Rattle.juniper.proofs.SelectionLists.{each-here, each-later, each-past_spread, each-past_inline, each-end}
 use Rattle.juniper.proofs.rules.first.shares_with_all.Goals as goal
 use Rattle.juniper.proofs.rules.first.shares_with_all.Goals.{in-Field+else-not-may_share, in-FragmentSpread, in-InlineFragment}
@@ -9,7 +9,7 @@ pub returns-then-not-may_share : goal.returns-then-not-may_share
 returns-then-not-may_share g c =
     let shown = g.S.ScalarValue.shown in
     each-here shown c.args.selections.now c.loop-selection.selection-index c.selection-item.result c.loop-selection-test.true c.selection-item.is (may_share (view_occurrence shown c.args.field.now).head) c.loop-selection.invariant
-      c.in-Field.other c.in-Field.is (sym c.if-not-may_share.ensures)
+    c.in-Field.other c.in-Field.is (sym c.if-not-may_share.ensures)
 
 pub loop-selection-preserved : goal.loop-selection-preserved
 loop-selection-preserved g c =

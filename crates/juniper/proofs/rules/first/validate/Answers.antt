@@ -1,4 +1,4 @@
-use Rattle.std.proofs.Common.{◌≡◌, map, true, refl, sym, ap, ◌∙◌}
+use Rattle.std.proofs.Common.{map, sym, ap, ◌∙◌}
 use Rattle.juniper_language.specs.DocumentView.{view_operation, view_selections}
 use Rattle.juniper.specs.ErrorView.{view_rule_error}
 use Rattle.juniper.specs.PlainSelections.{any_head, is_unserved, names_agree}
@@ -11,20 +11,20 @@ returns-then-has_unserved_field g c =
     let shown = g.S.ScalarValue.shown in let s = view_schema c.args.schema.now in let o = view_operation shown c.args.operation.now in
     let slice = c.as_slice-selections.ensures.value in
     c.in_ok-alone.ensures ∙ sym (unknown-found s o (plain-query o c.requires.plain) (plain-fields o c.requires.plain)
-      (ap (λ ys. any_head (is_unserved s) (view_selections shown ys)) (sym slice) ∙ sym c.if-has_unserved_field.ensures))
+    (ap (λ ys. any_head (is_unserved s) (view_selections shown ys)) (sym slice) ∙ sym c.if-has_unserved_field.ensures))
 
 pub returns-then-not-names_agree : goal.returns-then-not-names_agree
 returns-then-not-names_agree g c =
     let shown = g.S.ScalarValue.shown in let s = view_schema c.args.schema.now in let o = view_operation shown c.args.operation.now in
     let slice = c.as_slice-selections.ensures.value in
     c.in_ok-alone-2.ensures ∙ sym (conflict-found s o (plain-query o c.requires.plain) (plain-fields o c.requires.plain)
-      (ap (λ ys. any_head (is_unserved s) (view_selections shown ys)) (sym slice) ∙ sym c.if-has_unserved_field.ensures)
-      (ap (λ ys. names_agree (view_selections shown ys)) (sym slice) ∙ sym c.if-not-names_agree.ensures))
+    (ap (λ ys. any_head (is_unserved s) (view_selections shown ys)) (sym slice) ∙ sym c.if-has_unserved_field.ensures)
+    (ap (λ ys. names_agree (view_selections shown ys)) (sym slice) ∙ sym c.if-not-names_agree.ensures))
 
 pub returns : goal.returns
 returns g c =
     let shown = g.S.ScalarValue.shown in let s = view_schema c.args.schema.now in let o = view_operation shown c.args.operation.now in
     let slice = c.as_slice-selections.ensures.value in
     ap (map view_rule_error) c.new.ensures.items ∙ sym (nothing-found s o (plain-query o c.requires.plain) (plain-fields o c.requires.plain)
-      (ap (λ ys. any_head (is_unserved s) (view_selections shown ys)) (sym slice) ∙ sym c.if-has_unserved_field.ensures)
-      (ap (λ ys. names_agree (view_selections shown ys)) (sym slice) ∙ sym c.if-not-names_agree.ensures))
+    (ap (λ ys. any_head (is_unserved s) (view_selections shown ys)) (sym slice) ∙ sym c.if-has_unserved_field.ensures)
+    (ap (λ ys. names_agree (view_selections shown ys)) (sym slice) ∙ sym c.if-not-names_agree.ensures))

@@ -15,10 +15,10 @@ unfolding plain_field
 returns-in-Some c =
     let s = c.args.self.now in
     c.leaf_of.ensures ∙ served-declared (string_bytes s.query_name) c.args.field_name.now (map view_field s.fields.items) (map view_scalar s.scalars.items) (view_field c.in-Some.field.now) c.requires
-      (sym c.if-is_introspection.ensures) (ap (λ fs. field_in (map view_field fs) c.args.field_name.now) (sym c.as_slice.ensures.value) ∙ sym c.in-Some.ensures)
+    (sym c.if-is_introspection.ensures) (ap (λ fs. field_in (map view_field fs) c.args.field_name.now) (sym c.as_slice.ensures.value) ∙ sym c.in-Some.ensures)
 
 pub returns-in-None : goal.returns-in-None
 returns-in-None c =
     let s = c.args.self.now in
     c.typename_type.ensures ∙ served-other (string_bytes s.query_name) c.args.field_name.now (map view_field s.fields.items) (map view_scalar s.scalars.items)
-      (sym c.if-is_introspection.ensures) (ap (λ fs. field_in (map view_field fs) c.args.field_name.now) (sym c.as_slice.ensures.value) ∙ sym c.in-None.ensures)
+    (sym c.if-is_introspection.ensures) (ap (λ fs. field_in (map view_field fs) c.args.field_name.now) (sym c.as_slice.ensures.value) ∙ sym c.in-None.ensures)

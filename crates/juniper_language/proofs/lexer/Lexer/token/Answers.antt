@@ -1,5 +1,5 @@
-use Rattle.std.proofs.Common.{◌≡◌, ◌≢◌, sym, ◌∙◌, ap, subst}
-use Rattle.std.specs.Str.{IsUtf8, IsCharBoundary}
+use Rattle.std.proofs.Common.{◌≡◌, ◌≢◌, ◌∙◌, ap, subst}
+use Rattle.std.specs.Str.{IsUtf8}
 use Rattle.juniper_language.specs.Lexing.{lexeme_len}
 use Rattle.juniper_language.proofs.Boundaries.{taken_boundary}
 use Rattle.juniper_language.proofs.lexer.Lexer.token.Goals as goal

@@ -1,0 +1,333 @@
+//! Texts that are read, with their places, and texts that are refused, with the kind and the place of the refusal.
+
+use crate::ast::{Definition, Selection};
+use crate::error::{LexerError, ParseError};
+use crate::input::InputValue;
+use crate::parser::parse_document_source;
+use crate::position::SourcePosition;
+use crate::scalar::{DefaultScalarValue, ScalarValue};
+use std::alloc::Global;
+use std::test::Fail;
+
+/// Index, line and column.
+type Place = (usize, usize, usize);
+
+/// A field: its alias, its name, its first and its last place, how many directives it has, and the last one's name and
+/// condition.
+type Row<'a> = (
+    Option<&'a str>,
+    &'a str,
+    Place,
+    Place,
+    Option<(usize, &'a str, bool)>,
+);
+
+fn place(position: SourcePosition) -> Place {
+    (position.index(), position.line(), position.column())
+}
+
+/// How many directives a field has, and the last one's name and condition.
+fn directives_of<'d>(
+    selection: &'d Selection<'_, DefaultScalarValue>,
+) -> Option<(usize, &'d str, bool)> {
+    let Selection::Field(field) = selection else {
+        return None;
+    };
+    let directives = field.item.directives.as_ref()?;
+    let last = directives.last()?;
+    let arguments = last.item.arguments.as_ref()?;
+    let (_, value) = arguments.item.items.first()?;
+    match &value.item {
+        InputValue::Scalar(scalar) => Some((
+            directives.len(),
+            last.item.name.item,
+            scalar.try_to_bool()?,
+        )),
+        _ => None,
+    }
+}
+
+fn row_of<'d>(selection: &'d Selection<'_, DefaultScalarValue>) -> Option<Row<'d>> {
+    let Selection::Field(field) = selection else {
+        return None;
+    };
+    let alias = match &field.item.alias {
+        None => None,
+        Some(word) => Some(word.item),
+    };
+    let start = place(field.span.start);
+    let end = place(field.span.end);
+    Some((
+        alias,
+        field.item.name.item,
+        start,
+        end,
+        directives_of(selection),
+    ))
+}
+
+/// Whether the text spells these fields, in a query at these places.
+fn reads(alloc: Global, text: &str, start: Place, end: Place, rows: &[Row<'_>]) -> bool {
+    let Ok(document) = parse_document_source::<DefaultScalarValue>(alloc, text) else {
+        return false;
+    };
+    let [definition] = document.as_slice() else {
+        return false;
+    };
+    let Definition::Operation(operation) = definition else {
+        return false;
+    };
+    let selections = operation.item.selection_set.as_slice();
+    if selections.len() != rows.len()
+        || place(operation.span.start) != start
+        || place(operation.span.end) != end
+    {
+        return false;
+    }
+    for (selection, row) in selections.iter().zip(rows) {
+        match row_of(selection) {
+            None => return false,
+            Some(found) => {
+                if found != *row {
+                    return false;
+                }
+            }
+        }
+    }
+    true
+}
+
+/// Whether the text is refused so, at this place.
+fn refuses(alloc: Global, text: &str, kind: &ParseError, at: Place) -> bool {
+    match parse_document_source::<DefaultScalarValue>(alloc, text) {
+        Ok(_) => false,
+        Err(error) => error.item == *kind && place(error.span.start) == at,
+    }
+}
+
+#[test]
+fn fields_and_places(rt: HostRuntime) {
+    let alloc = rt.alloc();
+    let rows = [
+        (None, "id", (2, 0, 2), (4, 0, 4), None),
+        (Some("again"), "id", (5, 0, 5), (14, 0, 14), None),
+        (
+            None,
+            "name",
+            (15, 0, 15),
+            (35, 0, 35),
+            Some((1, "skip", true)),
+        ),
+        (None, "fail", (36, 0, 36), (40, 0, 40), None),
+        (None, "id", (41, 0, 41), (43, 0, 43), None),
+    ];
+    assert!(rt;
+        reads(
+            alloc,
+            "{ id again: id name @skip(if: true) fail id }",
+            (0, 0, 0),
+            (45, 0, 45),
+            &rows
+        )
+    );
+}
+
+#[test]
+fn lines_and_characters(rt: HostRuntime) {
+    let alloc = rt.alloc();
+    // CR LF, CR and LF end one line each; a comment holds a character past U+FFFF.
+    let text = "{\r\n# \u{1F600} #\r\n  id\r\rname\n\ta:b\r\n}";
+    let rows = [
+        (None, "id", (15, 2, 2), (17, 2, 4), None),
+        (None, "name", (19, 4, 0), (23, 4, 4), None),
+        (Some("a"), "b", (25, 5, 1), (28, 5, 4), None),
+    ];
+    assert!(rt; reads(alloc, text, (0, 0, 0), (31, 6, 1), &rows));
+    // U+FEFF is ignored anywhere, and takes one column; a comment may end with the text.
+    let marked = [
+        (None, "id", (7, 0, 3), (9, 0, 5), None),
+        (None, "name", (12, 0, 6), (16, 0, 10), None),
+    ];
+    assert!(rt;
+        reads(
+            alloc,
+            "\u{FEFF}{\u{FEFF}id\u{FEFF}name\u{FEFF}}#\u{1F600}",
+            (3, 0, 1),
+            (20, 0, 12),
+            &marked
+        )
+    );
+    // A comment ends with its line and no sooner.
+    let behind = [(None, "name", (9, 1, 0), (13, 1, 4), None)];
+    assert!(rt; reads(alloc, "{ # id }\nname}", (0, 0, 0), (14, 1, 5), &behind));
+    // Commas are ignored anywhere between tokens.
+    let commas = [
+        (None, "id", (4, 0, 4), (6, 0, 6), None),
+        (
+            Some("x"),
+            "name",
+            (8, 0, 8),
+            (39, 0, 39),
+            Some((1, "include", false)),
+        ),
+    ];
+    assert!(rt;
+        reads(
+            alloc,
+            ",,{,id,,x,:,name,@,include,(,if,:false),,}",
+            (2, 0, 2),
+            (42, 0, 42),
+            &commas
+        )
+    );
+}
+
+#[test]
+fn words_and_directives(rt: HostRuntime) {
+    let alloc = rt.alloc();
+    // No name is kept for the language.
+    let words = [
+        (None, "query", (2, 0, 2), (7, 0, 7), None),
+        (Some("on"), "on", (8, 0, 8), (14, 0, 14), None),
+        (Some("true"), "fragment", (15, 0, 15), (29, 0, 29), None),
+        (Some("fragment"), "true", (30, 0, 30), (44, 0, 44), None),
+        (None, "null", (45, 0, 45), (49, 0, 49), None),
+        (Some("skip"), "if", (50, 0, 50), (57, 0, 57), None),
+        (None, "_0aZ", (58, 0, 58), (62, 0, 62), None),
+    ];
+    let text = "{ query on: on true: fragment fragment: true null skip:if _0aZ }";
+    assert!(rt; reads(alloc, text, (0, 0, 0), (64, 0, 64), &words));
+    // Any number of directives, in order.
+    let directives = [
+        (
+            None,
+            "id",
+            (1, 0, 1),
+            (56, 0, 56),
+            Some((3, "include", true)),
+        ),
+        (None, "a", (57, 0, 57), (58, 0, 58), None),
+    ];
+    let conditions = "{id@skip(if:true)@skip(if: false)   @include(if : true ) a}";
+    assert!(rt; reads(alloc, conditions, (0, 0, 0), (59, 0, 59), &directives));
+}
+
+#[test]
+fn refused_tokens(rt: HostRuntime) {
+    let alloc = rt.alloc();
+    let rows = [
+        // other forms of documents, and what stands after the operation
+        ("query { id }", (0, 0, 0)),
+        ("} id {", (0, 0, 0)),
+        ("{ id } x", (7, 0, 7)),
+        ("{ id }\r\n{ id }", (8, 1, 0)),
+        ("{ id } ~", (7, 0, 7)),
+        ("{ id } x ~", (7, 0, 7)),
+        // selections
+        ("{}", (1, 0, 1)),
+        ("{ }", (2, 0, 2)),
+        ("{ id { a } }", (5, 0, 5)),
+        ("{ id(a: 1) }", (4, 0, 4)),
+        ("{ ...F }", (2, 0, 2)),
+        ("{ a: }", (5, 0, 5)),
+        ("{ a: b: c }", (6, 0, 6)),
+        ("{ :a }", (2, 0, 2)),
+        // directives
+        ("{ @skip(if: true) }", (2, 0, 2)),
+        ("{ id @skip }", (11, 0, 11)),
+        ("{ id @skip(if: 1) }", (15, 0, 15)),
+        ("{ id @skip(if: yes) }", (15, 0, 15)),
+        ("{ id @skip(if: \"true\") }", (15, 0, 15)),
+        ("{ id @skip(if: $b) }", (15, 0, 15)),
+        ("{ id @skip(if true) }", (14, 0, 14)),
+        ("{ id @skip(unless: true) }", (11, 0, 11)),
+        ("{ id @skip(if: true, if: true) }", (21, 0, 21)),
+        ("{ id @skip() }", (11, 0, 11)),
+        ("{ id @skips(if: true) }", (6, 0, 6)),
+        ("{ id @ski(if: true) }", (6, 0, 6)),
+        ("{ id @(if: true) }", (6, 0, 6)),
+        // characters that begin no token, the first fault in reading order
+        ("{ id \0 }", (5, 0, 5)),
+        ("{ id ? }", (5, 0, 5)),
+        ("{ 1 }", (2, 0, 2)),
+        ("{ .. }", (2, 0, 2)),
+        ("{ \u{1F600}~ }", (2, 0, 2)),
+        ("{ id\u{A0}~ { }", (4, 0, 4)),
+        ("{ id { ~", (5, 0, 5)),
+        ("{\n id # a\u{1F600}b\u{1}c\n ~ }", (14, 1, 9)),
+        ("\u{FEFE}{ id }", (0, 0, 0)),
+        ("\u{FEFF}\u{FEFF}\u{7}", (6, 0, 2)),
+    ];
+    for (text, at) in rows {
+        assert!(rt;
+            refuses(alloc, text, &ParseError::UnexpectedToken, at),
+            "{text}"
+        );
+    }
+}
+
+#[test]
+fn ends_too_early(rt: HostRuntime) {
+    let alloc = rt.alloc();
+    let rows = [
+        ("", (0, 0, 0)),
+        (" ,\u{FEFF}", (5, 0, 3)),
+        ("# { id }", (8, 0, 8)),
+        ("{", (1, 0, 1)),
+        ("{\r\n", (3, 1, 0)),
+        ("{ id", (4, 0, 4)),
+        ("{ id # }", (8, 0, 8)),
+        ("{ a:", (4, 0, 4)),
+        ("{ id @", (6, 0, 6)),
+        ("{ id @skip", (10, 0, 10)),
+        ("{ id @skip(", (11, 0, 11)),
+        ("{ id @skip(if", (13, 0, 13)),
+        ("{ id @skip(if:", (14, 0, 14)),
+        ("{ id @skip(if: true", (19, 0, 19)),
+        ("{ id @skip(if: true)", (20, 0, 20)),
+    ];
+    for (text, at) in rows {
+        assert!(rt;
+            refuses(alloc, text, &ParseError::UnexpectedEndOfFile, at),
+            "{text}"
+        );
+    }
+}
+
+#[test]
+fn errors_are_shown(rt: HostRuntime) -> Result<(), Fail> {
+    let alloc = rt.alloc();
+    let rows = [
+        (
+            ParseError::LexerError(LexerError::UnknownEscapeSequence(String::from_str(
+                alloc, "\\x",
+            )?)),
+            "Unknown escape sequence \"\\x\" in string",
+        ),
+        (
+            ParseError::LexerError(LexerError::UnterminatedString),
+            "Unterminated string literal",
+        ),
+        (
+            ParseError::LexerError(LexerError::UnknownCharacter),
+            "Unknown character",
+        ),
+        (
+            ParseError::LexerError(LexerError::InvalidNumber),
+            "Invalid number literal",
+        ),
+        (ParseError::UnexpectedToken, "Unexpected token"),
+        (ParseError::UnexpectedEndOfFile, "Unexpected end of input"),
+        (ParseError::FloatLiteral, "Float literals are not supported"),
+        (ParseError::BlockString, "Block strings are not supported"),
+        (ParseError::TooDeep, "Brackets are nested too deeply"),
+        (ParseError::Memory, "Out of memory"),
+    ];
+    for (error, text) in &rows {
+        let shown = format!(in alloc; "{error}")?;
+        assert!(rt; shown.as_str() == *text, "{text}");
+        let copy = error.try_clone(alloc)?;
+        assert!(rt; copy == *error, "{text}");
+    }
+    Ok(())
+}
