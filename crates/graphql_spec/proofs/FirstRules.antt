@@ -1,13 +1,13 @@
 -- of plain queries on flat schemas the first rules find all that the rules find
 use Rattle.std.specs.Prelude.{◌≡◌, Bool, true, false, not, ◌&&◌, ◌||◌, codes, map, List, [], ◌∷◌, ◌++◌, Option, Some, None}
-use Rattle.std.specs.List.{list_any, flat_map}
+use Rattle.std.specs.List.{list_any, flat_map, filter}
 use Rattle.std.specs.Option.{is_none}
 use Rattle.std.specs.Str.{bytes_eq}
 use Rattle.std.proofs.lemmas.Bool.{and_parts, or_parts, both_ways}
-use Rattle.std.proofs.Common.{refl, sym, ap, inl, inr, subst}
-use Rattle.graphql_spec.specs.Shown.{Name, boolean}
+use Rattle.std.proofs.Common.{refl, sym, ap, inl, inr, subst, is_some}
+use Rattle.graphql_spec.specs.Shown.{Name, Shown, boolean}
 use Rattle.graphql_spec.specs.Positions.{Span}
-use Rattle.graphql_spec.specs.Types.{required, innermost}
+use Rattle.graphql_spec.specs.Types.{TypeRef, required, innermost}
 use Rattle.graphql_spec.specs.Inputs.{scalar}
 use Rattle.graphql_spec.specs.Documents.{Argument, Directive, OperationType, Head, query, mutation, subscription, Operation, Definition, operation, fragment, Document, operations, fragments, variables_of, word_name, written}
 use Rattle.graphql_spec.specs.Directives.{if_name}
@@ -15,13 +15,12 @@ use Rattle.graphql_spec.specs.Schema.{InputDeclaration, FieldDeclaration, Schema
 use Rattle.graphql_spec.specs.BuiltIns.{must, condition_arguments, directives}
 use Rattle.graphql_spec.specs.Fields.{type_named, is_leaf, field_of, declaration_in}
 use Rattle.graphql_spec.specs.Fits.{through, fits}
-use Rattle.graphql_spec.specs.Executable.{no_declarations}
 use Rattle.graphql_spec.specs.Written.{heads, directives_in, selections_of, defined_variables, own_directives, all_directives, all_conditions, argument_lists, default_values, values_in, repeats, field_repeats}
 use Rattle.graphql_spec.specs.Placed.{Placed, Call, directive_in, directive_named, directive_calls, if_declared, placed, placed_directives, root_type, placed_in, directives_placed, field_calls, calls}
 use Rattle.graphql_spec.specs.VariableUses.{reached, as_definitions, parts, variables_in, names_used, all_defined, at_declared, uses_at, uses_in_call, uses, all_allowed}
-use Rattle.graphql_spec.specs.Rules.{repeats_operation, is_not_alone, repeats_fragment, spreads_unknown, spreads_itself, repeats_variable, repeats_argument, repeats_input_field, has_unknown_directive, variable_types, has_unknown_type, has_other_condition, has_other_variable, has_unknown_field, set_is_wrong, has_wrong_set, has_unknown_argument, must_be_written, lacks_argument, has_wrong_argument, has_wrong_default, has_root, uses_undefined, misuses_variable, cannot_merge, is_introspection, can_look, looks_at_schema, reported, at_each, name_errors, type_errors, use_errors, first_found, rule_errors}
-use Rattle.graphql_spec.specs.FirstRules.{lacks_field, field_errors, merge_errors, first_rule_errors, is_plain_selections, is_query, is_empty, is_plain_operation, is_plain_document, is_flat_field, is_flat, FirstRulesFindAll}
-use Rattle.graphql_spec.proofs.PlainQueries.{Every, every_failing, none, nothing, every_as, every-append, every-map, every-flat_map, Plain, PlainField, row, plain_row, heads-row, conditions-row, spreads-row, directives-row}
+use Rattle.graphql_spec.specs.Rules.{repeats_operation, is_not_alone, repeats_fragment, spreads_unknown, spreads_itself, repeats_variable, repeats_argument, repeats_input_field, has_unknown_directive, variable_types, has_unknown_type, has_other_condition, has_other_variable, has_unknown_field, set_is_wrong, has_wrong_set, gives_unknown, has_unknown_argument, must_be_written, gives_too_few, lacks_argument, gives_wrong, has_wrong_argument, has_wrong_default, has_root, uses_undefined, misuses_variable, cannot_merge, is_introspection, can_look, looks_at_schema, reported, at_each, name_errors, type_errors, use_errors, first_found, rule_errors}
+use Rattle.graphql_spec.specs.FirstRules.{lacks_field, is_asked, first_calls, first_name_errors, first_type_errors, merge_errors, first_rule_errors, is_plain_selections, is_query, is_empty, is_plain_operation, is_plain_document, is_flat_field, is_flat, FirstRulesFindAll}
+use Rattle.graphql_spec.proofs.PlainQueries.{Every, every_failing, none, nothing, every_as, every-append, every-map, every-flat_map, Plain, Literal, PlainField, row, plain_row, heads-row, conditions-row, spreads-row, directives-row}
 use Rattle.graphql_spec.proofs.FlatSchemas.{fields_as_leaf, Built, built, field_of-flat}
 
 -- ## Placed fields, and calls
@@ -29,6 +28,7 @@ use Rattle.graphql_spec.proofs.FlatSchemas.{fields_as_leaf, Built, built, field_
 record FlatPlaced (s : Schema) (p : Placed) : Type 0 where
   plain : PlainField p.head
   flat : (d : FieldDeclaration) → p.declared ≡ Some d → is_flat_field s d ≡ true
+  asked : is_asked p ≡ true
 
 if_declared-nothing : {A : Type 0} (s : Schema) (o : Option FieldDeclaration) → if_declared s {A = A} o (λ q. []) ≡ []
 unfolding if_declared
@@ -45,10 +45,10 @@ append-nothing [] = refl
 append-nothing (x ∷ xs) = ap (λ z. x ∷ z) (append-nothing xs)
 
 placed-row : (s : Schema) → Built s → is_flat s ≡ true → (hs : List Head) → Every PlainField hs → Every (λ h. is_introspection h.name.item ≡ false) hs → Every (FlatPlaced s) (placed s s.query (row hs))
-unfolding placed row
+unfolding placed row is_asked
 placed-row s b a [] e i = tt
 placed-row s b a (h ∷ hs) e i = (
-  record { plain = e.0; flat = λ d q. field_of-flat s b a h.name.item i.0 d q },
+  record { plain = e.0; flat = λ d q. field_of-flat s b a h.name.item i.0 d q; asked = rw (i.0) refl },
   rw (if_declared-nothing {A = Placed} s (field_of s s.query h.name.item)) (placed-row s b a hs e.1 i.1),
 )
 
@@ -58,9 +58,22 @@ placed_directives-row s p [] e = tt
 placed_directives-row s p (h ∷ hs) e = every-append Plain (if_declared s (field_of s p h.name.item) (λ q. h.directives ++ [])) (placed_directives s p (row hs))
     (if_declared-every Plain s (field_of s p h.name.item) (h.directives ++ []) (rw (append-nothing h.directives) e.0.plain)) (placed_directives-row s p hs e.1)
 
-abbrev call_of_nothing : Call
-call_of_nothing = record { declared = []; given = [] }
+-- a call whose arguments are null or scalars
+Literals : Call → Type 0
+Literals c = Every Literal c.given
 
+call_at : (s : Schema) (x : Placed) (xs : List Placed) → FlatPlaced s x → Every Literals (field_calls s xs) → (o : Option FieldDeclaration) →
+    Every Literals (elim o [ None ↦ field_calls s xs | Some d ↦ record { declared = d.arguments; given = written x.head.arguments } ∷ field_calls s xs ])
+unfolding Literals
+call_at s x xs f e None = e
+call_at s x xs f e (Some d) = (f.plain.literals, e)
+
+field_calls-literal : (s : Schema) (xs : List Placed) → Every (FlatPlaced s) xs → Every Literals (field_calls s xs)
+unfolding field_calls
+field_calls-literal s [] e = tt
+field_calls-literal s (x ∷ xs) e = call_at s x xs e.0 (field_calls-literal s xs e.1) x.declared
+
+-- a condition with its declaration
 unfoldable call_of : Argument → Call
 call_of a = record { declared = condition_arguments; given = a ∷ [] }
 
@@ -70,24 +83,6 @@ record Condition (a : Argument) : Type 0 where
   name_is : a.name.item ≡ if_name
   value_is : a.value.item ≡ scalar (boolean value)
 
-no_declarations-nil : (ds : List InputDeclaration) → no_declarations ds ≡ true → ds ≡ []
-unfolding no_declarations
-no_declarations-nil [] e = refl
-no_declarations-nil (d ∷ ds) e = absurd (both_ways false refl e)
-
-call_at : (s : Schema) (P : Call → Type 0) → P call_of_nothing → (x : Placed) (xs : List Placed) → FlatPlaced s x → Every P (field_calls s xs) → (o : Option FieldDeclaration) → x.declared ≡ o →
-    Every P (elim o [ None ↦ field_calls s xs | Some d ↦ record { declared = d.arguments; given = written x.head.arguments } ∷ field_calls s xs ])
-unfolding written is_flat_field
-call_at s P p x xs f e None q = e
-call_at s P p x xs f e (Some d) q =
-    let a = and_parts (no_declarations d.arguments) (is_leaf (type_named s (innermost d.of_type))) (f.flat d q) in
-    (rw (no_declarations-nil d.arguments a.0, f.plain.no_arguments) p, e)
-
-field_calls-every : (s : Schema) (P : Call → Type 0) → P call_of_nothing → (xs : List Placed) → Every (FlatPlaced s) xs → Every P (field_calls s xs)
-unfolding field_calls
-field_calls-every s P p [] e = tt
-field_calls-every s P p (x ∷ xs) e = call_at s P p x xs e.0 (field_calls-every s P p xs e.1) x.declared refl
-
 directive_calls-every : (P : Call → Type 0) → ((a : Argument) → Condition a → P (call_of a)) → (ds : List Directive) → Every Plain ds → Every P (directive_calls ds)
 unfolding directive_calls directive_named directive_in directives call_of
 directive_calls-every P f [] e = tt
@@ -96,34 +91,56 @@ directive_calls-every P f (d ∷ ds) e =
     let here = f e.0.argument (record { value = e.0.value; name_is = e.0.name_is; value_is = e.0.value_is }) in
     elim e.0.called [ inl q ↦ rw (q, e.0.written_is) (here, rest) | inr q ↦ rw (q, e.0.written_is) (here, rest) ]
 
+condition_is_literal : (a : Argument) → Condition a → Literals (call_of a)
+unfolding Literals call_of
+condition_is_literal a c = (record { is_literal = inr (boolean c.value, c.value_is) }, tt)
+
+-- ## Literal conditions are right
+
+pub conditions_known : (ds : List Directive) → Every Plain ds → list_any gives_unknown (directive_calls ds) ≡ false
+unfolding gives_unknown declaration_in condition_arguments plain_input call_of
+conditions_known ds e = none gives_unknown (directive_calls ds) (directive_calls-every (λ c. gives_unknown c ≡ false) (λ g c. rw (c.name_is) refl) ds e)
+
+pub conditions_complete : (ds : List Directive) → Every Plain ds → list_any gives_too_few (directive_calls ds) ≡ false
+unfolding gives_too_few must_be_written required must condition_arguments plain_input call_of
+conditions_complete ds e = none gives_too_few (directive_calls ds) (directive_calls-every (λ c. gives_too_few c ≡ false) (λ g c. rw (c.name_is) refl) ds e)
+
+pub conditions_fit : (s : Schema) → Built s → (ds : List Directive) → Every Plain ds → list_any (gives_wrong s) (directive_calls ds) ≡ false
+unfolding gives_wrong declaration_in condition_arguments plain_input fits through must call_of
+conditions_fit s b ds e = none (gives_wrong s) (directive_calls ds) (directive_calls-every (λ c. gives_wrong s c ≡ false) (λ g c. rw (c.name_is, c.value_is) (rw (b.boolean_fits c.value) refl)) ds e)
+
 -- ## A query of plain fields
 
 unfoldable asks : List Head → Span → Definition
 asks hs p = operation (record { kind = query; name = None; variables = None; directives = []; selections = row hs; span = p })
 
-calls-every : (s : Schema) → Built s → is_flat s ≡ true → (P : Call → Type 0) → P call_of_nothing → ((a : Argument) → Condition a → P (call_of a)) → (hs : List Head) (p : Span) → Every PlainField hs →
-    Every (λ h. is_introspection h.name.item ≡ false) hs → Every P (calls s (asks hs p))
+all_kept : {A : Type 0} (test : A → Bool) (xs : List A) → Every (λ x. test x ≡ true) xs → filter test xs ≡ xs
+all_kept test [] e = refl
+all_kept test (x ∷ xs) e = rw (e.0) (ap (λ z. x ∷ z) (all_kept test xs e.1))
+
+calls-literal : (s : Schema) → Built s → is_flat s ≡ true → (hs : List Head) (p : Span) → Every PlainField hs → Every (λ h. is_introspection h.name.item ≡ false) hs → Every Literals (calls s (asks hs p))
 unfolding calls placed_in directives_placed root_type own_directives variables_of asks
-calls-every s b a P e f hs p x i = every-append P (field_calls s (placed s s.query (row hs))) (directive_calls (placed_directives s s.query (row hs)))
-    (field_calls-every s P e (placed s s.query (row hs)) (placed-row s b a hs x i)) (directive_calls-every P f (placed_directives s s.query (row hs)) (placed_directives-row s s.query hs x))
+calls-literal s b a hs p x i = every-append Literals (field_calls s (placed s s.query (row hs))) (directive_calls (placed_directives s s.query (row hs)))
+    (field_calls-literal s (placed s s.query (row hs)) (placed-row s b a hs x i)) (directive_calls-every Literals condition_is_literal (placed_directives s s.query (row hs)) (placed_directives-row s s.query hs x))
 
-argument_lists-every : (P : List Argument → Type 0) → P [] → ((a : Argument) → Condition a → P (a ∷ [])) → (hs : List Head) (p : Span) → Every PlainField hs → Every P (argument_lists (asks hs p))
-unfolding argument_lists all_directives own_directives selections_of variables_of written asks
-argument_lists-every P e f hs p x = rw (heads-row hs) (every-append P (map (λ h. written h.arguments) hs) (map (λ d. written d.arguments) (directives_in (row hs)))
-    (every-map P (λ h. written h.arguments) hs (every_as PlainField (λ h. P (written h.arguments)) bare hs x))
-    (every-map P (λ d. written d.arguments) (directives_in (row hs)) (every_as Plain (λ d. P (written d.arguments)) conditioned (directives_in (row hs)) (directives-row hs x))))
+first_calls-all : (s : Schema) → Built s → is_flat s ≡ true → (hs : List Head) (p : Span) → Every PlainField hs → Every (λ h. is_introspection h.name.item ≡ false) hs → first_calls s (asks hs p) ≡ calls s (asks hs p)
+unfolding first_calls calls placed_in root_type asks
+first_calls-all s b a hs p x i = rw (all_kept is_asked (placed s s.query (row hs)) (every_as (FlatPlaced s) (λ y. is_asked y ≡ true) (λ y f. f.asked) (placed s s.query (row hs)) (placed-row s b a hs x i))) refl
+
+argument_lists-literal : (hs : List Head) (p : Span) → Every PlainField hs → Every (Every Literal) (argument_lists (asks hs p))
+unfolding argument_lists all_directives own_directives selections_of variables_of asks
+argument_lists-literal hs p x = rw (heads-row hs) (every-append (Every Literal) (map (λ h. written h.arguments) hs) (map (λ d. written d.arguments) (directives_in (row hs)))
+    (every-map (Every Literal) (λ h. written h.arguments) hs (every_as PlainField (λ h. Every Literal (written h.arguments)) (λ h q. q.literals) hs x))
+    (every-map (Every Literal) (λ d. written d.arguments) (directives_in (row hs)) (every_as Plain (λ d. Every Literal (written d.arguments)) conditioned (directives_in (row hs)) (directives-row hs x))))
   where
-    bare : (h : Head) → PlainField h → P (written h.arguments)
-    bare h q = rw (q.no_arguments) e
-
-    conditioned : (d : Directive) → Plain d → P (written d.arguments)
-    conditioned d q = rw (q.written_is) (f q.argument (record { value = q.value; name_is = q.name_is; value_is = q.value_is }))
+    conditioned : (d : Directive) → Plain d → Every Literal (written d.arguments)
+    conditioned d q = rw (q.written_is) (record { is_literal = inr (boolean q.value, q.value_is) }, tt)
 
 known_directive : (d : Directive) → Plain d → is_none (directive_named d.name.item) ≡ false
 unfolding directive_named directive_in directives
 known_directive d q = elim q.called [ inl e ↦ rw e refl | inr e ↦ rw e refl ]
 
--- ## Each rule but two finds nothing
+-- ## Each rule that is not served finds nothing
 
 module _ (s : Schema) (b : Built s) (a : is_flat s ≡ true) (hs : List Head) (p : Span) (x : Every PlainField hs) (i : Every (λ h. is_introspection h.name.item ≡ false) hs) where
   abbrev it : Definition
@@ -156,15 +173,16 @@ module _ (s : Schema) (b : Built s) (a : is_flat s ≡ true) (hs : List Head) (p
   unfolding repeats_variable defined_variables variables_of repeats asks
   no_repeated_variable = refl
 
-  no_repeated_argument : repeats_argument it ≡ false
-  unfolding repeats_argument repeats
-  no_repeated_argument = none (λ as'. repeats (map (λ a. a.name.item) as')) (argument_lists it) (argument_lists-every (λ as'. repeats (map (λ a. a.name.item) as') ≡ false) refl (λ a c. refl) hs p x)
+  no_fields : (a : Argument) → Literal a → field_repeats a.value.item ≡ false
+  unfolding field_repeats
+  no_fields a l = elim l.is_literal [ inl e ↦ rw e refl | inr (y, e) ↦ rw e refl ]
 
   no_repeated_input_field : repeats_input_field it ≡ false
-  unfolding repeats_input_field values_in defined_variables variables_of default_values field_repeats asks
+  unfolding repeats_input_field values_in defined_variables variables_of default_values asks
   no_repeated_input_field = none field_repeats (values_in it) (every-append (λ v. field_repeats v ≡ false) (flat_map (λ as'. map (λ a. a.value.item) as') (argument_lists it)) []
       (every-flat_map (λ v. field_repeats v ≡ false) (λ as'. map (λ a. a.value.item) as') (argument_lists it)
-      (argument_lists-every (λ as'. Every (λ v. field_repeats v ≡ false) (map (λ a. a.value.item) as')) tt (λ a c. (rw (c.value_is) refl, tt)) hs p x)) tt)
+      (every_as (Every Literal) (λ as'. Every (λ v. field_repeats v ≡ false) (map (λ a. a.value.item) as'))
+      (λ as' q. every-map (λ v. field_repeats v ≡ false) (λ a. a.value.item) as' (every_as Literal (λ a. field_repeats a.value.item ≡ false) no_fields as' q)) (argument_lists it) (argument_lists-literal hs p x))) tt)
 
   no_unknown_directive : has_unknown_directive it ≡ false
   unfolding has_unknown_directive all_directives own_directives variables_of selections_of asks
@@ -185,79 +203,74 @@ module _ (s : Schema) (b : Built s) (a : is_flat s ≡ true) (hs : List Head) (p
   wrong_set : (y : Placed) → FlatPlaced s y → (o : Option FieldDeclaration) → y.declared ≡ o → (elim o [ None ↦ false | Some d ↦ set_is_wrong s y.head.has_set d.of_type ]) ≡ false
   unfolding set_is_wrong is_flat_field
   wrong_set y f None q = refl
-  wrong_set y f (Some d) q =
-      let e = and_parts (no_declarations d.arguments) (is_leaf (type_named s (innermost d.of_type))) (f.flat d q) in rw (f.plain.no_set, fields_as_leaf (type_named s (innermost d.of_type)) e.1) refl
+  wrong_set y f (Some d) q = rw (f.plain.no_set, fields_as_leaf (type_named s (innermost d.of_type)) (f.flat d q)) refl
 
   no_wrong_set : has_wrong_set s it ≡ false
   unfolding has_wrong_set placed_in root_type asks
   no_wrong_set = none (λ y. elim y.declared [ None ↦ false | Some d ↦ set_is_wrong s y.head.has_set d.of_type ]) (placed s s.query (row hs))
       (every_as (FlatPlaced s) (λ y. (elim y.declared [ None ↦ false | Some d ↦ set_is_wrong s y.head.has_set d.of_type ]) ≡ false) (λ y f. wrong_set y f y.declared refl) (placed s s.query (row hs)) (placed-row s b a hs x i))
 
-  no_unknown_argument : has_unknown_argument s it ≡ false
-  unfolding has_unknown_argument declaration_in condition_arguments plain_input call_of
-  no_unknown_argument = none (λ c. list_any (λ g. is_none (declaration_in c.declared g.name.item)) c.given) (calls s it)
-      (calls-every s b a (λ c. list_any (λ g. is_none (declaration_in c.declared g.name.item)) c.given ≡ false) refl (λ g c. rw (c.name_is) refl) hs p x i)
-
-  no_missing_argument : lacks_argument s it ≡ false
-  unfolding lacks_argument must_be_written required must condition_arguments plain_input call_of
-  no_missing_argument = none (λ c. list_any (λ d. must_be_written d && not (list_any (λ g. bytes_eq d.name g.name.item) c.given)) c.declared) (calls s it)
-      (calls-every s b a (λ c. list_any (λ d. must_be_written d && not (list_any (λ g. bytes_eq d.name g.name.item) c.given)) c.declared ≡ false) refl (λ g c. rw (c.name_is) refl) hs p x i)
-
-  no_wrong_argument : has_wrong_argument s it ≡ false
-  unfolding has_wrong_argument declaration_in condition_arguments plain_input fits through must call_of
-  no_wrong_argument = none (λ c. list_any (λ g. elim (declaration_in c.declared g.name.item) [ None ↦ false | Some d ↦ not (fits s false g.value.item d.of_type) ]) c.given) (calls s it)
-      (calls-every s b a (λ c. list_any (λ g. elim (declaration_in c.declared g.name.item) [ None ↦ false | Some d ↦ not (fits s false g.value.item d.of_type) ]) c.given ≡ false) refl
-      (λ g c. rw (c.name_is, c.value_is) (rw (b.boolean_fits c.value) refl)) hs p x i)
-
   no_wrong_default : has_wrong_default s it ≡ false
   unfolding has_wrong_default defined_variables variables_of asks
   no_wrong_default = refl
 
+  no_variable : (a : Argument) → Literal a → variables_in a.value.item ≡ []
+  unfolding variables_in
+  no_variable a l = elim l.is_literal [ inl e ↦ rw e refl | inr (y, e) ↦ rw e refl ]
+
+  never : (t : Bool) → (t && false) ≡ false
+  never true = refl
+  never false = refl
+
   no_undefined_variable : uses_undefined s alone it ≡ false
-  unfolding uses_undefined all_defined parts reached as_definitions fragments names_used variables_in asks
+  unfolding uses_undefined all_defined parts reached as_definitions fragments names_used asks
   no_undefined_variable = rw (nothing (λ as'. flat_map (λ a. variables_in a.value.item) as') (argument_lists it)
-      (argument_lists-every (λ as'. flat_map (λ a. variables_in a.value.item) as' ≡ []) refl (λ a c. rw (c.value_is) refl) hs p x)) (never (has_root s (record { kind = query; name = None; variables = None; directives = []; selections = row hs; span = p })))
-    where
-      never : (t : Bool) → (t && false) ≡ false
-      never true = refl
-      never false = refl
+      (every_as (Every Literal) (λ as'. flat_map (λ a. variables_in a.value.item) as' ≡ []) (λ as' q. nothing (λ a. variables_in a.value.item) as' (every_as Literal (λ a. variables_in a.value.item ≡ []) no_variable as' q))
+      (argument_lists it) (argument_lists-literal hs p x))) (never (has_root s (record { kind = query; name = None; variables = None; directives = []; selections = row hs; span = p })))
+
+  no_use : (a : Argument) → Literal a → (t : TypeRef) (d : Bool) → uses_at s a.value.item t d ≡ []
+  unfolding uses_at
+  no_use a l t d = elim l.is_literal [ inl e ↦ rw e refl | inr (y, e) ↦ rw e refl ]
+
+  no_use_declared : (a : Argument) → Literal a → (o : Option InputDeclaration) → at_declared o (λ t d. uses_at s a.value.item t d) ≡ []
+  unfolding at_declared
+  no_use_declared a l None = refl
+  no_use_declared a l (Some d) = no_use a l d.of_type (is_some d.default)
 
   no_misused_variable : misuses_variable s alone it ≡ false
-  unfolding misuses_variable all_allowed uses uses_in_call uses_at at_declared parts reached as_definitions fragments declaration_in condition_arguments plain_input call_of asks
+  unfolding misuses_variable all_allowed uses uses_in_call parts reached as_definitions fragments Literals asks
   no_misused_variable = rw (nothing (uses_in_call s) (calls s it)
-      (calls-every s b a (λ c. uses_in_call s c ≡ []) refl (λ g c. rw (c.name_is, c.value_is) refl) hs p x i)) (never (has_root s (record { kind = query; name = None; variables = None; directives = []; selections = row hs; span = p })))
-    where
-      never : (t : Bool) → (t && false) ≡ false
-      never true = refl
-      never false = refl
+      (every_as Literals (λ c. uses_in_call s c ≡ []) (λ c q. nothing (λ a. at_declared (declaration_in c.declared a.name.item) (λ t d. uses_at s a.value.item t d)) c.given
+      (every_as Literal (λ a. at_declared (declaration_in c.declared a.name.item) (λ t d. uses_at s a.value.item t d) ≡ []) (λ a l. no_use_declared a l (declaration_in c.declared a.name.item)) c.given q))
+      (calls s it) (calls-literal s b a hs p x i))) (never (has_root s (record { kind = query; name = None; variables = None; directives = []; selections = row hs; span = p })))
 
   no_introspection : looks_at_schema s true it ≡ false
   unfolding looks_at_schema can_look has_root root_type selections_of asks
   no_introspection = rw (heads-row hs) (none (λ h. is_introspection h.name.item) hs i)
 
-  names_right : name_errors s true alone [] it ≡ []
-  unfolding name_errors reported
-  names_right = rw (no_repeated_operation, alone_there, no_repeated_fragment, no_unknown_spread, no_cycle, no_repeated_variable, no_repeated_argument, no_repeated_input_field, no_unknown_directive, no_unknown_type) refl
+  names_same : name_errors s true alone [] it ≡ first_name_errors [] it
+  unfolding name_errors first_name_errors reported
+  names_same = rw (no_repeated_operation, alone_there, no_repeated_fragment, no_unknown_spread, no_cycle, no_repeated_variable, no_repeated_input_field, no_unknown_directive, no_unknown_type) (simp append-nothing)
 
-  types_right : type_errors s true alone [] it ≡ reported (has_unknown_field s it) (codes "Unknown field") it
-  unfolding type_errors reported
-  types_right = rw (no_other_condition, no_other_variable, no_wrong_set, no_unknown_argument, no_missing_argument, no_wrong_argument, no_wrong_default) (simp append-nothing)
-
-  uses_right : use_errors s true alone [] it ≡ reported (cannot_merge s alone it) (codes "Fields cannot be merged") it
-  unfolding use_errors reported
-  uses_right = rw (no_undefined_variable, no_misused_variable, no_introspection) (simp append-nothing)
-
-  fields_alone : field_errors s [] it ≡ reported (has_unknown_field s it) (codes "Unknown field") it
-  unfolding field_errors lacks_field
-  fields_alone = rw no_introspection (ap (λ t. reported t (codes "Unknown field") it) (or-nothing (has_unknown_field s it)))
+  only_unknown : lacks_field s it ≡ has_unknown_field s it
+  unfolding lacks_field
+  only_unknown = rw no_introspection (or-nothing (has_unknown_field s it))
     where
       or-nothing : (t : Bool) → (t || false) ≡ t
       or-nothing true = refl
       or-nothing false = refl
 
+  types_same : type_errors s true alone [] it ≡ first_type_errors s [] it
+  unfolding type_errors first_type_errors reported has_unknown_argument lacks_argument has_wrong_argument
+  types_same = rw (first_calls-all s b a hs p x i, only_unknown, no_other_condition, no_other_variable, no_wrong_set, no_wrong_default) (simp append-nothing)
+
+  uses_same : use_errors s true alone [] it ≡ merge_errors s alone [] it
+  unfolding use_errors merge_errors reported
+  uses_same = rw (no_undefined_variable, no_misused_variable, no_introspection) (simp append-nothing)
+
   finds_all : first_rule_errors s alone ≡ rule_errors s true alone
-  unfolding first_rule_errors rule_errors at_each merge_errors first_found
-  finds_all = rw (names_right, types_right, uses_right, fields_alone) refl
+  unfolding first_rule_errors rule_errors at_each
+  finds_all = rw (names_same, types_same, uses_same) refl
 
 -- ## A document that is such a query
 

@@ -10,7 +10,7 @@ use Rattle.graphql_spec.specs.Schema.{ScalarKinds, FieldDeclaration, Shape, scal
 use Rattle.graphql_spec.specs.BuiltIns.{introspection_types}
 use Rattle.graphql_spec.specs.Fields.{entry_in, shape_of, or_else, entry_named, type_named, is_composite, is_leaf, accepts_kind, fields_of, field_in, typename, typename_field, root_fields, meta_fields, field_of}
 use Rattle.graphql_spec.specs.Fits.{scalar_fits}
-use Rattle.graphql_spec.specs.Executable.{no_declarations, accepts_just, scalar_if_there, built_ins_are_right}
+use Rattle.graphql_spec.specs.Executable.{accepts_just, scalar_if_there, built_ins_are_right}
 use Rattle.graphql_spec.specs.Rules.{is_introspection}
 use Rattle.graphql_spec.specs.FirstRules.{is_flat_field, is_flat}
 
@@ -101,7 +101,7 @@ root_field-none true f e = let p = or_parts (bytes_eq f (codes "__schema")) (byt
 root_field-none false f e = refl
 
 pub meta-flat : (s : Schema) → Built s → (f : Name) (d : FieldDeclaration) → is_introspection f ≡ false → field_in (meta_fields s s.query) f ≡ Some d → is_flat_field s d ≡ true
-unfolding meta_fields field_in typename_field plain_field is_flat_field no_declarations innermost
+unfolding meta_fields field_in typename_field plain_field is_flat_field innermost
 meta-flat s b f d i e =
     elim (cases_Bool (is_composite (type_named s s.query))) [
       | inl q ↦ let e' = rw q at e in elim (cases_Bool (bytes_eq f typename)) [

@@ -5,7 +5,7 @@ use Rattle.std.specs.Option.{is_none}
 use Rattle.std.specs.Str.{bytes_eq}
 use Rattle.std.proofs.lemmas.Bool.{and_parts, or_cases, or_parts, both_ways}
 use Rattle.std.proofs.Common.{refl, ap, ◌∙◌, inl, inr}
-use Rattle.graphql_spec.specs.Shown.{Name, shown_boolean, int, text, boolean}
+use Rattle.graphql_spec.specs.Shown.{Name, Shown, shown_boolean, int, text, boolean}
 use Rattle.graphql_spec.specs.Positions.{Spanned}
 use Rattle.graphql_spec.specs.Inputs.{Input, null, scalar, enumerated, variable, list, object}
 use Rattle.graphql_spec.specs.Documents.{Argument, Directive, Head, Selections, end, field, spread, inline, written}
@@ -15,7 +15,7 @@ use Rattle.graphql_spec.specs.Fragments.{spreads}
 use Rattle.graphql_spec.specs.Written.{heads, conditions, directives_in}
 use Rattle.graphql_spec.proofs.Lists.{same_true}
 use Rattle.graphql_spec.specs.FirstRules.{is_plain_selections}
-use Rattle.graphql_spec.specs.Served.{is_truth, is_condition, is_served_directive, is_served_field}
+use Rattle.graphql_spec.specs.Served.{is_truth, is_condition, is_served_value, is_served_directive, is_served_field}
 
 -- ## Lists
 
@@ -100,25 +100,34 @@ plain_directive d e =
       called = called_parts d.name.item p.0;
     }
 
-pub no_argument : (o : Option (Spanned (List Argument))) → is_none o ≡ true → o ≡ None
-no_argument None e = refl
-no_argument (Some x) e = absurd (both_ways false refl e)
+-- an argument whose value is null or a scalar
+pub record Literal (a : Argument) : Type 0 where
+  pub is_literal : (a.value.item ≡ null) ⊎ ((x : Shown) × (a.value.item ≡ scalar x))
+
+literal_value : (v : Input) → is_served_value v ≡ true → (v ≡ null) ⊎ ((x : Shown) × (v ≡ scalar x))
+unfolding is_served_value
+literal_value null e = inl refl
+literal_value (scalar x) e = inr (x, refl)
+literal_value (enumerated n) e = absurd (both_ways false refl e)
+literal_value (variable x) e = absurd (both_ways false refl e)
+literal_value (list is) e = absurd (both_ways false refl e)
+literal_value (object fs) e = absurd (both_ways false refl e)
 
 pub not_true : (b : Bool) → not b ≡ true → b ≡ false
 not_true true e = absurd (both_ways false refl e)
 not_true false e = refl
 
 pub record PlainField (h : Head) : Type 0 where
-  pub no_arguments : h.arguments ≡ None
+  pub literals : Every Literal (written h.arguments)
   pub no_set : h.has_set ≡ false
   pub plain : Every Plain h.directives
 
 pub plain_field_parts : (h : Head) → is_served_field h ≡ true → PlainField h
 unfolding is_served_field
 plain_field_parts h e =
-    let a = and_parts (is_none h.arguments) (not h.has_set && list_all is_served_directive h.directives) e in
+    let a = and_parts (list_all (λ a. is_served_value a.value.item) (written h.arguments)) (not h.has_set && list_all is_served_directive h.directives) e in
     let b = and_parts (not h.has_set) (list_all is_served_directive h.directives) a.1 in record {
-      no_arguments = no_argument h.arguments a.0;
+      literals = every_passing (λ a. is_served_value a.value.item) Literal (λ a p. record { is_literal = literal_value a.value.item p }) (written h.arguments) a.0;
       no_set = not_true h.has_set b.0;
       plain = every_passing is_served_directive Plain plain_directive h.directives b.1;
     }

@@ -2,16 +2,16 @@
 use Rattle.std.proofs.Common.{◌≡◌, ℕ, zero, suc, Bool, true, false, not, ◌&&◌, List, is_none, refl}
 use Rattle.std.proofs.lemmas.Bool.{and_parts}
 use Rattle.std.specs.List.{list_all}
-use Rattle.graphql_spec.specs.Documents.{Head, Selections, end, field, spread, inline, Document}
+use Rattle.graphql_spec.specs.Documents.{Head, Selections, end, field, spread, inline, Document, written}
 use Rattle.graphql_spec.specs.Tokens.{Token}
 use Rattle.graphql_spec.specs.Grammar.{At, AreSelections, Set, OptSet, is_end, most_brackets}
-use Rattle.graphql_spec.specs.Served.{is_served_field, is_served_directive, are_served, IsServed, before_all}
+use Rattle.graphql_spec.specs.Served.{is_served_value, is_served_field, is_served_directive, are_served, IsServed, before_all}
 use Rattle.graphql_spec.specs.FirstRules.{is_plain_selections, is_plain_operation, is_plain_document, is_query, is_empty}
 
 no-set : (h : Head) → is_served_field h ≡ true → h.has_set ≡ false
 unfolding is_served_field
 no-set h e =
-    let a = and_parts (is_none h.arguments) (not h.has_set && list_all is_served_directive h.directives) e in
+    let a = and_parts (list_all (λ a. is_served_value a.value.item) (written h.arguments)) (not h.has_set && list_all is_served_directive h.directives) e in
     let b = and_parts (not h.has_set) (list_all is_served_directive h.directives) a.1 in
     not-true h.has_set b.0
   where

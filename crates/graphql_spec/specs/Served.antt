@@ -1,11 +1,12 @@
 -- The part of the grammar that is served: one query that is written as its selection set alone (2.3), of fields without
--- arguments and without selection sets (2.5), with any number of `@skip` and `@include` (3.13) whose condition is `true` or `false`.
+-- selection sets (2.5) whose arguments are Ints, `true`, `false` or `null` (2.6, 2.9), with any number of `@skip` and
+-- `@include` (3.13) whose condition is `true` or `false`.
 use Rattle.std.specs.Prelude.{◌≡◌, ℕ, Bool, true, false, not, ◌&&◌, ◌||◌, List, [], ◌∷◌, is_some, is_none, IsTrue}
 use Rattle.std.specs.List.{list_all}
 use Rattle.std.specs.Str.{bytes_eq}
-use Rattle.graphql_spec.specs.Shown.{shown_boolean}
+use Rattle.graphql_spec.specs.Shown.{shown_boolean, shown_text}
 use Rattle.graphql_spec.specs.Positions.{origin, beginning}
-use Rattle.graphql_spec.specs.Inputs.{Input, scalar}
+use Rattle.graphql_spec.specs.Inputs.{Input, null, scalar}
 use Rattle.graphql_spec.specs.Documents.{Argument, Directive, Head, Selections, end, field, spread, inline, Operation, operation, Document, written}
 use Rattle.graphql_spec.specs.Directives.{skip_name, include_name, if_name}
 use Rattle.graphql_spec.specs.Tokens.{Token, IsText}
@@ -24,8 +25,14 @@ is_condition _ = false
 unfoldable pub is_served_directive : Directive → Bool
 is_served_directive d = (bytes_eq d.name.item skip_name || bytes_eq d.name.item include_name) && is_condition (written d.arguments)
 
+-- an Int, `true`, `false` or `null` (2.9.1, 2.9.3, 2.9.5)
+unfoldable pub is_served_value : Input → Bool
+is_served_value null = true
+is_served_value (scalar s) = is_none (shown_text s)
+is_served_value _ = false
+
 unfoldable pub is_served_field : Head → Bool
-is_served_field h = is_none h.arguments && (not h.has_set && list_all is_served_directive h.directives)
+is_served_field h = list_all (λ a. is_served_value a.value.item) (written h.arguments) && (not h.has_set && list_all is_served_directive h.directives)
 
 unfoldable pub are_served : Selections → Bool
 are_served end = true
