@@ -10,7 +10,7 @@ use Rattle.std.proofs.lemmas.List.Sorted.{sorted_far, sum_by-IsPermutation}
 use Rattle.std.proofs.lemmas.List.Sums.{sum_by-cons}
 use Rattle.graphql_spec.specs.Errors.{Listed, compare, not_greater, is_least, is_sorted}
 use Rattle.graphql_spec.specs.Walk.{count_listed}
-use Rattle.juniper.proofs.ErrorOrder.{compare_total}
+use Rattle.juniper_values.proofs.ErrorOrder.{compare_total}
 
 not_greater_of : (o r : Ordering) → o ≡ ordering_reverse r → is_lt r ≡ false → not_greater o ≡ true
 unfolding not_greater

@@ -1,7 +1,6 @@
 pub mod AcceptedKinds
 pub mod Admitting
 pub mod Completing
-pub mod ErrorOrder
 pub mod ErrorSorting
 pub mod FieldCompletion
 pub mod Lists

@@ -11,7 +11,7 @@ ghost use Rattle.juniper_language.specs.DocumentView.{view_document, view_operat
 ghost use Rattle.juniper_language.specs.InputView.{view_variables};
 ghost use Rattle.juniper_language.specs.ValueView.{view_value};
 ghost use Rattle.juniper.specs.Answering.{IsAnswered, IsAnsweredDocument, IsRefusedDocument, IsRefusedWith};
-ghost use Rattle.juniper.specs.ErrorView.{view_listed};
+ghost use Rattle.juniper_values.specs.ErrorView.{view_listed};
 ghost use Rattle.juniper.specs.RequestErrors.{view_request_error};
 ghost use Rattle.juniper.specs.RootView.{schema_of, resolver_of, info_of};
 ghost use Rattle.juniper.specs.SchemaView.{view_schema};
@@ -23,13 +23,13 @@ use crate::error::GraphQLError;
 use crate::root::RootNode;
 use crate::rules::first::validate;
 use crate::types::{GraphQLType, GraphQLValue};
-use crate::values::ExecutionError;
 use crate::values::sort::sort_errors;
 use crate::walk::{Walk, object};
 use juniper_language::{
     Definition, Document, Operation, ScalarValue, Span, Spanning, Value, Variables,
     parse_document_source,
 };
+use juniper_values::ExecutionError;
 use std::alloc::{AllocError, Global};
 
 /// The operation of a document that holds one query alone.

@@ -17,10 +17,9 @@ mod walk;
 
 pub use error::GraphQLError;
 pub use execute::execute_sync;
+pub use juniper_values::{ExecutionError, ExecutionResult, FieldError, FieldResult, ResolveError};
 pub use root::RootNode;
 pub use rules::RuleError;
 pub use schema::{ScalarKinds, ScalarMeta, SchemaType};
 pub use types::{EmptyMutation, EmptySubscription, Executor, GraphQLType, GraphQLValue, Resolved};
-pub use values::{
-    Arguments, ExecutionError, ExecutionResult, FieldError, FieldResult, ResolveError,
-};
+pub use values::Arguments;

@@ -15,10 +15,11 @@ use crate::schema::{ScalarKinds, ScalarMeta, SchemaType};
 use crate::types::{
     EmptyMutation, EmptySubscription, Executor, GraphQLType, GraphQLValue, Resolved,
 };
-use crate::values::{Arguments, ExecutionError, FieldError, ResolveError};
+use crate::values::Arguments;
 use juniper_language::{
     DefaultScalarValue, Object, ScalarValue, SourcePosition, Type, Value, Variables,
 };
+use juniper_values::{ExecutionError, FieldError, ResolveError};
 use std::alloc::{AllocError, Global};
 use std::test::Fail;
 

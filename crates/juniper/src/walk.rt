@@ -9,7 +9,7 @@ ghost use Rattle.graphql_spec.specs.Execution.{reply_to};
 ghost use Rattle.graphql_spec.specs.Laws.{Agree};
 ghost use Rattle.juniper_language.specs.InputView.{view_variables};
 ghost use Rattle.juniper_language.specs.ValueView.{view_value, view_object};
-ghost use Rattle.juniper.specs.ErrorView.{view_error, view_listed};
+ghost use Rattle.juniper_values.specs.ErrorView.{view_error, view_listed};
 ghost use Rattle.juniper.specs.Occurrences.{view_occurrence};
 ghost use Rattle.juniper.specs.ResolvedView.{Answers, view_resolved};
 ghost use Rattle.juniper.specs.SchemaView.{view_schema};
@@ -19,8 +19,9 @@ ghost use Rattle.juniper.specs.Walking.{world_in, is_leaf_value, settled, IsLeaf
 use crate::collect::{Occurrences, response_key};
 use crate::schema::{LeafType, SchemaType};
 use crate::types::{Executor, GraphQLValue, Resolved};
-use crate::values::{Arguments, ExecutionError, FieldError, ResolveError};
+use crate::values::Arguments;
 use juniper_language::{Field, Object, ScalarValue, Span, Spanning, Value, Variables};
+use juniper_values::{ExecutionError, FieldError, ResolveError};
 use std::alloc::{AllocError, Global};
 
 /// What a request gives to each of its fields.

@@ -6,10 +6,10 @@ use Rattle.graphql_spec.specs.Inputs.{Variables}
 use Rattle.graphql_spec.specs.Schema.{Schema}
 use Rattle.graphql_spec.specs.Resolvers.{world_of}
 use Rattle.juniper.specs.Answering.{IsAnswered, IsRefusedWith}
-use Rattle.juniper.specs.ErrorView.{view_listed}
+use Rattle.juniper_values.specs.ErrorView.{view_listed}
 use Rattle.juniper.specs.RequestErrors.{view_request_error}
 use Rattle.juniper.specs.declared.error.GraphQLError.{GraphQLError}
-use Rattle.juniper.specs.declared.values.execution_error.ExecutionError.{ExecutionError}
+use Rattle.juniper_values.specs.declared.execution_error.ExecutionError.{ExecutionError}
 use Rattle.juniper_language.specs.Scalars.{default_shown}
 use Rattle.juniper_language.specs.ValueView.{view_value}
 use Rattle.juniper_language.specs.declared.scalar.DefaultScalarValue.{DefaultScalarValue}

@@ -2,7 +2,7 @@
 
 ghost use Rattle.std.specs.Prelude.{◌≡◌, ◌+◌, IfOk, OnOk, map, string_bytes, [], ◌∷◌};
 ghost use Rattle.graphql_spec.specs.Errors.{key};
-ghost use Rattle.juniper.specs.ErrorView.{view_listed};
+ghost use Rattle.juniper_values.specs.ErrorView.{view_listed};
 ghost use Rattle.juniper_language.specs.Positions.{view_position};
 ghost use Rattle.juniper_language.specs.Scalars.{default_shown};
 ghost use Rattle.juniper_language.specs.ValueView.{view_value, view_object, view_values};

@@ -2,7 +2,7 @@
 
 ghost use Rattle.std.specs.Prelude.{◌≡◌, IfOk, map, [], ◌∷◌};
 ghost use Rattle.juniper_language.specs.Positions.{view_position};
-ghost use Rattle.juniper.specs.ErrorView.{view_rule_error};
+ghost use Rattle.juniper.specs.RuleView.{view_rule_error};
 
 use juniper_language::SourcePosition;
 use std::alloc::{AllocError, Global};

@@ -6,7 +6,7 @@ ghost use Rattle.graphql_spec.specs.Documents as documents;
 ghost use Rattle.graphql_spec.specs.FirstRules.{first_rule_errors, is_plain_operation};
 ghost use Rattle.juniper_language.specs.Positions.{view_position};
 ghost use Rattle.juniper_language.specs.DocumentView.{view_operation, view_selections};
-ghost use Rattle.juniper.specs.ErrorView.{view_rule_error};
+ghost use Rattle.juniper.specs.RuleView.{view_rule_error};
 ghost use Rattle.juniper.specs.Occurrences.{view_occurrence};
 ghost use Rattle.juniper.specs.PlainSelections.{any_head, each_head, is_unserved, may_share, names_agree};
 ghost use Rattle.juniper.specs.SchemaView.{view_schema};

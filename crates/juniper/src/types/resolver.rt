@@ -10,8 +10,9 @@ ghost use Rattle.juniper.specs.ResolvedView.{Answers};
 
 use crate::types::executor::Executor;
 use crate::types::resolved::Resolved;
-use crate::values::{Arguments, ResolveError};
+use crate::values::Arguments;
 use juniper_language::ScalarValue;
+use juniper_values::ResolveError;
 use std::alloc::Global;
 
 /// A type of GraphQL.

@@ -4,10 +4,10 @@ ghost use Rattle.std.specs.Prelude.{◌≡◌, Bool, IsTrue, OnOk, OnErr, map};
 ghost use Rattle.std.specs.List.Sorted.{IsPermutation, IsStable};
 ghost use Rattle.graphql_spec.specs.Errors.{Listed, compare, is_sorted};
 ghost use Rattle.graphql_spec.specs.Walk.{count_listed};
-ghost use Rattle.juniper.specs.ErrorView.{view_listed};
+ghost use Rattle.juniper_values.specs.ErrorView.{view_listed};
 
-use crate::values::execution_error::ExecutionError;
 use juniper_language::ScalarValue;
+use juniper_values::ExecutionError;
 use std::alloc::AllocError;
 
 /// Sorts errors by `compare`; those that compare equal keep their order. Where memory is refused the list stays as it was.

@@ -2,7 +2,8 @@ use Rattle.std.proofs.Common.{map, option_map, refl, sym, ap, ◌∙◌}
 use Rattle.juniper_language.specs.InputView.{view_variables}
 use Rattle.juniper_language.specs.DocumentView.{view_document, view_operation}
 use Rattle.juniper_language.specs.ValueView.{view_value}
-use Rattle.juniper.specs.ErrorView.{view_rule_error, view_listed}
+use Rattle.juniper.specs.RuleView.{view_rule_error}
+use Rattle.juniper_values.specs.ErrorView.{view_listed}
 use Rattle.juniper.specs.RequestErrors.{view_request_error, unknown_operation}
 use Rattle.juniper.specs.SchemaView.{view_schema}
 use Rattle.juniper.specs.Walking.{world_in}

@@ -4,7 +4,7 @@ use Rattle.juniper_language.specs.DocumentView.{view_document}
 use Rattle.juniper_language.specs.ValueView.{view_value}
 use Rattle.graphql_spec.proofs.ServedQueries.{served_is_plain}
 use Rattle.juniper.specs.Answering.{IsAnswered, IsRefusedWith}
-use Rattle.juniper.specs.ErrorView.{view_listed}
+use Rattle.juniper_values.specs.ErrorView.{view_listed}
 use Rattle.juniper.specs.RequestErrors.{view_request_error, of_parse_error}
 use Rattle.juniper.specs.SchemaView.{view_schema}
 use Rattle.juniper.specs.Walking.{world_in}

@@ -9,7 +9,7 @@ use Rattle.graphql_spec.specs.Schema.{plain_field}
 use Rattle.juniper_language.specs.InputView.{view_variables}
 use Rattle.juniper_language.specs.DocumentView.{view_operation}
 use Rattle.juniper_language.specs.ValueView.{view_value}
-use Rattle.juniper.specs.ErrorView.{view_listed}
+use Rattle.juniper_values.specs.ErrorView.{view_listed}
 use Rattle.juniper.specs.Occurrences.{view_occurrence}
 use Rattle.juniper.specs.SchemaView.{view_schema, view_field, view_scalar}
 use Rattle.juniper.specs.Walking.{world_in}

@@ -3,7 +3,7 @@ use Rattle.graphql_spec.specs.Resolvers.{world_of}
 use Rattle.juniper_language.specs.InputView.{view_variables}
 use Rattle.juniper_language.specs.ValueView.{view_value}
 use Rattle.juniper_language.proofs.Values.{view-Null}
-use Rattle.juniper.specs.ErrorView.{view_error}
+use Rattle.juniper_values.specs.ErrorView.{view_error}
 use Rattle.juniper.specs.Occurrences.{view_occurrence}
 use Rattle.juniper.specs.ResolvedView.{view_resolved}
 use Rattle.juniper.specs.SchemaView.{view_schema, view_leaf_type}

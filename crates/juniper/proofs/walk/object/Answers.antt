@@ -4,7 +4,7 @@ use Rattle.graphql_spec.specs.Schema.{plain_field}
 use Rattle.juniper_language.specs.InputView.{view_variables}
 use Rattle.juniper_language.specs.ValueView.{view_value, view_object}
 use Rattle.juniper_language.proofs.Values.{view-Null, view-Object}
-use Rattle.juniper.specs.ErrorView.{view_error, view_listed}
+use Rattle.juniper_values.specs.ErrorView.{view_error, view_listed}
 use Rattle.juniper.specs.Occurrences.{view_occurrence}
 use Rattle.juniper.specs.SchemaView.{view_schema, view_field, view_scalar, view_kinds}
 use Rattle.juniper.specs.Served.{is_served_head}

@@ -1,5 +1,5 @@
 use Rattle.std.proofs.lemmas.Result.{on_ok_weaker}
-use Rattle.juniper.specs.ErrorView.{view_listed}
+use Rattle.juniper_values.specs.ErrorView.{view_listed}
 use Rattle.juniper_language.specs.Scalars.{default_shown}
 use Rattle.juniper_demo.proofs.Members.{error_sent}
 use Rattle.juniper_demo.proofs.line.send_error.Goals as goal

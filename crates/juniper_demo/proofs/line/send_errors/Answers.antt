@@ -1,6 +1,6 @@
 use Rattle.std.proofs.Common.{arith, refl}
 use Rattle.std.proofs.lemmas.Result.{on_ok_weaker}
-use Rattle.juniper.specs.ErrorView.{view_listed}
+use Rattle.juniper_values.specs.ErrorView.{view_listed}
 use Rattle.juniper_language.specs.Scalars.{default_shown}
 use Rattle.juniper_demo.specs.AnswerText.{error_data}
 use Rattle.juniper_demo.proofs.Sending.{list_sent}

@@ -1,5 +1,5 @@
 use Rattle.std.proofs.Common.{map, drop}
-use Rattle.juniper.specs.ErrorView.{view_listed}
+use Rattle.juniper_values.specs.ErrorView.{view_listed}
 use Rattle.juniper_language.specs.Scalars.{default_shown}
 use Rattle.juniper_demo.specs.AnswerText.{items_data, error_data}
 use Rattle.juniper_demo.proofs.Sending.{Goes}

@@ -1,6 +1,6 @@
 use Rattle.std.proofs.Common.{map, sym, ap, ◌∙◌}
 use Rattle.juniper_language.specs.DocumentView.{view_operation, view_selections}
-use Rattle.juniper.specs.ErrorView.{view_rule_error}
+use Rattle.juniper.specs.RuleView.{view_rule_error}
 use Rattle.juniper.specs.PlainSelections.{any_head, is_unserved, names_agree}
 use Rattle.juniper.specs.SchemaView.{view_schema}
 use Rattle.juniper.proofs.PlainRules.{unknown-found, conflict-found, nothing-found, plain-query, plain-fields}

@@ -2,8 +2,8 @@
 
 ghost use Rattle.std.specs.Prelude.{◌≡◌, IfOk, IfSome};
 ghost use Rattle.juniper_language.specs.ValueView.{view_value};
-ghost use Rattle.juniper.specs.ErrorView.{view_error};
-ghost use Rattle.juniper.specs.declared.values.field_error.ResolveError.TheVariants.{Memory};
+ghost use Rattle.juniper_values.specs.ErrorView.{view_error};
+ghost use Rattle.juniper_values.specs.declared.field_error.ResolveError.TheVariants.{Memory};
 
 use juniper_language::{ScalarValue, Value};
 use std::alloc::{AllocError, AllocFailed, Global};

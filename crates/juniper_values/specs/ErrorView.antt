@@ -1,14 +1,12 @@
--- How the code's errors are seen (5, 6.4.4, 7.1.2).
+-- How the code's errors are seen (6.4.4, 7.1.2).
 use Rattle.std.specs.Prelude.{map, string_bytes}
 use Rattle.graphql_spec.specs.Shown.{Shown}
 use Rattle.graphql_spec.specs.Resolvers.{Error}
 use Rattle.graphql_spec.specs.Errors.{Listed, key}
-use Rattle.graphql_spec.specs.Rules as rules
 use Rattle.juniper_language.specs.Positions.{view_position}
 use Rattle.juniper_language.specs.ValueView.{view_value}
-use Rattle.juniper.specs.declared.values.field_error.FieldError.{FieldError}
-use Rattle.juniper.specs.declared.values.execution_error.ExecutionError.{ExecutionError}
-use Rattle.juniper.specs.declared.rules.error.RuleError.{RuleError}
+use Rattle.juniper_values.specs.declared.field_error.FieldError.{FieldError}
+use Rattle.juniper_values.specs.declared.execution_error.ExecutionError.{ExecutionError}
 
 -- a field error
 abbrev pub view_error : {S : Type 0} → (S → Shown) → FieldError S → Error
@@ -17,7 +15,3 @@ view_error shown e = record { message = string_bytes e.message; extensions = vie
 -- an error as an answer lists it
 abbrev pub view_listed : {S : Type 0} → (S → Shown) → ExecutionError S → Listed
 view_listed shown e = record { path = map (λ k. key (string_bytes k)) e.path.items; start = view_position e.location; error = view_error shown e.error }
-
--- an error of validation
-abbrev pub view_rule_error : RuleError → rules.RuleError
-view_rule_error e = record { message = string_bytes e.message; start = view_position e.location }

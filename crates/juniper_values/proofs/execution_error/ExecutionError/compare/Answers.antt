@@ -1,7 +1,7 @@
 use Rattle.std.proofs.Common.{refl}
-use Rattle.juniper.specs.ErrorView.{view_listed}
-use Rattle.juniper.proofs.ErrorOrder.{compares}
-use Rattle.juniper.proofs.values.execution_error.ExecutionError.compare.Goals as goal
+use Rattle.juniper_values.specs.ErrorView.{view_listed}
+use Rattle.juniper_values.proofs.ErrorOrder.{compares}
+use Rattle.juniper_values.proofs.execution_error.ExecutionError.compare.Goals as goal
 
 pub returns : goal.returns
 returns g c =

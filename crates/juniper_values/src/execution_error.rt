@@ -4,9 +4,9 @@ ghost use Rattle.std.specs.Prelude.{◌≡◌, IfOk, map, [], string_bytes};
 ghost use Rattle.graphql_spec.specs.Errors.{key, compare};
 ghost use Rattle.graphql_spec.specs.Positions.{origin};
 ghost use Rattle.juniper_language.specs.Positions.{view_position};
-ghost use Rattle.juniper.specs.ErrorView.{view_error, view_listed};
+ghost use Rattle.juniper_values.specs.ErrorView.{view_error, view_listed};
 
-use crate::values::field_error::FieldError;
+use crate::field_error::FieldError;
 use juniper_language::{ScalarValue, SourcePosition};
 use std::alloc::{AllocError, Global};
 use std::cmp::Ordering;
