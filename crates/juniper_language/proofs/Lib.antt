@@ -1,6 +1,8 @@
 pub mod Documents
 pub mod Inputs
+pub mod InputLists
 pub mod Values
+pub mod ValueLists
 pub mod Rooms
 pub mod Fronts
 pub mod LexSteps

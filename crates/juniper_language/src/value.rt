@@ -2,8 +2,8 @@
 
 ghost use Rattle.std.specs.Prelude.{◌≡◌, IfOk, OnOk, OnErr, option_map, string_bytes};
 ghost use Rattle.std.specs.Slice.Iter.{iter_rest};
-ghost use Rattle.graphql_spec.specs.Values.{no_entries, look_up, has_entry, put, count_entries, is_null};
-ghost use Rattle.juniper_language.specs.ValueView.{view_value, view_object, view_entries};
+ghost use Rattle.graphql_spec.specs.Values.{no_entries, look_up, has_entry, put, count_entries, is_null, same_value};
+ghost use Rattle.juniper_language.specs.ValueView.{view_value, view_object, view_values, view_entries};
 
 use crate::scalar::ScalarValue;
 use std::alloc::{AllocError, Global};
@@ -36,6 +36,26 @@ impl<S: ScalarValue> Value<S> {
             Value::Object(_) => false,
         }
     }
+
+    /// A value that shows the same; an error where memory is refused.
+    #[cycle(try_clone)]
+    pub fn try_clone(&self, alloc: Global) -> Result<Value<S>, AllocError>
+        ensures { IfOk result (λ made. view_value S.shown made ≡ view_value S.shown self.now) }
+    {
+        match self {
+            Value::Null => Ok(Value::Null),
+            Value::Scalar(scalar) => Ok(Value::Scalar(scalar.try_clone(alloc)?)),
+            Value::List(items) => Ok(Value::List(clone_values(alloc, items.as_slice())?)),
+            Value::Object(object) => Ok(Value::Object(clone_object(alloc, object)?)),
+        }
+    }
+}
+
+/// `==` compares what is shown: null with null, scalars that show the same, lists item by item, and objects entry by entry
+/// in their order.
+pub fn equal_values_show_the_same<S: ScalarValue>(u: &Value<S>, v: &Value<S>)
+    ensures { ⟦<Value<S> as PartialEq>⟧.eq u.now v.now ≡ same_value (view_value S.shown u.now) (view_value S.shown v.now) }
+{
 }
 
 /// Keys with values, in order; its calls keep the keys distinct.
@@ -96,6 +116,44 @@ impl<S: ScalarValue> Object<S> {
     {
         self.fields.iter()
     }
+}
+
+#[cycle(try_clone)]
+fn clone_values<S: ScalarValue>(
+    alloc: Global,
+    items: &[Value<S>],
+) -> Result<Vec<Value<S>>, AllocError>
+    ensures { IfOk result (λ made. view_values S.shown made.items ≡ view_values S.shown items.now) }
+{
+    let mut made = Vec::with_capacity(alloc, items.len())?;
+    for item in items {
+        let copy = item.try_clone(alloc)?;
+        made.push(copy)?;
+    }
+    Ok(made)
+}
+
+#[cycle(try_clone)]
+fn clone_object<S: ScalarValue>(
+    alloc: Global,
+    object: &Object<S>,
+) -> Result<Object<S>, AllocError>
+    ensures { IfOk result (λ made. view_object S.shown made ≡ view_object S.shown object.now) }
+{
+    let mut made = Vec::with_capacity(alloc, object.fields.len())?;
+    for entry in &object.fields {
+        let copy = value_of(entry).try_clone(alloc)?;
+        let key = String::from_str(alloc, entry.0.as_str())?;
+        made.push((key, copy))?;
+    }
+    Ok(Object { fields: made })
+}
+
+/// The value of an entry. A name for it keeps the terms of a proof small.
+fn value_of<S>(entry: &(String, Value<S>)) -> &Value<S>
+    ensures { result.now ≡ entry.now.1 }
+{
+    &entry.1
 }
 
 #[tactic(auto, unfolding(graphql_spec::specs::Values::look_up))]
