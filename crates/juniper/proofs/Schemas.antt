@@ -5,7 +5,7 @@ use Rattle.std.proofs.lemmas.Bool.{cases_Bool, and_parts}
 use Rattle.std.proofs.lemmas.Option.{none-some, same_Some}
 use Rattle.graphql_spec.specs.Shown.{Name, Shown}
 use Rattle.graphql_spec.specs.Types.{TypeRef, named, list_of}
-use Rattle.graphql_spec.specs.Schema.{Schema, Entry, FieldDeclaration, object_type, plain_field, ScalarKinds}
+use Rattle.graphql_spec.specs.Schema.{Schema, Entry, FieldDeclaration, InputDeclaration, object_type, plain_field, ScalarKinds}
 use Rattle.graphql_spec.specs.Fields.{entry_in, shape_of, or_else, entry_named, type_named, is_composite, fields_of, field_in, field_of, meta_fields, root_fields, typename_field, typename, leaf_accepts, accepts_kind}
 use Rattle.graphql_spec.specs.Rules.{is_introspection}
 use Rattle.graphql_spec.proofs.Lists.{same_refl}
@@ -97,3 +97,17 @@ pub served-other : (q f : Name) (fs : List FieldDeclaration) (rest : List Entry)
     option_map (λ x. x.of_type) (cond (bytes_eq f typename) (Some typename_field) None) ≡ option_map (λ x. x.of_type) (served_field (schema_of q fs rest) f)
 unfolding or_else
 served-other q f fs rest e found = rw (served-is q f fs rest, e, found) refl
+
+-- so are the arguments that it declares
+pub arguments-introspection : (q f : Name) (fs : List FieldDeclaration) (rest : List Entry) → is_introspection f ≡ true → None ≡ option_map (λ d. d.arguments) (served_field (schema_of q fs rest) f)
+arguments-introspection q f fs rest e = rw (served-is q f fs rest, e) refl
+
+pub arguments-declared : (q f : Name) (fs : List FieldDeclaration) (rest : List Entry) (d : FieldDeclaration) (as' : List InputDeclaration) → as' ≡ d.arguments → is_introspection f ≡ false → field_in fs f ≡ Some d →
+    Some as' ≡ option_map (λ x. x.arguments) (served_field (schema_of q fs rest) f)
+unfolding or_else
+arguments-declared q f fs rest d as' given e found = rw (served-is q f fs rest, e, found, given) refl
+
+pub arguments-other : (q f : Name) (fs : List FieldDeclaration) (rest : List Entry) → is_introspection f ≡ false → field_in fs f ≡ None →
+    option_map (λ x. x.arguments) (cond (bytes_eq f typename) (Some typename_field) None) ≡ option_map (λ x. x.arguments) (served_field (schema_of q fs rest) f)
+unfolding or_else
+arguments-other q f fs rest e found = rw (served-is q f fs rest, e, found) refl

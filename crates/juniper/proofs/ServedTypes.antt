@@ -17,7 +17,7 @@ use Rattle.graphql_spec.specs.Constants.{Members, no_members}
 use Rattle.graphql_spec.specs.Rules.{is_introspection}
 use Rattle.graphql_spec.proofs.Lists.{same_true}
 use Rattle.juniper.specs.SchemaView.{schema_of, query_entry, scalar_entry}
-use Rattle.juniper.specs.Served.{served_field, has_scalar_fields, is_scalar, is_scalar_type, is_served_schema, is_served_head}
+use Rattle.juniper.specs.Served.{served_field, has_scalar_fields, has_bare_fields, is_scalar, is_scalar_type, is_served_schema, is_served_head}
 use Rattle.graphql_spec.specs.Resolvers.{Reply, world_of}
 use Rattle.juniper.specs.Walking.{world_in}
 use Rattle.juniper.proofs.Steps.{IsServedWorld}
@@ -58,8 +58,8 @@ pub served-is-scalar : (q f : Name) (fs : List FieldDeclaration) (rest : List En
 unfolding is_served_schema has_scalar_fields is_scalar_type typename_field plain_field or_else fields_of
 served-is-scalar q f fs rest d h e =
     let s : Schema = schema_of q fs rest in
-    let both = and_parts (is_executable s) (has_scalar_fields s) h in
-    let all : list_all (λ x. is_scalar_type s x.of_type) fs ≡ true = rw (query-entry-found q fs rest) at both.1 in
+    let both = and_parts (is_executable s) (has_scalar_fields s && has_bare_fields s) h in
+    let all : list_all (λ x. is_scalar_type s x.of_type) fs ≡ true = rw (query-entry-found q fs rest) at (and_parts (has_scalar_fields s) (has_bare_fields s) both.1).0 in
     let g : cond (is_introspection f) None (or_else (field_in fs f) (cond (bytes_eq f typename) (Some typename_field) None)) ≡ Some d = sym (served-is q f fs rest) ∙ e in
     by-introspection s all both.0 (is_introspection f) (field_in fs f) (bytes_eq f typename) refl g
   where
@@ -188,9 +188,11 @@ seen-scalar-lists-none n k = refl
 
 -- ## No served field has arguments
 
-pub seen-declares-none : {A : Type 0} (view : A → FieldDeclaration) (xs : List A) → ((x : A) → no_declarations (view x).arguments ≡ true) → list_all (λ d. no_declarations d.arguments) (map view xs) ≡ true
-seen-declares-none view [] a = refl
-seen-declares-none view (x ∷ xs) a = rw (a x) (seen-declares-none view xs a)
+pub served-declares-none : (q : Name) (fs : List FieldDeclaration) (rest : List Entry) → IsTrue (is_served_schema (schema_of q fs rest)) → list_all (λ d. no_declarations d.arguments) fs ≡ true
+unfolding is_served_schema has_bare_fields fields_of
+served-declares-none q fs rest h =
+    let s : Schema = schema_of q fs rest in
+    rw (query-entry-found q fs rest) at (and_parts (has_scalar_fields s) (has_bare_fields s) (and_parts (is_executable s) (has_scalar_fields s && has_bare_fields s) h).1).1
 
 none-declared : (ds : List InputDeclaration) → no_declarations ds ≡ true → ds ≡ []
 unfolding no_declarations
@@ -249,7 +251,7 @@ declared-at s f d e = rw (served-is-field s f d e) refl
 
 pub served-schema-fields : (s : Schema) → IsTrue (is_served_schema s) → IsTrue (has_scalar_fields s)
 unfolding is_served_schema
-served-schema-fields s h = (and_parts (is_executable s) (has_scalar_fields s) h).1
+served-schema-fields s h = (and_parts (has_scalar_fields s) (has_bare_fields s) (and_parts (is_executable s) (has_scalar_fields s && has_bare_fields s) h).1).0
 
 pub not-missing : (s : Schema) (h : Head) → IsTrue (is_served_head s h) → None ≡ option_map (λ d. d.of_type) (served_field s h.name.item) → ⊥
 not-missing s h served e = let some = served-some s h served in none-some some.0.of_type (e ∙ ap (option_map (λ d. d.of_type)) some.1)

@@ -63,10 +63,10 @@ fn walk_query<Q: GraphQLValue<S>, S: ScalarValue>(
     walk: &Walk<'_, Q, S>,
     operation: &Spanning<Operation<'_, S>, Span>,
 ) -> Result<(Value<S>, Vec<ExecutionError<S>>), AllocError>
-    requires schema { IsTrue (is_served_schema (view_schema walk.now.schema.now)) }
+    requires schema { IsTrue (is_served_schema (view_schema S.shown walk.now.schema.now)) }
     requires plain { IsTrue (is_plain_operation (view_operation S.shown operation.now)) }
-    requires valid { first_rule_errors (view_schema walk.now.schema.now) (documents.operation (view_operation S.shown operation.now) ∷ []) ≡ [] }
-    ensures { IfOk result (λ p. IsAnswerFor keys_only (world_in Q.concrete Q.answer walk.now.resolver.now walk.now.info.now walk.now.context.now (view_schema walk.now.schema.now) (view_variables S.shown walk.now.variables.now)) (view_schema walk.now.schema.now).query (Q.root walk.now.resolver.now) (selected (documents.operation (view_operation S.shown operation.now) ∷ []) (view_operation S.shown operation.now) (view_variables S.shown walk.now.variables.now)) (view_value S.shown p.0) (map (view_listed S.shown) p.1.items)) }
+    requires valid { first_rule_errors (view_schema S.shown walk.now.schema.now) (documents.operation (view_operation S.shown operation.now) ∷ []) ≡ [] }
+    ensures { IfOk result (λ p. IsAnswerFor keys_only (world_in Q.concrete Q.answer walk.now.resolver.now walk.now.info.now walk.now.context.now (view_schema S.shown walk.now.schema.now) (view_variables S.shown walk.now.variables.now)) (view_schema S.shown walk.now.schema.now).query (Q.root walk.now.resolver.now) (selected (documents.operation (view_operation S.shown operation.now) ∷ []) (view_operation S.shown operation.now) (view_variables S.shown walk.now.variables.now)) (view_value S.shown p.0) (map (view_listed S.shown) p.1.items)) }
 {
     let selections = operation.item.selection_set.as_slice();
     let occurrences = collect(walk.alloc, selections, walk.variables)?;
@@ -84,8 +84,8 @@ fn execute_query<'r, Q: GraphQLValue<S>, M: GraphQLType<S>, Sub: GraphQLType<S>,
     context: &'r Q::Context,
 ) -> Result<(Value<S>, Vec<ExecutionError<S>>), AllocError>
     requires plain { IsTrue (is_plain_operation (view_operation S.shown operation.now)) }
-    requires valid { first_rule_errors (view_schema (schema_of root_node.now)) (documents.operation (view_operation S.shown operation.now) ∷ []) ≡ [] }
-    ensures { IfOk result (λ p. IsAnswerFor keys_only (world_in Q.concrete Q.answer (resolver_of root_node.now) (info_of root_node.now) context.now (view_schema (schema_of root_node.now)) (view_variables S.shown variables.now)) (view_schema (schema_of root_node.now)).query (Q.root (resolver_of root_node.now)) (selected (documents.operation (view_operation S.shown operation.now) ∷ []) (view_operation S.shown operation.now) (view_variables S.shown variables.now)) (view_value S.shown p.0) (map (view_listed S.shown) p.1.items)) }
+    requires valid { first_rule_errors (view_schema S.shown (schema_of root_node.now)) (documents.operation (view_operation S.shown operation.now) ∷ []) ≡ [] }
+    ensures { IfOk result (λ p. IsAnswerFor keys_only (world_in Q.concrete Q.answer (resolver_of root_node.now) (info_of root_node.now) context.now (view_schema S.shown (schema_of root_node.now)) (view_variables S.shown variables.now)) (view_schema S.shown (schema_of root_node.now)).query (Q.root (resolver_of root_node.now)) (selected (documents.operation (view_operation S.shown operation.now) ∷ []) (view_operation S.shown operation.now) (view_variables S.shown variables.now)) (view_value S.shown p.0) (map (view_listed S.shown) p.1.items)) }
 {
     let walk = Walk {
         alloc,
@@ -109,9 +109,9 @@ fn execute_document<Q: GraphQLValue<S>, M: GraphQLType<S>, Sub: GraphQLType<S>, 
 ) -> Result<(Value<S>, Vec<ExecutionError<S>>), GraphQLError>
     requires { IsTrue (is_plain_document (view_document S.shown document.now)) }
     ensures { MatchResult result
-        (λ p. IsAnsweredDocument (view_document S.shown document.now) (view_schema (schema_of root_node.now)) (option_map (λ n. n.now) operation_name.entry) (view_variables S.shown variables.now)
-        (world_in Q.concrete Q.answer (resolver_of root_node.now) (info_of root_node.now) context.now (view_schema (schema_of root_node.now))) (Q.root (resolver_of root_node.now)) (view_value S.shown p.0) (map (view_listed S.shown) p.1.items))
-        (λ e. IsRefusedDocument (view_document S.shown document.now) (view_schema (schema_of root_node.now)) (option_map (λ n. n.now) operation_name.entry) (view_variables S.shown variables.now) (view_request_error e)) }
+        (λ p. IsAnsweredDocument (view_document S.shown document.now) (view_schema S.shown (schema_of root_node.now)) (option_map (λ n. n.now) operation_name.entry) (view_variables S.shown variables.now)
+        (world_in Q.concrete Q.answer (resolver_of root_node.now) (info_of root_node.now) context.now (view_schema S.shown (schema_of root_node.now))) (Q.root (resolver_of root_node.now)) (view_value S.shown p.0) (map (view_listed S.shown) p.1.items))
+        (λ e. IsRefusedDocument (view_document S.shown document.now) (view_schema S.shown (schema_of root_node.now)) (option_map (λ n. n.now) operation_name.entry) (view_variables S.shown variables.now) (view_request_error e)) }
 {
     let operation = only_operation(document);
     let errors = validate(alloc, operation, &root_node.schema)?;
@@ -139,9 +139,9 @@ pub fn execute_sync<Q: GraphQLValue<S>, M: GraphQLType<S>, Sub: GraphQLType<S>, 
 ) -> Result<(Value<S>, Vec<ExecutionError<S>>), GraphQLError>
     ensures context { context.new ≡ context.old }
     ensures answer { MatchResult result
-        (λ p. IsAnswered document_source.now (view_schema (schema_of root_node.now)) (option_map (λ n. n.now) operation_name.entry) (view_variables S.shown variables.now)
-        (world_in Q.concrete Q.answer (resolver_of root_node.now) (info_of root_node.now) context.old (view_schema (schema_of root_node.now))) (Q.root (resolver_of root_node.now)) (view_value S.shown p.0) (map (view_listed S.shown) p.1.items))
-        (λ e. IsRefusedWith document_source.now (view_schema (schema_of root_node.now)) (option_map (λ n. n.now) operation_name.entry) (view_variables S.shown variables.now) (view_request_error e)) }
+        (λ p. IsAnswered document_source.now (view_schema S.shown (schema_of root_node.now)) (option_map (λ n. n.now) operation_name.entry) (view_variables S.shown variables.now)
+        (world_in Q.concrete Q.answer (resolver_of root_node.now) (info_of root_node.now) context.old (view_schema S.shown (schema_of root_node.now))) (Q.root (resolver_of root_node.now)) (view_value S.shown p.0) (map (view_listed S.shown) p.1.items))
+        (λ e. IsRefusedWith document_source.now (view_schema S.shown (schema_of root_node.now)) (option_map (λ n. n.now) operation_name.entry) (view_variables S.shown variables.now) (view_request_error e)) }
 {
     let document = parse_document_source(alloc, document_source)?;
     execute_document(

@@ -7,7 +7,6 @@ ghost use Rattle.juniper.specs.Served.{is_served_schema};
 use crate::schema::SchemaType;
 use crate::types::GraphQLType;
 use juniper_language::ScalarValue;
-use std::marker::PhantomData;
 
 /// A schema with the resolvers of its operations. Introspection is disabled, and neither mutations nor subscriptions are
 /// served.
@@ -16,12 +15,11 @@ pub struct RootNode<Q: GraphQLType<S>, M: GraphQLType<S>, Sub: GraphQLType<S>, S
     pub(crate) query: Q,
     pub(crate) mutation: M,
     pub(crate) subscription: Sub,
-    pub(crate) schema: SchemaType,
+    pub(crate) schema: SchemaType<S>,
     pub(crate) query_info: Q::TypeInfo,
     pub(crate) mutation_info: M::TypeInfo,
     pub(crate) subscription_info: Sub::TypeInfo,
-    pub(crate) scalar: PhantomData<S>,
-    ghost served: { IsTrue (is_served_schema (view_schema schema)) },
+    ghost served: { IsTrue (is_served_schema (view_schema S.shown schema)) },
 }
 
 impl<Q: GraphQLType<S>, M: GraphQLType<S>, Sub: GraphQLType<S>, S: ScalarValue> RootNode<
@@ -37,12 +35,12 @@ impl<Q: GraphQLType<S>, M: GraphQLType<S>, Sub: GraphQLType<S>, S: ScalarValue> 
         query: Q,
         mutation: M,
         subscription: Sub,
-        schema: SchemaType,
+        schema: SchemaType<S>,
         query_info: Q::TypeInfo,
         mutation_info: M::TypeInfo,
         subscription_info: Sub::TypeInfo,
     ) -> Self
-        requires { IsTrue (is_served_schema (view_schema schema)) }
+        requires { IsTrue (is_served_schema (view_schema S.shown schema)) }
         ensures schema { schema_of result ≡ schema }
         ensures resolver { resolver_of result ≡ query }
         ensures info { info_of result ≡ query_info }
@@ -55,12 +53,11 @@ impl<Q: GraphQLType<S>, M: GraphQLType<S>, Sub: GraphQLType<S>, S: ScalarValue> 
             query_info,
             mutation_info,
             subscription_info,
-            scalar: PhantomData,
         }
     }
 
     /// The schema.
-    pub fn schema(&self) -> &SchemaType
+    pub fn schema(&self) -> &SchemaType<S>
         ensures { result.now ≡ schema_of self.now }
     {
         &self.schema

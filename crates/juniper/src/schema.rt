@@ -1,16 +1,16 @@
 //! Schemas (section 3 of the Specification): one object type and its scalars.
 
-ghost use Rattle.std.specs.Prelude.{◌≡◌, string_bytes, map, option_map, IsTrue, Some, None, ◌∷◌, if◌then◌else◌};
+ghost use Rattle.std.specs.Prelude.{◌≡◌, string_bytes, map, option_map, IsTrue, Some, None, [], ◌∷◌, if◌then◌else◌};
 ghost use Rattle.graphql_spec.specs.Schema.{Schema};
 ghost use Rattle.graphql_spec.specs.Fields.{accepts_kind, leaf_accepts, entry_named, entry_in, field_in, typename, typename_field};
-ghost use Rattle.juniper.specs.SchemaView.{view_field, view_scalar, view_kinds, view_schema, scalar_entry, query_entry};
+ghost use Rattle.juniper.specs.SchemaView.{view_argument, view_field, view_scalar, view_kinds, view_schema, scalar_entry, query_entry};
 ghost use Rattle.juniper.specs.Served.{served_field, has_scalar_fields, as_named};
 ghost use Rattle.juniper_language.specs.TypeView.{view_type};
 ghost use Rattle.graphql_spec.specs.Rules.{is_introspection};
 ghost use Rattle.std.specs.Str.{bytes_eq};
 ghost use Rattle.juniper.specs.SchemaView.{view_leaf_type};
 
-use crate::meta::Field;
+use crate::meta::{Argument, Field};
 use juniper_language::{ScalarValue, Type};
 
 /// The kinds of scalars that a scalar type accepts (3.5).
@@ -58,9 +58,9 @@ impl ScalarMeta {
 
 /// A schema: one object type, which is the query type, and its scalars (3.3).
 #[derive(Debug, Drop)]
-pub struct SchemaType {
+pub struct SchemaType<S> {
     query_name: String,
-    fields: Vec<Field>,
+    fields: Vec<Field<S>>,
     scalars: Vec<ScalarMeta>,
 }
 
@@ -71,10 +71,10 @@ pub(crate) struct LeafType<'s> {
     pub(crate) is_non_null: bool,
 }
 
-impl SchemaType {
+impl<S: ScalarValue> SchemaType<S> {
     /// The schema of the object type of this name with these fields, and of these scalars.
-    pub fn of_object(query_name: String, fields: Vec<Field>, scalars: Vec<ScalarMeta>) -> Self
-        ensures { view_schema result ≡ record { entries = query_entry (string_bytes query_name) (map view_field fields.items) ∷ map view_scalar scalars.items; query = string_bytes query_name; mutation = None } }
+    pub fn of_object(query_name: String, fields: Vec<Field<S>>, scalars: Vec<ScalarMeta>) -> Self
+        ensures { view_schema S.shown result ≡ record { entries = query_entry (string_bytes query_name) (map (view_field S.shown) fields.items) ∷ map view_scalar scalars.items; query = string_bytes query_name; mutation = None } }
     {
         SchemaType {
             query_name,
@@ -85,15 +85,15 @@ impl SchemaType {
 
     /// The name of the query type.
     pub(crate) fn query_name(&self) -> &str
-        ensures { result.now ≡ (view_schema self.now).query }
+        ensures { result.now ≡ (view_schema S.shown self.now).query }
     {
         self.query_name.as_str()
     }
 
     /// The type of a field of the query type that is served: a declared one or `__typename`.
     pub(crate) fn field_type(&self, field_name: &str) -> Option<LeafType<'_>>
-        requires { IsTrue (has_scalar_fields (view_schema self.now)) }
-        ensures { option_map view_leaf_type result ≡ option_map (λ d. d.of_type) (served_field (view_schema self.now) field_name.now) }
+        requires { IsTrue (has_scalar_fields (view_schema S.shown self.now)) }
+        ensures { option_map view_leaf_type result ≡ option_map (λ d. d.of_type) (served_field (view_schema S.shown self.now) field_name.now) }
     {
         if is_introspection(field_name) {
             return None;
@@ -104,10 +104,24 @@ impl SchemaType {
         }
     }
 
+    /// The arguments that a field of the query type declares, which is a declared one or `__typename`; `None` where there is
+    /// no such field.
+    pub(crate) fn declared_arguments(&self, field_name: &str) -> Option<&[Argument<S>]>
+        ensures { option_map (λ as'. map (view_argument S.shown) as'.now) result ≡ option_map (λ d. d.arguments) (served_field (view_schema S.shown self.now) field_name.now) }
+    {
+        if is_introspection(field_name) {
+            return None;
+        }
+        match find_field(self.fields.as_slice(), field_name) {
+            Some(field) => Some(arguments_of(field)),
+            None => typename_arguments(self.fields.as_slice(), field_name),
+        }
+    }
+
     /// Whether the scalar type of this name accepts the scalar.
     #[tactic(auto, unfolding(graphql_spec::specs::Fields::leaf_accepts))]
-    pub(crate) fn accepts<S: ScalarValue>(&self, type_name: &str, scalar: &S) -> bool
-        ensures { result ≡ leaf_accepts (entry_named (view_schema self.now) type_name.now) (S.shown scalar.now) }
+    pub(crate) fn accepts(&self, type_name: &str, scalar: &S) -> bool
+        ensures { result ≡ leaf_accepts (entry_named (view_schema S.shown self.now) type_name.now) (S.shown scalar.now) }
     {
         if type_name == self.query_name.as_str() {
             return false;
@@ -142,6 +156,39 @@ fn typename_type(field_name: &str) -> Option<LeafType<'static>>
     }
 }
 
+/// The arguments of `__typename`, of which there are none (4.1).
+#[tactic(auto, unfolding(graphql_spec::specs::Fields::typename_field, graphql_spec::specs::Schema::plain_field))]
+fn typename_arguments<'b, S: ScalarValue>(
+    fields: &'b [Field<S>],
+    field_name: &str,
+) -> Option<&'b [Argument<S>]>
+    ensures { option_map (λ as'. map (view_argument S.shown) as'.now) result ≡ option_map (λ d. d.arguments) (if bytes_eq field_name.now typename then Some typename_field else None) }
+{
+    if field_name == "__typename" {
+        Some(&[])
+    } else {
+        None
+    }
+}
+
+/// The arguments of a declared field.
+#[tactic(auto, unfolding(graphql_spec::specs::Schema::plain_field))]
+fn arguments_of<S: ScalarValue>(field: &Field<S>) -> &[Argument<S>]
+    ensures { map (view_argument S.shown) result.now ≡ (view_field S.shown field.now).arguments }
+{
+    match &field.arguments {
+        Some(arguments) => arguments.as_slice(),
+        None => no_arguments(field),
+    }
+}
+
+/// No arguments.
+fn no_arguments<S: ScalarValue>(field: &Field<S>) -> &[Argument<S>]
+    ensures { result.now ≡ [] }
+{
+    &[]
+}
+
 /// A type that is no list.
 #[tactic(auto, unfolding(crate::specs::Served::as_named))]
 fn leaf_of(field_type: &Type<String>) -> Option<LeafType<'_>>
@@ -162,8 +209,8 @@ fn leaf_of(field_type: &Type<String>) -> Option<LeafType<'_>>
 }
 
 #[tactic(auto, unfolding(graphql_spec::specs::Fields::field_in, graphql_spec::specs::Schema::plain_field))]
-fn find_field<'a>(fields: &'a [Field], name: &str) -> Option<&'a Field>
-    ensures { option_map (λ f. view_field f.now) result ≡ field_in (map view_field fields.now) name.now }
+fn find_field<'a, S: ScalarValue>(fields: &'a [Field<S>], name: &str) -> Option<&'a Field<S>>
+    ensures { option_map (λ f. view_field S.shown f.now) result ≡ field_in (map (view_field S.shown) fields.now) name.now }
 {
     for field in fields {
         if name == field.name.as_str() {

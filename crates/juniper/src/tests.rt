@@ -2,6 +2,7 @@
 
 ghost use Rattle.std.specs.Prelude.{◌≡◌, Some, IfOk, codes, map, string_bytes, []};
 ghost use Rattle.graphql_spec.specs.Schema.{plain_field};
+ghost use Rattle.juniper_language.specs.Scalars.{default_shown};
 ghost use Rattle.juniper_language.specs.TypeView.{view_type};
 ghost use Rattle.juniper.specs.ResolvedView.{Answers};
 ghost use Rattle.juniper.specs.SchemaView.{view_schema, view_field, view_scalar, view_kinds, scalar_entry};
@@ -112,15 +113,15 @@ fn test_root(alloc: Global) -> Result<TestRoot, AllocError> {
     ))
 }
 
-fn schema(alloc: Global) -> Result<SchemaType, AllocError>
-    ensures { IfOk result (λ s. view_schema s ≡ test_schema) }
+fn schema(alloc: Global) -> Result<SchemaType<DefaultScalarValue>, AllocError>
+    ensures { IfOk result (λ s. view_schema default_shown s ≡ test_schema) }
 {
     let name = String::from_str(alloc, "Query")?;
     Ok(SchemaType::of_object(name, query_fields(alloc)?, scalars(alloc)?))
 }
 
-fn query_fields(alloc: Global) -> Result<Vec<Field>, AllocError>
-    ensures { IfOk result (λ fields. map view_field fields.items ≡ test_fields) }
+fn query_fields(alloc: Global) -> Result<Vec<Field<DefaultScalarValue>>, AllocError>
+    ensures { IfOk result (λ fields. map (view_field default_shown) fields.items ≡ test_fields) }
 {
     Ok(vec![in alloc;
         field(
@@ -147,8 +148,12 @@ fn query_fields(alloc: Global) -> Result<Vec<Field>, AllocError>
     ]?)
 }
 
-fn field(alloc: Global, name: &str, field_type: Type<String>) -> Result<Field, AllocError>
-    ensures { IfOk result (λ f. view_field f ≡ plain_field name.now [] (view_type (λ n. string_bytes n) field_type)) }
+fn field(
+    alloc: Global,
+    name: &str,
+    field_type: Type<String>,
+) -> Result<Field<DefaultScalarValue>, AllocError>
+    ensures { IfOk result (λ f. view_field default_shown f ≡ plain_field name.now [] (view_type (λ n. string_bytes n) field_type)) }
 {
     Ok(Field::new(String::from_str(alloc, name)?, field_type))
 }

@@ -31,7 +31,7 @@ pub(crate) struct Walk<'r, Q: GraphQLValue<S>, S: ScalarValue> {
     pub(crate) resolver: &'r Q,
     pub(crate) info: &'r Q::TypeInfo,
     pub(crate) context: &'r Q::Context,
-    pub(crate) schema: &'r SchemaType,
+    pub(crate) schema: &'r SchemaType<S>,
     pub(crate) variables: &'r Variables<S>,
 }
 
@@ -46,11 +46,11 @@ struct Completed<S> {
 /// An answer, completed against a scalar type (CompleteValue, 6.4.3).
 fn complete<N: Drop, S: ScalarValue>(
     alloc: Global,
-    schema: &SchemaType,
+    schema: &SchemaType<S>,
     field_type: LeafType<'_>,
     resolved: Resolved<N, S>,
 ) -> Result<Completed<S>, AllocError>
-    ensures { IfOk result (λ c. IsLeaf (λ x. leaf_accepts (entry_named (view_schema schema.now) field_type.entry.name.now) x) field_type.entry.is_non_null (view_resolved S.shown resolved) (view_value S.shown c.value) (option_map (view_error S.shown) c.error) c.is_non_null) }
+    ensures { IfOk result (λ c. IsLeaf (λ x. leaf_accepts (entry_named (view_schema S.shown schema.now) field_type.entry.name.now) x) field_type.entry.is_non_null (view_resolved S.shown resolved) (view_value S.shown c.value) (option_map (view_error S.shown) c.error) c.is_non_null) }
 {
     match resolved {
         Resolved::Null => {
@@ -103,8 +103,9 @@ fn reply<Q: GraphQLValue<S>, S: ScalarValue>(
     node: &Q::Node,
     field: &Spanning<Field<'_, S>, Span>,
 ) -> Result<Resolved<Q::Node, S>, ResolveError<S>>
-    requires { IsTrue (is_served_head (view_schema walk.now.schema.now) (view_occurrence S.shown field.now).head) }
-    ensures { Answers S.shown result (reply_to (world_in Q.concrete Q.answer walk.now.resolver.now walk.now.info.now walk.now.context.now (view_schema walk.now.schema.now) (view_variables S.shown walk.now.variables.now)) (view_schema walk.now.schema.now).query node.now (view_occurrence S.shown field.now).head) }
+    requires schema { IsTrue (is_served_schema (view_schema S.shown walk.now.schema.now)) }
+    requires served { IsTrue (is_served_head (view_schema S.shown walk.now.schema.now) (view_occurrence S.shown field.now).head) }
+    ensures { Answers S.shown result (reply_to (world_in Q.concrete Q.answer walk.now.resolver.now walk.now.info.now walk.now.context.now (view_schema S.shown walk.now.schema.now) (view_variables S.shown walk.now.variables.now)) (view_schema S.shown walk.now.schema.now).query node.now (view_occurrence S.shown field.now).head) }
 {
     let name = field.item.name.item;
     if name == "__typename" {
@@ -126,9 +127,9 @@ fn complete_field<Q: GraphQLValue<S>, S: ScalarValue>(
     node: &Q::Node,
     field: &Spanning<Field<'_, S>, Span>,
 ) -> Result<Completed<S>, AllocError>
-    requires schema { IsTrue (is_served_schema (view_schema walk.now.schema.now)) }
-    requires served { IsTrue (is_served_head (view_schema walk.now.schema.now) (view_occurrence S.shown field.now).head) }
-    ensures { IfOk result (λ c. IsCompleted (view_schema walk.now.schema.now) (world_in Q.concrete Q.answer walk.now.resolver.now walk.now.info.now walk.now.context.now (view_schema walk.now.schema.now) (view_variables S.shown walk.now.variables.now)) node.now (view_occurrence S.shown field.now).head (view_value S.shown c.value) (option_map (view_error S.shown) c.error) c.is_non_null) }
+    requires schema { IsTrue (is_served_schema (view_schema S.shown walk.now.schema.now)) }
+    requires served { IsTrue (is_served_head (view_schema S.shown walk.now.schema.now) (view_occurrence S.shown field.now).head) }
+    ensures { IfOk result (λ c. IsCompleted (view_schema S.shown walk.now.schema.now) (world_in Q.concrete Q.answer walk.now.resolver.now walk.now.info.now walk.now.context.now (view_schema S.shown walk.now.schema.now) (view_variables S.shown walk.now.variables.now)) node.now (view_occurrence S.shown field.now).head (view_value S.shown c.value) (option_map (view_error S.shown) c.error) c.is_non_null) }
 {
     let Some(field_type) = walk.schema.field_type(field.item.name.item) else {
         unreachable!()
@@ -196,10 +197,10 @@ pub(crate) fn object<Q: GraphQLValue<S>, S: ScalarValue>(
     node: &Q::Node,
     occurrences: &Occurrences<'_, '_, S>,
 ) -> Result<(Value<S>, Vec<ExecutionError<S>>), AllocError>
-    requires schema { IsTrue (is_served_schema (view_schema walk.now.schema.now)) }
-    requires served { IsTrue (list_all (λ f. is_served_head (view_schema walk.now.schema.now) (view_occurrence S.shown f.now).head) occurrences.now.fields.items) }
-    requires agree { Agree (world_in Q.concrete Q.answer walk.now.resolver.now walk.now.info.now walk.now.context.now (view_schema walk.now.schema.now) (view_variables S.shown walk.now.variables.now)) 1 (view_schema walk.now.schema.now).query (map (λ f. view_occurrence S.shown f.now) occurrences.now.fields.items) }
-    ensures { IfOk result (λ p. IsWalked (world_in Q.concrete Q.answer walk.now.resolver.now walk.now.info.now walk.now.context.now (view_schema walk.now.schema.now) (view_variables S.shown walk.now.variables.now)) (view_schema walk.now.schema.now).query node.now (map (λ f. view_occurrence S.shown f.now) occurrences.now.fields.items) (view_value S.shown p.0) (map (view_listed S.shown) p.1.items)) }
+    requires schema { IsTrue (is_served_schema (view_schema S.shown walk.now.schema.now)) }
+    requires served { IsTrue (list_all (λ f. is_served_head (view_schema S.shown walk.now.schema.now) (view_occurrence S.shown f.now).head) occurrences.now.fields.items) }
+    requires agree { Agree (world_in Q.concrete Q.answer walk.now.resolver.now walk.now.info.now walk.now.context.now (view_schema S.shown walk.now.schema.now) (view_variables S.shown walk.now.variables.now)) 1 (view_schema S.shown walk.now.schema.now).query (map (λ f. view_occurrence S.shown f.now) occurrences.now.fields.items) }
+    ensures { IfOk result (λ p. IsWalked (world_in Q.concrete Q.answer walk.now.resolver.now walk.now.info.now walk.now.context.now (view_schema S.shown walk.now.schema.now) (view_variables S.shown walk.now.variables.now)) (view_schema S.shown walk.now.schema.now).query node.now (map (λ f. view_occurrence S.shown f.now) occurrences.now.fields.items) (view_value S.shown p.0) (map (view_listed S.shown) p.1.items)) }
 {
     let mut data = Object::with_capacity(walk.alloc, occurrences.fields.len())?;
     let mut errors = Vec::new(walk.alloc);

@@ -4,6 +4,7 @@ ghost use Rattle.std.specs.Prelude.{◌≡◌, IfOk, string_bytes, map, []};
 ghost use Rattle.graphql_spec.specs.Schema.{plain_field};
 ghost use Rattle.juniper.specs.RootView.{schema_of, resolver_of};
 ghost use Rattle.juniper.specs.SchemaView.{view_schema, view_field, view_scalar, view_kinds, scalar_entry};
+ghost use Rattle.juniper_language.specs.Scalars.{default_shown};
 ghost use Rattle.juniper_language.specs.TypeView.{view_type};
 ghost use Rattle.juniper_demo.specs.Demo.{root_of};
 ghost use Rattle.juniper_demo.specs.declared.demo.DemoNode.TheVariants.{Query};
@@ -26,7 +27,7 @@ pub type DemoRoot = RootNode<
 /// The root of the demo's server; an error where memory is refused.
 #[tactic(auto, using(crate::proofs::ServedDemo::demo_is_served))]
 pub fn demo_root(alloc: Global) -> Result<DemoRoot, AllocError>
-    ensures schema { IfOk result (λ root. view_schema (schema_of root) ≡ demo_schema) }
+    ensures schema { IfOk result (λ root. view_schema default_shown (schema_of root) ≡ demo_schema) }
     ensures resolver { IfOk result (λ root. root_of (resolver_of root) ≡ Query) }
 {
     Ok(RootNode::of_parts(
@@ -41,16 +42,16 @@ pub fn demo_root(alloc: Global) -> Result<DemoRoot, AllocError>
 }
 
 /// The demo's schema; an error where memory is refused.
-fn schema(alloc: Global) -> Result<SchemaType, AllocError>
-    ensures { IfOk result (λ s. view_schema s ≡ demo_schema) }
+fn schema(alloc: Global) -> Result<SchemaType<DefaultScalarValue>, AllocError>
+    ensures { IfOk result (λ s. view_schema default_shown s ≡ demo_schema) }
 {
     let name = String::from_str(alloc, "Query")?;
     Ok(SchemaType::of_object(name, query_fields(alloc)?, scalars(alloc)?))
 }
 
 /// The fields of the query type.
-fn query_fields(alloc: Global) -> Result<Vec<Field>, AllocError>
-    ensures { IfOk result (λ fields. map view_field fields.items ≡ demo_fields) }
+fn query_fields(alloc: Global) -> Result<Vec<Field<DefaultScalarValue>>, AllocError>
+    ensures { IfOk result (λ fields. map (view_field default_shown) fields.items ≡ demo_fields) }
 {
     Ok(vec![in alloc;
         field(
@@ -73,8 +74,12 @@ fn query_fields(alloc: Global) -> Result<Vec<Field>, AllocError>
 }
 
 /// A field without arguments.
-fn field(alloc: Global, name: &str, field_type: Type<String>) -> Result<Field, AllocError>
-    ensures { IfOk result (λ f. view_field f ≡ plain_field name.now [] (view_type (λ n. string_bytes n) field_type)) }
+fn field(
+    alloc: Global,
+    name: &str,
+    field_type: Type<String>,
+) -> Result<Field<DefaultScalarValue>, AllocError>
+    ensures { IfOk result (λ f. view_field default_shown f ≡ plain_field name.now [] (view_type (λ n. string_bytes n) field_type)) }
 {
     Ok(Field::new(String::from_str(alloc, name)?, field_type))
 }

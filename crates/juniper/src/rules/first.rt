@@ -23,11 +23,11 @@ use std::alloc::{AllocError, Global};
 pub(crate) fn validate<S: ScalarValue>(
     alloc: Global,
     operation: &Spanning<Operation<'_, S>, Span>,
-    schema: &SchemaType,
+    schema: &SchemaType<S>,
 ) -> Result<Vec<RuleError>, AllocError>
-    requires fields { IsTrue (has_scalar_fields (view_schema schema.now)) }
+    requires fields { IsTrue (has_scalar_fields (view_schema S.shown schema.now)) }
     requires plain { IsTrue (is_plain_operation (view_operation S.shown operation.now)) }
-    ensures { IfOk result (λ es. map view_rule_error es.items ≡ first_rule_errors (view_schema schema.now) (documents.operation (view_operation S.shown operation.now) ∷ [])) }
+    ensures { IfOk result (λ es. map view_rule_error es.items ≡ first_rule_errors (view_schema S.shown schema.now) (documents.operation (view_operation S.shown operation.now) ∷ [])) }
 {
     let selections = operation.item.selection_set.as_slice();
     if has_unserved_field(schema, selections) {
@@ -53,9 +53,9 @@ fn alone(
 }
 
 /// Whether some field is none that is served.
-fn has_unserved_field<S: ScalarValue>(schema: &SchemaType, selections: &[Selection<'_, S>]) -> bool
-    requires { IsTrue (has_scalar_fields (view_schema schema.now)) }
-    ensures { result ≡ any_head (is_unserved (view_schema schema.now)) (view_selections S.shown selections.now) }
+fn has_unserved_field<S: ScalarValue>(schema: &SchemaType<S>, selections: &[Selection<'_, S>]) -> bool
+    requires { IsTrue (has_scalar_fields (view_schema S.shown schema.now)) }
+    ensures { result ≡ any_head (is_unserved (view_schema S.shown schema.now)) (view_selections S.shown selections.now) }
 {
     for selection in selections {
         match selection {
@@ -73,9 +73,9 @@ fn has_unserved_field<S: ScalarValue>(schema: &SchemaType, selections: &[Selecti
 
 /// Whether the query type has no such field that is served.
 #[tactic(auto, using(crate::proofs::ServedTypes::none_served), unfolding(crate::specs::PlainSelections::is_unserved))]
-fn is_unserved<S: ScalarValue>(schema: &SchemaType, field: &Spanning<Field<'_, S>, Span>) -> bool
-    requires { IsTrue (has_scalar_fields (view_schema schema.now)) }
-    ensures { result ≡ is_unserved (view_schema schema.now) (view_occurrence S.shown field.now).head }
+fn is_unserved<S: ScalarValue>(schema: &SchemaType<S>, field: &Spanning<Field<'_, S>, Span>) -> bool
+    requires { IsTrue (has_scalar_fields (view_schema S.shown schema.now)) }
+    ensures { result ≡ is_unserved (view_schema S.shown schema.now) (view_occurrence S.shown field.now).head }
 {
     schema.field_type(field.item.name.item).is_none()
 }

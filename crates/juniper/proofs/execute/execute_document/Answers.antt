@@ -12,12 +12,12 @@ use Rattle.juniper.proofs.Outcomes.{operation-is-plain, refuses-invalid, refuses
 use Rattle.juniper.proofs.execute.execute_document.Goals as goal
 
 pub validate-requires-clause-fields : goal.validate-requires-clause-fields
-validate-requires-clause-fields g c = served-schema-fields (view_schema c.args.root_node.now.schema) c.args.root_node.now.served
+validate-requires-clause-fields g c = served-schema-fields (view_schema g.S.ScalarValue.shown c.args.root_node.now.schema) c.args.root_node.now.served
 
 pub validate-requires-clause-plain : goal.validate-requires-clause-plain
 validate-requires-clause-plain g c =
     let shown = g.S.ScalarValue.shown in
-    let s = view_schema c.args.root_node.now.schema in
+    let s = view_schema shown c.args.root_node.now.schema in
     let given = view_variables shown c.args.variables.now in
     let d = view_document shown c.args.document.now in
     let o = view_operation shown c.only_operation-operation.result.now in
@@ -26,7 +26,7 @@ validate-requires-clause-plain g c =
 pub returns-then-not-is_empty : goal.returns-then-not-is_empty
 returns-then-not-is_empty g c =
     let shown = g.S.ScalarValue.shown in
-    let s = view_schema c.args.root_node.now.schema in
+    let s = view_schema shown c.args.root_node.now.schema in
     let given = view_variables shown c.args.variables.now in
     let d = view_document shown c.args.document.now in
     let o = view_operation shown c.only_operation-operation.result.now in
@@ -36,7 +36,7 @@ returns-then-not-is_empty g c =
 pub returns-then-is_some : goal.returns-then-is_some
 returns-then-is_some g c =
     let shown = g.S.ScalarValue.shown in
-    let s = view_schema c.args.root_node.now.schema in
+    let s = view_schema shown c.args.root_node.now.schema in
     let given = view_variables shown c.args.variables.now in
     let d = view_document shown c.args.document.now in
     let o = view_operation shown c.only_operation-operation.result.now in
@@ -46,7 +46,7 @@ returns-then-is_some g c =
 pub coerce_variables-coerced-requires : goal.coerce_variables-coerced-requires
 coerce_variables-coerced-requires g c =
     let shown = g.S.ScalarValue.shown in
-    let s = view_schema c.args.root_node.now.schema in
+    let s = view_schema shown c.args.root_node.now.schema in
     let given = view_variables shown c.args.variables.now in
     let d = view_document shown c.args.document.now in
     let o = view_operation shown c.only_operation-operation.result.now in
@@ -55,7 +55,7 @@ coerce_variables-coerced-requires g c =
 pub execute_query-requires-clause-plain : goal.execute_query-requires-clause-plain
 execute_query-requires-clause-plain g c =
     let shown = g.S.ScalarValue.shown in
-    let s = view_schema c.args.root_node.now.schema in
+    let s = view_schema shown c.args.root_node.now.schema in
     let given = view_variables shown c.args.variables.now in
     let d = view_document shown c.args.document.now in
     let o = view_operation shown c.only_operation-operation.result.now in
@@ -64,7 +64,7 @@ execute_query-requires-clause-plain g c =
 pub returns : goal.returns
 returns g c =
     let shown = g.S.ScalarValue.shown in
-    let s = view_schema c.args.root_node.now.schema in
+    let s = view_schema shown c.args.root_node.now.schema in
     let given = view_variables shown c.args.variables.now in
     let d = view_document shown c.args.document.now in
     let o = view_operation shown c.only_operation-operation.result.now in

@@ -15,7 +15,7 @@ pub returns-in_err-document-clause-answer : goal.returns-in_err-document-clause-
 returns-in_err-document-clause-answer g c =
     let shown = g.S.ScalarValue.shown in
     let root = c.args.root_node.now in
-    let s = view_schema root.schema in
+    let s = view_schema shown root.schema in
     let given = view_variables shown c.args.variables.now in
     let name = option_map (λ n. n.now) c.args.operation_name in
     let text = c.args.document_source.now in
@@ -32,7 +32,7 @@ pub returns-clause-answer : goal.returns-clause-answer
 returns-clause-answer g c =
     let shown = g.S.ScalarValue.shown in
     let root = c.args.root_node.now in
-    let s = view_schema root.schema in
+    let s = view_schema shown root.schema in
     whole-read c.args.document_source.now s (option_map (λ n. n.now) c.args.operation_name) (view_variables shown c.args.variables.now)
     (world_in g.Q.GraphQLValue.concrete g.Q.GraphQLValue.answer root.query root.query_info c.args.context.now s) (g.Q.GraphQLValue.root root.query)
     (view_document shown c.in_ok-document.document) c.in_ok-document.ensures

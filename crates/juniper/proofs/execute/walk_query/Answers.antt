@@ -23,7 +23,7 @@ object-requires-clause-served g c =
     let shown = g.S.ScalarValue.shown in
     let walk = c.args.walk.now in
     let o = view_operation shown c.args.operation.now in
-    let s = view_schema walk.schema.now in
+    let s = view_schema shown walk.schema.now in
     let plain = plain-fields o c.requires.plain in
     let found = found-nothing s o (plain-query o c.requires.plain) plain c.requires.valid in
     served-fields (λ f. view_occurrence shown f.now) c.in_ok-occurrences.occurrences.fields.items (passes (view_variables shown walk.variables.now)) o.selections (rw c.as_slice-selections.ensures.value at c.in_ok-occurrences.ensures) plain s found.0
@@ -36,14 +36,14 @@ object-requires-clause-agree g c =
     let types = walk.schema.now in
     let vars = view_variables shown walk.variables.now in
     let o = view_operation shown c.args.operation.now in
-    let s = view_schema types in
+    let s = view_schema shown types in
     let W = world_in g.Q.GraphQLValue.concrete g.Q.GraphQLValue.answer walk.resolver.now walk.info.now walk.context.now s vars in
     let plain = plain-fields o c.requires.plain in
     let found = found-nothing s o (plain-query o c.requires.plain) plain c.requires.valid in
     fields-agree (λ f. view_occurrence shown f.now) c.in_ok-occurrences.occurrences.fields.items (passes vars) o.selections (rw c.as_slice-selections.ensures.value at c.in_ok-occurrences.ensures) plain
     W (string_bytes types.query_name) s no_members
-    (λ h served. no-arguments (string_bytes types.query_name) (map view_field types.fields.items) (map view_scalar types.scalars.items) vars h
-    (seen-declares-none view_field types.fields.items (λ x. refl)) served)
+    (λ h served. no-arguments (string_bytes types.query_name) (map (view_field shown) types.fields.items) (map view_scalar types.scalars.items) vars h
+    (seen-declares-none (view_field shown) types.fields.items (λ x. refl)) served)
     found.0 found.1
 
 pub returns : goal.returns
@@ -54,7 +54,7 @@ returns g c =
     let types = walk.schema.now in
     let vars = view_variables shown walk.variables.now in
     let o = view_operation shown c.args.operation.now in
-    let W = world_in g.Q.GraphQLValue.concrete g.Q.GraphQLValue.answer walk.resolver.now walk.info.now walk.context.now (view_schema types) vars in
+    let W = world_in g.Q.GraphQLValue.concrete g.Q.GraphQLValue.answer walk.resolver.now walk.info.now walk.context.now (view_schema shown types) vars in
     fields-answer (λ f. view_occurrence shown f.now) c.in_ok-occurrences.occurrences.fields.items (passes vars) o.selections (rw c.as_slice-selections.ensures.value at c.in_ok-occurrences.ensures) (plain-fields o c.requires.plain)
     W (string_bytes types.query_name) (g.Q.GraphQLValue.root walk.resolver.now) (fragments (operation o ∷ []))
     (view_value shown c.in_ok-data.data) (map (view_listed shown) c.in_ok-data.errors.items) (map (view_listed shown) c.sort_errors.new.errors.items)

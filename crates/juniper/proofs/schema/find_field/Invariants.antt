@@ -5,4 +5,4 @@ use Rattle.juniper.proofs.schema.find_field.Given as goal
 
 -- what is left decides
 abbrev pub invariant-loop-field : goal.invariant-loop-field
-invariant-loop-field l = field_in (map view_field l.fields) l.name ≡ field_in (map view_field (drop l.field-index l.fields)) l.name
+invariant-loop-field g l = field_in (map (view_field g.S.ScalarValue.shown) l.fields) l.name ≡ field_in (map (view_field g.S.ScalarValue.shown) (drop l.field-index l.fields)) l.name

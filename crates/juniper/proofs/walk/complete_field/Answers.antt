@@ -13,17 +13,17 @@ use Rattle.juniper.proofs.ServedTypes.{served-schema-fields, not-missing, type-f
 use Rattle.juniper.proofs.walk.complete_field.Goals as goal
 
 pub field_type-requires : goal.field_type-requires
-field_type-requires g c = served-schema-fields (view_schema c.args.walk.now.schema.now) c.requires.schema
+field_type-requires g c = served-schema-fields (view_schema g.S.ScalarValue.shown c.args.walk.now.schema.now) c.requires.schema
 
 pub unreachable-requires : goal.unreachable-requires
-unreachable-requires g c = not-missing (view_schema c.args.walk.now.schema.now) (view_occurrence g.S.ScalarValue.shown c.args.field.now).head c.requires.served c.in_default.ensures
+unreachable-requires g c = not-missing (view_schema g.S.ScalarValue.shown c.args.walk.now.schema.now) (view_occurrence g.S.ScalarValue.shown c.args.field.now).head c.requires.served c.in_default.ensures
 
 pub returns-in_ok-complete-in-Ok : goal.returns-in_ok-complete-in-Ok
 unfolding world_of
 returns-in_ok-complete-in-Ok g c =
     let shown = g.S.ScalarValue.shown in
     let walk = c.args.walk.now in
-    let s = view_schema walk.schema.now in
+    let s = view_schema shown walk.schema.now in
     let W = world_in g.Q.GraphQLValue.concrete g.Q.GraphQLValue.answer walk.resolver.now walk.info.now walk.context.now s (view_variables shown walk.variables.now) in
     let h = (view_occurrence shown c.args.field.now).head in
     let t = c.in-Some.field_type in
@@ -36,7 +36,7 @@ unfolding world_of
 returns-in-Err-Field g c =
     let shown = g.S.ScalarValue.shown in
     let walk = c.args.walk.now in
-    let s = view_schema walk.schema.now in
+    let s = view_schema shown walk.schema.now in
     let W = world_in g.Q.GraphQLValue.concrete g.Q.GraphQLValue.answer walk.resolver.now walk.info.now walk.context.now s (view_variables shown walk.variables.now) in
     let h = (view_occurrence shown c.args.field.now).head in
     let t = c.in-Some.field_type in

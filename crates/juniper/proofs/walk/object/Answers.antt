@@ -21,7 +21,7 @@ loop-i-init g c =
     let shown = g.S.ScalarValue.shown in
     let walk = c.args.walk.now in
     let s = walk.schema.now in
-    let W = world_in g.Q.GraphQLValue.concrete g.Q.GraphQLValue.answer walk.resolver.now walk.info.now walk.context.now (view_schema s) (view_variables shown walk.variables.now) in
+    let W = world_in g.Q.GraphQLValue.concrete g.Q.GraphQLValue.answer walk.resolver.now walk.info.now walk.context.now (view_schema shown s) (view_variables shown walk.variables.now) in
     record {
       walked = rw (c.in_ok-data.ensures, c.new-errors.ensures.items) (none-walked W (string_bytes s.query_name) c.args.node.now);
       differ = rw c.in_ok-data.ensures refl;
@@ -31,7 +31,7 @@ pub complete_field-requires-clause-served : goal.complete_field-requires-clause-
 complete_field-requires-clause-served g c =
     let shown = g.S.ScalarValue.shown in
     let below : c.loop-i.i < length c.args.occurrences.now.fields.items = omega (arith, c.len-i-end.ensures, c.args.occurrences.now.fields.ok.0) in
-    all-at (λ f. is_served_head (view_schema c.args.walk.now.schema.now) (view_occurrence shown f.now).head) c.args.occurrences.now.fields.items c.loop-i.i c.index-field.result.now c.requires.served below c.index-field.ensures
+    all-at (λ f. is_served_head (view_schema shown c.args.walk.now.schema.now) (view_occurrence shown f.now).head) c.args.occurrences.now.fields.items c.loop-i.i c.index-field.result.now c.requires.served below c.index-field.ensures
 
 pub returns-then-rises : goal.returns-then-rises
 unfolding plain_field
@@ -41,13 +41,13 @@ returns-then-rises g c =
     let walk = c.args.walk.now in
     let s = walk.schema.now in
     let vars = view_variables shown walk.variables.now in
-    let W = world_in g.Q.GraphQLValue.concrete g.Q.GraphQLValue.answer walk.resolver.now walk.info.now walk.context.now (view_schema s) vars in
-    let world = served-world g.Q.GraphQLValue.concrete g.Q.GraphQLValue.answer walk.resolver.now walk.info.now walk.context.now (string_bytes s.query_name) (map view_field s.fields.items) (map view_scalar s.scalars.items) vars c.requires.schema
-    (seen-lists-none (string_bytes s.query_name) (map view_field s.fields.items) view_scalar s.scalars.items (λ m. seen-scalar-lists-none (string_bytes m.name) (view_kinds m.kinds))) in
-    let served = all-at (λ f. is_served_head (view_schema s) (view_occurrence shown f.now).head) c.args.occurrences.now.fields.items c.loop-i.i c.index-field.result.now c.requires.served below c.index-field.ensures in
+    let W = world_in g.Q.GraphQLValue.concrete g.Q.GraphQLValue.answer walk.resolver.now walk.info.now walk.context.now (view_schema shown s) vars in
+    let world = served-world g.Q.GraphQLValue.concrete g.Q.GraphQLValue.answer walk.resolver.now walk.info.now walk.context.now (string_bytes s.query_name) (map (view_field shown) s.fields.items) (map view_scalar s.scalars.items) vars c.requires.schema
+    (seen-lists-none (string_bytes s.query_name) (map (view_field shown) s.fields.items) view_scalar s.scalars.items (λ m. seen-scalar-lists-none (string_bytes m.name) (view_kinds m.kinds))) in
+    let served = all-at (λ f. is_served_head (view_schema shown s) (view_occurrence shown f.now).head) c.args.occurrences.now.fields.items c.loop-i.i c.index-field.result.now c.requires.served below c.index-field.ensures in
     let d = c.in_ok-done.done in
     rw (view-Null shown, c.in_ok-list_error.ensures)
-    (step-stop (view_schema s) W c.args.node.now (λ f. view_occurrence shown f.now) c.args.occurrences.now.fields.items c.loop-i.i c.index-field.result.now below c.index-field.ensures c.requires.agree world served
+    (step-stop (view_schema shown s) W c.args.node.now (λ f. view_occurrence shown f.now) c.args.occurrences.now.fields.items c.loop-i.i c.index-field.result.now below c.index-field.ensures c.requires.agree world served
     _ (map (view_listed shown) c.loop-i.errors.items) (view_value shown d.value) (option_map (view_error shown) d.error) d.is_non_null c.in_ok-done.ensures c.loop-i.invariant.walked
     (sym c.if-rises.ensures))
 
@@ -59,15 +59,15 @@ loop-i-preserved g c =
     let walk = c.args.walk.now in
     let s = walk.schema.now in
     let vars = view_variables shown walk.variables.now in
-    let W = world_in g.Q.GraphQLValue.concrete g.Q.GraphQLValue.answer walk.resolver.now walk.info.now walk.context.now (view_schema s) vars in
-    let world = served-world g.Q.GraphQLValue.concrete g.Q.GraphQLValue.answer walk.resolver.now walk.info.now walk.context.now (string_bytes s.query_name) (map view_field s.fields.items) (map view_scalar s.scalars.items) vars c.requires.schema
-    (seen-lists-none (string_bytes s.query_name) (map view_field s.fields.items) view_scalar s.scalars.items (λ m. seen-scalar-lists-none (string_bytes m.name) (view_kinds m.kinds))) in
-    let served = all-at (λ f. is_served_head (view_schema s) (view_occurrence shown f.now).head) c.args.occurrences.now.fields.items c.loop-i.i c.index-field.result.now c.requires.served below c.index-field.ensures in
+    let W = world_in g.Q.GraphQLValue.concrete g.Q.GraphQLValue.answer walk.resolver.now walk.info.now walk.context.now (view_schema shown s) vars in
+    let world = served-world g.Q.GraphQLValue.concrete g.Q.GraphQLValue.answer walk.resolver.now walk.info.now walk.context.now (string_bytes s.query_name) (map (view_field shown) s.fields.items) (map view_scalar s.scalars.items) vars c.requires.schema
+    (seen-lists-none (string_bytes s.query_name) (map (view_field shown) s.fields.items) view_scalar s.scalars.items (λ m. seen-scalar-lists-none (string_bytes m.name) (view_kinds m.kinds))) in
+    let served = all-at (λ f. is_served_head (view_schema shown s) (view_occurrence shown f.now).head) c.args.occurrences.now.fields.items c.loop-i.i c.index-field.result.now c.requires.served below c.index-field.ensures in
     let d = c.in_ok-done.done in
     let es = view_object shown c.loop-i.data in
     record {
       walked = rw (c.in_ok-settle.ensures, c.in_ok-list_error.ensures, c.response_key.ensures)
-          (step-on (view_schema s) W c.args.node.now (λ f. view_occurrence shown f.now) c.args.occurrences.now.fields.items c.loop-i.i c.index-field.result.now below c.index-field.ensures c.requires.agree world served
+          (step-on (view_schema shown s) W c.args.node.now (λ f. view_occurrence shown f.now) c.args.occurrences.now.fields.items c.loop-i.i c.index-field.result.now below c.index-field.ensures c.requires.agree world served
           es (map (view_listed shown) c.loop-i.errors.items) (view_value shown d.value) (option_map (view_error shown) d.error) d.is_non_null c.in_ok-done.ensures c.loop-i.invariant.walked
           c.loop-i.invariant.differ (sym c.if-rises.ensures));
       differ = ap keys_differ c.in_ok-settle.ensures ∙ settled-differs _ _ es c.loop-i.invariant.differ;
@@ -78,7 +78,7 @@ returns g c =
     let shown = g.S.ScalarValue.shown in
     let walk = c.args.walk.now in
     let s = walk.schema.now in
-    let W = world_in g.Q.GraphQLValue.concrete g.Q.GraphQLValue.answer walk.resolver.now walk.info.now walk.context.now (view_schema s) (view_variables shown walk.variables.now) in
+    let W = world_in g.Q.GraphQLValue.concrete g.Q.GraphQLValue.answer walk.resolver.now walk.info.now walk.context.now (view_schema shown s) (view_variables shown walk.variables.now) in
     rw (view-Object shown c.loop-i.data)
     (all-walked W (string_bytes s.query_name) c.args.node.now (λ f. view_occurrence shown f.now) c.args.occurrences.now.fields.items c.loop-i.i (object (view_object shown c.loop-i.data)) (map (view_listed shown) c.loop-i.errors.items)
     (omega (arith, c.len-i-end.ensures, c.args.occurrences.now.fields.ok.0)) c.loop-i.invariant.walked)

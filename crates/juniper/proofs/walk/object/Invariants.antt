@@ -13,7 +13,7 @@ abbrev pub invariant-loop-i : goal.invariant-loop-i
 invariant-loop-i g l =
     let shown = g.S.ScalarValue.shown in
     record {
-      walked : IsWalked (world_in g.Q.GraphQLValue.concrete g.Q.GraphQLValue.answer l.walk.resolver.now l.walk.info.now l.walk.context.now (view_schema l.walk.schema.now) (view_variables shown l.walk.variables.now))
+      walked : IsWalked (world_in g.Q.GraphQLValue.concrete g.Q.GraphQLValue.answer l.walk.resolver.now l.walk.info.now l.walk.context.now (view_schema shown l.walk.schema.now) (view_variables shown l.walk.variables.now))
           (string_bytes l.walk.schema.now.query_name) l.node (map (λ f. view_occurrence shown f.now) (take l.i l.occurrences.fields.items)) (object (view_object shown l.data)) (map (view_listed shown) l.errors.items);
       differ : keys_differ (view_object shown l.data) ≡ true;
     }

@@ -8,4 +8,4 @@ use Rattle.juniper.proofs.rules.first.has_unserved_field.Given as goal
 abbrev pub invariant-loop-selection : goal.invariant-loop-selection
 invariant-loop-selection g l =
     let shown = g.S.ScalarValue.shown in
-    any_head (is_unserved (view_schema l.schema)) (view_selections shown (drop l.selection-index l.selections)) ≡ any_head (is_unserved (view_schema l.schema)) (view_selections shown l.selections)
+    any_head (is_unserved (view_schema shown l.schema)) (view_selections shown (drop l.selection-index l.selections)) ≡ any_head (is_unserved (view_schema shown l.schema)) (view_selections shown l.selections)

@@ -8,14 +8,14 @@ use Rattle.juniper.proofs.rules.first.validate.Goals as goal
 
 pub returns-then-has_unserved_field : goal.returns-then-has_unserved_field
 returns-then-has_unserved_field g c =
-    let shown = g.S.ScalarValue.shown in let s = view_schema c.args.schema.now in let o = view_operation shown c.args.operation.now in
+    let shown = g.S.ScalarValue.shown in let s = view_schema shown c.args.schema.now in let o = view_operation shown c.args.operation.now in
     let slice = c.as_slice-selections.ensures.value in
     c.in_ok-alone.ensures ∙ sym (unknown-found s o (plain-query o c.requires.plain) (plain-fields o c.requires.plain)
     (ap (λ ys. any_head (is_unserved s) (view_selections shown ys)) (sym slice) ∙ sym c.if-has_unserved_field.ensures))
 
 pub returns-then-not-names_agree : goal.returns-then-not-names_agree
 returns-then-not-names_agree g c =
-    let shown = g.S.ScalarValue.shown in let s = view_schema c.args.schema.now in let o = view_operation shown c.args.operation.now in
+    let shown = g.S.ScalarValue.shown in let s = view_schema shown c.args.schema.now in let o = view_operation shown c.args.operation.now in
     let slice = c.as_slice-selections.ensures.value in
     c.in_ok-alone-2.ensures ∙ sym (conflict-found s o (plain-query o c.requires.plain) (plain-fields o c.requires.plain)
     (ap (λ ys. any_head (is_unserved s) (view_selections shown ys)) (sym slice) ∙ sym c.if-has_unserved_field.ensures)
@@ -23,7 +23,7 @@ returns-then-not-names_agree g c =
 
 pub returns : goal.returns
 returns g c =
-    let shown = g.S.ScalarValue.shown in let s = view_schema c.args.schema.now in let o = view_operation shown c.args.operation.now in
+    let shown = g.S.ScalarValue.shown in let s = view_schema shown c.args.schema.now in let o = view_operation shown c.args.operation.now in
     let slice = c.as_slice-selections.ensures.value in
     ap (map view_rule_error) c.new.ensures.items ∙ sym (nothing-found s o (plain-query o c.requires.plain) (plain-fields o c.requires.plain)
     (ap (λ ys. any_head (is_unserved s) (view_selections shown ys)) (sym slice) ∙ sym c.if-has_unserved_field.ensures)
