@@ -1,5 +1,6 @@
 pub mod AcceptedKinds
 pub mod Admitting
+pub mod ArgumentMembers
 pub mod Completing
 pub mod ErrorSorting
 pub mod FieldCompletion
@@ -11,8 +12,8 @@ pub mod PlainRules
 pub mod Resolutions
 pub mod Schemas
 pub mod SelectionLists
-pub mod ServedTypes
 pub mod ServedTests
+pub mod ServedTypes
 pub mod Settling
 pub mod Steps
 pub mod Turns

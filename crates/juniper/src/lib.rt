@@ -2,6 +2,7 @@
 #![tactic(auto)]
 
 mod admits;
+mod coerce;
 mod collect;
 pub mod error;
 mod execute;

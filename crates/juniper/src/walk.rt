@@ -16,10 +16,10 @@ ghost use Rattle.juniper.specs.SchemaView.{view_schema};
 ghost use Rattle.juniper.specs.Served.{is_served_schema, is_served_head};
 ghost use Rattle.juniper.specs.Walking.{world_in, is_leaf_value, settled, IsLeaf, IsCompleted, IsWalked, listed_of};
 
+use crate::coerce::coerce_arguments;
 use crate::collect::{Occurrences, response_key};
 use crate::schema::{LeafType, SchemaType};
 use crate::types::{Executor, GraphQLValue, Resolved};
-use crate::values::Arguments;
 use juniper_language::{Field, Object, ScalarValue, Span, Spanning, Value, Variables};
 use juniper_values::{ExecutionError, FieldError, ResolveError};
 use std::alloc::{AllocError, Global};
@@ -112,7 +112,8 @@ fn reply<Q: GraphQLValue<S>, S: ScalarValue>(
         let type_name = String::from_str(walk.alloc, walk.schema.query_name())?;
         return Ok(Resolved::Scalar(S::from_text(type_name)?));
     }
-    let arguments = Arguments::none(walk.alloc);
+    let declared = walk.schema.declared_arguments(name);
+    let arguments = coerce_arguments(walk.alloc, declared, field, walk.variables)?;
     let executor = Executor {
         context: walk.context,
         occurrence: field,

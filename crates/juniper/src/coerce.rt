@@ -1,0 +1,88 @@
+//! The arguments of a field as its resolver sees them (CoerceArgumentValues, section 6.4.1 of the Specification).
+
+ghost use Rattle.std.specs.Prelude.{◌≡◌, IfOk, OnOk, cond, is_some, map};
+ghost use Rattle.graphql_spec.specs.Arguments.{coerced_arguments, given, put_given};
+ghost use Rattle.graphql_spec.specs.Constants.{find};
+ghost use Rattle.graphql_spec.specs.Documents.{written};
+ghost use Rattle.graphql_spec.specs.Inputs.{const};
+ghost use Rattle.juniper_language.specs.DocumentView.{view_argument};
+ghost use Rattle.juniper_language.specs.InputView.{view_variables};
+ghost use Rattle.juniper.specs.ArgumentView.{members_of, view_arguments, view_declared};
+ghost use Rattle.juniper.specs.Occurrences.{view_occurrence};
+
+use crate::meta::Argument;
+use crate::values::Arguments;
+use indexmap::IndexMap;
+use juniper_language::{Field, InputValue, ScalarValue, Span, Spanning, Variables};
+use std::alloc::{AllocError, Global};
+
+/// An argument's name and value as they are written.
+type Written<'a, S> = (Spanning<&'a str, Span>, Spanning<InputValue<S>, Span>);
+
+/// Arguments by their names.
+type Given<'a, S> = IndexMap<&'a str, Spanning<InputValue<S>, Span>>;
+
+/// The written arguments of a field with values for their variables, and the defaults of the declared ones that are not
+/// written.
+pub(crate) fn coerce_arguments<'a, S: ScalarValue>(
+    alloc: Global,
+    declared: Option<&'a [Argument<S>]>,
+    field: &'a Spanning<Field<'a, S>, Span>,
+    variables: &Variables<S>,
+) -> Result<Arguments<'a, S>, AllocError>
+    ensures { IfOk result (λ made. view_arguments S.shown made ≡ coerced_arguments (view_declared S.shown declared.entry) (view_variables S.shown variables.now) (written (view_occurrence S.shown field.now).head.arguments)) }
+{
+    let given = give(alloc, written_arguments(field), variables)?;
+    Arguments::new(alloc, Some(given), declared)
+}
+
+/// The arguments that are written at a field, in order (2.6).
+#[tactic(auto, unfolding(graphql_spec::specs::Documents::written))]
+fn written_arguments<'a, 'b, S: ScalarValue>(
+    field: &'b Spanning<Field<'a, S>, Span>,
+) -> &'b [Written<'a, S>]
+    ensures { map (view_argument S.shown) result.now ≡ written (view_occurrence S.shown field.now).head.arguments }
+{
+    match &field.item.arguments {
+        Some(arguments) => arguments.item.items.as_slice(),
+        None => &[],
+    }
+}
+
+/// The written arguments with values for their variables.
+fn give<'a, S: ScalarValue>(
+    alloc: Global,
+    written: &'a [Written<'a, S>],
+    variables: &Variables<S>,
+) -> Result<Given<'a, S>, AllocError>
+    ensures { IfOk result (λ made. members_of S.shown made.entries ≡ given (view_variables S.shown variables.now) (map (view_argument S.shown) written.now)) }
+{
+    let mut items = IndexMap::new(alloc);
+    for argument in written {
+        put_given(alloc, &mut items, argument, variables)?;
+    }
+    Ok(items)
+}
+
+/// Puts in a written argument that is not there, unless its own variable has no value.
+fn put_given<'a, S: ScalarValue>(
+    alloc: Global,
+    items: &mut Given<'a, S>,
+    argument: &'a Written<'a, S>,
+    variables: &Variables<S>,
+) -> Result<(), AllocError>
+    ensures { OnOk result (members_of S.shown items.new.entries ≡ cond (is_some (find argument.now.0.item.now (members_of S.shown items.old.entries))) (members_of S.shown items.old.entries) (put_given argument.now.0.item.now (const (view_variables S.shown variables.now) (view_argument S.shown argument.now).value.item) (members_of S.shown items.old.entries))) }
+{
+    let name = argument.0.item;
+    if items.contains_key(name) {
+        return Ok(());
+    }
+    match argument.1.item.into_const(alloc, variables)? {
+        None => Ok(()),
+        Some(item) => {
+            let value = Spanning::new(argument.1.span, item);
+            drop(items.insert(name, value)?);
+            Ok(())
+        }
+    }
+}
