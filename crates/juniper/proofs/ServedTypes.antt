@@ -17,7 +17,7 @@ use Rattle.graphql_spec.specs.Constants.{Members, no_members}
 use Rattle.graphql_spec.specs.Rules.{is_introspection}
 use Rattle.graphql_spec.proofs.Lists.{same_true}
 use Rattle.juniper.specs.SchemaView.{schema_of, query_entry, scalar_entry}
-use Rattle.juniper.specs.Served.{served_field, has_scalar_fields, has_bare_fields, is_scalar, is_scalar_type, is_served_schema, is_served_head}
+use Rattle.juniper.specs.Served.{served_field, has_scalar_fields, is_scalar, is_scalar_type, is_served_schema, is_served_head}
 use Rattle.graphql_spec.specs.Resolvers.{Reply, world_of}
 use Rattle.juniper.specs.Walking.{world_in}
 use Rattle.juniper.proofs.Steps.{IsServedWorld}
@@ -58,8 +58,8 @@ pub served-is-scalar : (q f : Name) (fs : List FieldDeclaration) (rest : List En
 unfolding is_served_schema has_scalar_fields is_scalar_type typename_field plain_field or_else fields_of
 served-is-scalar q f fs rest d h e =
     let s : Schema = schema_of q fs rest in
-    let both = and_parts (is_executable s) (has_scalar_fields s && has_bare_fields s) h in
-    let all : list_all (λ x. is_scalar_type s x.of_type) fs ≡ true = rw (query-entry-found q fs rest) at (and_parts (has_scalar_fields s) (has_bare_fields s) both.1).0 in
+    let both = and_parts (is_executable s) (has_scalar_fields s) h in
+    let all : list_all (λ x. is_scalar_type s x.of_type) fs ≡ true = rw (query-entry-found q fs rest) at both.1 in
     let g : cond (is_introspection f) None (or_else (field_in fs f) (cond (bytes_eq f typename) (Some typename_field) None)) ≡ Some d = sym (served-is q f fs rest) ∙ e in
     by-introspection s all both.0 (is_introspection f) (field_in fs f) (bytes_eq f typename) refl g
   where
@@ -186,63 +186,32 @@ pub seen-scalar-lists-none : (n : Name) (k : ScalarKinds) → lists-none (scalar
 unfolding lists-none is_nil interfaces_of
 seen-scalar-lists-none n k = refl
 
--- ## No served field has arguments
-
-pub served-declares-none : (q : Name) (fs : List FieldDeclaration) (rest : List Entry) → IsTrue (is_served_schema (schema_of q fs rest)) → list_all (λ d. no_declarations d.arguments) fs ≡ true
-unfolding is_served_schema has_bare_fields fields_of
-served-declares-none q fs rest h =
-    let s : Schema = schema_of q fs rest in
-    rw (query-entry-found q fs rest) at (and_parts (has_scalar_fields s) (has_bare_fields s) (and_parts (is_executable s) (has_scalar_fields s && has_bare_fields s) h).1).1
-
-none-declared : (ds : List InputDeclaration) → no_declarations ds ≡ true → ds ≡ []
-unfolding no_declarations
-none-declared [] e = refl
-none-declared (d ∷ ds) e = cc
+-- ## Served fields
 
 -- a served field is that of the query type
 pub served-is-field : (s : Schema) (f : Name) (d : FieldDeclaration) → served_field s f ≡ Some d → field_of s s.query f ≡ Some d
 unfolding served_field
 served-is-field s f d e = elim (cases_Bool (is_introspection f)) [ inl i ↦ absurd (none-some d (rw i at e)) | inr i ↦ rw i at e ]
 
-pub served-has-no-arguments : (q f : Name) (fs : List FieldDeclaration) (rest : List Entry) (d : FieldDeclaration) → list_all (λ d. no_declarations d.arguments) fs ≡ true → served_field (schema_of q fs rest) f ≡ Some d → d.arguments ≡ []
-unfolding or_else typename_field plain_field
-served-has-no-arguments q f fs rest d all e =
-    let g : cond (is_introspection f) None (or_else (field_in fs f) (cond (bytes_eq f typename) (Some typename_field) None)) ≡ Some d = sym (served-is q f fs rest) ∙ e in
-    by-introspection (is_introspection f) (field_in fs f) (bytes_eq f typename) refl g
-  where
-    declared : (t : Bool) → cond t (Some typename_field) None ≡ Some d → d.arguments ≡ []
-    declared true g = ap (λ z. z.arguments) (sym (same_Some typename_field d g))
-    declared false g = absurd (none-some d g)
-
-    by-field : (o : Option FieldDeclaration) (t : Bool) → field_in fs f ≡ o → or_else o (cond t (Some typename_field) None) ≡ Some d → d.arguments ≡ []
-    by-field None t at g = declared t g
-    by-field (Some y) t at g = none-declared d.arguments (all-found (λ z. no_declarations z.arguments) fs f d all (at ∙ g))
-
-    by-introspection : (i : Bool) (o : Option FieldDeclaration) (t : Bool) → field_in fs f ≡ o → cond i None (or_else o (cond t (Some typename_field) None)) ≡ Some d → d.arguments ≡ []
-    by-introspection true o t at g = absurd (none-some d g)
-    by-introspection false o t at g = by-field o t at g
-
 some-there : {A : Type 0} (o : Option A) → is_some o ≡ true → (x : A) × (o ≡ Some x)
 some-there None e = cc
 some-there (Some x) e = (x, refl)
 
-none-there : {A : Type 0} (o : Option A) → is_none o ≡ true → o ≡ None
-none-there None e = refl
-none-there (Some x) e = cc
-
--- a served field that is written without arguments is resolved with none
-pub no-arguments : (q : Name) (fs : List FieldDeclaration) (rest : List Entry) (vars : Variables) (h : Head) → list_all (λ d. no_declarations d.arguments) fs ≡ true → IsTrue (is_served_head (schema_of q fs rest) h) →
-    coerced_arguments (declared_arguments (field_of (schema_of q fs rest) q h.name.item)) vars (written h.arguments) ≡ no_members
-unfolding is_served_head coerced_arguments declared_arguments given with_defaults written
-no-arguments q fs rest vars h all served =
-    let s : Schema = schema_of q fs rest in
-    let both = and_parts (is_none h.arguments) (is_some (served_field s h.name.item)) served in
-    let some = some-there (served_field s h.name.item) both.1 in
-    rw (none-there h.arguments both.0, served-is-field s h.name.item some.0 some.1, served-has-no-arguments q h.name.item fs rest some.0 all some.1) refl
-
 pub served-some : (s : Schema) (h : Head) → IsTrue (is_served_head s h) → (d : FieldDeclaration) × (served_field s h.name.item ≡ Some d)
 unfolding is_served_head
-served-some s h served = some-there (served_field s h.name.item) (and_parts (is_none h.arguments) (is_some (served_field s h.name.item)) served).1
+served-some s h served = some-there (served_field s h.name.item) served
+
+-- the arguments that a served field declares
+pub declared-seen : {A : Type 0} (view : Option A → List InputDeclaration) (fold : A → List InputDeclaration) → ((x : A) → view (Some x) ≡ fold x) → (s : Schema) (h : Head) (o : Option A) → IsTrue (is_served_head s h) →
+    option_map fold o ≡ option_map (λ d. d.arguments) (served_field s h.name.item) → view o ≡ declared_arguments (field_of s s.query h.name.item)
+unfolding declared_arguments
+declared-seen {A = A} view fold same s h o served e =
+    let some = served-some s h served in
+    rw (served-is-field s h.name.item some.0 some.1) (go some.0.arguments o (e ∙ ap (option_map (λ d. d.arguments)) some.1))
+  where
+    go : (ds : List InputDeclaration) (p : Option A) → option_map fold p ≡ Some ds → view p ≡ ds
+    go ds None f = cc
+    go ds (Some x) f = same x ∙ same_Some (fold x) ds f
 
 -- the type of a served field in a world of the schema
 pub declared-at : (s : Schema) (f : Name) (d : FieldDeclaration) → served_field s f ≡ Some d → declared_type (field_of s s.query f) ≡ d.of_type
@@ -251,7 +220,7 @@ declared-at s f d e = rw (served-is-field s f d e) refl
 
 pub served-schema-fields : (s : Schema) → IsTrue (is_served_schema s) → IsTrue (has_scalar_fields s)
 unfolding is_served_schema
-served-schema-fields s h = (and_parts (has_scalar_fields s) (has_bare_fields s) (and_parts (is_executable s) (has_scalar_fields s && has_bare_fields s) h).1).0
+served-schema-fields s h = (and_parts (is_executable s) (has_scalar_fields s) h).1
 
 pub not-missing : (s : Schema) (h : Head) → IsTrue (is_served_head s h) → None ≡ option_map (λ d. d.of_type) (served_field s h.name.item) → ⊥
 not-missing s h served e = let some = served-some s h served in none-some some.0.of_type (e ∙ ap (option_map (λ d. d.of_type)) some.1)

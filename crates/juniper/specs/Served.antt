@@ -6,7 +6,7 @@ use Rattle.graphql_spec.specs.Types.{TypeRef, named, list_of}
 use Rattle.graphql_spec.specs.Schema.{Schema, Shape, FieldDeclaration, scalar_type}
 use Rattle.graphql_spec.specs.Fields.{entry_named, fields_of, field_of}
 use Rattle.graphql_spec.specs.Rules.{is_introspection}
-use Rattle.graphql_spec.specs.Executable.{is_executable, no_declarations}
+use Rattle.graphql_spec.specs.Executable.{is_executable}
 use Rattle.graphql_spec.specs.Documents.{Head}
 
 unfoldable pub is_scalar : Option Shape → Bool
@@ -30,14 +30,10 @@ has_scalar_fields s = list_all (λ d. is_scalar_type s d.of_type) (fields_of (en
 unfoldable pub served_field : Schema → Name → Option FieldDeclaration
 served_field s f = cond (is_introspection f) None (field_of s s.query f)
 
--- no declared field of the query type has arguments; for now, since the walk gives none to resolvers
-unfoldable pub has_bare_fields : Schema → Bool
-has_bare_fields s = list_all (λ d. no_declarations d.arguments) (fields_of (entry_named s s.query))
-
--- an executable schema whose query type has fields of scalar types alone (3), for now without arguments
+-- an executable schema whose query type has fields of scalar types alone (3)
 unfoldable pub is_served_schema : Schema → Bool
-is_served_schema s = is_executable s && (has_scalar_fields s && has_bare_fields s)
+is_served_schema s = is_executable s && has_scalar_fields s
 
--- a field that is served, without arguments
+-- a field that is served
 unfoldable pub is_served_head : Schema → Head → Bool
-is_served_head s h = is_none h.arguments && is_some (served_field s h.name.item)
+is_served_head s h = is_some (served_field s h.name.item)

@@ -24,12 +24,12 @@ type Given<'a, S> = IndexMap<&'a str, Spanning<InputValue<S>, Span>>;
 
 /// The written arguments of a field with values for their variables, and the defaults of the declared ones that are not
 /// written.
-pub(crate) fn coerce_arguments<'a, S: ScalarValue>(
+pub(crate) fn coerce_arguments<'a, 'b, S: ScalarValue>(
     alloc: Global,
-    declared: Option<&'a [Argument<S>]>,
-    field: &'a Spanning<Field<'a, S>, Span>,
+    declared: Option<&'b [Argument<S>]>,
+    field: &'b Spanning<Field<'a, S>, Span>,
     variables: &Variables<S>,
-) -> Result<Arguments<'a, S>, AllocError>
+) -> Result<Arguments<'b, S>, AllocError>
     ensures { IfOk result (λ made. view_arguments S.shown made ≡ coerced_arguments (view_declared S.shown declared.entry) (view_variables S.shown variables.now) (written (view_occurrence S.shown field.now).head.arguments)) }
 {
     let given = give(alloc, written_arguments(field), variables)?;
@@ -50,11 +50,11 @@ fn written_arguments<'a, 'b, S: ScalarValue>(
 }
 
 /// The written arguments with values for their variables.
-fn give<'a, S: ScalarValue>(
+fn give<'a, 'b, S: ScalarValue>(
     alloc: Global,
-    written: &'a [Written<'a, S>],
+    written: &'b [Written<'a, S>],
     variables: &Variables<S>,
-) -> Result<Given<'a, S>, AllocError>
+) -> Result<Given<'b, S>, AllocError>
     ensures { IfOk result (λ made. members_of S.shown made.entries ≡ given (view_variables S.shown variables.now) (map (view_argument S.shown) written.now)) }
 {
     let mut items = IndexMap::new(alloc);
@@ -65,10 +65,10 @@ fn give<'a, S: ScalarValue>(
 }
 
 /// Puts in a written argument that is not there, unless its own variable has no value.
-fn put_given<'a, S: ScalarValue>(
+fn put_given<'a, 'b, S: ScalarValue>(
     alloc: Global,
-    items: &mut Given<'a, S>,
-    argument: &'a Written<'a, S>,
+    items: &mut Given<'b, S>,
+    argument: &'b Written<'a, S>,
     variables: &Variables<S>,
 ) -> Result<(), AllocError>
     ensures { OnOk result (members_of S.shown items.new.entries ≡ cond (is_some (find argument.now.0.item.now (members_of S.shown items.old.entries))) (members_of S.shown items.old.entries) (put_given argument.now.0.item.now (const (view_variables S.shown variables.now) (view_argument S.shown argument.now).value.item) (members_of S.shown items.old.entries))) }

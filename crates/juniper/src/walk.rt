@@ -103,8 +103,7 @@ fn reply<Q: GraphQLValue<S>, S: ScalarValue>(
     node: &Q::Node,
     field: &Spanning<Field<'_, S>, Span>,
 ) -> Result<Resolved<Q::Node, S>, ResolveError<S>>
-    requires schema { IsTrue (is_served_schema (view_schema S.shown walk.now.schema.now)) }
-    requires served { IsTrue (is_served_head (view_schema S.shown walk.now.schema.now) (view_occurrence S.shown field.now).head) }
+    requires { IsTrue (is_served_head (view_schema S.shown walk.now.schema.now) (view_occurrence S.shown field.now).head) }
     ensures { Answers S.shown result (reply_to (world_in Q.concrete Q.answer walk.now.resolver.now walk.now.info.now walk.now.context.now (view_schema S.shown walk.now.schema.now) (view_variables S.shown walk.now.variables.now)) (view_schema S.shown walk.now.schema.now).query node.now (view_occurrence S.shown field.now).head) }
 {
     let name = field.item.name.item;

@@ -1,13 +1,15 @@
-use Rattle.std.proofs.Common.{map, string_bytes, refl, sym, subst, ◌∙◌}
+use Rattle.std.proofs.Common.{map, string_bytes, refl, sym, ap, subst, ◌∙◌}
+use Rattle.graphql_spec.specs.Arguments.{coerced_arguments}
+use Rattle.graphql_spec.specs.Documents.{written}
 use Rattle.graphql_spec.specs.Resolvers.{world_of}
 use Rattle.juniper_language.specs.InputView.{view_variables}
-use Rattle.juniper.specs.ArgumentView.{view_arguments}
+use Rattle.juniper.specs.ArgumentView.{view_arguments, view_declared}
 use Rattle.juniper.specs.Occurrences.{view_occurrence}
 use Rattle.juniper.specs.ResolvedView.{Answers}
-use Rattle.juniper.specs.SchemaView.{view_schema, view_field, view_scalar}
+use Rattle.juniper.specs.SchemaView.{view_schema, view_argument}
 use Rattle.juniper.specs.Walking.{world_in}
 use Rattle.juniper.proofs.FieldCompletion.{asked}
-use Rattle.juniper.proofs.ServedTypes.{no-arguments, served-declares-none}
+use Rattle.juniper.proofs.ServedTypes.{declared-seen}
 use Rattle.juniper.proofs.walk.reply.Goals as goal
 
 pub returns : goal.returns
@@ -16,11 +18,11 @@ returns g c =
     let shown = g.S.ScalarValue.shown in
     let walk = c.args.walk.now in
     let s = walk.schema.now in
-    let W = world_in g.Q.GraphQLValue.concrete g.Q.GraphQLValue.answer walk.resolver.now walk.info.now walk.context.now (view_schema shown s) (view_variables shown walk.variables.now) in
+    let vars = view_variables shown walk.variables.now in
+    let W = world_in g.Q.GraphQLValue.concrete g.Q.GraphQLValue.answer walk.resolver.now walk.info.now walk.context.now (view_schema shown s) vars in
     let h = (view_occurrence shown c.args.field.now).head in
+    let declared = declared-seen (view_declared shown) (λ ds. map (view_argument shown) ds.now) (λ ds. refl) (view_schema shown s) h c.declared_arguments-declared.result c.requires c.declared_arguments-declared.ensures in
     subst (Answers shown c.resolve_field.result)
-    (sym (asked W (string_bytes s.query_name) c.args.node.now h (view_arguments shown c.none-arguments.result) (sym c.if-eq.ensures)
-    (no-arguments (string_bytes s.query_name) (map (view_field shown) s.fields.items) (map view_scalar s.scalars.items) (view_variables shown walk.variables.now) h
-    (served-declares-none (string_bytes s.query_name) (map (view_field shown) s.fields.items) (map view_scalar s.scalars.items) c.requires.schema) c.requires.served
-    ∙ sym c.none-arguments.ensures)))
+    (sym (asked W (string_bytes s.query_name) c.args.node.now h (view_arguments shown c.in_ok-arguments.arguments) (sym c.if-eq.ensures)
+    (sym (c.in_ok-arguments.ensures ∙ ap (λ ds. coerced_arguments ds vars (written h.arguments)) declared))))
     c.resolve_field.ensures
