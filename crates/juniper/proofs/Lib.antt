@@ -12,7 +12,6 @@ pub mod PlainRules
 pub mod Resolutions
 pub mod Schemas
 pub mod SelectionLists
-pub mod ServedTests
 pub mod ServedTypes
 pub mod Settling
 pub mod Steps

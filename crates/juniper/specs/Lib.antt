@@ -10,5 +10,4 @@ pub mod RootView
 pub mod RuleView
 pub mod SchemaView
 pub mod Served
-pub mod TestRoot
 pub mod Walking

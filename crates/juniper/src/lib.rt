@@ -10,8 +10,6 @@ pub mod meta;
 mod root;
 pub mod rules;
 mod schema;
-#[cfg(test)]
-mod tests;
 pub mod types;
 pub mod values;
 mod walk;

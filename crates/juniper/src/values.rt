@@ -2,7 +2,5 @@
 
 pub mod arguments;
 pub(crate) mod sort;
-#[cfg(test)]
-mod tests;
 
 pub use arguments::Arguments;

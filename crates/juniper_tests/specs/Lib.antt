@@ -1,0 +1,2 @@
+pub mod TestRoot
+pub mod TestScalars
