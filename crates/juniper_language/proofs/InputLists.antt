@@ -1,8 +1,8 @@
 -- Items and fields that a loop over an input value makes: what is made, before what is left, stays the same.
-use Rattle.std.proofs.Common.{◌≡◌, ℕ, ◌+◌, ◌<◌, ◌≤◌, List, [], ◌∷◌, ◌++◌, length, get_or, drop, map, String, Global, string_bytes, refl, sym, ap, ◌∙◌}
+use Rattle.std.proofs.Common.{◌≡◌, ℕ, ◌+◌, ◌<◌, ◌≤◌, List, [], ◌∷◌, ◌++◌, length, get_or, drop, String, Global, string_bytes, refl, sym, ap, ◌∙◌}
 use Rattle.std.proofs.lemmas.List.{drop_more, drop_all}
 use Rattle.graphql_spec.specs.Shown.{Shown}
-use Rattle.graphql_spec.specs.Inputs.{Input, InputItems, no_items, item, InputFields, no_fields, input_field}
+use Rattle.graphql_spec.specs.Inputs.{InputItems, no_items, item, InputFields, no_fields, input_field}
 use Rattle.juniper_language.specs.InputView.{view_input, view_items, view_fields}
 use Rattle.juniper_language.specs.Positions.{view_span}
 use Rattle.juniper_language.specs.declared.position.Span.{Span}

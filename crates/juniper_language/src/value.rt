@@ -2,7 +2,7 @@
 
 ghost use Rattle.std.specs.Prelude.{◌≡◌, IfOk, OnOk, OnErr, option_map, string_bytes};
 ghost use Rattle.std.specs.Slice.Iter.{iter_rest};
-ghost use Rattle.graphql_spec.specs.Values.{no_entries, look_up, has_entry, put, count_entries, is_null, same_value};
+ghost use Rattle.graphql_spec.specs.Values.{no_entries, look_up, has_entry, put, count_entries, is_null};
 ghost use Rattle.juniper_language.specs.ValueView.{view_value, view_object, view_values, view_entries};
 
 use crate::scalar::ScalarValue;
@@ -49,13 +49,6 @@ impl<S: ScalarValue> Value<S> {
             Value::Object(object) => Ok(Value::Object(clone_object(alloc, object)?)),
         }
     }
-}
-
-/// `==` compares what is shown: null with null, scalars that show the same, lists item by item, and objects entry by entry
-/// in their order.
-pub fn equal_values_show_the_same<S: ScalarValue>(u: &Value<S>, v: &Value<S>)
-    ensures { ⟦<Value<S> as PartialEq>⟧.eq u.now v.now ≡ same_value (view_value S.shown u.now) (view_value S.shown v.now) }
-{
 }
 
 /// Keys with values, in order; its calls keep the keys distinct.
@@ -134,10 +127,7 @@ fn clone_values<S: ScalarValue>(
 }
 
 #[cycle(try_clone)]
-fn clone_object<S: ScalarValue>(
-    alloc: Global,
-    object: &Object<S>,
-) -> Result<Object<S>, AllocError>
+fn clone_object<S: ScalarValue>(alloc: Global, object: &Object<S>) -> Result<Object<S>, AllocError>
     ensures { IfOk result (λ made. view_object S.shown made ≡ view_object S.shown object.now) }
 {
     let mut made = Vec::with_capacity(alloc, object.fields.len())?;

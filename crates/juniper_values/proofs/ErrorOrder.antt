@@ -1,5 +1,5 @@
 -- The order of errors is an order, and the order of the code's parts is the order of what they are seen as.
-use Rattle.std.proofs.Common.{◌≡◌, List, [], ◌∷◌, map, String, Global, string_bytes, refl, ap}
+use Rattle.std.proofs.Common.{◌≡◌, List, [], ◌∷◌, map, String, Global, string_bytes, refl, ap, ap₂}
 use Rattle.std.specs.Cmp.{IsTotalOrder, nat_cmp_total}
 use Rattle.std.specs.Cmp.Lexicographic.{slice_cmp, lists_total}
 use Rattle.std.specs.Ordering.{nat_cmp, ordering_then, ordering_reverse}
@@ -7,6 +7,7 @@ use Rattle.std.specs.String.{string_cmp}
 use Rattle.std.specs.declared.cmp.Ordering.{Ordering}
 use Rattle.std.specs.declared.cmp.Ordering.TheVariants.{Less, Equal, Greater}
 use Rattle.std.proofs.lemmas.Cmp.{then_total, on_total}
+use Rattle.std.proofs.lemmas.Map.Lookups.{CmpEqualImpliesEq, exact_unsigned, exact_bytes}
 use Rattle.graphql_spec.specs.Errors.{Step, key, index, Listed, compare_positions, compare_steps, compare}
 
 -- ## Orders
@@ -50,6 +51,53 @@ steps_total = record { antisymm = steps_antisymm; trans = steps_trans; congr = s
 pub compare_total : IsTotalOrder compare
 unfolding compare
 compare_total = then_total (on_total (λ e. e.start) positions_total) (then_total (on_total (λ e. e.path) (lists_total steps_total)) (on_total (λ e. e.error.message) names_total))
+
+-- ## What compares equal
+
+both_equal : (a b : Ordering) → ordering_then a b ≡ Equal → (a ≡ Equal) × (b ≡ Equal)
+both_equal Less b e = cc
+both_equal Equal b e = (refl, e)
+both_equal Greater b e = cc
+
+own_reverse : (o : Ordering) → o ≡ ordering_reverse o → o ≡ Equal
+own_reverse Less e = cc
+own_reverse Equal e = refl
+own_reverse Greater e = cc
+
+itself : {K : Type 0} {R : K → K → Ordering} → IsTotalOrder R → (x : K) → R x x ≡ Equal
+itself total x = own_reverse _ (total.antisymm x x)
+
+lists_exact : {K : Type 0} {R : K → K → Ordering} → CmpEqualImpliesEq R → CmpEqualImpliesEq (slice_cmp R)
+lists_exact exact [] [] e = refl
+lists_exact exact [] (y ∷ ys) e = cc
+lists_exact exact (x ∷ xs) [] e = cc
+lists_exact {R = R} exact (x ∷ xs) (y ∷ ys) e = let both = both_equal (R x y) (slice_cmp R xs ys) e in ap₂ (λ z zs. z ∷ zs) (exact x y both.0) (lists_exact exact xs ys both.1)
+
+steps_exact : CmpEqualImpliesEq compare_steps
+unfolding compare_steps
+steps_exact (index n) (index m) e = ap index (exact_unsigned n m e)
+steps_exact (index n) (key k) e = cc
+steps_exact (key k) (index m) e = cc
+steps_exact (key k) (key j) e = ap key (exact_bytes k j e)
+
+positions_exact : CmpEqualImpliesEq compare_positions
+unfolding compare_positions
+positions_exact p q e =
+    let first = both_equal (nat_cmp p.index q.index) (ordering_then (nat_cmp p.line q.line) (nat_cmp p.column q.column)) e in
+    let second = both_equal (nat_cmp p.line q.line) (nat_cmp p.column q.column) first.1 in
+    λ i. record { index = exact_unsigned p.index q.index first.0 i; line = exact_unsigned p.line q.line second.0 i; column = exact_unsigned p.column q.column second.1 i }
+
+pub errors_equal : (a b : Listed) → compare a b ≡ Equal → (a.start ≡ b.start) × (a.path ≡ b.path) × (a.error.message ≡ b.error.message)
+unfolding compare
+errors_equal a b e =
+    let first = both_equal (compare_positions a.start b.start) (ordering_then (slice_cmp compare_steps a.path b.path) (slice_cmp nat_cmp a.error.message b.error.message)) e in
+    let second = both_equal (slice_cmp compare_steps a.path b.path) (slice_cmp nat_cmp a.error.message b.error.message) first.1 in
+    (positions_exact a.start b.start first.0, lists_exact steps_exact a.path b.path second.0, exact_bytes a.error.message b.error.message second.1)
+
+pub errors_same : (a b : Listed) → a.start ≡ b.start → a.path ≡ b.path → a.error.message ≡ b.error.message → compare a b ≡ Equal
+unfolding compare
+errors_same a b start path message =
+    rw (start, path, message, itself positions_total b.start, itself (lists_total steps_total) b.path) (itself names_total b.error.message)
 
 -- ## The code's parts
 

@@ -1,1 +1,4 @@
 pub mod ErrorOrder
+pub mod Meanings
+pub mod Nulls
+pub mod RoundTrips

@@ -82,6 +82,28 @@ impl<S: ScalarValue> ExecutionError<S> {
             .then(self.path.cmp(&other.path))
             .then(self.error.message().cmp(other.error.message()))
     }
+
+    /// An equal error; an error where memory is refused.
+    pub fn try_clone(&self, alloc: Global) -> Result<Self, AllocError>
+        ensures { IfOk result (λ made. view_listed S.shown made ≡ view_listed S.shown self.now) }
+    {
+        Ok(ExecutionError {
+            location: self.location,
+            path: clone_keys(alloc, self.path.as_slice())?,
+            error: self.error.try_clone(alloc)?,
+        })
+    }
+}
+
+/// The keys, each in memory of its own.
+fn clone_keys(alloc: Global, keys: &[String]) -> Result<Vec<String>, AllocError>
+    ensures { IfOk result (λ made. map (λ k. key (string_bytes k)) made.items ≡ map (λ k. key (string_bytes k)) keys.now) }
+{
+    let mut made = Vec::with_capacity(alloc, keys.len())?;
+    for key in keys {
+        made.push(String::from_str(alloc, key.as_str())?)?;
+    }
+    Ok(made)
 }
 
 /// The keys, each in memory of its own.

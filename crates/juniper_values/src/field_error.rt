@@ -1,7 +1,8 @@
 //! Field errors (section 6.4.4 of the Specification).
 
-ghost use Rattle.std.specs.Prelude.{◌≡◌, IfOk, IfSome};
+ghost use Rattle.std.specs.Prelude.{◌≡◌, IfOk, IfSome, string_bytes};
 ghost use Rattle.juniper_language.specs.ValueView.{view_value};
+ghost use Rattle.juniper_values.specs.Conversions.{message_alone};
 ghost use Rattle.juniper_values.specs.ErrorView.{view_error};
 ghost use Rattle.juniper_values.specs.declared.field_error.ResolveError.TheVariants.{Memory};
 
@@ -33,6 +34,16 @@ impl<S: ScalarValue> FieldError<S> {
         })
     }
 
+    /// The error of this message, with null for its extensions.
+    pub(crate) fn of_message(message: String) -> Self
+        ensures { view_error S.shown result ≡ message_alone (string_bytes message) }
+    {
+        FieldError {
+            message,
+            extensions: Value::Null,
+        }
+    }
+
     /// The message.
     pub fn message(&self) -> &str
         ensures { result.now ≡ (view_error S.shown self.now).message }
@@ -45,6 +56,28 @@ impl<S: ScalarValue> FieldError<S> {
         ensures { view_value S.shown result.now ≡ (view_error S.shown self.now).extensions }
     {
         &self.extensions
+    }
+
+    /// The error whose message is the answer of `f` on this one's message; the extensions stay.
+    pub fn map_message<F: FnOnce(String) -> String>(self, f: F) -> Self
+        requires { F.IsAlwaysCallable f }
+        ensures message { (given answer : _) × (string_bytes given ≡ (view_error S.shown self).message) × F.post f given answer × ((view_error S.shown result).message ≡ string_bytes answer) }
+        ensures extensions { (view_error S.shown result).extensions ≡ (view_error S.shown self).extensions }
+    {
+        FieldError {
+            message: f(self.message),
+            extensions: self.extensions,
+        }
+    }
+
+    /// An equal error; an error where memory is refused.
+    pub fn try_clone(&self, alloc: Global) -> Result<Self, AllocError>
+        ensures { IfOk result (λ made. view_error S.shown made ≡ view_error S.shown self.now) }
+    {
+        Ok(FieldError {
+            message: String::from_str(alloc, self.message.as_str())?,
+            extensions: self.extensions.try_clone(alloc)?,
+        })
     }
 }
 

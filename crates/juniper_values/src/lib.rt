@@ -1,10 +1,15 @@
 //! Values between a server and its resolvers: conversions of input values, and the errors of execution.
 #![tactic(auto)]
 
+mod convert;
 mod execution_error;
 mod field_error;
+mod into_field_error;
+pub mod laws;
 #[cfg(test)]
 mod tests;
 
+pub use convert::{FromInputValue, ToInputValue};
 pub use execution_error::ExecutionError;
 pub use field_error::{ExecutionResult, FieldError, FieldResult, ResolveError};
+pub use into_field_error::IntoFieldError;

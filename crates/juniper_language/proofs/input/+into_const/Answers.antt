@@ -1,4 +1,4 @@
-use Rattle.std.proofs.Common.{◌≡◌, ◌+◌, ℕ, ◌≤◌, Option, Some, None, option_map, unwrap_or, string_bytes, get_or, drop, sym, ap, ap₂, refl, ◌∙◌, arith, rules}
+use Rattle.std.proofs.Common.{◌≡◌, ◌+◌, ◌≤◌, Some, option_map, unwrap_or, string_bytes, get_or, drop, sym, ap, ap₂, refl, ◌∙◌, arith, rules}
 use denote.Param.Weighed.{at_most}
 use Rattle.graphql_spec.specs.Inputs.{null, item, field_if, const, const_items, const_fields, object}
 use Rattle.juniper_language.specs.Positions.{view_span}
@@ -38,7 +38,7 @@ const_items-loop-item-preserved g t c =
     let x = c.item-item.result in
     let rest = const_items vars (view_items shown (drop (l.item-index + 1) c.args.items.now)) in
     items_turn shown (const_items vars) c.args.items.now l.made.items c.push.new.self.items l.item-index x c.or_null-value.result c.in_ok-push.ensures.items (omega arith) c.item-item.is
-      (ap (λ v. item v (view_span x.span) rest) (sym (c.or_null-value.ensures ∙ ap (λ o. unwrap_or o null) c.in_ok-into_const.ensures)))
+    (ap (λ v. item v (view_span x.span) rest) (sym (c.or_null-value.ensures ∙ ap (λ o. unwrap_or o null) c.in_ok-into_const.ensures)))
     ∙ l.invariant
 
 pub const_items-returns : goal.const_items-returns
@@ -61,12 +61,12 @@ const_fields-loop-field-preserved g t c =
           let kept = ap (option_map (view_input shown)) (sym w.in-Some.is) ∙ value in
           let k = sym (w.in_ok-name.ensures.ok ∙ w.as_str.ensures.value) in
           fields_turn shown (const_fields vars) c.args.fields.now l.made.items c.match-branch-3.made.items l.field-index x w.in_ok-name.name w.in-Some.value (ap (λ o. o.items) w.made-is ∙ w.in_ok-push.ensures.items) (omega arith) c.field-item.is
-            (ap₂ (λ k o. field_if k (view_span x.0.span) o (view_span x.1.span) rest) k (sym kept))
+          (ap₂ (λ k o. field_if k (view_span x.0.span) o (view_span x.1.span) rest) k (sym kept))
           ∙ l.invariant
       | const_fields-in_default w ↦
           let gone = ap (option_map (view_input shown)) (sym w.in_default.is) ∙ value in
           rw w.made-is (fields_skip shown (const_fields vars) c.args.fields.now l.made.items l.field-index x (omega arith) c.field-item.is
-            (ap (λ o. field_if (string_bytes x.0.item) (view_span x.0.span) o (view_span x.1.span) rest) (sym gone))
+          (ap (λ o. field_if (string_bytes x.0.item) (view_span x.0.span) o (view_span x.1.span) rest) (sym gone))
           ∙ l.invariant)
     ]
 
@@ -79,10 +79,11 @@ const_fields-returns g t c =
 pub const_fields-into_const-requires : goal.const_fields-into_const-requires
 unfolding const
 const_fields-into_const-requires g t c κs within = (
-    let size = the_size g.row.S g.S.laws in
-    let most_of = (weighed-InputValue-Object-0-at-4 g.row.S.Denot).weight _ size in
-    let at = at_most most_of c.args.fields.now c.loop-field.field-index c.field-item.result (omega arith) in
-    let one : size c.value_of.result.now ≤ most_of c.field-item.result = rw c.value_of.ensures (omega arith) in
-    let same : most_of c.field-item.result ≡ most_of (get_or c.args.fields.now c.loop-field.field-index c.field-item.result) = ap most_of c.field-item.is in
-    omega (arith, c.decreases, at, one, same),
-    search rules)
+  let size = the_size g.row.S g.S.laws in
+      let most_of = (weighed-InputValue-Object-0-at-4 g.row.S.Denot).weight _ size in
+      let at = at_most most_of c.args.fields.now c.loop-field.field-index c.field-item.result (omega arith) in
+      let one : size c.value_of.result.now ≤ most_of c.field-item.result = rw c.value_of.ensures (omega arith) in
+      let same : most_of c.field-item.result ≡ most_of (get_or c.args.fields.now c.loop-field.field-index c.field-item.result) = ap most_of c.field-item.is in
+      omega (arith, c.decreases, at, one, same),
+  search rules,
+)

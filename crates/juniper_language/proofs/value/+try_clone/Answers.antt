@@ -1,4 +1,4 @@
-use Rattle.std.proofs.Common.{◌≡◌, ◌+◌, sym, ap, ◌∙◌, arith}
+use Rattle.std.proofs.Common.{sym, ap, ◌∙◌, arith}
 use Rattle.juniper_language.specs.ValueView.{view_value, view_entries}
 use Rattle.juniper_language.proofs.Values.{view-out, view-roll}
 use Rattle.juniper_language.proofs.ValueLists.{values_turn, values_end, entries_turn, entries_end}
@@ -7,7 +7,7 @@ use Rattle.juniper_language.proofs.value.+try_clone.Goals as goal
 pub clone_values-loop-item-preserved : goal.clone_values-loop-item-preserved
 clone_values-loop-item-preserved g t c =
     values_turn g.S.ScalarValue.shown c.args.items.now c.loop-item.made.items c.push.new.self.items c.loop-item.item-index c.item-item.result c.in_ok-copy.copy c.in_ok-push.ensures.items (omega arith)
-      c.item-item.is c.in_ok-copy.ensures
+    c.item-item.is c.in_ok-copy.ensures
     ∙ c.loop-item.invariant
 
 pub clone_values-returns : goal.clone_values-returns
@@ -19,7 +19,7 @@ clone_object-loop-entry-preserved g t c =
     let shown = g.S.ScalarValue.shown in
     let l = c.loop-entry in
     entries_turn shown c.deref-entry-items.result.now l.made.items c.push.new.self.items l.entry-index c.entry-item.result (c.in_ok-key.key, c.in_ok-copy.copy) c.in_ok-push.ensures.items (omega arith)
-      c.entry-item.is (c.in_ok-key.ensures.ok ∙ c.as_str.ensures.value) (c.in_ok-copy.ensures ∙ ap (view_value shown) c.value_of.ensures)
+    c.entry-item.is (c.in_ok-key.ensures.ok ∙ c.as_str.ensures.value) (c.in_ok-copy.ensures ∙ ap (view_value shown) c.value_of.ensures)
     ∙ l.invariant
 
 pub clone_object-returns : goal.clone_object-returns

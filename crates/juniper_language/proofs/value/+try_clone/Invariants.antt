@@ -1,5 +1,5 @@
 use Rattle.std.proofs.Common.{◌≡◌, drop}
-use Rattle.juniper_language.specs.ValueView.{view_object, view_values, view_entries}
+use Rattle.juniper_language.specs.ValueView.{view_values, view_entries}
 use Rattle.juniper_language.proofs.ValueLists.{append_values, append_entries}
 use Rattle.juniper_language.proofs.value.+try_clone.Given as goal
 

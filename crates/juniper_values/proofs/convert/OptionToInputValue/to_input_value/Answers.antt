@@ -1,0 +1,5 @@
+use Rattle.juniper_values.proofs.Meanings.{means-Null}
+use Rattle.juniper_values.proofs.convert.OptionToInputValue.to_input_value.Goals as goal
+
+pub returns-in-None : goal.returns-in-None
+returns-in-None g c = rw c.in-None.is (means-Null g.S.ScalarValue.shown)

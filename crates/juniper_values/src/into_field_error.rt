@@ -1,0 +1,50 @@
+//! What becomes the error of a field (section 6.4.4 of the Specification).
+
+ghost use Rattle.std.specs.Prelude.{◌≡◌, IfOk, string_bytes};
+ghost use Rattle.graphql_spec.specs.Resolvers.{Error};
+ghost use Rattle.juniper_values.specs.ErrorView.{view_error};
+
+use crate::field_error::FieldError;
+use juniper_language::ScalarValue;
+use std::alloc::{AllocError, Global};
+
+/// A type that becomes the error of a field.
+pub trait IntoFieldError<S: ScalarValue> {
+    /// The error that it becomes.
+    ghost becomes: { Self → Error };
+
+    /// The error of the field; an error where memory is refused.
+    fn into_field_error(self, alloc: Global) -> Result<FieldError<S>, AllocError>
+        ensures { IfOk result (λ made. view_error S.shown made ≡ becomes self) };
+}
+
+/// Itself.
+impl<S: ScalarValue> IntoFieldError<S> for FieldError<S> {
+    ghost becomes = { view_error S.shown };
+
+    fn into_field_error(self, _alloc: Global) -> Result<FieldError<S>, AllocError> {
+        Ok(self)
+    }
+}
+
+/// The error of this message, with null for its extensions.
+impl<S: ScalarValue> IntoFieldError<S> for &str {
+    ghost use Rattle.juniper_values.specs.Conversions.{message_alone};
+
+    ghost becomes = { λ message. message_alone message.now };
+
+    fn into_field_error(self, alloc: Global) -> Result<FieldError<S>, AllocError> {
+        Ok(FieldError::of_message(String::from_str(alloc, self)?))
+    }
+}
+
+/// The error of this message, with null for its extensions.
+impl<S: ScalarValue> IntoFieldError<S> for String {
+    ghost use Rattle.juniper_values.specs.Conversions.{message_alone};
+
+    ghost becomes = { λ message. message_alone (string_bytes message) };
+
+    fn into_field_error(self, _alloc: Global) -> Result<FieldError<S>, AllocError> {
+        Ok(FieldError::of_message(self))
+    }
+}
