@@ -3,6 +3,8 @@ pub mod Inputs
 pub mod Values
 pub mod Rooms
 pub mod Fronts
+pub mod Numbers
+pub mod Decoding
 pub mod LexSteps
 pub mod Boundaries
 pub mod Bytes

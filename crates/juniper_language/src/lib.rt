@@ -6,6 +6,7 @@ mod cursor;
 pub mod error;
 pub mod input;
 mod lexer;
+mod number;
 pub mod parser;
 pub mod position;
 pub mod scalar;

@@ -255,7 +255,7 @@ fn whole_text(ending: Ending) -> ParseResult<()>
 {
     match ending {
         Ending::Whole(_) => Ok(()),
-        Ending::Fault(at) => Err(refused(Span { start: at, end: at })),
+        Ending::Fault(_, _) => Err(ending.refusal()),
     }
 }
 
