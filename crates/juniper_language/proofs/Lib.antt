@@ -12,6 +12,7 @@ pub mod Gaps
 pub mod LexLaws
 pub mod Loops
 pub mod StepLaws
+pub mod ArgumentLaws
 pub mod DirectiveLaws
 pub mod SelectionLaws
 pub mod Plain
