@@ -1,14 +1,15 @@
 -- No character is cut where a token or what is ignored ends.
-use Rattle.std.proofs.Common.{inl, inr, ◌≡◌, ◌≢◌, ℕ, ◌+◌, ◌<◌, true, false, List, [], ◌∷◌, ◌++◌, length, get_or, sym, arith, subst}
-use Rattle.std.proofs.lemmas.Bool.{cases_Bool, cases_lt}
+use Rattle.std.proofs.Common.{inl, inr, ◌≡◌, ◌≢◌, ℕ, ◌+◌, ◌<◌, ◌==◌, Bool, true, false, List, [], ◌∷◌, ◌++◌, length, get_or, sym, arith, subst}
+use Rattle.std.proofs.lemmas.Bool.{cases_Bool, cases_lt, eqb-true}
 use Rattle.std.proofs.lemmas.Bool.Decides.{nat_tests}
 use Rattle.std.proofs.lemmas.Str.{IsUtf8-drop, IsCharBoundary-after_ascii, IsCharBoundary-before_ascii, IsCharBoundary-start, IsCharBoundary-end, IsCharBoundary-past_char, IsCharBoundary-from_rest}
 use Rattle.std.proofs.lemmas.List.Sums.{prefix_len-le-length, prefix_len_stops}
 use Rattle.std.specs.List.{prefix_len}
+use Rattle.std.specs.Char.{is_ascii_digit}
 use Rattle.std.specs.Str.{IsUtf8, IsCharBoundary}
 use Rattle.graphql_spec.specs.Tokens.{is_blank, is_mark, is_source_byte, starts_name, continues_name}
-use Rattle.juniper_language.specs.Lexing.{order_mark, three_dots, ignored_len, lexeme_len}
-use Rattle.juniper_language.proofs.Fronts.{IsIgnored, blank, comment, byte_order, IsTaken, punctuator, letters, dotted, ignored_is, taken_is}
+use Rattle.juniper_language.specs.Lexing.{order_mark, three_dots, ignored_len, number_len, lexeme_len}
+use Rattle.juniper_language.proofs.Fronts.{IsIgnored, blank, comment, byte_order, IsTaken, punctuator, letters, dotted, number, ignored_is, taken_is}
 
 blank_small : (b : ℕ) → is_blank b ≡ true → b < 128
 unfolding is_blank
@@ -29,15 +30,31 @@ name_small b h = grind (arith, nat_tests)
 first_small : (b : ℕ) (bs : List ℕ) → IsUtf8 (b ∷ bs) → b < 128 → IsCharBoundary (b ∷ bs) 1
 first_small b bs u small = IsCharBoundary-after_ascii (b ∷ bs) 0 u (omega arith) small
 
+digit_small : (b : ℕ) → is_ascii_digit b ≡ true → b < 128
+digit_small b h = grind (arith, nat_tests)
+
 -- a run of ASCII
-run_boundary : (bs : List ℕ) → IsUtf8 bs → IsCharBoundary bs (prefix_len continues_name bs)
-run_boundary [] u = IsCharBoundary-start [] u
-run_boundary (b ∷ bs) u = elim (cases_Bool (continues_name b)) [
+run_boundary : (p : ℕ → Bool) → ((b : ℕ) → p b ≡ true → b < 128) → (bs : List ℕ) → IsUtf8 bs → IsCharBoundary bs (prefix_len p bs)
+run_boundary p small [] u = IsCharBoundary-start [] u
+run_boundary p small (b ∷ bs) u = elim (cases_Bool (p b)) [
   | inl e ↦
-      let after : IsCharBoundary (b ∷ bs) 1 = first_small b bs u (name_small b e) in
-      let rest = run_boundary bs (IsUtf8-drop (b ∷ bs) 1 u after) in
-      rw e (IsCharBoundary-from_rest (b ∷ bs) 1 (prefix_len continues_name bs) (omega arith) rest)
+      let after : IsCharBoundary (b ∷ bs) 1 = first_small b bs u (small b e) in
+      let rest = run_boundary p small bs (IsUtf8-drop (b ∷ bs) 1 u after) in
+      rw e (IsCharBoundary-from_rest (b ∷ bs) 1 (prefix_len p bs) (omega arith) rest)
   | inr e ↦ rw e (IsCharBoundary-start (b ∷ bs) u)
+]
+
+-- a number is ASCII
+number_boundary : (bs : List ℕ) → IsUtf8 bs → IsCharBoundary bs (number_len bs)
+unfolding number_len
+number_boundary [] u = IsCharBoundary-start [] u
+number_boundary (b ∷ bs) u = elim (cases_Bool (b == 45)) [
+  | inl e ↦
+      let after : IsCharBoundary (b ∷ bs) 1 = first_small b bs u (omega (arith, eqb-true b 45 e)) in
+      let rest = run_boundary is_ascii_digit digit_small bs (IsUtf8-drop (b ∷ bs) 1 u after) in
+      let count : prefix_len is_ascii_digit bs + 1 ≡ 1 + prefix_len is_ascii_digit bs = omega arith in
+      rw (e, count) (IsCharBoundary-from_rest (b ∷ bs) 1 (prefix_len is_ascii_digit bs) (omega arith) rest)
+  | inr e ↦ rw e (run_boundary is_ascii_digit digit_small (b ∷ bs) u)
 ]
 
 -- a comment ends before ASCII or at the end
@@ -77,8 +94,9 @@ dots_boundary rest bs u is =
 
 taken_at : (bs : List ℕ) (n : ℕ) → IsUtf8 bs → IsTaken bs n → IsCharBoundary bs n
 taken_at bs n u (punctuator b rest is one e) = front_boundary b rest bs n u is one (mark_small b e)
-taken_at bs n u (letters b rest is run e) = rw run (run_boundary bs u)
+taken_at bs n u (letters b rest is run e) = rw run (run_boundary continues_name name_small bs u)
 taken_at bs n u (dotted rest is three) = rw three (dots_boundary rest bs u is)
+taken_at bs n u (number is whole ends) = rw is (number_boundary bs u)
 
 pub taken_boundary : (bs : List ℕ) → lexeme_len bs ≢ 0 → IsUtf8 bs → IsCharBoundary bs (lexeme_len bs)
 taken_boundary bs some u = taken_at bs (lexeme_len bs) u (taken_is bs some)

@@ -3,6 +3,7 @@ use Rattle.std.proofs.Common.{inl, inr, ◌≡◌, ℕ, suc, ◌==◌, Bool, tru
 use Rattle.std.proofs.lemmas.Bool.{cases_Bool, eqb-true, and_parts, and_from, or_cases, not-true, false≢true}
 use Rattle.std.proofs.lemmas.Bool.Decides.{nat_tests}
 use Rattle.std.specs.List.{prefix_len, list_all}
+use Rattle.juniper_language.specs.Lexing.{starts_int}
 use Rattle.graphql_spec.specs.Tokens.{Lexeme, mark, name, int, string, IsToken, is_blank, is_line_end, is_mark, is_source_byte, starts_name, continues_name, is_name, is_int, is_digits, ends_before, mark_text, dots, quote}
 
 -- a token may begin with the byte: it stands for itself, and nothing that is ignored begins with it
@@ -29,6 +30,10 @@ pub mark_no_name : (b : ℕ) → is_mark b ≡ true → starts_name b ≡ false
 unfolding is_mark starts_name
 mark_no_name b e = grind (arith, nat_tests)
 
+pub mark_no_int : (b : ℕ) → is_mark b ≡ true → starts_int b ≡ false
+unfolding is_mark starts_int
+mark_no_int b e = grind (arith, nat_tests)
+
 pub name_no_mark : (b : ℕ) → starts_name b ≡ true → is_mark b ≡ false
 unfolding is_mark starts_name
 name_no_mark b e = grind (arith, nat_tests)
@@ -36,6 +41,19 @@ name_no_mark b e = grind (arith, nat_tests)
 pub mark_no_dot : (b : ℕ) → is_mark b ≡ true → b == 46 ≡ false
 unfolding is_mark
 mark_no_dot b e = grind (arith, nat_tests)
+
+-- an Int begins with no other token
+pub int_no_mark : (b : ℕ) → starts_int b ≡ true → is_mark b ≡ false
+unfolding is_mark starts_int
+int_no_mark b e = grind (arith, nat_tests)
+
+pub int_no_name : (b : ℕ) → starts_int b ≡ true → starts_name b ≡ false
+unfolding starts_name starts_int
+int_no_name b e = grind (arith, nat_tests)
+
+pub int_no_dot : (b : ℕ) → starts_int b ≡ true → 46 == b ≡ false
+unfolding starts_int
+int_no_dot b e = grind (arith, nat_tests)
 
 pub starts_continues : (b : ℕ) → starts_name b ≡ true → continues_name b ≡ true
 unfolding continues_name

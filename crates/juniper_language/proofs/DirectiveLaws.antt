@@ -1,20 +1,21 @@
 -- A directive that is read is spelled so, and one that is served and spelled so is read.
-use Rattle.std.proofs.Common.{inl, inr, ◌≡◌, ℕ, zero, suc, ◌<◌, ◌≤◌, Bool, true, false, List, [], ◌∷◌, length, Some, None, refl, ap, sym, ◌∙◌, subst, arith}
+use Rattle.std.proofs.Common.{inl, inr, ◌≡◌, ℕ, zero, suc, ◌<◌, ◌≤◌, ◌==◌, Bool, true, false, List, [], ◌∷◌, length, Some, None, refl, ap, sym, ◌∙◌, subst, arith}
 use Rattle.std.proofs.lemmas.Option.{none-some}
 use Rattle.std.proofs.lemmas.Bool.{false≢true, and_parts, and_from}
 use Rattle.std.proofs.lemmas.Slice.Eq.{bytes_eq-Decides}
 use Rattle.std.specs.List.{list_all}
 use Rattle.std.specs.Str.{bytes_eq}
-use Rattle.graphql_spec.specs.Shown.{boolean, text, int as int_shown, shown_boolean}
+use Rattle.graphql_spec.specs.Shown.{boolean, text, int as int_shown, shown_boolean, shown_text}
 use Rattle.graphql_spec.specs.Positions.{Span, Spanned}
 use Rattle.graphql_spec.specs.Tokens.{mark, name}
 use Rattle.graphql_spec.specs.Inputs.{Input, null, scalar, enumerated, variable, list, object}
 use Rattle.graphql_spec.specs.Documents.{Word, Argument, Directive, Arguments, written}
 use Rattle.graphql_spec.specs.Directives.{if_name}
 use Rattle.graphql_spec.specs.Grammar.{At, Mark, Keyword, IsWord, span_of, Opt, Many, Between, IsValue, IsArgument, IsArguments, IsDirective, AreDirectives, true_word, false_word, boolean_word}
-use Rattle.graphql_spec.specs.Served.{is_truth, is_condition, is_served_directive}
+use Rattle.graphql_spec.specs.Served.{is_truth, is_condition, is_served_directive, is_served_value}
 use Rattle.juniper_language.specs.Reading.{Reader, and_then, pure, refuse, sees, expect, a_name, a_name_of, with_span, spanned, truth_of, truth, is_if, is_conditional, condition, conditions, directive, directives}
-use Rattle.juniper_language.proofs.StepLaws.{bind_some, pure_some, picked, fewer, mark_seen, other_seen, expect_sound, expect_read, name_sound, name_read, name_of_sound, name_of_read, spanned_is, while_sound, while_read, IsSound, IsPart, many_map}
+use Rattle.juniper_language.proofs.StepLaws.{bind_some, pure_some, picked, fewer, mark_seen, other_seen, expect_sound, expect_read, name_sound, name_read, name_of_sound, name_of_read, spanned_is, while_sound, while_read, IsSound, IsPart, Passing, many_map, many_pass, many_all, many_fewer}
+use Rattle.juniper_language.proofs.ArgumentLaws.{all_served, given_fewer}
 
 -- ---- values
 
@@ -127,7 +128,7 @@ conditions_read c n as' s t h =
 -- ---- directives
 
 abbrev pub IsServedAt : Bool → ℕ → Directive → At → At → Type 0
-IsServedAt c n d s t = IsDirective c n d s t × (is_served_directive d ≡ true)
+IsServedAt c n = Passing (IsDirective c n) is_served_directive
 
 pub directive_sound : (c : Bool) (n : ℕ) → IsSound directive (IsServedAt c (suc n))
 unfolding directive is_served_directive written
@@ -154,70 +155,50 @@ directive_spelled c n x (Some as') place s t h =
 pub directive_read : (c : Bool) (n : ℕ) (d : Directive) (s t : At) → IsServedAt c n d s t → directive s ≡ Some (d, t)
 directive_read c n d s t h = directive_spelled c n d.name d.arguments d.span s t h
 
--- a directive takes tokens
-value_fewer : (c : Bool) (v : Input) (n : ℕ) (s t : At) → IsValue c v n s t → is_truth v ≡ true → length t.ahead < length s.ahead
-unfolding is_truth shown_boolean
-value_fewer c (scalar (boolean b)) n s t h e = fewer (name (boolean_word b)) h.0 s t h.1
-value_fewer c (scalar (int_shown i)) n s t h e = absurd (false≢true e)
-value_fewer c (scalar (text w)) n s t h e = absurd (false≢true e)
-value_fewer c null n s t h e = absurd (false≢true e)
-value_fewer c (enumerated w) n s t h e = absurd (false≢true e)
-value_fewer c (variable w) n s t h e = absurd (false≢true e)
-value_fewer c (list w) n s t h e = absurd (false≢true e)
-value_fewer c (object w) n s t h e = absurd (false≢true e)
+-- a condition's arguments are served as those of a field are
+truth_served : (v : Input) → is_truth v ≡ true → is_served_value v ≡ true
+unfolding is_truth is_served_value shown_boolean shown_text
+truth_served (scalar (boolean b)) e = refl
+truth_served (scalar (int_shown i)) e = absurd (false≢true e)
+truth_served (scalar (text w)) e = absurd (false≢true e)
+truth_served null e = absurd (false≢true e)
+truth_served (enumerated w) e = absurd (false≢true e)
+truth_served (variable w) e = absurd (false≢true e)
+truth_served (list w) e = absurd (false≢true e)
+truth_served (object w) e = absurd (false≢true e)
 
-conditions_fewer : (c : Bool) (xs : List Argument) (n : ℕ) (s t : At) → Between 40 41 (IsArgument c) xs n s t → is_condition xs ≡ true → length t.ahead < length s.ahead
+pub condition_served : (xs : List Argument) → is_condition xs ≡ true → all_served xs ≡ true
 unfolding is_condition
-conditions_fewer c [] n s t h e = absurd h
-conditions_fewer c (x ∷ []) zero s t h e = absurd h
-conditions_fewer c (x ∷ []) (suc n) s t h e =
-    let a = h.3.1 in
-    omega (
-      arith,
-      fewer (mark 40) h.2.0 s h.0 h.2.1,
-      fewer (name x.name.item) x.name.span h.0 a.0 a.2,
-      fewer (mark 58) a.3.0 a.0 a.1 a.3.1,
-      value_fewer c x.value.item n a.1 h.3.0 a.4 (and_parts _ _ e).1,
-      ap (λ (u : At). length u.ahead) h.3.2,
-      fewer (mark 41) h.4.0 h.1 t h.4.1,
-    )
-conditions_fewer c (x ∷ y ∷ xs) n s t h e = absurd (false≢true e)
+condition_served [] e = absurd (false≢true e)
+condition_served (x ∷ []) e = and_from _ true (truth_served x.value.item (and_parts _ _ e).1) refl
+condition_served (x ∷ y ∷ xs) e = absurd (false≢true e)
 
-given_fewer : (c : Bool) (n : ℕ) (o : Arguments) (s t : At) → Opt (IsArguments c n) o s t → is_condition (written o) ≡ true → length t.ahead < length s.ahead
-unfolding written is_condition
-given_fewer c n None s t h e = absurd (false≢true e)
-given_fewer c n (Some as') s t h e = conditions_fewer c as'.item n s t h.0 e
-
-directive_part : (c : Bool) (n : ℕ) (d : Directive) (s t : At) → IsServedAt c n d s t → IsPart 64 true directive d s t
+pub directive_served : (d : Directive) → is_served_directive d ≡ true → all_served (written d.arguments) ≡ true
 unfolding is_served_directive
+directive_served d e = condition_served (written d.arguments) (and_parts _ _ e).1
+
+-- a directive takes tokens
+directive_part : (c : Bool) (n : ℕ) (d : Directive) (s t : At) → IsServedAt c n d s t → IsPart 64 true directive d s t
 directive_part c n d s t h = record {
   reads = directive_read c n d s t h;
-  less = omega (arith, fewer (mark 64) h.0.2.0 s h.0.0 h.0.2.1, fewer (name d.name.item) d.name.span h.0.0 h.0.1 h.0.3, given_fewer c n d.arguments h.0.1 t h.0.4 (and_parts _ _ h.1).1);
+  less = omega (arith, fewer (mark 64) h.0.2.0 s h.0.0 h.0.2.1, fewer (name d.name.item) d.name.span h.0.0 h.0.1 h.0.3, given_fewer c n d.arguments h.0.1 t (h.0.4, directive_served d h.1));
   first = mark_seen 64 s h.0.0 h.0.2;
 }
 
-many_served : (c : Bool) (n : ℕ) (ds : List Directive) (s t : At) → AreDirectives c n ds s t → list_all is_served_directive ds ≡ true → Many (IsServedAt c n) ds s t
-many_served c n [] s t h e = h
-many_served c n (d ∷ ds) s t h e = let parts = and_parts _ _ e in (h.0, (h.1, parts.0), many_served c n ds h.0 t h.2 parts.1)
-
-many_of : (c : Bool) (n : ℕ) (ds : List Directive) (s t : At) → Many (IsServedAt c n) ds s t → AreDirectives c n ds s t × (list_all is_served_directive ds ≡ true)
-many_of c n [] s t h = (h, refl)
-many_of c n (d ∷ ds) s t h = let rest = many_of c n ds h.0 t h.2 in ((h.0, h.1.0, rest.0), and_from _ _ h.1.1 rest.1)
+directives_parts : (c : Bool) (n : ℕ) (ds : List Directive) (s t : At) → AreDirectives c n ds s t → list_all is_served_directive ds ≡ true → Many (IsPart 64 true directive) ds s t
+directives_parts c n ds s t h e = many_map (IsServedAt c n) (IsPart 64 true directive) (directive_part c n) ds s t (many_pass (IsDirective c n) is_served_directive ds s t h e)
 
 pub directives_sound : (c : Bool) (n : ℕ) (s t : At) (ds : List Directive) → directives s ≡ Some (ds, t) → AreDirectives c (suc n) ds s t × (list_all is_served_directive ds ≡ true)
-directives_sound c n s t ds e = many_of c (suc n) ds s t (while_sound 64 directive (IsServedAt c (suc n)) (directive_sound c n) (length s.ahead) s t ds e)
+directives_sound c n s t ds e =
+    many_all (IsDirective c (suc n)) is_served_directive ds s t (while_sound 64 directive (IsServedAt c (suc n)) (directive_sound c n) (length s.ahead) s t ds e)
 
 pub directives_read : (c : Bool) (n : ℕ) (ds : List Directive) (s t : At) → AreDirectives c n ds s t → list_all is_served_directive ds ≡ true → sees 64 t ≡ false → directives s ≡ Some (ds, t)
-directives_read c n ds s t h e ends =
-    while_read 64 directive ds (length s.ahead) s t (many_map (IsServedAt c n) (IsPart 64 true directive) (directive_part c n) ds s t (many_served c n ds s t h e)) ends (omega arith)
+directives_read c n ds s t h e ends = while_read 64 directive ds (length s.ahead) s t (directives_parts c n ds s t h e) ends (omega arith)
 
--- what comes before directives: one, or what comes after them
-pub directives_first : (c : Bool) (n : ℕ) (ds : List Directive) (s t : At) → AreDirectives c n ds s t → sees 58 t ≡ false → sees 58 s ≡ false
-directives_first c n [] s t h ends = subst (λ u. sees 58 u ≡ false) (sym h) ends
-directives_first c n (d ∷ ds) s t h ends = other_seen 64 58 s h.1.0 refl h.1.2
+-- before directives stands the mark of one, or what stands after them
+pub directives_first : (m : ℕ) (c : Bool) (n : ℕ) (ds : List Directive) (s t : At) → 64 == m ≡ false → AreDirectives c n ds s t → sees m t ≡ false → sees m s ≡ false
+directives_first m c n [] s t e h ends = ap (sees m) h ∙ ends
+directives_first m c n (d ∷ ds) s t e h ends = other_seen 64 m s h.1.0 e h.1.2
 
 pub directives_fewer : (c : Bool) (n : ℕ) (ds : List Directive) (s t : At) → AreDirectives c n ds s t → list_all is_served_directive ds ≡ true → length t.ahead ≤ length s.ahead
-directives_fewer c n [] s t h e = omega (arith, ap (λ (u : At). length u.ahead) h)
-directives_fewer c n (d ∷ ds) s t h e =
-    let parts = and_parts (is_served_directive d) (list_all is_served_directive ds) e in
-    omega (arith, (directive_part c n d s h.0 (h.1, parts.0)).less, directives_fewer c n ds h.0 t h.2 parts.1)
+directives_fewer c n ds s t h e = many_fewer 64 true directive ds s t (directives_parts c n ds s t h e)

@@ -1,15 +1,16 @@
--- The tokens that are read are those of the text, and of names and punctuators a text has just those.
-use Rattle.std.proofs.Common.{inl, inr, ◌≡◌, ◌≢◌, ℕ, zero, suc, ◌≤◌, ◌==◌, ◌||◌, ◌⊎◌, true, false, IsTrue, List, [], ◌∷◌, ◌++◌, length, take, drop, refl, ap, ap₂, sym, ◌∙◌, arith, subst, append_assoc, append-nil}
+-- The tokens that are read are those of the text, and of names, Ints and punctuators a text has just those.
+use Rattle.std.proofs.Common.{inl, inr, ◌≡◌, ◌≢◌, ℕ, zero, suc, ◌≤◌, ◌==◌, nat_eq, ◌||◌, ◌⊎◌, true, false, IsTrue, List, [], ◌∷◌, ◌++◌, length, take, drop, refl, ap, ap₂, sym, ◌∙◌, arith, subst, append_assoc, append-nil}
 use Rattle.std.proofs.lemmas.Bool.{cases_Bool, cases_eq, eqb-true, eq-eqb, ne_eqb, false≢true, and_parts, and_from, or_cases}
 use Rattle.std.proofs.lemmas.List.{take-append-drop, nil_from_length, length-append}
 use Rattle.std.proofs.Math.Seq.{take-append_seam, drop-append_seam}
-use Rattle.std.specs.List.{prefix_len, list_all}
+use Rattle.std.specs.List.{prefix_len, list_all, starts_with}
 use Rattle.graphql_spec.specs.Positions.{Position, Spot, beginning, walk}
-use Rattle.graphql_spec.specs.Tokens.{Lexeme, mark, name, int, string, Token, IsToken, IsText, is_nil, is_mark, dots, mark_text, is_name, starts_name, continues_name, ends_before, is_ignored, between}
-use Rattle.juniper_language.specs.Lexing.{Front, Lexed, whole, fault, past, three_dots, ignored_len, lexeme_len, lexeme_of, token_of, at_end, at_fault, with_token, lex_step, lex, lex_from, lexed}
+use Rattle.graphql_spec.specs.Tokens.{Lexeme, mark, name, int, string, Token, IsToken, IsText, is_nil, is_mark, dots, mark_text, is_name, starts_name, continues_name, is_int, continues_int, ends_before, is_ignored, between}
+use Rattle.juniper_language.specs.Lexing.{Front, Lexed, whole, fault, past, three_dots, ignored_len, int_len, starts_int, lexeme_len, lexeme_of, token_of, at_end, at_fault, with_token, lex_step, lex, lex_from, lexed}
 use Rattle.juniper_language.proofs.Rooms.{walk-append}
-use Rattle.juniper_language.proofs.Bytes.{at_token, token_begins, mark_no_name, name_no_mark, mark_no_dot, starts_continues, run_suc, run_exact, run_all, run_ends}
-use Rattle.juniper_language.proofs.Fronts.{IsIgnored, IsTaken, punctuator, letters, dotted, ignored_is, taken_is, ignored_fits, taken_fits}
+use Rattle.juniper_language.proofs.Bytes.{at_token, token_begins, mark_no_name, mark_no_int, name_no_mark, mark_no_dot, int_no_mark, int_no_name, int_no_dot, starts_continues, run_suc, run_exact, run_all, run_ends}
+use Rattle.juniper_language.proofs.Fronts.{IsIgnored, IsTaken, punctuator, letters, dotted, number, ignored_is, taken_is, ignored_fits, taken_fits}
+use Rattle.juniper_language.proofs.Numbers.{int_starts, int_exact}
 use Rattle.juniper_language.proofs.Gaps.{joins, splits, seen}
 use Rattle.juniper_language.proofs.LexSteps.{shorter}
 
@@ -74,14 +75,19 @@ text_after at (t ∷ ts) bs n gap h =
 
 mark_is : (b : ℕ) (bs : List ℕ) → is_mark b ≡ true → lexeme_of (b ∷ bs) ≡ mark b
 unfolding lexeme_of
-mark_is b bs e = rw (mark_no_name b e) refl
+mark_is b bs e = rw (mark_no_name b e, mark_no_int b e) refl
 
 name_is : (b : ℕ) (bs : List ℕ) → starts_name b ≡ true → lexeme_of (b ∷ bs) ≡ name (b ∷ bs)
 unfolding lexeme_of
 name_is b bs e = rw e refl
 
+int_is : (w : List ℕ) → is_int w ≡ true → lexeme_of w ≡ int w
+unfolding lexeme_of is_int
+int_is [] e = absurd (false≢true e)
+int_is (b ∷ bs) e = let starts = int_starts b bs e in rw (int_no_name b starts, starts) refl
+
 dots_are : lexeme_of three_dots ≡ mark dots
-unfolding lexeme_of starts_name
+unfolding lexeme_of starts_name starts_int
 dots_are = refl
 
 one_mark : (b : ℕ) → is_mark b ≡ true → mark_text b ≡ b ∷ []
@@ -108,12 +114,13 @@ taken_sound bs n (letters b rest is run e) =
     let back = drop (prefix_len continues_name rest) rest in
     rw (is, count) (subst (λ l. IsToken l (b ∷ front) back) (sym (name_is b front e)) (name_token b front back e (run_all continues_name rest) (run_ends continues_name rest)))
 taken_sound bs n (dotted rest is three) = rw (is, three) (subst (λ l. IsToken l three_dots rest) (sym dots_are) (dots_token rest))
+taken_sound bs n (number is proper ends) = subst (λ l. IsToken l (take n bs) (drop n bs)) (sym (int_is (take n bs) proper)) (refl, proper, ends)
 
--- a name or a punctuator
+-- a name, an Int or a punctuator
 abbrev pub IsPlain : Lexeme → Type 0
 IsPlain (mark m) = Unit {0}
 IsPlain (name w) = Unit {0}
-IsPlain (int w) = ⊥
+IsPlain (int w) = Unit {0}
 IsPlain (string raw) = ⊥
 
 abbrev pub ArePlain : List Token → Type 0
@@ -158,10 +165,23 @@ word_read (b ∷ bs) rest h ends =
     let all : list_all continues_name (b ∷ bs) ≡ true = and_from (continues_name b) _ (starts_continues b parts.0) parts.1 in
     record { count = name_read b (bs ++ rest) parts.0 ∙ run_exact continues_name (b ∷ bs) rest all ends; is = name_is b bs parts.0; some = omega arith }
 
+no_dots : (b : ℕ) (rest : List ℕ) → 46 == b ≡ false → starts_with nat_eq (b ∷ rest) three_dots ≡ false
+no_dots b rest e = rw e refl
+
+number_read : (b : ℕ) (rest : List ℕ) → starts_int b ≡ true → lexeme_len (b ∷ rest) ≡ int_len (b ∷ rest)
+unfolding lexeme_len
+number_read b rest e = rw (int_no_mark b e, int_no_name b e, no_dots b rest (int_no_dot b e)) refl
+
+int_read : (w rest : List ℕ) → is_int w ≡ true → ends_before continues_int rest ≡ true → IsRead (int w) w rest
+unfolding is_int
+int_read [] rest e ends = absurd (false≢true e)
+int_read (b ∷ bs) rest e ends =
+    record { count = number_read b (bs ++ rest) (int_starts b bs e) ∙ int_exact (b ∷ bs) rest e ends; is = int_is (b ∷ bs) e; some = omega arith }
+
 plain_read : (l : Lexeme) (w rest : List ℕ) → IsPlain l → IsToken l w rest → IsRead l w rest
 plain_read (mark m) w rest plain h = rw h.0 (punctuator_read m rest (some_mark m h.1))
 plain_read (name x) w rest plain h = rw h.0 (word_read x rest h.1 h.2)
-plain_read (int x) w rest plain h = absurd plain
+plain_read (int x) w rest plain h = rw h.0 (int_read x rest h.1 h.2)
 plain_read (string x) w rest plain h = absurd plain
 
 -- ---- a step of the lexer, by what stands there
@@ -306,7 +326,7 @@ pub lexed_sound : (bytes : List ℕ) (p : Position) → (lexed bytes).ending ≡
 unfolding lex_from
 lexed_sound bytes p ends = lex_sound (length bytes) (record { at = beginning; ahead = bytes }) (omega arith) p ends
 
--- tokens of a text that are names and punctuators are read to its end
+-- tokens of a text that are names, Ints and punctuators are read to its end
 pub lexed_complete : (bytes : List ℕ) (ts : List Token) → IsText beginning ts bytes → ArePlain ts → Complete ts (lexed bytes)
 unfolding lex_from
 lexed_complete bytes ts text plain = lex_complete (length bytes) (record { at = beginning; ahead = bytes }) ts (omega arith) text plain

@@ -5,6 +5,8 @@ pub mod Values
 pub mod ValueLists
 pub mod Rooms
 pub mod Fronts
+pub mod Numbers
+pub mod Decoding
 pub mod LexSteps
 pub mod Boundaries
 pub mod Bytes
@@ -12,6 +14,7 @@ pub mod Gaps
 pub mod LexLaws
 pub mod Loops
 pub mod StepLaws
+pub mod ArgumentLaws
 pub mod DirectiveLaws
 pub mod SelectionLaws
 pub mod Plain

@@ -1,17 +1,18 @@
 -- Steps of the parser's loops, and views of what they make.
-use Rattle.std.proofs.Common.{◌≡◌, ℕ, zero, suc, ◌+◌, ◌-◌, ◌<◌, ◌≤◌, Bool, true, false, List, [], ◌∷◌, ◌++◌, map, Vec, Global, Bor, Option, Some, None, option_map, refl, ap, sym, ◌∙◌, arith, append_assoc, append-nil}
-use Rattle.graphql_spec.specs.Shown.{Shown, boolean}
+use Rattle.std.proofs.Common.{◌≡◌, ℕ, zero, suc, ◌+◌, ◌-◌, ◌<◌, ◌≤◌, Bool, true, false, ℤ, List, [], ◌∷◌, ◌++◌, map, Vec, Global, Bor, Option, Some, None, option_map, refl, ap, sym, ◌∙◌, arith, append_assoc, append-nil}
+use Rattle.graphql_spec.specs.Shown.{Shown, int, boolean}
 use Rattle.graphql_spec.specs.Inputs as spec
 use Rattle.graphql_spec.specs.Tokens.{Token}
 use Rattle.graphql_spec.specs.Documents.{Selections, end}
 use Rattle.graphql_spec.specs.Grammar.{At}
 use Rattle.juniper_language.specs.InputView.{view_input}
 use Rattle.juniper_language.specs.Positions.{view_span}
-use Rattle.juniper_language.specs.DocumentView.{put_selection, view_word, view_directives, chain}
+use Rattle.juniper_language.specs.DocumentView.{put_selection, view_word, view_arguments, view_directives, chain}
 use Rattle.juniper_language.specs.Reading.{Reader, Outcome, and_then, pure, next, sees, while_sees, until, prepend, put_first, placed, ◌>>=◌, Node, field_node, put, selections_of, selection, head_of}
 use Rattle.juniper_language.specs.declared.input.InputValue.{Scalar}
 use Rattle.juniper_language.specs.declared.position.Spanning.{Spanning}
 use Rattle.juniper_language.specs.declared.position.Span.{Span}
+use Rattle.juniper_language.specs.declared.ast.Arguments.{Arguments}
 use Rattle.juniper_language.specs.declared.ast.Directive.{Directive}
 use Rattle.juniper_language.specs.declared.ast.Field.{roll-Field}
 use Rattle.juniper_language.specs.declared.ast.Selection.{Field}
@@ -20,6 +21,9 @@ use Rattle.juniper_language.proofs.Documents.{put-Field}
 
 pub view_truth : {S : Type 0} (shown : S → Shown) (x : S) (b : Bool) → shown x ≡ boolean b → view_input shown (Scalar x) ≡ spec.scalar (boolean b)
 view_truth shown x b e = view-Scalar shown x ∙ ap spec.scalar e
+
+pub view_int : {S : Type 0} (shown : S → Shown) (x : S) (i : ℤ) → shown x ≡ int i → view_input shown (Scalar x) ≡ spec.scalar (int i)
+view_int shown x i e = view-Scalar shown x ∙ ap spec.scalar e
 
 pub prepend_nil : {A : Type 0} (o : Outcome (List A)) → prepend [] o ≡ o
 prepend_nil None = refl
@@ -65,6 +69,38 @@ pub while_none : {A : Type 0} (m : ℕ) (p : Reader A) (k : ℕ) (s : At) → se
 unfolding while_sees
 while_none m p zero s other = refl
 while_none m p (suc k) s other = rw other refl
+
+-- ---- parts up to a closing mark
+
+abbrev pub behind_part : {A : Type 0} → ℕ → Reader A → ℕ → List A → Outcome A → Outcome (List A)
+behind_part m p k front (Some q) = prepend (front ++ q.0 ∷ []) (until m p k q.1)
+behind_part m p k front None = None
+
+part_from : {A : Type 0} (m : ℕ) (p : Reader A) (k : ℕ) (front : List A) (o : Outcome A)
+    → prepend front (and_then o (λ x. until m p k >>= (λ xs. pure (x ∷ xs)))) ≡ behind_part m p k front o
+part_from m p k front None = refl
+part_from m p k front (Some q) = prepend_cons front q.0 (until m p k q.1)
+
+abbrev pub at_close : {A : Type 0} → List A → Outcome Token → Outcome (List A)
+at_close front (Some q) = Some (front, q.1)
+at_close front None = None
+
+close_from : {A : Type 0} (front : List A) (o : Outcome Token) → prepend front (and_then o (λ t. pure [])) ≡ at_close front o
+close_from front None = refl
+close_from front (Some q) = ap (λ v. Some (v, q.1)) (append-nil front)
+
+pub parts_more : {A : Type 0} (m : ℕ) (p : Reader A) (e i : ℕ) (front : List A) (s : At) → i < e → sees m s ≡ false
+    → prepend front (until m p (e - i) s) ≡ behind_part m p (e - (i + 1)) front (p s)
+unfolding until
+parts_more m p e i front s below other = rw (left_suc e i below, other) (part_from m p (e - (i + 1)) front (p s))
+
+pub parts_end : {A : Type 0} (m : ℕ) (p : Reader A) (e i : ℕ) (front : List A) (s : At) → i < e → sees m s ≡ true → prepend front (until m p (e - i) s) ≡ at_close front (next s)
+unfolding until
+parts_end m p e i front s below close = rw (left_suc e i below, close) (close_from front (next s))
+
+pub parts_none : {A : Type 0} (m : ℕ) (p : Reader A) (e i : ℕ) (front : List A) (s : At) → e ≤ i → prepend front (until m p (e - i) s) ≡ None
+unfolding until
+parts_none m p e i front s past = let z : e - i ≡ 0 = omega arith in rw z refl
 
 -- ---- selections up to the closing brace
 
@@ -120,10 +156,10 @@ turn_on m e i fs gs f s t o below other one is kept =
     let more : chain gs ≡ (λ r. chain fs (f r)) = ap chain is ∙ chain_push fs f in
     ap (λ (g : Putting). put_first g (until m selection (e - (i + 1)) t)) more ∙ sym (until_more m e i (chain fs) s below other ∙ ap (behind_node m (e - (i + 1)) (chain fs)) one) ∙ kept
 
--- a field without arguments and selections
+-- a field without selections
 pub view_of_field : {S : Type 0} (shown : S → Shown) (alias : Option (Spanning (Bor (List ℕ)) Span)) (name : Spanning (Bor (List ℕ)) Span)
-    (ds : Option (Vec (Spanning (Directive S) Span) Global)) (sp : Span)
-    → ◌≡◌ {A = Putting} (put_selection shown (Field (record { item = roll-Field S (record { alias = alias; name = name; arguments = None; directives = ds; selection_set = None }); span = sp })))
-    (put (field_node (head_of (option_map view_word alias, view_word name) (view_directives shown ds) (view_span sp)) end))
-view_of_field {S} shown alias name ds sp = λ i r.
-    put-Field shown (record { item = roll-Field S (record { alias = alias; name = name; arguments = None; directives = ds; selection_set = None }); span = sp }) r i
+    (as' : Option (Spanning (Arguments S) Span)) (ds : Option (Vec (Spanning (Directive S) Span) Global)) (sp : Span)
+    → ◌≡◌ {A = Putting} (put_selection shown (Field (record { item = roll-Field S (record { alias = alias; name = name; arguments = as'; directives = ds; selection_set = None }); span = sp })))
+    (put (field_node (head_of (option_map view_word alias, view_word name) (view_arguments shown as') (view_directives shown ds) (view_span sp)) end))
+view_of_field {S} shown alias name as' ds sp = λ i r.
+    put-Field shown (record { item = roll-Field S (record { alias = alias; name = name; arguments = as'; directives = ds; selection_set = None }); span = sp }) r i

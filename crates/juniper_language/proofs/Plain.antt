@@ -1,4 +1,4 @@
--- Of what is served each token is a name or a punctuator.
+-- Of what is served each token is a name, an Int or a punctuator.
 use Rattle.std.proofs.Common.{◌≡◌, ℕ, zero, suc, Bool, true, false, List, [], ◌∷◌, Option, Some, None, sym, subst}
 use Rattle.std.proofs.lemmas.Bool.{false≢true, and_parts}
 use Rattle.std.specs.List.{list_all}
@@ -7,9 +7,12 @@ use Rattle.graphql_spec.specs.Positions.{Span}
 use Rattle.graphql_spec.specs.Tokens.{Lexeme, mark, name}
 use Rattle.graphql_spec.specs.Inputs.{Input, null, scalar, enumerated, variable, list, object}
 use Rattle.graphql_spec.specs.Documents.{Word, Argument, Arguments, Directive, Selections, end, field, spread, inline, written}
-use Rattle.graphql_spec.specs.Grammar.{At, Takes, Mark, IsWord, Opt, Between, IsValue, IsArgument, IsArguments, AreDirectives, Alias, IsField, AreSelections, boolean_word}
+use Rattle.graphql_spec.specs.Grammar.{At, Takes, Mark, IsWord, Opt, Many, Between, IsDirective, IsArgument, IsArguments, AreDirectives, Alias, IsField, AreSelections, boolean_word}
 use Rattle.graphql_spec.specs.Served.{is_truth, is_condition, is_served_directive, is_served_field, are_served}
 use Rattle.juniper_language.proofs.LexLaws.{IsPlain, ArePlain}
+use Rattle.juniper_language.proofs.StepLaws.{many_pass}
+use Rattle.juniper_language.proofs.ArgumentLaws.{all_served, has_served_value, Argued, one_token}
+use Rattle.juniper_language.proofs.DirectiveLaws.{IsServedAt, directive_served}
 
 -- what is taken from s to t is plain, where what is left is
 abbrev pub Plain : At → At → Type 0
@@ -27,42 +30,32 @@ mark_plain m s t h = takes_plain (mark m) h.0 s t tt h.1
 word_plain : (x : Word) (s t : At) → IsWord x s t → Plain s t
 word_plain x s t h = takes_plain (name x.item) x.span s t tt h
 
-value_plain : (c : Bool) (v : Input) (n : ℕ) (s t : At) → IsValue c v n s t → is_truth v ≡ true → Plain s t
-unfolding is_truth shown_boolean
-value_plain c (scalar (boolean b)) n s t h e = takes_plain (name (boolean_word b)) h.0 s t tt h.1
-value_plain c (scalar (int_shown i)) n s t h e = absurd (false≢true e)
-value_plain c (scalar (text w)) n s t h e = absurd (false≢true e)
-value_plain c null n s t h e = absurd (false≢true e)
-value_plain c (enumerated w) n s t h e = absurd (false≢true e)
-value_plain c (variable w) n s t h e = absurd (false≢true e)
-value_plain c (list w) n s t h e = absurd (false≢true e)
-value_plain c (object w) n s t h e = absurd (false≢true e)
+many_plain : {A : Type 0} (R : A → At → At → Type 0) → ((x : A) (s t : At) → R x s t → Plain s t) → (xs : List A) (s t : At) → Many R xs s t → Plain s t
+many_plain R f [] s t h = same_plain s t h
+many_plain R f (x ∷ xs) s t h = λ rest. f x s h.0 h.1 (many_plain R f xs h.0 t h.2 rest)
 
-argument_plain : (c : Bool) (n : ℕ) (x : Argument) (s t : At) → IsArgument c n x s t → is_truth x.value.item ≡ true → Plain s t
-argument_plain c n x s t h e rest = word_plain x.name s h.0 h.2 (mark_plain 58 h.0 h.1 h.3 (value_plain c x.value.item n h.1 t h.4 e rest))
+argument_plain : (c : Bool) (n : ℕ) (x : Argument) (s t : At) → Argued c n x s t → Plain s t
+argument_plain c n x s t (h, served) rest =
+    let one = one_token c n x.value.item h.1 t (h.4, served) in
+    word_plain x.name s h.0 h.2 (mark_plain 58 h.0 h.1 h.3 (takes_plain one.lexeme one.place h.1 t one.is_plain one.takes rest))
 
-conditions_plain : (c : Bool) (xs : List Argument) (n : ℕ) (s t : At) → Between 40 41 (IsArgument c) xs n s t → is_condition xs ≡ true → Plain s t
-unfolding is_condition
-conditions_plain c [] n s t h e rest = absurd h
-conditions_plain c (x ∷ []) zero s t h e rest = absurd h
-conditions_plain c (x ∷ []) (suc n) s t h e rest =
-    let inside = same_plain h.3.0 h.1 h.3.2 (mark_plain 41 h.1 t h.4 rest) in
-    mark_plain 40 s h.0 h.2 (argument_plain c n x h.0 h.3.0 h.3.1 (and_parts _ _ e).1 inside)
-conditions_plain c (x ∷ y ∷ xs) n s t h e rest = absurd (false≢true e)
+brackets_plain : (c : Bool) (xs : List Argument) (n : ℕ) (s t : At) → Between 40 41 (IsArgument c) xs n s t → all_served xs ≡ true → Plain s t
+brackets_plain c [] n s t h e rest = absurd h
+brackets_plain c (x ∷ xs) zero s t h e rest = absurd h
+brackets_plain c (x ∷ xs) (suc n) s t (a, b, opens, inside, closes) e rest =
+    let all = many_pass (IsArgument c n) has_served_value (x ∷ xs) a b inside e in
+    mark_plain 40 s a opens (many_plain (Argued c n) (argument_plain c n) (x ∷ xs) a b all (mark_plain 41 b t closes rest))
 
-given_plain : (c : Bool) (n : ℕ) (o : Arguments) (s t : At) → Opt (IsArguments c n) o s t → is_condition (written o) ≡ true → Plain s t
-unfolding written is_condition
-given_plain c n None s t h e = absurd (false≢true e)
-given_plain c n (Some as') s t h e = conditions_plain c as'.item n s t h.0 e
+given_plain : (c : Bool) (n : ℕ) (o : Arguments) (s t : At) → Opt (IsArguments c n) o s t → all_served (written o) ≡ true → Plain s t
+unfolding written
+given_plain c n None s t h e = same_plain s t h
+given_plain c n (Some as') s t h e = brackets_plain c as'.item n s t h.0 e
+
+directive_plain : (c : Bool) (n : ℕ) (d : Directive) (s t : At) → IsServedAt c n d s t → Plain s t
+directive_plain c n d s t (h, served) rest = mark_plain 64 s h.0 h.2 (word_plain d.name h.0 h.1 h.3 (given_plain c n d.arguments h.1 t h.4 (directive_served d served) rest))
 
 directives_plain : (c : Bool) (n : ℕ) (ds : List Directive) (s t : At) → AreDirectives c n ds s t → list_all is_served_directive ds ≡ true → Plain s t
-unfolding is_served_directive
-directives_plain c n [] s t h e = same_plain s t h
-directives_plain c n (d ∷ ds) s t h e =
-    let parts = and_parts (is_served_directive d) (list_all is_served_directive ds) e in
-    let one = h.1 in
-    λ rest.
-    mark_plain 64 s one.0 one.2 (word_plain d.name one.0 one.1 one.3 (given_plain c n d.arguments one.1 h.0 one.4 (and_parts _ _ parts.0).1 (directives_plain c n ds h.0 t h.2 parts.1 rest)))
+directives_plain c n ds s t h e = many_plain (IsServedAt c n) (directive_plain c n) ds s t (many_pass (IsDirective c n) is_served_directive ds s t h e)
 
 alias_plain : (alias : Option Word) (s t : At) → Opt Alias alias s t → Plain s t
 alias_plain None s t h = same_plain s t h
@@ -72,11 +65,11 @@ field_plain : (n : ℕ) (alias : Option Word) (x : Word) (as' : Arguments) (ds :
     → IsField (record { alias = alias; name = x; arguments = as'; directives = ds; has_set = b; span = place }) below (AreSelections below) n s t
     → is_served_field (record { alias = alias; name = x; arguments = as'; directives = ds; has_set = b; span = place }) ≡ true → Plain s t
 unfolding is_served_field
-field_plain n alias x (Some as') ds b place below s t h e rest = absurd (false≢true e)
-field_plain n alias x None ds true place below s t h e rest = absurd (false≢true e)
-field_plain n alias x None ds false place below s t h e rest =
-    let behind = same_plain h.1 h.2 h.6 (directives_plain false n ds h.2 h.3 h.7 e (same_plain h.3 t h.8.1 rest)) in
-    alias_plain alias s h.0 h.4 (word_plain x h.0 h.1 h.5 behind)
+field_plain n alias x as' ds true place below s t h e rest = absurd (false≢true (and_parts (all_served (written as')) false e).1)
+field_plain n alias x as' ds false place below s t h e rest =
+    let parts = and_parts (all_served (written as')) (list_all is_served_directive ds) e in
+    let behind = directives_plain false n ds h.2 h.3 h.7 parts.1 (same_plain h.3 t h.8.1 rest) in
+    alias_plain alias s h.0 h.4 (word_plain x h.0 h.1 h.5 (given_plain false n as' h.1 h.2 h.6 parts.0 behind))
 
 pub selections_plain : (n : ℕ) (x : Selections) (s t : At) → AreSelections x n s t → are_served x ≡ true → Plain s t
 unfolding are_served

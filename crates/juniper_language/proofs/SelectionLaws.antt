@@ -4,11 +4,13 @@ use Rattle.std.proofs.lemmas.Option.{none-some}
 use Rattle.std.proofs.lemmas.Bool.{false≢true, true≢false, and_parts, and_from}
 use Rattle.graphql_spec.specs.Positions.{Span}
 use Rattle.graphql_spec.specs.Tokens.{Token, mark, name}
-use Rattle.graphql_spec.specs.Documents.{Word, Arguments, Directive, Head, Selections, end, field, spread, inline, Operation, query}
+use Rattle.graphql_spec.specs.Documents.{Word, Arguments, Directive, Head, Selections, end, field, spread, inline, Operation, query, written}
 use Rattle.graphql_spec.specs.Grammar.{At, Mark, IsWord, span_of, Opt, Many, AreDirectives, Alias, IsField, AreSelections, is_end, Shorthand}
-use Rattle.graphql_spec.specs.Served.{is_served_field, are_served}
-use Rattle.juniper_language.specs.Reading.{pure, next, sees, expect, a_name, some_until, directives, Node, field_node, selections_of, label, head_of, selection, selections, query_of, operation, if_last, document}
-use Rattle.juniper_language.proofs.StepLaws.{bind_some, pure_some, chosen, fewer, mark_seen, other_seen, seen_mark, takes_next, expect_sound, expect_read, name_sound, name_read, name_first, until_sound, until_read, IsSound, IsPart}
+use Rattle.graphql_spec.specs.Served.{is_served_directive, is_served_field, are_served}
+use Rattle.std.specs.List.{list_all}
+use Rattle.juniper_language.specs.Reading.{pure, next, sees, expect, a_name, some_until, directives, Node, field_node, selections_of, given, label, head_of, selection, selections, query_of, operation, if_last, document}
+use Rattle.juniper_language.proofs.StepLaws.{bind_some, pure_some, from_pure, chosen, fewer, mark_seen, other_seen, seen_mark, takes_next, expect_sound, expect_read, name_sound, name_read, name_first, until_sound, until_read, IsSound, IsPart}
+use Rattle.juniper_language.proofs.ArgumentLaws.{all_served, given_sound, given_read, given_first, given_fewer}
 use Rattle.juniper_language.proofs.DirectiveLaws.{directives_sound, directives_read, directives_first, directives_fewer}
 
 -- ---- names and aliases
@@ -57,16 +59,17 @@ selection_sound : (n : ℕ) → IsSound selection (One (suc n))
 unfolding selection is_served_field
 selection_sound n s t x e =
     let l = bind_some (label s) _ (x, t) e in
-    let d = bind_some (directives l.0.1) _ (x, t) l.2 in
-    let found : Node = field_node (head_of l.0.0 d.0.0 (span_of s d.0.1)) end in
-    let same = pure_some found x d.0.1 t d.2 in
+    let g = bind_some (given l.0.1) _ (x, t) l.2 in
+    let d = bind_some (directives g.0.1) _ (x, t) g.2 in
     let named = label_sound s l.0.1 l.0.0 l.1 in
-    let given = directives_sound false n l.0.1 d.0.1 d.0.0 d.1 in
-    let made : One (suc n) found s d.0.1 = ((named.0, l.0.1, l.0.1, d.0.1, named.1, named.2, refl, given.0, (refl, refl), refl), given.1) in
-    subst (λ y. One (suc n) y s t) same.0 (subst (λ u. One (suc n) found s u) same.1 made)
+    let argued = given_sound false n l.0.1 g.0.1 g.0.0 g.1 in
+    let directed = directives_sound false n g.0.1 d.0.1 d.0.0 d.1 in
+    from_pure (λ y u. One (suc n) y s u) (field_node (head_of l.0.0 g.0.0 d.0.0 (span_of s d.0.1)) end) x d.0.1 t d.2
+    ((named.0, l.0.1, g.0.1, d.0.1, named.1, named.2, argued.0, directed.0, (refl, refl), refl), and_from _ _ argued.1 directed.1)
 
 -- what follows a field is none of its parts
 pub record Ends (t : At) : Type 0 where
+  pub no_bracket : sees 40 t ≡ false
   pub no_colon : sees 58 t ≡ false
   pub no_directive : sees 64 t ≡ false
 
@@ -74,25 +77,27 @@ field_spelled : (n : ℕ) (alias : Option Word) (x : Word) (as' : Arguments) (ds
     → One n (field_node (record { alias = alias; name = x; arguments = as'; directives = ds; has_set = b; span = place }) below) s t
     → selection s ≡ Some (field_node (record { alias = alias; name = x; arguments = as'; directives = ds; has_set = b; span = place }) below, t)
 unfolding selection is_served_field
-field_spelled n alias x (Some as') ds b place below s t ends h = absurd (false≢true h.1)
-field_spelled n alias x None ds true place below s t ends h = absurd (false≢true h.1)
-field_spelled n alias x None ds false place below s t ends (h, served) =
-    let after : AreDirectives false n ds h.1 t = subst (λ u. AreDirectives false n ds u t) (sym h.6) (subst (λ u. AreDirectives false n ds h.2 u) h.8.1 h.7) in
-    rw (label_read alias x s h.0 h.1 h.4 h.5 (directives_first false n ds h.1 t after ends.no_colon), directives_read false n ds h.1 t after served ends.no_directive)
-    (ap₂ (λ p y. Some (field_node (head_of (alias, x) ds p) y, t)) (sym h.9) (sym h.8.0))
+field_spelled n alias x as' ds true place below s t ends h = absurd (false≢true (and_parts (all_served (written as')) false h.1).1)
+field_spelled n alias x as' ds false place below s t ends (h, served) =
+    let parts = and_parts (all_served (written as')) (list_all is_served_directive ds) served in
+    let after : AreDirectives false n ds h.2 t = subst (λ u. AreDirectives false n ds h.2 u) h.8.1 h.7 in
+    let colon = given_first 58 false n as' h.1 h.2 refl h.6 (directives_first 58 false n ds h.2 t refl after ends.no_colon) in
+    let argued = given_read false n as' h.1 h.2 (h.6, parts.0) (directives_first 40 false n ds h.2 t refl after ends.no_bracket) in
+    rw (label_read alias x s h.0 h.1 h.4 h.5 colon, argued, directives_read false n ds h.2 t after parts.1 ends.no_directive)
+    (ap₂ (λ p y. Some (field_node (head_of (alias, x) as' ds p) y, t)) (sym h.9) (sym h.8.0))
 
 field_fewer : (n : ℕ) (alias : Option Word) (x : Word) (as' : Arguments) (ds : List Directive) (b : Bool) (place : Span) (below : Selections) (s t : At)
     → One n (field_node (record { alias = alias; name = x; arguments = as'; directives = ds; has_set = b; span = place }) below) s t → length t.ahead < length s.ahead
 unfolding is_served_field
-field_fewer n alias x (Some as') ds b place below s t h = absurd (false≢true h.1)
-field_fewer n alias x None ds true place below s t h = absurd (false≢true h.1)
-field_fewer n alias x None ds false place below s t (h, served) =
+field_fewer n alias x as' ds true place below s t h = absurd (false≢true (and_parts (all_served (written as')) false h.1).1)
+field_fewer n alias x as' ds false place below s t (h, served) =
+    let parts = and_parts (all_served (written as')) (list_all is_served_directive ds) served in
     omega (
       arith,
       alias_fewer alias s h.0 h.4,
       fewer (name x.item) x.span h.0 h.1 h.5,
-      ap (λ (u : At). length u.ahead) h.6,
-      directives_fewer false n ds h.2 h.3 h.7 served,
+      given_fewer false n as' h.1 h.2 (h.6, parts.0),
+      directives_fewer false n ds h.2 h.3 h.7 parts.1,
       ap (λ (u : At). length u.ahead) h.8.1,
     )
 
@@ -159,7 +164,9 @@ of_nodes (inline x below rest) e = absurd (false≢true e)
 next_ends : (n : ℕ) (x : Selections) (s b : At) → AreSelections x n s b → are_served x ≡ true → Ends b → Ends s
 unfolding are_served
 next_ends n end s b h e ends = subst (λ u. Ends u) (sym h) ends
-next_ends n (field g below rest) s b h e ends = record { no_colon = field_first 58 n g below (AreSelections below) s h.0 h.1; no_directive = field_first 64 n g below (AreSelections below) s h.0 h.1 }
+next_ends n (field g below rest) s b h e ends =
+    let first = λ (m : ℕ). field_first m n g below (AreSelections below) s h.0 h.1 in
+    record { no_bracket = first 40; no_colon = first 58; no_directive = first 64 }
 next_ends n (spread x rest) s b h e ends = absurd (false≢true e)
 next_ends n (inline x below rest) s b h e ends = absurd (false≢true e)
 
@@ -180,7 +187,7 @@ begins n (spread x rest) s b h some e = absurd (false≢true e)
 begins n (inline x below rest) s b h some e = absurd (false≢true e)
 
 brace_ends : (b t : At) → Mark 125 b t → Ends b
-brace_ends b t h = record { no_colon = other_seen 125 58 b t refl h; no_directive = other_seen 125 64 b t refl h }
+brace_ends b t h = record { no_bracket = other_seen 125 40 b t refl h; no_colon = other_seen 125 58 b t refl h; no_directive = other_seen 125 64 b t refl h }
 
 pub selections_read : (n : ℕ) (x : Selections) (s t : At) → Braced x n s t → selections s ≡ Some (x, t)
 unfolding selections

@@ -1,7 +1,8 @@
 -- What each step of reading says of the tokens.
 use Rattle.std.proofs.Common.{inl, inr, ◌≡◌, ◌⊎◌, ℕ, zero, suc, ◌<◌, ◌≤◌, ◌==◌, Bool, true, false, cond, List, [], ◌∷◌, length, Some, None, refl, ap, sym, ◌∙◌, subst, arith}
 use Rattle.std.proofs.lemmas.Option.{none-some, same_Some}
-use Rattle.std.proofs.lemmas.Bool.{eqb-true, eq-eqb, false≢true}
+use Rattle.std.proofs.lemmas.Bool.{eqb-true, eq-eqb, false≢true, and_parts, and_from}
+use Rattle.std.specs.List.{list_all}
 use Rattle.graphql_spec.specs.Shown.{Name}
 use Rattle.graphql_spec.specs.Positions.{Position, Span, Spanned}
 use Rattle.graphql_spec.specs.Tokens.{Lexeme, mark, name, int, string, Token}
@@ -16,6 +17,10 @@ bind_some (Some p) f y e = (p, refl, e)
 
 pub pure_some : {A : Type 0} (x y : A) (s t : At) → ◌≡◌ {A = Outcome A} (Some (x, s)) (Some (y, t)) → (x ≡ y) × (s ≡ t)
 pure_some x y s t e = (ap (λ p. p.0) (same_Some (x, s) (y, t) e), ap (λ p. p.1) (same_Some (x, s) (y, t) e))
+
+-- what was made holds of what was read
+pub from_pure : {A : Type 0} (P : A → At → Type 0) (x y : A) (s t : At) → ◌≡◌ {A = Outcome A} (Some (x, s)) (Some (y, t)) → P x s → P y t
+from_pure P x y s t e h = let same = pure_some x y s t e in subst (λ z. P z t) same.0 (subst (λ u. P x u) same.1 h)
 
 -- which way a test went
 pub chosen : {A : Type 0} (b : Bool) (x y : Outcome A) (z : A × At) → cond b x y ≡ Some z → ((b ≡ true) × (x ≡ Some z)) ⊎ ((b ≡ false) × (y ≡ Some z))
@@ -185,3 +190,19 @@ until_read m p (x ∷ xs) (suc k) s b t h last enough =
 pub many_map : {A : Type 0} (R Q : A → At → At → Type 0) → ((x : A) (s t : At) → R x s t → Q x s t) → (xs : List A) (s t : At) → Many R xs s t → Many Q xs s t
 many_map R Q f [] s t h = h
 many_map R Q f (x ∷ xs) s t h = (h.0, f x s h.0 h.1, many_map R Q f xs h.0 t h.2)
+
+-- parts that pass a test
+abbrev pub Passing : {A : Type 0} → (A → At → At → Type 0) → (A → Bool) → A → At → At → Type 0
+Passing R p x s t = R x s t × (p x ≡ true)
+
+pub many_pass : {A : Type 0} (R : A → At → At → Type 0) (p : A → Bool) (xs : List A) (s t : At) → Many R xs s t → list_all p xs ≡ true → Many (Passing R p) xs s t
+many_pass R p [] s t h e = h
+many_pass R p (x ∷ xs) s t h e = let parts = and_parts (p x) (list_all p xs) e in (h.0, (h.1, parts.0), many_pass R p xs h.0 t h.2 parts.1)
+
+pub many_all : {A : Type 0} (R : A → At → At → Type 0) (p : A → Bool) (xs : List A) (s t : At) → Many (Passing R p) xs s t → Many R xs s t × (list_all p xs ≡ true)
+many_all R p [] s t h = (h, refl)
+many_all R p (x ∷ xs) s t h = let rest = many_all R p xs h.0 t h.2 in ((h.0, h.1.0, rest.0), and_from (p x) _ h.1.1 rest.1)
+
+pub many_fewer : {A : Type 0} (m : ℕ) (b : Bool) (p : Reader A) (xs : List A) (s t : At) → Many (IsPart m b p) xs s t → length t.ahead ≤ length s.ahead
+many_fewer m b p [] s t h = omega (arith, ap (λ (u : At). length u.ahead) h)
+many_fewer m b p (x ∷ xs) s t h = omega (arith, h.1.less, many_fewer m b p xs h.0 t h.2)

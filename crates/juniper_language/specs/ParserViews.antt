@@ -10,8 +10,9 @@ use Rattle.juniper_language.specs.declared.position.Spanning.{Spanning}
 use Rattle.juniper_language.specs.declared.position.Span.{Span}
 use Rattle.juniper_language.specs.declared.ast.Arguments.{Arguments}
 
-abbrev pub view_conditions : {S : Type 0} → (S → Shown) → Spanning (Arguments S) Span → Spanned (List Argument)
-view_conditions {S} shown = view_spanning (λ a. map (view_argument shown) a.items.items)
+-- arguments in their brackets
+abbrev pub view_given : {S : Type 0} → (S → Shown) → Spanning (Arguments S) Span → Spanned (List Argument)
+view_given {S} shown = view_spanning (λ a. map (view_argument shown) a.items.items)
 
 abbrev pub view_label : Option (Spanning (Bor (List ℕ)) Span) × Spanning (Bor (List ℕ)) Span → Option Word × Word
 view_label x = (option_map view_word x.0, view_word x.1)

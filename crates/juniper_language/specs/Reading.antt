@@ -1,14 +1,14 @@
 -- Reading a document as a function over its tokens, in the part that is served. Only private clauses cite it.
-use Rattle.std.specs.Prelude.{◌≡◌, ◌≢◌, ℕ, zero, suc, Bool, true, false, ◌||◌, ◌==◌, cond, List, [], ◌∷◌, ◌++◌, length, Option, Some, None, Result, Ok, Err}
+use Rattle.std.specs.Prelude.{◌≡◌, ◌≢◌, ℕ, zero, suc, Bool, true, false, ◌||◌, ◌==◌, cond, List, [], ◌∷◌, ◌++◌, length, Option, Some, None, option_map, Result, Ok, Err}
 use Rattle.std.specs.Str.{bytes_eq}
-use Rattle.graphql_spec.specs.Shown.{Name, boolean}
+use Rattle.graphql_spec.specs.Shown.{Text, Name, int, boolean}
 use Rattle.graphql_spec.specs.Positions.{Position, Span, Spanned}
 use Rattle.graphql_spec.specs.Tokens as token
-use Rattle.graphql_spec.specs.Tokens.{Lexeme, Token}
-use Rattle.graphql_spec.specs.Inputs.{Input, scalar}
-use Rattle.graphql_spec.specs.Documents.{Word, Argument, Directive, Head, Selections, end, field, Operation, query}
+use Rattle.graphql_spec.specs.Tokens.{Lexeme, Token, decoded_int}
+use Rattle.graphql_spec.specs.Inputs.{Input, null, scalar}
+use Rattle.graphql_spec.specs.Documents.{Word, Argument, Arguments, Directive, Head, Selections, end, field, Operation, query}
 use Rattle.graphql_spec.specs.Directives.{skip_name, include_name, if_name}
-use Rattle.graphql_spec.specs.Grammar.{At, span_of, true_word, false_word}
+use Rattle.graphql_spec.specs.Grammar.{At, span_of, true_word, false_word, null_word}
 use Rattle.juniper_language.specs.declared.error.ParseError.{ParseError}
 use Rattle.juniper_language.specs.declared.error.ParseError.TheVariants.{Memory}
 use Rattle.juniper_language.specs.declared.position.Span as code
@@ -100,6 +100,46 @@ until m p (suc k) = λ s. cond (sees m s) ((next >>= (λ t. pure [])) s) ((p >>=
 abbrev pub some_until : {A : Type 0} → ℕ → Reader A → Reader (List A)
 some_until m p s = cond (sees m s) (refuse s) (until m p (length s.ahead) s)
 
+-- it stands there where the mark does
+abbrev pub optional : {A : Type 0} → ℕ → Reader A → Reader (Option A)
+optional m p s = cond (sees m s) ((p >>= (λ x. pure (Some x))) s) (pure None s)
+
+-- ---- values
+
+-- what a token stands for, if it stands for something
+abbrev pub known : {A : Type 0} → Option A → Reader A
+known (Some x) = pure x
+known None = refuse
+
+-- `true`, `false` or `null`
+abbrev pub word_value : Name → Option Input
+word_value w = cond (bytes_eq w true_word) (Some (scalar (boolean true))) (cond (bytes_eq w false_word) (Some (scalar (boolean false))) (cond (bytes_eq w null_word) (Some null) None))
+
+-- an Int
+abbrev pub number_value : Text → Option Input
+number_value w = option_map (λ i. scalar (int i)) (decoded_int w)
+
+abbrev pub value_by : Lexeme → Reader Input
+value_by (token.mark m) = refuse
+value_by (token.name w) = known (word_value w)
+value_by (token.int w) = known (number_value w)
+value_by (token.string w) = refuse
+
+unfoldable pub value : Reader Input
+value = next >>= (λ t. value_by t.lexeme)
+
+-- ---- arguments
+
+unfoldable pub argument : Reader Argument
+argument = a_name >>= (λ x. expect 58 >>= (λ u. spanned value >>= (λ v. pure (record { name = x; value = v }))))
+
+unfoldable pub arguments : Reader (Spanned (List Argument))
+arguments = spanned (expect 40 >>= (λ u. some_until 41 argument))
+
+-- the arguments of a field, where it has some
+unfoldable pub given : Reader Arguments
+given = optional 40 arguments
+
 -- ---- directives
 
 abbrev pub truth_of : Name → Reader Input
@@ -144,11 +184,11 @@ selections_of (x ∷ xs) = put x (selections_of xs)
 unfoldable pub label : Reader (Option Word × Word)
 label = a_name >>= (λ x s. cond (sees 58 s) ((next >>= (λ u. a_name >>= (λ y. pure (Some x, y)))) s) (pure (None, x) s))
 
-abbrev pub head_of : Option Word × Word → List Directive → Span → Head
-head_of l ds place = record { alias = l.0; name = l.1; arguments = None; directives = ds; has_set = false; span = place }
+abbrev pub head_of : Option Word × Word → Arguments → List Directive → Span → Head
+head_of l as' ds place = record { alias = l.0; name = l.1; arguments = as'; directives = ds; has_set = false; span = place }
 
 unfoldable pub selection : Reader Node
-selection s = (label >>= (λ l. directives >>= (λ ds t. pure (field_node (head_of l ds (span_of s t)) end) t))) s
+selection s = (label >>= (λ l. given >>= (λ as'. directives >>= (λ ds t. pure (field_node (head_of l as' ds (span_of s t)) end) t)))) s
 
 -- a selection, put before what follows
 abbrev pub placed : Reader (Selections → Selections)

@@ -13,13 +13,14 @@ use Rattle.juniper_language.specs.declared.token.Lexed.{Lexed}
 abbrev pub view_lexeme : Lexeme → spec.Lexeme
 view_lexeme (lexeme.Mark m) = spec.mark m
 view_lexeme (lexeme.Name s) = spec.name s.now
+view_lexeme (lexeme.Int s) = spec.int s.now
 
 abbrev pub view_token : Token → spec.Token
 view_token t = record { lexeme = view_lexeme t.lexeme; span = view_span t.span }
 
 abbrev pub view_ending : Ending → read.Ending
 view_ending (ending.Whole p) = read.whole (view_position p)
-view_ending (ending.Fault p) = read.fault (view_position p)
+view_ending (ending.Fault p f) = read.fault (view_position p)
 
 abbrev pub view_lexed : Lexed → read.Lexed
 view_lexed l = record { tokens = map view_token l.tokens.items; ending = view_ending l.ending }

@@ -73,22 +73,13 @@ impl<'t, 'a> Parser<'t, 'a> {
         self.last
     }
 
-    /// The refusal of what comes next: a token, a character that begins none, or the end of the text.
+    /// The refusal of what comes next: a token, what is none, or the end of the text.
     pub fn unexpected(&self) -> Spanning<ParseError, Span>
         ensures { result.item ≢ Memory }
     {
         match self.tokens {
             [first, ..] => Spanning::new(first.span, ParseError::UnexpectedToken),
-            [] => match self.ending {
-                Ending::Fault(at) => Spanning::new(
-                    Span { start: at, end: at },
-                    ParseError::UnexpectedToken,
-                ),
-                Ending::Whole(at) => Spanning::new(
-                    Span { start: at, end: at },
-                    ParseError::UnexpectedEndOfFile,
-                ),
-            },
+            [] => self.ending.refusal(),
         }
     }
 
@@ -115,7 +106,7 @@ impl<'t, 'a> Parser<'t, 'a> {
             [] => false,
             [first, ..] => match first.lexeme {
                 Lexeme::Mark(found) => found == mark,
-                Lexeme::Name(_) => false,
+                Lexeme::Name(_) | Lexeme::Int(_) => false,
             },
         }
     }
@@ -133,7 +124,7 @@ impl<'t, 'a> Parser<'t, 'a> {
                     Err(refused(token.span))
                 }
             }
-            Lexeme::Name(_) => Err(refused(token.span)),
+            Lexeme::Name(_) | Lexeme::Int(_) => Err(refused(token.span)),
         }
     }
 
@@ -144,7 +135,7 @@ impl<'t, 'a> Parser<'t, 'a> {
         let token = self.next()?;
         match token.lexeme {
             Lexeme::Name(word) => Ok(Spanning::new(token.span, word)),
-            Lexeme::Mark(_) => Err(refused(token.span)),
+            Lexeme::Mark(_) | Lexeme::Int(_) => Err(refused(token.span)),
         }
     }
 }

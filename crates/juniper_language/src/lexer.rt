@@ -11,8 +11,9 @@ ghost use Rattle.juniper_language.specs.Lexing as read;
 ghost use Rattle.juniper_language.specs.Positions.{view_position};
 ghost use Rattle.juniper_language.specs.TokenViews.{view_lexeme, view_lexed, view_token};
 
+use crate::number::{int_len, number_fault, starts_int};
 use crate::position::{SourcePosition, Span};
-use crate::token::{Ending, Lexed, Lexeme, Token};
+use crate::token::{Ending, Fault, Lexed, Lexeme, Token};
 use std::alloc::{AllocError, Global};
 use std::marker::Model;
 
@@ -53,7 +54,7 @@ fn starts_name(b: u8) -> bool
 
 /// What a name goes on with (2.1.9).
 #[tactic(auto, unfolding(graphql_spec::specs::Tokens::continues_name))]
-fn continues_name(b: u8) -> bool
+pub fn continues_name(b: u8) -> bool
     ensures { result ≡ tokens.continues_name b }
 {
     starts_name(b) || b.is_ascii_digit()
@@ -96,7 +97,7 @@ fn name_len(text: &[u8]) -> usize
 }
 
 /// A place in a text, and whether a carriage return stands before it.
-#[derive(Clone, Copy, Debug)]
+#[derive(Clone, Copy)]
 struct Spot {
     position: SourcePosition,
     after_return: bool,
@@ -156,7 +157,7 @@ fn lexeme_len(text: &[u8]) -> usize
             } else if text.starts_with(b"...") {
                 3
             } else {
-                0
+                int_len(text)
             }
         }
     }
@@ -172,8 +173,24 @@ fn lexeme_of<'a>(word: &'a str) -> Lexeme<'a>
         [first, ..] => {
             if starts_name(*first) {
                 Lexeme::Name(word)
+            } else if starts_int(*first) {
+                Lexeme::Int(word)
             } else {
                 Lexeme::Mark(*first)
+            }
+        }
+    }
+}
+
+/// Why no token stands at the front.
+fn fault(text: &[u8]) -> Fault {
+    match text {
+        [] => Fault::Character,
+        [first, ..] => {
+            if starts_int(*first) {
+                number_fault(text)
+            } else {
+                Fault::Character
             }
         }
     }
@@ -262,7 +279,7 @@ impl<'a> Lexer<'a> {
     }
 }
 
-/// The tokens of a text, up to its end or to the first character that begins none.
+/// The tokens of a text, up to its end or to the first place where none stands.
 #[tactic(auto, using(crate::proofs::LexSteps::lex_ignored, crate::proofs::LexSteps::shorter, crate::proofs::Fronts::ignored_fits, crate::proofs::Fronts::taken_fits))]
 pub fn lex<'a>(alloc: Global, text: &'a str) -> Result<Lexed<'a>, AllocError>
     ensures { IfOk result (λ l. view_lexed l ≡ read.lexed text.now) }
@@ -276,7 +293,7 @@ pub fn lex<'a>(alloc: Global, text: &'a str) -> Result<Lexed<'a>, AllocError>
             continue;
         }
         let Some(token) = lexer.token() else {
-            let ending = Ending::Fault(lexer.position());
+            let ending = Ending::Fault(lexer.position(), fault(lexer.rest().as_bytes()));
             return Ok(Lexed { tokens, ending });
         };
         tokens.push(token)?;

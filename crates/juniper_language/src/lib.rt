@@ -6,6 +6,7 @@ mod cursor;
 pub mod error;
 pub mod input;
 mod lexer;
+mod number;
 pub mod parser;
 pub mod position;
 pub mod scalar;
@@ -21,6 +22,7 @@ pub use ast::{
 };
 pub use error::{LexerError, ParseError};
 pub use input::{InputValue, Variables};
+pub use number::decode_int;
 pub use parser::parse_document_source;
 pub use position::{SourcePosition, Span, Spanning};
 pub use scalar::{DefaultScalarValue, ScalarValue};

@@ -1,18 +1,18 @@
 //! The parser: from a text to the document that it spells (section 2 of the Specification).
 //!
-//! Served is one query that is written as its selection set alone, of fields without arguments and without selection
-//! sets, with any number of `@skip` and `@include` whose condition is `true` or `false`.
+//! Served is one query that is written as its selection set alone, of fields without selection sets whose arguments are
+//! Ints, `true`, `false` or `null`, with any number of `@skip` and `@include` whose condition is `true` or `false`.
 
 ghost use Rattle.std.specs.Prelude.{◌≡◌, ◌≢◌, ℕ, length, map, option_map, MatchResult, true, false};
 ghost use Rattle.graphql_spec.specs.Documents as spec;
 ghost use Rattle.graphql_spec.specs.Served.{SpellsServed};
-ghost use Rattle.juniper_language.specs.DocumentView.{put_selection, view_argument, view_directive, view_directives, view_document, view_operation, view_selections, view_word};
+ghost use Rattle.juniper_language.specs.DocumentView.{put_selection, view_argument, view_arguments, view_directive, view_directives, view_document, view_operation, view_selections, view_word};
 ghost use Rattle.juniper_language.specs.InputView.{view_input};
 ghost use Rattle.juniper_language.specs.Lexing as read_tokens;
 ghost use Rattle.juniper_language.specs.TokenViews.{view_ending};
 ghost use Rattle.juniper_language.specs.Reading as read;
 ghost use Rattle.juniper_language.specs.Reading.{Gives};
-ghost use Rattle.juniper_language.specs.ParserViews.{view_conditions, view_label};
+ghost use Rattle.juniper_language.specs.ParserViews.{view_given, view_label};
 
 use crate::ast::{
     Arguments, Definition, Directive, Document, Field, Operation, OperationType, Selection,
@@ -21,9 +21,10 @@ use crate::cursor::{ParseResult, Parser, refused};
 use crate::error::ParseError;
 use crate::input::InputValue;
 use crate::lexer::lex;
+use crate::number::decode_int;
 use crate::position::{Span, Spanning};
 use crate::scalar::ScalarValue;
-use crate::token::Ending;
+use crate::token::{Ending, Lexeme};
 use std::alloc::Global;
 
 /// A name of the text, and its place.
@@ -31,6 +32,120 @@ type Word<'a> = Spanning<&'a str, Span>;
 
 /// An argument's name and value.
 type Argument<'a, S> = (Word<'a>, Spanning<InputValue<S>, Span>);
+
+/// The value that a word is, if it is one: `true`, `false` or `null` (2.9.3, 2.9.5).
+#[tactic(auto, using(crate::proofs::Loops::view_truth, crate::proofs::Inputs::input_views))]
+fn word_value<S: ScalarValue>(word: &str) -> Option<InputValue<S>>
+    ensures { option_map (view_input S.shown) result ≡ read.word_value word.now }
+{
+    if word == "true" {
+        Some(InputValue::Scalar(S::from_bool(true)))
+    } else if word == "false" {
+        Some(InputValue::Scalar(S::from_bool(false)))
+    } else if word == "null" {
+        Some(InputValue::Null)
+    } else {
+        None
+    }
+}
+
+/// The value that a number is, if 32 bits hold it (2.9.1, 3.5.1).
+#[tactic(auto, using(crate::proofs::Loops::view_int))]
+fn number_value<S: ScalarValue>(number: &str) -> Option<InputValue<S>>
+    ensures { option_map (view_input S.shown) result ≡ read.number_value number.now }
+{
+    match decode_int(number) {
+        Ok(value) => Some(InputValue::Scalar(S::from_int(value))),
+        Err(_) => None,
+    }
+}
+
+/// A value: an Int, `true`, `false` or `null` (2.9).
+#[tactic(auto, unfolding(crate::specs::Reading::value))]
+fn value<S: ScalarValue>(parser: &mut Parser<'_, '_>) -> ParseResult<InputValue<S>>
+    ensures { Gives (view_input S.shown) result parser.new (read.value parser.old) }
+{
+    let token = parser.next()?;
+    let found = match token.lexeme {
+        Lexeme::Name(word) => word_value(word),
+        Lexeme::Int(number) => number_value(number),
+        Lexeme::Mark(_) => None,
+    };
+    match found {
+        Some(value) => Ok(value),
+        None => Err(refused(token.span)),
+    }
+}
+
+/// An argument: name, colon and value (2.6).
+#[tactic(auto, unfolding(crate::specs::Reading::argument, graphql_spec::specs::Grammar::span_of))]
+fn argument<'a, S: ScalarValue>(parser: &mut Parser<'_, 'a>) -> ParseResult<Argument<'a, S>>
+    ensures { Gives (view_argument S.shown) result parser.new (read.argument parser.old) }
+{
+    let name = parser.name()?;
+    parser.expect(b':')?;
+    let start = parser.begin();
+    let item = value(parser)?;
+    let span = Span {
+        start,
+        end: parser.last(),
+    };
+    Ok((name, Spanning::new(span, item)))
+}
+
+/// One or more arguments, and the bracket behind them.
+#[tactic(auto, using(crate::proofs::Loops::parts_more, crate::proofs::Loops::parts_end, crate::proofs::Loops::parts_none, crate::proofs::Loops::prepend_nil, crate::proofs::Loops::map_push))]
+fn some_arguments<'a, S: ScalarValue>(
+    alloc: Global,
+    parser: &mut Parser<'_, 'a>,
+) -> ParseResult<Vec<Argument<'a, S>>>
+    ensures { Gives (λ v. map (view_argument S.shown) v.items) result parser.new (read.some_until 41 read.argument parser.old) }
+{
+    if parser.sees(b')') {
+        return Err(parser.unexpected());
+    }
+    let mut found = Vec::new(alloc);
+    for _turn in 0..parser.left() {
+        if parser.sees(b')') {
+            parser.next()?;
+            return Ok(found);
+        }
+        found.push(argument(parser)?)?;
+    }
+    Err(parser.unexpected())
+}
+
+/// Arguments in their brackets (2.6).
+#[tactic(auto, unfolding(crate::specs::Reading::arguments, graphql_spec::specs::Grammar::span_of))]
+fn arguments<'a, S: ScalarValue>(
+    alloc: Global,
+    parser: &mut Parser<'_, 'a>,
+) -> ParseResult<Spanning<Arguments<'a, S>, Span>>
+    ensures { Gives (view_given S.shown) result parser.new (read.arguments parser.old) }
+{
+    let start = parser.begin();
+    parser.expect(b'(')?;
+    let items = some_arguments(alloc, parser)?;
+    let span = Span {
+        start,
+        end: parser.last(),
+    };
+    Ok(Spanning::new(span, Arguments { items }))
+}
+
+/// The arguments of a field, if it has some (2.5).
+#[tactic(auto, unfolding(crate::specs::Reading::given))]
+fn given<'a, S: ScalarValue>(
+    alloc: Global,
+    parser: &mut Parser<'_, 'a>,
+) -> ParseResult<Option<Spanning<Arguments<'a, S>, Span>>>
+    ensures { Gives (view_arguments S.shown) result parser.new (read.given parser.old) }
+{
+    if !parser.sees(b'(') {
+        return Ok(None);
+    }
+    Ok(Some(arguments(alloc, parser)?))
+}
 
 /// `true` or `false` (2.9.3).
 #[tactic(auto, unfolding(crate::specs::Reading::truth), using(crate::proofs::Loops::view_truth))]
@@ -93,7 +208,7 @@ fn conditions<'a, S: ScalarValue>(
     alloc: Global,
     parser: &mut Parser<'_, 'a>,
 ) -> ParseResult<Spanning<Arguments<'a, S>, Span>>
-    ensures { Gives (view_conditions S.shown) result parser.new (read.conditions parser.old) }
+    ensures { Gives (view_given S.shown) result parser.new (read.conditions parser.old) }
 {
     let start = parser.begin();
     parser.expect(b'(')?;
@@ -172,6 +287,7 @@ fn selection<'a, S: ScalarValue>(
 {
     let start = parser.begin();
     let (alias, name) = label(parser)?;
+    let arguments = given(alloc, parser)?;
     let directives = directives(alloc, parser)?;
     let span = Span {
         start,
@@ -180,7 +296,7 @@ fn selection<'a, S: ScalarValue>(
     let item = Field {
         alias,
         name,
-        arguments: None,
+        arguments,
         directives,
         selection_set: None,
     };
@@ -255,7 +371,7 @@ fn whole_text(ending: Ending) -> ParseResult<()>
 {
     match ending {
         Ending::Whole(_) => Ok(()),
-        Ending::Fault(at) => Err(refused(Span { start: at, end: at })),
+        Ending::Fault(_, _) => Err(ending.refusal()),
     }
 }
 

@@ -1,8 +1,9 @@
 //! Texts that are read, with their places, and texts that are refused, with the kind and the place of the refusal.
 
-use crate::ast::{Definition, Selection};
+use crate::ast::{Definition, Document, Selection};
 use crate::error::{LexerError, ParseError};
 use crate::input::InputValue;
+use crate::number::decode_int;
 use crate::parser::parse_document_source;
 use crate::position::SourcePosition;
 use crate::scalar::{DefaultScalarValue, ScalarValue};
@@ -212,6 +213,227 @@ fn words_and_directives(rt: HostRuntime) {
     assert!(rt; reads(alloc, conditions, (0, 0, 0), (59, 0, 59), &directives));
 }
 
+/// What is written as an argument's value.
+#[derive(Clone, Copy, PartialEq, Eq)]
+enum Literal {
+    Null,
+    Int(i32),
+    Boolean(bool),
+}
+
+/// An argument: its name, where the name starts, its value, and the value's first and last place.
+type ArgumentRow<'a> = (&'a str, Place, Literal, Place, Place);
+
+fn literal_of(value: &InputValue<DefaultScalarValue>) -> Option<Literal> {
+    match value {
+        InputValue::Null => Some(Literal::Null),
+        InputValue::Scalar(DefaultScalarValue::Int(value)) => Some(Literal::Int(*value)),
+        InputValue::Scalar(DefaultScalarValue::Boolean(value)) => Some(Literal::Boolean(*value)),
+        _ => None,
+    }
+}
+
+/// Whether the first field has these arguments, from one place to another.
+fn has_arguments(
+    document: &Document<'_, DefaultScalarValue>,
+    start: Place,
+    end: Place,
+    rows: &[ArgumentRow<'_>],
+) -> bool {
+    let Some(Definition::Operation(operation)) = document.first() else {
+        return false;
+    };
+    let Some(Selection::Field(field)) = operation.item.selection_set.first() else {
+        return false;
+    };
+    let Some(arguments) = &field.item.arguments else {
+        return false;
+    };
+    let items = arguments.item.items.as_slice();
+    if items.len() != rows.len()
+        || place(arguments.span.start) != start
+        || place(arguments.span.end) != end
+    {
+        return false;
+    }
+    for (item, row) in items.iter().zip(rows) {
+        let (name, value) = item;
+        let (name_is, name_at, value_is, value_start, value_end) = *row;
+        if name.item != name_is
+            || place(name.span.start) != name_at
+            || literal_of(&value.item) != Some(value_is)
+            || place(value.span.start) != value_start
+            || place(value.span.end) != value_end
+        {
+            return false;
+        }
+    }
+    true
+}
+
+/// Whether the text is read, and its first field has these arguments.
+fn reads_arguments(
+    alloc: Global,
+    text: &str,
+    start: Place,
+    end: Place,
+    rows: &[ArgumentRow<'_>],
+) -> bool {
+    match parse_document_source::<DefaultScalarValue>(alloc, text) {
+        Ok(document) => has_arguments(&document, start, end, rows),
+        Err(_) => false,
+    }
+}
+
+#[test]
+fn arguments_and_values(rt: HostRuntime) {
+    let alloc = rt.alloc();
+    // One Int: the text, where it ends, and its number. The arguments start at 3, the name at 4, the value at 7.
+    let ints = [
+        ("{ a(x: 1) }", 8, 1),
+        ("{ a(x: 0) }", 8, 0),
+        ("{ a(x: -0) }", 9, 0),
+        ("{ a(x: -1) }", 9, -1),
+        ("{ a(x: 10203) }", 12, 10203),
+        ("{ a(x: 2147483647) }", 17, 2147483647),
+        ("{ a(x: -2147483648) }", 18, -2147483648),
+    ];
+    for (text, end, number) in ints {
+        let rows = [(
+            "x",
+            (4, 0, 4),
+            Literal::Int(number),
+            (7, 0, 7),
+            (end, 0, end),
+        )];
+        assert!(rt;
+            reads_arguments(alloc, text, (3, 0, 3), (end + 1, 0, end + 1), &rows),
+            "{text}"
+        );
+    }
+    // Words, on two lines; a comma stands where one likes.
+    let words = [
+        ("x", (4, 0, 4), Literal::Null, (7, 0, 7), (11, 0, 11)),
+        (
+            "y",
+            (12, 0, 12),
+            Literal::Boolean(true),
+            (15, 0, 15),
+            (19, 0, 19),
+        ),
+        (
+            "null",
+            (22, 1, 1),
+            Literal::Boolean(false),
+            (28, 1, 7),
+            (33, 1, 12),
+        ),
+        ("x", (34, 1, 13), Literal::Int(-7), (36, 1, 15), (38, 1, 17)),
+    ];
+    assert!(rt;
+        reads_arguments(
+            alloc,
+            "{ a(x: null y: true,\n null: false x:-7) @skip(if: false) }",
+            (3, 0, 3),
+            (39, 1, 18),
+            &words
+        )
+    );
+    // An alias before, a directive and another field behind.
+    let fields = [
+        (
+            Some("b"),
+            "a",
+            (1, 0, 1),
+            (27, 0, 27),
+            Some((1, "skip", true)),
+        ),
+        (None, "c", (27, 0, 27), (33, 0, 33), None),
+    ];
+    let text = "{b:a(x:1,y:2)@skip(if:true)c(x:3)}";
+    assert!(rt; reads(alloc, text, (0, 0, 0), (34, 0, 34), &fields));
+}
+
+#[test]
+fn refused_numbers(rt: HostRuntime) {
+    let alloc = rt.alloc();
+    let rows = [
+        ("{ a(x: 01) }", (7, 0, 7)),
+        ("{ a(x: 00) }", (7, 0, 7)),
+        ("{ a(x: -01) }", (7, 0, 7)),
+        ("{ a(x: 01.5) }", (7, 0, 7)),
+        ("{ a(x: 1a) }", (7, 0, 7)),
+        ("{ a(x: 1_) }", (7, 0, 7)),
+        ("{ a(x: -) }", (7, 0, 7)),
+        ("{ a(x: -a) }", (7, 0, 7)),
+        ("{ a(x: --1) }", (7, 0, 7)),
+        ("{ a(x: -.5) }", (7, 0, 7)),
+        // the first fault in reading order
+        ("{ a(x: 1 y: 2b z: 1.5 ~", (12, 0, 12)),
+        ("{ a }\n # 1.5\n 0x1", (14, 2, 1)),
+    ];
+    for (text, at) in rows {
+        assert!(rt;
+            refuses(
+                alloc,
+                text,
+                &ParseError::LexerError(LexerError::InvalidNumber),
+                at
+            ),
+            "{text}"
+        );
+    }
+    let floats = [
+        ("{ a(x: 1.5) }", (7, 0, 7)),
+        ("{ a(x: -0.0) }", (7, 0, 7)),
+        ("{ a(x: 1e3) }", (7, 0, 7)),
+        ("{ a(x: 1E3) }", (7, 0, 7)),
+        ("{ a(x: 1.) }", (7, 0, 7)),
+        ("{ a(x: 10...) }", (7, 0, 7)),
+    ];
+    for (text, at) in floats {
+        assert!(rt;
+            refuses(alloc, text, &ParseError::FloatLiteral, at),
+            "{text}"
+        );
+    }
+}
+
+#[test]
+fn ints_are_decoded(rt: HostRuntime) {
+    let rows = [
+        ("0", 0),
+        ("-0", 0),
+        ("42", 42),
+        ("2147483647", 2147483647),
+        ("-2147483648", -2147483648),
+    ];
+    for (word, number) in rows {
+        assert!(rt; decode_int(word) == Ok(number), "{word}");
+    }
+    let refused = [
+        "",
+        "-",
+        "+5",
+        "05",
+        "-05",
+        "1a",
+        "a",
+        " 1",
+        "1 ",
+        "1.0",
+        "2147483648",
+        "-2147483649",
+        "18446744073709551617",
+    ];
+    for word in refused {
+        assert!(rt;
+            decode_int(word) == Err(ParseError::UnexpectedToken),
+            "{word}"
+        );
+    }
+}
+
 #[test]
 fn refused_tokens(rt: HostRuntime) {
     let alloc = rt.alloc();
@@ -227,8 +449,28 @@ fn refused_tokens(rt: HostRuntime) {
         ("{}", (1, 0, 1)),
         ("{ }", (2, 0, 2)),
         ("{ id { a } }", (5, 0, 5)),
-        ("{ id(a: 1) }", (4, 0, 4)),
         ("{ ...F }", (2, 0, 2)),
+        ("{ 1 }", (2, 0, 2)),
+        // arguments
+        ("{ a() }", (4, 0, 4)),
+        ("{ a(x) }", (5, 0, 5)),
+        ("{ a(x: ) }", (7, 0, 7)),
+        ("{ a(x: 1 }", (9, 0, 9)),
+        ("{ a(1: x) }", (4, 0, 4)),
+        ("{ a(: 1) }", (4, 0, 4)),
+        ("{ a(x: 1 2) }", (9, 0, 9)),
+        ("{ a(x: 1)(y: 2) }", (9, 0, 9)),
+        ("{ a(x: 1): b }", (9, 0, 9)),
+        ("{ a @skip(if: true) (x: 1) }", (20, 0, 20)),
+        ("{ (x: 1) }", (2, 0, 2)),
+        ("{ a(x: 2147483648) }", (7, 0, 7)),
+        ("{ a(x: -2147483649) }", (7, 0, 7)),
+        ("{ a(x: RED) }", (7, 0, 7)),
+        ("{ a(x: nul) }", (7, 0, 7)),
+        ("{ a(x: $v) }", (7, 0, 7)),
+        ("{ a(x: \"s\") }", (7, 0, 7)),
+        ("{ a(x: [1]) }", (7, 0, 7)),
+        ("{ a(x: {}) }", (7, 0, 7)),
         ("{ a: }", (5, 0, 5)),
         ("{ a: b: c }", (6, 0, 6)),
         ("{ :a }", (2, 0, 2)),
@@ -236,6 +478,7 @@ fn refused_tokens(rt: HostRuntime) {
         ("{ @skip(if: true) }", (2, 0, 2)),
         ("{ id @skip }", (11, 0, 11)),
         ("{ id @skip(if: 1) }", (15, 0, 15)),
+        ("{ id @skip(if: null) }", (15, 0, 15)),
         ("{ id @skip(if: yes) }", (15, 0, 15)),
         ("{ id @skip(if: \"true\") }", (15, 0, 15)),
         ("{ id @skip(if: $b) }", (15, 0, 15)),
@@ -249,7 +492,6 @@ fn refused_tokens(rt: HostRuntime) {
         // characters that begin no token, the first fault in reading order
         ("{ id \0 }", (5, 0, 5)),
         ("{ id ? }", (5, 0, 5)),
-        ("{ 1 }", (2, 0, 2)),
         ("{ .. }", (2, 0, 2)),
         ("{ \u{1F600}~ }", (2, 0, 2)),
         ("{ id\u{A0}~ { }", (4, 0, 4)),
@@ -278,6 +520,11 @@ fn ends_too_early(rt: HostRuntime) {
         ("{ id", (4, 0, 4)),
         ("{ id # }", (8, 0, 8)),
         ("{ a:", (4, 0, 4)),
+        ("{ a(", (4, 0, 4)),
+        ("{ a(x", (5, 0, 5)),
+        ("{ a(x:", (6, 0, 6)),
+        ("{ a(x: -1", (9, 0, 9)),
+        ("{ a(x: 1)", (9, 0, 9)),
         ("{ id @", (6, 0, 6)),
         ("{ id @skip", (10, 0, 10)),
         ("{ id @skip(", (11, 0, 11)),
