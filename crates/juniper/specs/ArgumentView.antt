@@ -4,13 +4,13 @@ use Rattle.std.specs.Borrow.{Bor}
 use Rattle.indexmap.specs.IndexMap.{IndexMap}
 use Rattle.graphql_spec.specs.Shown.{Shown}
 use Rattle.graphql_spec.specs.Constants.{Constant, Members, no_members, insert, meaning}
+use Rattle.graphql_spec.specs.Resolvers.{Error}
 use Rattle.graphql_spec.specs.Schema.{InputDeclaration}
 use Rattle.juniper_language.specs.InputView.{view_input}
 use Rattle.juniper_language.specs.declared.input.InputValue.{InputValue}
 use Rattle.juniper_language.specs.declared.position.Span.{Span}
 use Rattle.juniper_language.specs.declared.position.Spanning.{Spanning}
 use Rattle.juniper_values.specs.ErrorView.{view_error}
-use Rattle.juniper_values.specs.declared.field_error.FieldError.{FieldError}
 use Rattle.juniper_values.specs.declared.field_error.ResolveError.{ResolveError}
 use Rattle.juniper_values.specs.declared.field_error.ResolveError.TheVariants.{Field, Memory}
 use Rattle.juniper.specs.SchemaView.{view_argument}
@@ -42,8 +42,8 @@ view_arguments shown a = members_of shown a.items.entries
 
 -- What is got of an argument, by the value that is there: nothing where there is none, else what the value is converted
 -- into, or its error; nothing is said where memory is refused.
-abbrev pub GivesArgument : {S T E : Type 0} → (Constant → Result T E → Type 0) → (E → FieldError S → Type 0) → Option Constant → Result (Option T) (ResolveError S) → Type 0
-GivesArgument from into o (Ok None) = o ≡ None
-GivesArgument from into o (Ok (Some x)) = (v : Constant) × (o ≡ Some v) × from v (Ok x)
-GivesArgument {E = E} from into o (Err (Field r)) = (v : Constant) × (e : E) × (o ≡ Some v) × from v (Err e) × into e r
-GivesArgument from into o (Err Memory) = Unit {0}
+abbrev pub GivesArgument : {S T E : Type 0} → (S → Shown) → (Constant → Result T E → Type 0) → (E → Error) → Option Constant → Result (Option T) (ResolveError S) → Type 0
+GivesArgument shown gives becomes o (Ok None) = o ≡ None
+GivesArgument shown gives becomes o (Ok (Some x)) = (v : Constant) × (o ≡ Some v) × gives v (Ok x)
+GivesArgument {E = E} shown gives becomes o (Err (Field r)) = (v : Constant) × (e : E) × (o ≡ Some v) × gives v (Err e) × (view_error shown r ≡ becomes e)
+GivesArgument shown gives becomes o (Err Memory) = Unit {0}

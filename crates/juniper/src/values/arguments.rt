@@ -4,12 +4,13 @@ ghost use Rattle.std.specs.Prelude.{◌≡◌, IfOk, OnOk, map, option_map, stri
 ghost use Rattle.graphql_spec.specs.Arguments.{put_default, with_defaults};
 ghost use Rattle.graphql_spec.specs.Constants.{find, meaning};
 ghost use Rattle.juniper_language.specs.InputView.{view_input};
-ghost use Rattle.juniper.specs.ArgumentView.{members_of, view_arguments, view_declared, view_given};
+ghost use Rattle.juniper.specs.ArgumentView.{members_of, view_arguments, view_declared, view_given, GivesArgument};
 ghost use Rattle.juniper.specs.SchemaView.{view_argument};
 
 use crate::meta::Argument;
 use indexmap::IndexMap;
 use juniper_language::{InputValue, ScalarValue, Span, Spanning};
+use juniper_values::{FromInputValue, IntoFieldError, ResolveError};
 use std::alloc::{AllocError, Global};
 
 /// The arguments of a field by their names: what is written for them, and the defaults of those that are declared and not
@@ -40,6 +41,26 @@ impl<'a, S: ScalarValue> Arguments<'a, S> {
         match self.items.get(name) {
             Some(value) => Some(&value.item),
             None => None,
+        }
+    }
+
+    /// The argument of that name as a `T`; `Ok(None)` exactly where no argument and no default of that name is there. An
+    /// error is that of the conversion, or says that memory was refused.
+    pub fn get<T: FromInputValue<S>>(
+        &self,
+        alloc: Global,
+        name: &str,
+    ) -> Result<Option<T>, ResolveError<S>>
+    where
+        T::Error: IntoFieldError<S>,
+        ensures { GivesArgument S.shown T.gives T.Error.becomes (find name.now (view_arguments S.shown self.now)) result }
+    {
+        let Some(value) = self.get_input_value(name) else {
+            return Ok(None);
+        };
+        match T::from_input_value(alloc, value)? {
+            Ok(found) => Ok(Some(found)),
+            Err(error) => Err(ResolveError::Field(error.into_field_error(alloc)?)),
         }
     }
 }
