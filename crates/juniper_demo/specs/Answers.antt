@@ -7,7 +7,7 @@ use Rattle.graphql_spec.specs.Errors.{Listed}
 use Rattle.graphql_spec.specs.Resolvers.{World, world_of}
 use Rattle.juniper.specs.Answering.{IsAnswered, IsRefusedWith}
 use Rattle.juniper.specs.RequestErrors.{RequestError, request_error_text}
-use Rattle.juniper_demo.specs.AnswerText.{answer_text}
+use Rattle.juniper_response.specs.AnswerText.{answer_text}
 use Rattle.juniper_demo.specs.Demo.{concrete_type, reply}
 use Rattle.juniper_demo.specs.DemoSchema.{demo_schema}
 use Rattle.juniper_demo.specs.declared.demo.DemoNode.{DemoNode}

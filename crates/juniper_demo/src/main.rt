@@ -3,7 +3,6 @@
 
 mod answer;
 mod demo;
-mod line;
 mod outcome;
 mod schema;
 

@@ -7,7 +7,7 @@ ghost use Rattle.juniper_language.specs.Scalars.{default_shown};
 ghost use Rattle.juniper_language.specs.ValueView.{view_value};
 ghost use Rattle.juniper_demo.specs.Answers.{ShowsData, ShowsRefusal};
 
-use crate::line::answer_line;
+use juniper_response::answer_line;
 use juniper::{ExecutionError, GraphQLError};
 use juniper_language::{DefaultScalarValue, Value};
 use std::alloc::{AllocError, Global};

@@ -1,35 +1,34 @@
-//! Answers as lines of JSON (section 7 of the Specification).
+//! Responses as lines of JSON (sections 7.1 and 7.2.2 of the Specification).
 
 ghost use Rattle.std.specs.Prelude.{◌≡◌, ◌+◌, IfOk, OnOk, map, string_bytes, [], ◌∷◌};
 ghost use Rattle.graphql_spec.specs.Errors.{key};
 ghost use Rattle.juniper_values.specs.ErrorView.{view_listed};
 ghost use Rattle.juniper_language.specs.Positions.{view_position};
-ghost use Rattle.juniper_language.specs.Scalars.{default_shown};
 ghost use Rattle.juniper_language.specs.ValueView.{view_value, view_object, view_values};
 ghost use Rattle.serde_json.specs.Data.{array, object};
 ghost use Rattle.serde_json.specs.Events.{SendsValue, SendsMembers, members_len};
-ghost use Rattle.juniper_demo.specs.AnswerText.{answer_data, answer_text, scalar_data, value_data, values_data, entries_data, items_data, location_data, step_data, extensions_data, error_data, errors_data};
+ghost use Rattle.juniper_response.specs.AnswerText.{answer_data, answer_text, scalar_data, value_data, values_data, entries_data, items_data, location_data, step_data, extensions_data, error_data, errors_data};
 
-use juniper::ExecutionError;
-use juniper_language::{DefaultScalarValue, Object, SourcePosition, Value};
+use juniper_language::{Object, ScalarValue, SourcePosition, Value};
+use juniper_values::ExecutionError;
 use serde::{Described, Serialize, Serializer};
 use serde_json::Number;
 use std::alloc::{AllocError, Global};
 
 /// The data and the errors that one answer shows.
 #[derive(Drop)]
-struct Shown<'a> {
-    data: &'a Value<DefaultScalarValue>,
-    errors: &'a [ExecutionError<DefaultScalarValue>],
+struct Shown<'a, S> {
+    data: &'a Value<S>,
+    errors: &'a [ExecutionError<S>],
 }
 
 /// The line of an answer: its data, and its errors where there are some (7.1). An error where memory is refused.
-pub fn answer_line(
+pub fn answer_line<S: ScalarValue>(
     alloc: Global,
-    data: &Value<DefaultScalarValue>,
-    errors: &[ExecutionError<DefaultScalarValue>],
+    data: &Value<S>,
+    errors: &[ExecutionError<S>],
 ) -> Result<String, AllocError>
-    ensures { IfOk result (λ line. string_bytes line ≡ answer_text (view_value default_shown data.now) (map (view_listed default_shown) errors.now)) }
+    ensures { IfOk result (λ line. string_bytes line ≡ answer_text (view_value S.shown data.now) (map (view_listed S.shown) errors.now)) }
 {
     match serde_json::to_string(alloc, &Shown { data, errors }) {
         Ok(line) => Ok(line),
@@ -37,11 +36,11 @@ pub fn answer_line(
     }
 }
 
-impl Described for Shown<'_> {
-    ghost writes = { λ s. SendsValue (answer_data (view_value default_shown s.data.now) (map (view_listed default_shown) s.errors.now)) };
+impl<S: ScalarValue> Described for Shown<'_, S> {
+    ghost writes = { λ s. SendsValue (answer_data (view_value S.shown s.data.now) (map (view_listed S.shown) s.errors.now)) };
 }
 
-impl Serialize for Shown<'_> {
+impl<S: ScalarValue> Serialize for Shown<'_, S> {
     fn serialize<W: Serializer>(&self, out: &mut W) -> Result<(), W::Error> {
         out.begin_map(Some(answer_members(self.errors)))?;
         out.key("data")?;
@@ -52,8 +51,8 @@ impl Serialize for Shown<'_> {
 
 /// How many members an answer has: its data, and its errors where there are some.
 #[tactic(auto, unfolding(crate::specs::AnswerText::errors_data))]
-fn answer_members(errors: &[ExecutionError<DefaultScalarValue>]) -> usize
-    ensures { result ≡ 1 + members_len (errors_data (map (view_listed default_shown) errors.now)) }
+fn answer_members<S: ScalarValue>(errors: &[ExecutionError<S>]) -> usize
+    ensures { result ≡ 1 + members_len (errors_data (map (view_listed S.shown) errors.now)) }
 {
     match errors {
         [] => 1,
@@ -63,11 +62,11 @@ fn answer_members(errors: &[ExecutionError<DefaultScalarValue>]) -> usize
 
 /// Sends the last member of an answer, the errors where there are some, and the end.
 #[tactic(auto, unfolding(crate::specs::AnswerText::errors_data))]
-fn end_with_errors<W: Serializer>(
-    errors: &[ExecutionError<DefaultScalarValue>],
+fn end_with_errors<S: ScalarValue, W: Serializer>(
+    errors: &[ExecutionError<S>],
     out: &mut W,
 ) -> Result<(), W::Error>
-    ensures { OnOk result (SendsMembers (errors_data (map (view_listed default_shown) errors.now)) (W.written out.old) (W.written out.new)) }
+    ensures { OnOk result (SendsMembers (errors_data (map (view_listed S.shown) errors.now)) (W.written out.old) (W.written out.new)) }
 {
     if errors.is_empty() {
         return out.end_map();
@@ -78,11 +77,11 @@ fn end_with_errors<W: Serializer>(
 }
 
 #[tactic(auto, unfolding(crate::specs::AnswerText::items_data))]
-fn send_errors<W: Serializer>(
-    errors: &[ExecutionError<DefaultScalarValue>],
+fn send_errors<S: ScalarValue, W: Serializer>(
+    errors: &[ExecutionError<S>],
     out: &mut W,
 ) -> Result<(), W::Error>
-    ensures { OnOk result (SendsValue (array (items_data error_data (map (view_listed default_shown) errors.now))) (W.written out.old) (W.written out.new)) }
+    ensures { OnOk result (SendsValue (array (items_data error_data (map (view_listed S.shown) errors.now))) (W.written out.old) (W.written out.new)) }
 {
     out.begin_seq(Some(errors.len()))?;
     for error in errors {
@@ -93,11 +92,11 @@ fn send_errors<W: Serializer>(
 
 /// Sends an error with its place in the text and in the answer (7.1.2).
 #[tactic(auto, unfolding(crate::specs::AnswerText::error_data, crate::specs::AnswerText::items_data))]
-fn send_error<W: Serializer>(
-    error: &ExecutionError<DefaultScalarValue>,
+fn send_error<S: ScalarValue, W: Serializer>(
+    error: &ExecutionError<S>,
     out: &mut W,
 ) -> Result<(), W::Error>
-    ensures { OnOk result (SendsValue (error_data (view_listed default_shown error.now)) (W.written out.old) (W.written out.new)) }
+    ensures { OnOk result (SendsValue (error_data (view_listed S.shown error.now)) (W.written out.old) (W.written out.new)) }
 {
     let field_error = error.error();
     let extensions = field_error.extensions();
@@ -139,19 +138,19 @@ fn send_path<W: Serializer>(path: &[String], out: &mut W) -> Result<(), W::Error
 
 /// How many members an error has: three, and its extensions where they are not null.
 #[tactic(auto, using(crate::proofs::Members::none_count, crate::proofs::Members::some_count))]
-fn error_members(extensions: &Value<DefaultScalarValue>) -> usize
-    ensures { result ≡ 3 + members_len (extensions_data (view_value default_shown extensions.now)) }
+fn error_members<S: ScalarValue>(extensions: &Value<S>) -> usize
+    ensures { result ≡ 3 + members_len (extensions_data (view_value S.shown extensions.now)) }
 {
     if extensions.is_null() { 3 } else { 4 }
 }
 
 /// Sends the last member of an error, its extensions where they are not null, and the end.
 #[tactic(auto, using(crate::proofs::Members::none_sent, crate::proofs::Members::some_sent))]
-fn end_with_extensions<W: Serializer>(
-    extensions: &Value<DefaultScalarValue>,
+fn end_with_extensions<S: ScalarValue, W: Serializer>(
+    extensions: &Value<S>,
     out: &mut W,
 ) -> Result<(), W::Error>
-    ensures { OnOk result (SendsMembers (extensions_data (view_value default_shown extensions.now)) (W.written out.old) (W.written out.new)) }
+    ensures { OnOk result (SendsMembers (extensions_data (view_value S.shown extensions.now)) (W.written out.old) (W.written out.new)) }
 {
     if extensions.is_null() {
         return out.end_map();
@@ -164,8 +163,8 @@ fn end_with_extensions<W: Serializer>(
 /// Sends a value of an answer.
 #[cycle(send)]
 #[tactic(auto, unfolding(crate::specs::AnswerText::value_data))]
-fn send_value<W: Serializer>(value: &Value<DefaultScalarValue>, out: &mut W) -> Result<(), W::Error>
-    ensures { OnOk result (SendsValue (value_data (view_value default_shown value.now)) (W.written out.old) (W.written out.new)) }
+fn send_value<S: ScalarValue, W: Serializer>(value: &Value<S>, out: &mut W) -> Result<(), W::Error>
+    ensures { OnOk result (SendsValue (value_data (view_value S.shown value.now)) (W.written out.old) (W.written out.new)) }
 {
     match value {
         Value::Null => out.unit(),
@@ -177,23 +176,28 @@ fn send_value<W: Serializer>(value: &Value<DefaultScalarValue>, out: &mut W) -> 
 
 /// Sends a scalar.
 #[tactic(auto, unfolding(crate::specs::AnswerText::scalar_data))]
-fn send_scalar<W: Serializer>(scalar: &DefaultScalarValue, out: &mut W) -> Result<(), W::Error>
-    ensures { OnOk result (SendsValue (scalar_data (default_shown scalar.now)) (W.written out.old) (W.written out.new)) }
+fn send_scalar<S: ScalarValue, W: Serializer>(scalar: &S, out: &mut W) -> Result<(), W::Error>
+    ensures { OnOk result (SendsValue (scalar_data (S.shown scalar.now)) (W.written out.old) (W.written out.new)) }
 {
-    match scalar {
-        DefaultScalarValue::Int(number) => Number::from(*number).serialize(out),
-        DefaultScalarValue::String(text) => out.str(text.as_str()),
-        DefaultScalarValue::Boolean(truth) => out.bool(*truth),
+    if let Some(number) = scalar.try_to_int() {
+        return Number::from(number).serialize(out);
+    }
+    if let Some(truth) = scalar.try_to_bool() {
+        return out.bool(truth);
+    }
+    match scalar.try_to_str() {
+        Some(text) => out.str(text),
+        None => unreachable!(),
     }
 }
 
 #[cycle(send)]
 #[tactic(auto, unfolding(crate::specs::AnswerText::values_data))]
-fn send_items<W: Serializer>(
-    items: &[Value<DefaultScalarValue>],
+fn send_items<S: ScalarValue, W: Serializer>(
+    items: &[Value<S>],
     out: &mut W,
 ) -> Result<(), W::Error>
-    ensures { OnOk result (SendsValue (array (values_data (view_values default_shown items.now))) (W.written out.old) (W.written out.new)) }
+    ensures { OnOk result (SendsValue (array (values_data (view_values S.shown items.now))) (W.written out.old) (W.written out.new)) }
 {
     out.begin_seq(Some(items.len()))?;
     for item in items {
@@ -204,11 +208,11 @@ fn send_items<W: Serializer>(
 
 #[cycle(send)]
 #[tactic(auto, unfolding(crate::specs::AnswerText::entries_data))]
-fn send_entries<W: Serializer>(
-    entries: &Object<DefaultScalarValue>,
+fn send_entries<S: ScalarValue, W: Serializer>(
+    entries: &Object<S>,
     out: &mut W,
 ) -> Result<(), W::Error>
-    ensures { OnOk result (SendsValue (object (entries_data (view_object default_shown entries.now))) (W.written out.old) (W.written out.new)) }
+    ensures { OnOk result (SendsValue (object (entries_data (view_object S.shown entries.now))) (W.written out.old) (W.written out.new)) }
 {
     out.begin_map(Some(entries.field_count()))?;
     for (key, value) in entries.iter() {

@@ -9,7 +9,7 @@ use Rattle.serde.specs.Event.{Log, Logs, map_begins, map_ends, field_key, text}
 use Rattle.serde.specs.declared.name.Case.TheVariants.{AsIs}
 use Rattle.serde_json.specs.Data.{array, no_members, member}
 use Rattle.serde_json.specs.Events.{SendsValue, SendsMembers, members_len}
-use Rattle.juniper_demo.specs.AnswerText.{value_data, items_data, location_data, step_data, extensions_data, error_data, errors_data, answer_data}
+use Rattle.juniper_response.specs.AnswerText.{value_data, items_data, location_data, step_data, extensions_data, error_data, errors_data, answer_data}
 
 -- ## Extensions
 

@@ -1,8 +1,8 @@
 use Rattle.std.proofs.Common.{map, string_bytes, drop}
 use Rattle.graphql_spec.specs.Errors.{key}
-use Rattle.juniper_demo.specs.AnswerText.{items_data, step_data}
-use Rattle.juniper_demo.proofs.Sending.{Goes}
-use Rattle.juniper_demo.proofs.line.send_path.Given as goal
+use Rattle.juniper_response.specs.AnswerText.{items_data, step_data}
+use Rattle.juniper_response.proofs.Sending.{Goes}
+use Rattle.juniper_response.proofs.line.send_path.Given as goal
 
 abbrev pub invariant-loop-key : goal.invariant-loop-key
 invariant-loop-key g l =

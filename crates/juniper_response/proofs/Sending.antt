@@ -8,7 +8,7 @@ use Rattle.juniper_language.specs.declared.value.Value.{Value}
 use Rattle.serde.specs.Event.{Log, Logs, seq_begins, seq_ends, map_begins, map_ends}
 use Rattle.serde_json.specs.Data.{Data, Items, Members, array, object}
 use Rattle.serde_json.specs.Events.{items_len, members_len, SendsValue, SendsItems, SendsMembers}
-use Rattle.juniper_demo.specs.AnswerText.{values_data, entries_data, items_data}
+use Rattle.juniper_response.specs.AnswerText.{values_data, entries_data, items_data}
 
 -- what ends the items well that are left ends all of them well
 abbrev pub Goes : Items → Log → Items → Log → Type 0

@@ -1,0 +1,5 @@
+pub mod Floatless
+pub mod Members
+pub mod Scalars
+pub mod Sending
+pub mod Sizes
