@@ -10,8 +10,6 @@ mod number;
 pub mod parser;
 pub mod position;
 pub mod scalar;
-#[cfg(test)]
-mod tests;
 mod token;
 pub mod types;
 pub mod value;

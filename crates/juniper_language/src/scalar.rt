@@ -108,21 +108,3 @@ impl ScalarValue for DefaultScalarValue {
         }
     }
 }
-
-#[cfg(test)]
-mod tests {
-    use super::*;
-    use std::test::Fail;
-
-    #[test]
-    fn a_copy_shows_the_same(rt: HostRuntime) -> Result<(), Fail> {
-        let alloc = rt.alloc();
-        let text = DefaultScalarValue::from_text(String::from_str(alloc, "q1")?)?;
-        assert_eq!(rt; text.try_clone(alloc)?.try_to_str(), Some("q1"));
-        let int = DefaultScalarValue::from_int(-7);
-        assert_eq!(rt; int.try_clone(alloc)?.try_to_int(), Some(-7));
-        let boolean = DefaultScalarValue::from_bool(true);
-        assert_eq!(rt; boolean.try_clone(alloc)?.try_to_bool(), Some(true));
-        Ok(())
-    }
-}

@@ -86,21 +86,3 @@ impl<N: AsStr + Drop> Type<N> {
         }
     }
 }
-
-#[cfg(test)]
-mod tests {
-    use super::*;
-    use std::test::Fail;
-
-    #[test]
-    fn a_list_is_wrapped(rt: HostRuntime) -> Result<(), Fail> {
-        let alloc = rt.alloc();
-        let item = Type::NonNullNamed(String::from_str(alloc, "Int")?);
-        let list = item.wrap_list(alloc, Some(2))?.wrap_non_null();
-        assert!(rt; list.is_non_null());
-        assert_eq!(rt; list.innermost_name(), "Int");
-        assert!(rt; list.list_contents().is_some_and(|item| item.is_non_null()));
-        assert!(rt; !list.nullable().is_non_null());
-        Ok(())
-    }
-}

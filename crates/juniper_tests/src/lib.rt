@@ -1,9 +1,13 @@
-//! Tests over several crates: requests to a root, and what they are answered.
+//! Tests over several crates: requests to a root, and what they are answered; texts and what they are read as; errors.
 #![tactic(auto)]
 
 #[cfg(test)]
+mod errors;
+#[cfg(test)]
+mod language;
+#[cfg(test)]
 mod requests;
+pub mod root;
+pub mod scalar;
 #[cfg(test)]
-mod root;
-#[cfg(test)]
-mod scalar;
+mod values;

@@ -45,22 +45,3 @@ impl RuleError {
         RuleError::new(alloc, self.message.as_str(), self.location)
     }
 }
-
-#[cfg(test)]
-mod tests {
-    use super::*;
-    use std::test::Fail;
-
-    #[test]
-    fn an_error_keeps_its_message_and_place(rt: HostRuntime) -> Result<(), Fail> {
-        let error = RuleError::new(rt.alloc(), "Unknown field", SourcePosition::new(7, 1, 3))?;
-        assert_eq!(rt; error.message(), "Unknown field");
-        assert_eq!(rt;
-            error.locations(),
-            [SourcePosition::new(7, 1, 3)].as_slice()
-        );
-        let clone = error.try_clone(rt.alloc())?;
-        assert!(rt; error == clone);
-        Ok(())
-    }
-}

@@ -1,12 +1,9 @@
 //! Texts that are read, with their places, and texts that are refused, with the kind and the place of the refusal.
 
-use crate::ast::{Definition, Document, Selection};
-use crate::error::{LexerError, ParseError};
-use crate::input::InputValue;
-use crate::number::decode_int;
-use crate::parser::parse_document_source;
-use crate::position::SourcePosition;
-use crate::scalar::{DefaultScalarValue, ScalarValue};
+use juniper_language::{
+    DefaultScalarValue, Definition, Document, InputValue, LexerError, ParseError, ScalarValue,
+    Selection, SourcePosition, decode_int, parse_document_source,
+};
 use std::alloc::Global;
 use std::test::Fail;
 
