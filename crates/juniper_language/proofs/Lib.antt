@@ -3,6 +3,7 @@ pub mod Inputs
 pub mod InputLists
 pub mod Values
 pub mod ValueLists
+pub mod ValueEquality
 pub mod Rooms
 pub mod Fronts
 pub mod Numbers

@@ -5,6 +5,7 @@ pub mod ast;
 mod cursor;
 pub mod error;
 pub mod input;
+pub mod laws;
 mod lexer;
 mod number;
 pub mod parser;

@@ -1,3 +1,4 @@
+pub mod ErrorEquality
 pub mod ErrorOrder
 pub mod Meanings
 pub mod Nulls
