@@ -16,7 +16,16 @@ mod walk;
 
 pub use error::GraphQLError;
 pub use execute::execute_sync;
-pub use juniper_values::{ExecutionError, ExecutionResult, FieldError, FieldResult, ResolveError};
+pub use juniper_language::{
+    DefaultScalarValue, Definition, Directive, Document, Field, Fragment, FragmentSpread, Fragments,
+    InlineFragment, InputValue, LexerError, Object, Operation, OperationType, ParseError,
+    ScalarValue, Selection, SourcePosition, Span, Spanning, Type, Value, VariableDefinition,
+    VariableDefinitions, Variables, ast, decode_int, parse_document_source,
+};
+pub use juniper_values::{
+    ExecutionError, ExecutionResult, FieldError, FieldResult, FromInputValue, IntoFieldError,
+    ResolveError, ToInputValue,
+};
 pub use root::RootNode;
 pub use rules::RuleError;
 pub use schema::{ScalarKinds, ScalarMeta, SchemaType};
