@@ -1,5 +1,7 @@
 pub mod AcceptedKinds
+pub mod ArgumentMaps
 pub mod Admitting
+pub mod Calls
 pub mod Completing
 pub mod ErrorOrder
 pub mod ErrorSorting
@@ -7,13 +9,16 @@ pub mod FieldCompletion
 pub mod Lists
 pub mod Messages
 pub mod Outcomes
+pub mod PlainErrors
 pub mod PlainExecution
 pub mod PlainRules
 pub mod Resolutions
 pub mod Schemas
 pub mod SelectionLists
+pub mod ServedScalars
 pub mod ServedTypes
 pub mod ServedTests
 pub mod Settling
 pub mod Steps
 pub mod Turns
+pub mod Validating
