@@ -27,7 +27,7 @@ use Rattle.juniper_language.specs.declared.position.Spanning.{Spanning}
 use Rattle.juniper.specs.Answering.{outcome, Reads, IsAnswered, IsAnsweredDocument, IsRefusedWith, IsRefusedDocument}
 use Rattle.juniper.specs.RequestErrors as request
 use Rattle.juniper.specs.RequestErrors.{RequestError, view_request_error, of_parse_error}
-use Rattle.juniper.proofs.PlainRules.{plain-query, plain-variables, plain-name}
+use Rattle.juniper.proofs.PlainErrors.{plain-query, plain-variables, plain-name}
 
 no-variables : (o : Operation) → o.variables ≡ None → variables_of o ≡ []
 unfolding variables_of

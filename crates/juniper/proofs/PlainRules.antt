@@ -1,10 +1,11 @@
 -- The rules that are served, on plain selections.
-use Rattle.std.proofs.Common.{◌≡◌, ℕ, max, Bool, true, false, not, ◌&&◌, ◌||◌, ◌⊎◌, cond, List, [], ◌∷◌, ◌++◌, Option, Some, None, is_none, codes, bytes_eq, refl, sym, ap, ap₂, ◌∙◌, inl, inr, subst}
-use Rattle.std.specs.List.{list_all, list_any}
+use Rattle.std.proofs.Common.{◌≡◌, ℕ, max, Bool, true, false, not, ◌&&◌, ◌||◌, ◌⊎◌, cond, map, List, [], ◌∷◌, ◌++◌, Option, Some, None, is_none, option_map, codes, bytes_eq, refl, sym, ap, ap₂, ◌∙◌, inl, inr, subst}
+use Rattle.std.specs.List.{list_all, list_any, filter}
 use Rattle.std.proofs.lemmas.Bool.{cases_Bool, and_parts}
+use Rattle.std.proofs.lemmas.List.Folds.{list_any-append}
 use Rattle.graphql_spec.specs.Shown.{Name, same_bool}
 use Rattle.graphql_spec.specs.Types.{TypeRef, named, list_of, innermost}
-use Rattle.graphql_spec.specs.Documents.{Head, Spread, Inline, Selections, Directive, end, field, spread, inline, Operation, OperationType, query, mutation, subscription, operation, Document, response_key, written, fragments, Fragment, span_of_definition}
+use Rattle.graphql_spec.specs.Documents.{Argument, Head, Spread, Inline, Selections, Directive, end, field, spread, inline, Operation, OperationType, query, mutation, subscription, Definition, operation, Document, response_key, written, fragments, Fragment, span_of_definition, variables_of}
 use Rattle.graphql_spec.specs.Directives.{admits}
 use Rattle.graphql_spec.specs.Grammar.{is_end}
 use Rattle.graphql_spec.specs.Fragments.{Contents, expand, plain}
@@ -12,18 +13,22 @@ use Rattle.graphql_spec.specs.Selections as forest
 use Rattle.graphql_spec.specs.Selections.{Forest, Occurrence, depth}
 use Rattle.graphql_spec.specs.Schema.{Schema, FieldDeclaration}
 use Rattle.graphql_spec.specs.Fields.{field_of, type_named, is_leaf, declared_type}
-use Rattle.graphql_spec.specs.Written.{heads, selections_of}
-use Rattle.graphql_spec.specs.Placed.{placed, placed_in, if_declared, root_type}
+use Rattle.graphql_spec.specs.Written.{heads, directives_in, selections_of, own_directives, all_directives, argument_lists, repeats}
+use Rattle.graphql_spec.specs.Placed.{Placed, Call, placed, placed_directives, placed_in, directives_placed, directive_calls, field_calls, if_declared, root_type}
 use Rattle.graphql_spec.specs.Overlap.{Field, fields}
 use Rattle.graphql_spec.specs.Constants.{same_members}
 use Rattle.graphql_spec.specs.Arguments.{written_meaning}
 use Rattle.graphql_spec.specs.Merging.{each_two, same_key, each_pair, same_name, same_arguments, type_at, fields_at, types_agree, shapes_agree, may_meet, merge, set_merges, sets_merge, definition_merges}
-use Rattle.graphql_spec.specs.Rules.{RuleError, has_unknown_field, looks_at_schema, can_look, has_root, is_introspection, cannot_merge, reported, at_each, first_found}
-use Rattle.graphql_spec.specs.FirstRules.{lacks_field, field_errors, merge_errors, first_rule_errors, is_plain_selections, is_plain_operation, is_query, is_empty}
+use Rattle.graphql_spec.specs.Rules.{RuleError, has_unknown_field, looks_at_schema, can_look, has_root, is_introspection, repeats_argument, gives_unknown, gives_too_few, gives_wrong, cannot_merge, reported, at_each, first_found}
+use Rattle.graphql_spec.specs.FirstRules.{lacks_field, is_asked, first_calls, first_name_errors, first_type_errors, merge_errors, first_rule_errors, is_plain_selections, is_plain_operation, is_query, is_empty}
 use Rattle.graphql_spec.specs.Served.{is_served_field, is_served_directive}
 use Rattle.graphql_spec.proofs.Lists.{same_refl, same_true}
+use Rattle.graphql_spec.proofs.PlainQueries.{Every, every-append, none, Plain, Literal, PlainField, plain_field_parts}
+use Rattle.graphql_spec.proofs.FlatSchemas.{Built}
+use Rattle.graphql_spec.proofs.FirstRules.{conditions_known, conditions_complete, conditions_fit}
 use Rattle.juniper.specs.Served.{served_field}
-use Rattle.juniper.specs.PlainSelections.{any_head, each_head, is_unserved, may_share, names_agree}
+use Rattle.juniper.specs.PlainSelections.{plain_heads, repeats_in, repeats_name, is_unserved, call_of, breaks, call_breaks, gives_unfit, is_same_call, may_share, reported_at, type_errors_of}
+use Rattle.juniper.proofs.ArgumentMaps.{same-arguments-are}
 
 -- ## Plain selections
 
@@ -78,27 +83,27 @@ unfolding placed
 placed-field s q h rest = ap (λ xs. record { parent = q; head = h; declared = field_of s q h.name.item } ∷ (xs ++ placed s q rest)) (nothing-declared s (field_of s q h.name.item) (λ p. placed s p end) (λ p. refl))
 
 one-unserved : (s : Schema) (h : Head) (rest : Selections) →
-    (list_any (λ p. is_none p.declared) (placed s s.query rest) || list_any (λ h. is_introspection h.name.item) (heads rest)) ≡ any_head (is_unserved s) rest →
-    (list_any (λ p. is_none p.declared) (placed s s.query (field h end rest)) || list_any (λ h. is_introspection h.name.item) (heads (field h end rest))) ≡ any_head (is_unserved s) (field h end rest)
-unfolding heads any_head
+    (list_any (λ p. is_none p.declared) (placed s s.query rest) || list_any (λ h. is_introspection h.name.item) (heads rest)) ≡ list_any (is_unserved s) (plain_heads rest) →
+    (list_any (λ p. is_none p.declared) (placed s s.query (field h end rest)) || list_any (λ h. is_introspection h.name.item) (heads (field h end rest))) ≡ list_any (is_unserved s) (plain_heads (field h end rest))
+unfolding heads plain_heads
 one-unserved s h rest again =
     ap (λ xs. list_any (λ p. is_none p.declared) xs || list_any (λ h. is_introspection h.name.item) (heads (field h end rest))) (placed-field s s.query h rest)
-    ∙ (or-mix (is_none (field_of s s.query h.name.item)) (is_introspection h.name.item) (list_any (λ p. is_none p.declared) (placed s s.query rest)) (list_any (λ h. is_introspection h.name.item) (heads rest)) (any_head (is_unserved s) rest) again
-    ∙ ap (λ b. b || any_head (is_unserved s) rest) (sym (unserved-is s h)))
+    ∙ (or-mix (is_none (field_of s s.query h.name.item)) (is_introspection h.name.item) (list_any (λ p. is_none p.declared) (placed s s.query rest)) (list_any (λ h. is_introspection h.name.item) (heads rest)) (list_any (is_unserved s) (plain_heads rest)) again
+    ∙ ap (λ b. b || list_any (is_unserved s) (plain_heads rest)) (sym (unserved-is s h)))
 
 fields-unserved : (s : Schema) (x : Selections) → is_plain_selections x ≡ true →
-    (list_any (λ p. is_none p.declared) (placed s s.query x) || list_any (λ h. is_introspection h.name.item) (heads x)) ≡ any_head (is_unserved s) x
-unfolding placed heads any_head
+    (list_any (λ p. is_none p.declared) (placed s s.query x) || list_any (λ h. is_introspection h.name.item) (heads x)) ≡ list_any (is_unserved s) (plain_heads x)
+unfolding placed heads plain_heads
 fields-unserved s end e = refl
 fields-unserved s (field h below rest) e =
     let p = parts h below rest e in
-    subst (λ b. (list_any (λ p. is_none p.declared) (placed s s.query (field h b rest)) || list_any (λ h. is_introspection h.name.item) (heads (field h b rest))) ≡ any_head (is_unserved s) (field h b rest))
+    subst (λ b. (list_any (λ p. is_none p.declared) (placed s s.query (field h b rest)) || list_any (λ h. is_introspection h.name.item) (heads (field h b rest))) ≡ list_any (is_unserved s) (plain_heads (field h b rest)))
     (sym p.nothing_below) (one-unserved s h rest (fields-unserved s rest p.after))
 fields-unserved s (spread x rest) e = not-plain x rest e
 fields-unserved s (inline x below rest) e = not-plain-inline x below rest e
 
 -- an operation lacks a field where one of its fields is not served
-pub lacks-is : (s : Schema) (o : Operation) → o.kind ≡ query → is_plain_selections o.selections ≡ true → lacks_field s (operation o) ≡ any_head (is_unserved s) o.selections
+pub lacks-is : (s : Schema) (o : Operation) → o.kind ≡ query → is_plain_selections o.selections ≡ true → lacks_field s (operation o) ≡ list_any (is_unserved s) (plain_heads o.selections)
 unfolding lacks_field has_unknown_field looks_at_schema can_look has_root placed_in root_type selections_of
 lacks-is s o k e = rw k (fields-unserved s o.selections e)
 
@@ -148,10 +153,6 @@ none-there : {A : Type 0} (o : Option A) → is_none o ≡ true → o ≡ None
 none-there None e = refl
 none-there (Some x) e = cc
 
-pub no-arguments-written : (h : Head) → is_served_field h ≡ true → h.arguments ≡ None
-unfolding is_served_field
-no-arguments-written h e = none-there h.arguments (and_parts (is_none h.arguments) (not h.has_set && list_all is_served_directive h.directives) e).0
-
 same_bool-refl : (b : Bool) → same_bool b b ≡ true
 unfolding same_bool
 same_bool-refl true = refl
@@ -173,30 +174,37 @@ and-false : (b : Bool) → (b && false) ≡ false
 and-false true = refl
 and-false false = refl
 
--- two plain fields of one type merge where they have one name
-merge-is : (s : Schema) (q : Name) (h g : Head) → h.arguments ≡ None → g.arguments ≡ None → merge s 1 (field_on q h) (field_on q g) ≡ bytes_eq h.name.item g.name.item
-unfolding merge shapes_agree may_meet same_name same_arguments fields_at fields each_pair each_two type_at written written_meaning same_members
+and-true : (b : Bool) → (b && true) ≡ b
+and-true true = refl
+and-true false = refl
+
+abbrev Literals : Head → Type 0
+Literals h = Every Literal (written h.arguments)
+
+-- two plain fields of one type merge where they have one name and the same arguments
+merge-is : (s : Schema) (q : Name) (h g : Head) → Literals h → Literals g → merge s 1 (field_on q h) (field_on q g) ≡ is_same_call h g
+unfolding merge shapes_agree may_meet same_name same_arguments fields_at fields each_pair each_two type_at is_same_call
 merge-is s q h g a b = elim (cases_Bool (bytes_eq h.name.item g.name.item)) [
-  | inl e ↦ rw (a, b, same_refl q, e) (rw (ap (λ k. types_agree s (declared_type (field_of s q h.name.item)) (declared_type (field_of s q k))) (sym (same_true h.name.item g.name.item e)) ∙ types-agree-refl s (declared_type (field_of s q h.name.item))) refl)
-  | inr e ↦ rw (a, b, same_refl q, e) (and-false _)
+  | inl e ↦ rw (same_refl q, e, same-arguments-are (written h.arguments) (written g.arguments) a b) (rw (ap (λ k. types_agree s (declared_type (field_of s q h.name.item)) (declared_type (field_of s q k))) (sym (same_true h.name.item g.name.item e)) ∙ types-agree-refl s (declared_type (field_of s q h.name.item))) (and-true (same_members (written_meaning (written h.arguments)) (written_meaning (written g.arguments)))))
+  | inr e ↦ rw (same_refl q, e) (and-false _)
 ]
 
-each-shares : (s : Schema) (q : Name) (h : Head) (x : Selections) → h.arguments ≡ None → is_plain_selections x ≡ true →
-    list_all (λ y. not (same_key (field_on q h) y) || merge s 1 (field_on q h) y) (heads_as_fields q x) ≡ each_head (may_share h) x
-unfolding heads_as_fields each_head may_share same_key
+each-shares : (s : Schema) (q : Name) (h : Head) (x : Selections) → Literals h → is_plain_selections x ≡ true →
+    list_all (λ y. not (same_key (field_on q h) y) || merge s 1 (field_on q h) y) (heads_as_fields q x) ≡ list_all (may_share h) (plain_heads x)
+unfolding heads_as_fields plain_heads may_share same_key
 each-shares s q h end a e = refl
 each-shares s q h (field g below rest) a e =
     let p = parts g below rest e in
-    rw (merge-is s q h g a (no-arguments-written g p.head)) (ap (λ b. (not (bytes_eq (response_key h) (response_key g)) || bytes_eq h.name.item g.name.item) && b) (each-shares s q h rest a p.after))
+    rw (merge-is s q h g a (plain_field_parts g p.head).literals) (ap (λ b. (not (bytes_eq (response_key h) (response_key g)) || is_same_call h g) && b) (each-shares s q h rest a p.after))
 each-shares s q h (spread x rest) a e = not-plain x rest e
 each-shares s q h (inline x below rest) a e = not-plain-inline x below rest e
 
-pairs-agree : (s : Schema) (q : Name) (x : Selections) → is_plain_selections x ≡ true → each_pair (merge s 1) (heads_as_fields q x) ≡ names_agree x
-unfolding each_pair each_two heads_as_fields names_agree
+pairs-agree : (s : Schema) (q : Name) (x : Selections) → is_plain_selections x ≡ true → each_pair (merge s 1) (heads_as_fields q x) ≡ each_two may_share (plain_heads x)
+unfolding each_pair each_two heads_as_fields plain_heads
 pairs-agree s q end e = refl
 pairs-agree s q (field h below rest) e =
     let p = parts h below rest e in
-    ap₂ (λ a b. a && b) (each-shares s q h rest (no-arguments-written h p.head) p.after) (pairs-agree s q rest p.after)
+    ap₂ (λ a b. a && b) (each-shares s q h rest (plain_field_parts h p.head).literals p.after) (pairs-agree s q rest p.after)
 pairs-agree s q (spread x rest) e = not-plain x rest e
 pairs-agree s q (inline x below rest) e = not-plain-inline x below rest e
 
@@ -204,8 +212,8 @@ set-merges-end : (s : Schema) (fs : List Fragment) (q : Name) → set_merges s f
 unfolding set_merges expand plain fields each_pair each_two
 set-merges-end s fs q = refl
 
-set-merges-is : (s : Schema) (fs : List Fragment) (q : Name) (x : Selections) → is_plain_selections x ≡ true → set_merges s fs q x ≡ names_agree x
-unfolding set_merges expand names_agree
+set-merges-is : (s : Schema) (fs : List Fragment) (q : Name) (x : Selections) → is_plain_selections x ≡ true → set_merges s fs q x ≡ each_two may_share (plain_heads x)
+unfolding set_merges expand plain_heads each_two
 set-merges-is s fs q end e = set-merges-end s fs q
 set-merges-is s fs q (field h below rest) e =
     rw (depth-some _ h below rest e, fields-plain _ q (field h below rest) e) (pairs-agree s q (field h below rest) e)
@@ -221,86 +229,137 @@ sets-merge-is s fs q (field h below rest) e =
 sets-merge-is s fs q (spread x rest) e = not-plain x rest e
 sets-merge-is s fs q (inline x below rest) e = not-plain-inline x below rest e
 
-and-true : (b : Bool) → (b && true) ≡ b
-and-true true = refl
-and-true false = refl
-
--- a plain query cannot merge where two fields of one response key have two names
-pub cannot-merge-is : (s : Schema) (d : Document) (o : Operation) → o.kind ≡ query → is_plain_selections o.selections ≡ true → cannot_merge s d (operation o) ≡ not (names_agree o.selections)
+-- a plain query cannot merge where two fields of one response key have two names or other arguments
+pub cannot-merge-is : (s : Schema) (d : Document) (o : Operation) → o.kind ≡ query → is_plain_selections o.selections ≡ true → cannot_merge s d (operation o) ≡ not (each_two may_share (plain_heads o.selections))
 unfolding cannot_merge definition_merges root_type
-cannot-merge-is s d o k e = rw (k, set-merges-is s (fragments d) s.query o.selections e, sets-merge-is s (fragments d) s.query o.selections e, and-true (names_agree o.selections)) refl
+cannot-merge-is s d o k e = rw (k, set-merges-is s (fragments d) s.query o.selections e, sets-merge-is s (fragments d) s.query o.selections e, and-true (each_two may_share (plain_heads o.selections))) refl
 
-abbrev error_at : Operation → List ℕ → RuleError
-error_at o message = record { message = message; start = o.span.start }
 
-append-nil' : (es : List RuleError) → es ++ [] ≡ es
-append-nil' [] = refl
-append-nil' (e ∷ es) = ap (λ r. e ∷ r) (append-nil' es)
+-- ## Arguments
 
--- what the rules that are served find in one plain query
-pub first-rules-are : (s : Schema) (o : Operation) → o.kind ≡ query → is_plain_selections o.selections ≡ true →
-    first_rule_errors s (operation o ∷ []) ≡ cond (any_head (is_unserved s) o.selections) (error_at o (codes "Unknown field") ∷ []) (cond (names_agree o.selections) [] (error_at o (codes "Fields cannot be merged") ∷ []))
-unfolding first_rule_errors at_each field_errors merge_errors reported first_found span_of_definition
-first-rules-are s o k e =
-    rw (lacks-is s o k e, cannot-merge-is s (operation o ∷ []) o k e) (go (any_head (is_unserved s) o.selections) (names_agree o.selections))
-  where
-    go : (a b : Bool) → first_found (cond a (error_at o (codes "Unknown field") ∷ []) [] ++ []) (cond (not b) (error_at o (codes "Fields cannot be merged") ∷ []) [] ++ []) ≡
-        cond a (error_at o (codes "Unknown field") ∷ []) (cond b [] (error_at o (codes "Fields cannot be merged") ∷ []))
-    go true b = refl
-    go false true = refl
-    go false false = refl
+pub any-map : {A B : Type 0} (p : B → Bool) (f : A → B) (xs : List A) → list_any p (map f xs) ≡ list_any (λ x. p (f x)) xs
+any-map p f [] = refl
+any-map p f (x ∷ xs) = ap (λ b. p (f x) || b) (any-map p f xs)
 
-is_query-true : (k : OperationType) → is_query k ≡ true → k ≡ query
-unfolding is_query
-is_query-true query e = refl
-is_query-true mutation e = cc
-is_query-true subscription e = cc
+pub any-same : {A : Type 0} (p q : A → Bool) (xs : List A) → ((x : A) → p x ≡ q x) → list_any p xs ≡ list_any q xs
+any-same p q [] e = refl
+any-same p q (x ∷ xs) e = ap₂ (λ a b. a || b) (e x) (any-same p q xs e)
 
--- a plain operation is a query of plain selections, without variables
-record PlainParts (o : Operation) : Type 0 where
-  kind : o.kind ≡ query
-  name : o.name ≡ None
-  variables : o.variables ≡ None
-  selections : is_plain_selections o.selections ≡ true
+repeats-is : (as' : List Argument) → repeats (map (λ a. a.name.item) as') ≡ repeats_in as'
+unfolding repeats repeats_in
+repeats-is [] = refl
+repeats-is (a ∷ rest) = ap₂ (λ x y. x || y) (any-map (bytes_eq a.name.item) (λ b. b.name.item) rest) (repeats-is rest)
 
-plain-parts : (o : Operation) → is_plain_operation o ≡ true → PlainParts o
-unfolding is_plain_operation
-plain-parts o e =
-    let a = and_parts (is_query o.kind) (is_none o.name && (is_none o.variables && (is_empty o.directives && is_plain_selections o.selections))) e in
-    let b = and_parts (is_none o.name) (is_none o.variables && (is_empty o.directives && is_plain_selections o.selections)) a.1 in
-    let c = and_parts (is_none o.variables) (is_empty o.directives && is_plain_selections o.selections) b.1 in
-    let d = and_parts (is_empty o.directives) (is_plain_selections o.selections) c.1 in
-    record { kind = is_query-true o.kind a.0; name = none-there o.name b.0; variables = none-there o.variables c.0; selections = d.1 }
+heads-plain : (x : Selections) → is_plain_selections x ≡ true → heads x ≡ plain_heads x
+unfolding heads plain_heads
+heads-plain end e = refl
+heads-plain (field h below rest) e = let p = parts h below rest e in rw (p.nothing_below) (ap (λ hs. h ∷ hs) (heads-plain rest p.after))
+heads-plain (spread x rest) e = not-plain x rest e
+heads-plain (inline x below rest) e = not-plain-inline x below rest e
 
-pub plain-query : (o : Operation) → is_plain_operation o ≡ true → o.kind ≡ query
-plain-query o e = (plain-parts o e).kind
+directives-plain : (x : Selections) → is_plain_selections x ≡ true → Every Plain (directives_in x)
+unfolding directives_in
+directives-plain end e = tt
+directives-plain (field h below rest) e =
+    let p = parts h below rest e in
+    subst (λ b. Every Plain (h.directives ++ (directives_in b ++ directives_in rest))) (sym p.nothing_below)
+    (every-append Plain h.directives (directives_in rest) (plain_field_parts h p.head).plain (directives-plain rest p.after))
+directives-plain (spread x rest) e = not-plain x rest e
+directives-plain (inline x below rest) e = not-plain-inline x below rest e
 
-pub plain-name : (o : Operation) → is_plain_operation o ≡ true → o.name ≡ None
-plain-name o e = (plain-parts o e).name
+condition-repeats-none : (ds : List Directive) → Every Plain ds → list_any (λ as'. repeats (map (λ a. a.name.item) as')) (map (λ d. written d.arguments) ds) ≡ false
+unfolding repeats
+condition-repeats-none [] e = refl
+condition-repeats-none (d ∷ ds) e = rw (e.0.written_is) (condition-repeats-none ds e.1)
 
-pub plain-variables : (o : Operation) → is_plain_operation o ≡ true → o.variables ≡ None
-plain-variables o e = (plain-parts o e).variables
+or-nothing : (b : Bool) → (b || false) ≡ b
+or-nothing true = refl
+or-nothing false = refl
 
-pub plain-fields : (o : Operation) → is_plain_operation o ≡ true → is_plain_selections o.selections ≡ true
-plain-fields o e = (plain-parts o e).selections
+-- the parts of a query of plain fields
+pub record IsPlainQuery (o : Operation) : Type 0 where
+  pub kind : o.kind ≡ query
+  pub name : o.name ≡ None
+  pub variables : o.variables ≡ None
+  pub directives : o.directives ≡ []
+  pub selections : is_plain_selections o.selections ≡ true
 
--- what they find, case by case
-module _ (s : Schema) (o : Operation) (k : o.kind ≡ query) (e : is_plain_selections o.selections ≡ true) where
-  pub unknown-found : any_head (is_unserved s) o.selections ≡ true → first_rule_errors s (operation o ∷ []) ≡ error_at o (codes "Unknown field") ∷ []
-  unknown-found a = first-rules-are s o k e ∙ rw a refl
+own-nothing : (o : Operation) → IsPlainQuery o → own_directives (operation o) ≡ []
+unfolding own_directives variables_of
+own-nothing o q = rw (q.directives, q.variables) refl
 
-  pub conflict-found : any_head (is_unserved s) o.selections ≡ false → names_agree o.selections ≡ false → first_rule_errors s (operation o ∷ []) ≡ error_at o (codes "Fields cannot be merged") ∷ []
-  conflict-found a b = first-rules-are s o k e ∙ rw (a, b) refl
+-- an argument's name is repeated where it is at one of the fields
+pub repeats-argument-is : (o : Operation) → IsPlainQuery o → repeats_argument (operation o) ≡ list_any repeats_name (plain_heads o.selections)
+unfolding repeats_argument argument_lists all_directives selections_of repeats_name
+repeats-argument-is o q =
+    let test : List Argument → Bool = λ as'. repeats (map (λ a. a.name.item) as') in
+    let hs = plain_heads o.selections in
+    rw (own-nothing o q, heads-plain o.selections q.selections)
+    (list_any-append test (map (λ h. written h.arguments) hs) (map (λ d. written d.arguments) (directives_in o.selections))
+    ∙ (ap (λ b. list_any test (map (λ h. written h.arguments) hs) || b) (condition-repeats-none (directives_in o.selections) (directives-plain o.selections q.selections))
+    ∙ (or-nothing (list_any test (map (λ h. written h.arguments) hs))
+    ∙ (any-map test (λ h. written h.arguments) hs ∙ any-same (λ h. test (written h.arguments)) (λ h. repeats_in (written h.arguments)) hs (λ h. repeats-is (written h.arguments))))))
 
-  pub nothing-found : any_head (is_unserved s) o.selections ≡ false → names_agree o.selections ≡ true → first_rule_errors s (operation o ∷ []) ≡ []
-  nothing-found a b = first-rules-are s o k e ∙ rw (a, b) refl
+-- ## Calls
 
-  -- where they find nothing, each field is served, and those of one response key agree
-  pub found-nothing : first_rule_errors s (operation o ∷ []) ≡ [] → (any_head (is_unserved s) o.selections ≡ false) × (names_agree o.selections ≡ true)
-  found-nothing none = elim (cases_Bool (any_head (is_unserved s) o.selections)) [
-    | inl a ↦ absurd (some-error (sym (unknown-found a) ∙ none))
-    | inr a ↦ elim (cases_Bool (names_agree o.selections)) [ inl b ↦ (a, b) | inr b ↦ absurd (some-error (sym (conflict-found a b) ∙ none)) ]
-  ]
-    where
-      some-error : {A : Type 0} {x : A} {xs : List A} → x ∷ xs ≡ [] → ⊥
-      some-error e = cc
+declared-plain : (s : Schema) (q : Name) (h : Head) → Every Plain h.directives → (o : Option FieldDeclaration) → Every Plain (if_declared s o (λ n. h.directives ++ placed_directives s n end))
+unfolding if_declared placed_directives
+declared-plain s q h e None = tt
+declared-plain s q h e (Some d) = every-append Plain h.directives [] e tt
+
+placed-directives-plain : (s : Schema) (q : Name) (x : Selections) → is_plain_selections x ≡ true → Every Plain (placed_directives s q x)
+unfolding placed_directives
+placed-directives-plain s q end e = tt
+placed-directives-plain s q (field h below rest) e =
+    let p = parts h below rest e in
+    every-append Plain (if_declared s (field_of s q h.name.item) (λ n. h.directives ++ placed_directives s n below)) (placed_directives s q rest)
+    (subst (λ b. Every Plain (if_declared s (field_of s q h.name.item) (λ n. h.directives ++ placed_directives s n b))) (sym p.nothing_below) (declared-plain s q h (plain_field_parts h p.head).plain (field_of s q h.name.item)))
+    (placed-directives-plain s q rest p.after)
+placed-directives-plain s q (spread x rest) e = not-plain x rest e
+placed-directives-plain s q (inline x below rest) e = not-plain-inline x below rest e
+
+abbrev pub with_words : Head → FieldDeclaration → Call
+with_words h d = record { declared = d.arguments; given = written h.arguments }
+
+one-declared : (r : Call → Bool) (s : Schema) (h : Head) (xs : List Placed) (p : Option FieldDeclaration) →
+    list_any r (field_calls s (record { parent = s.query; head = h; declared = p } ∷ xs)) ≡ (breaks r (option_map (with_words h) p) || list_any r (field_calls s xs))
+unfolding field_calls breaks
+one-declared r s h xs None = refl
+one-declared r s h xs (Some d) = refl
+
+one-breaks : (r : Call → Bool) (s : Schema) (h : Head) (xs : List Placed) (o : Option FieldDeclaration) → field_of s s.query h.name.item ≡ o →
+    list_any r (field_calls s (filter is_asked (record { parent = s.query; head = h; declared = o } ∷ xs))) ≡ (call_breaks r s h || list_any r (field_calls s (filter is_asked xs)))
+unfolding call_breaks breaks call_of served_field is_asked field_calls
+one-breaks r s h xs o at = elim (cases_Bool (is_introspection h.name.item)) [
+  | inl e ↦ rw e refl
+  | inr e ↦ rw (e, at) (one-declared r s h (filter is_asked xs) o)
+]
+
+fields-break : (r : Call → Bool) (s : Schema) (x : Selections) → is_plain_selections x ≡ true → list_any r (field_calls s (filter is_asked (placed s s.query x))) ≡ list_any (call_breaks r s) (plain_heads x)
+unfolding placed plain_heads field_calls
+fields-break r s end e = refl
+fields-break r s (field h below rest) e =
+    let p = parts h below rest e in
+    subst (λ b. list_any r (field_calls s (filter is_asked (placed s s.query (field h b rest)))) ≡ (call_breaks r s h || list_any (call_breaks r s) (plain_heads rest))) (sym p.nothing_below)
+    (ap (λ xs. list_any r (field_calls s (filter is_asked xs))) (placed-field s s.query h rest)
+    ∙ (one-breaks r s h (placed s s.query rest) (field_of s s.query h.name.item) refl ∙ ap (λ b. call_breaks r s h || b) (fields-break r s rest p.after)))
+fields-break r s (spread x rest) e = not-plain x rest e
+fields-break r s (inline x below rest) e = not-plain-inline x below rest e
+
+placed-are : (s : Schema) (o : Operation) → IsPlainQuery o → placed_in s (operation o) ≡ placed s s.query o.selections
+unfolding placed_in root_type
+placed-are s o q = rw (q.kind) refl
+
+directives-are : (s : Schema) (o : Operation) → IsPlainQuery o → directives_placed s (operation o) ≡ placed_directives s s.query o.selections
+unfolding directives_placed root_type own_directives variables_of
+directives-are s o q = rw (q.kind, q.directives, q.variables) refl
+
+-- a rule that conditions keep is broken where a field breaks it
+pub calls-break : (r : Call → Bool) (s : Schema) (o : Operation) → IsPlainQuery o → ((ds : List Directive) → Every Plain ds → list_any r (directive_calls ds) ≡ false) →
+    list_any r (first_calls s (operation o)) ≡ list_any (call_breaks r s) (plain_heads o.selections)
+unfolding first_calls
+calls-break r s o q kept =
+    rw (placed-are s o q, directives-are s o q)
+    (list_any-append r (field_calls s (filter is_asked (placed s s.query o.selections))) (directive_calls (placed_directives s s.query o.selections))
+    ∙ (ap (λ b. list_any r (field_calls s (filter is_asked (placed s s.query o.selections))) || b) (kept (placed_directives s s.query o.selections) (placed-directives-plain s s.query o.selections q.selections))
+    ∙ (or-nothing (list_any r (field_calls s (filter is_asked (placed s s.query o.selections)))) ∙ fields-break r s o.selections q.selections)))

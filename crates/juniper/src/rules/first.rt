@@ -1,42 +1,53 @@
-//! The rules that are served: each field is one of its parent type (FieldsOnCorrectType, section 5.3.1 of the Specification),
-//! and fields of one response key are one field (OverlappingFieldsCanBeMerged, 5.3.2).
+//! The rules that are served, in their phases: names; then fields and arguments; then merging.
 
-ghost use Rattle.std.specs.Prelude.{◌≡◌, IfOk, IsTrue, map, not, [], ◌∷◌};
+ghost use Rattle.std.specs.Prelude.{◌≡◌, IfOk, OnOk, IsTrue, map, [], ◌∷◌, ◌++◌};
 ghost use Rattle.graphql_spec.specs.Documents as documents;
+ghost use Rattle.graphql_spec.specs.Executable.{is_executable};
 ghost use Rattle.graphql_spec.specs.FirstRules.{first_rule_errors, is_plain_operation};
 ghost use Rattle.juniper_language.specs.Positions.{view_position};
-ghost use Rattle.juniper_language.specs.DocumentView.{view_operation, view_selections};
+ghost use Rattle.juniper_language.specs.DocumentView.{view_operation};
 ghost use Rattle.juniper.specs.RuleView.{view_rule_error};
-ghost use Rattle.juniper.specs.Occurrences.{view_occurrence};
-ghost use Rattle.juniper.specs.PlainSelections.{any_head, each_head, is_unserved, may_share, names_agree};
+ghost use Rattle.juniper.specs.PlainSelections.{head_seen, reported_at, type_errors_of};
 ghost use Rattle.juniper.specs.SchemaView.{view_schema};
-ghost use Rattle.juniper.specs.Served.{has_scalar_fields};
 
-use crate::collect::response_key;
+use crate::collect::Occurrences;
+use crate::rules::arguments_of_correct_type::has_wrong_argument;
+use crate::rules::calls::fields_in;
 use crate::rules::error::RuleError;
+use crate::rules::fields_on_correct_type::has_unknown_field;
+use crate::rules::known_argument_names::has_unknown_argument;
+use crate::rules::overlapping_fields_can_be_merged::can_merge;
+use crate::rules::provided_non_null_arguments::lacks_argument;
+use crate::rules::unique_argument_names::repeats_argument;
 use crate::schema::SchemaType;
-use juniper_language::{Field, Operation, ScalarValue, Selection, SourcePosition, Span, Spanning};
+use juniper_language::{Operation, ScalarValue, SourcePosition, Span, Spanning};
 use std::alloc::{AllocError, Global};
 
-/// The errors of the rules that are served, in a query that is written as its selection set alone: whether its fields merge
-/// is asked where each of them is known.
+/// The errors of the rules that are served, in a query that is written as its selection set alone. A later phase runs where
+/// the earlier ones found nothing, so whether fields merge is asked where each of them is known.
 pub(crate) fn validate<S: ScalarValue>(
     alloc: Global,
     operation: &Spanning<Operation<'_, S>, Span>,
     schema: &SchemaType<S>,
 ) -> Result<Vec<RuleError>, AllocError>
-    requires fields { IsTrue (has_scalar_fields (view_schema S.shown schema.now)) }
+    requires executable { IsTrue (is_executable (view_schema S.shown schema.now)) }
     requires plain { IsTrue (is_plain_operation (view_operation S.shown operation.now)) }
     ensures { IfOk result (λ es. map view_rule_error es.items ≡ first_rule_errors (view_schema S.shown schema.now) (documents.operation (view_operation S.shown operation.now) ∷ [])) }
 {
+    let start = operation.span.start;
     let selections = operation.item.selection_set.as_slice();
-    if has_unserved_field(schema, selections) {
-        return Ok(alone(alloc, "Unknown field", operation.span.start)?);
+    let occurrences = fields_in(alloc, selections)?;
+    if repeats_argument(&occurrences) {
+        return Ok(alone(alloc, "Argument name is not unique", start)?);
     }
-    if !names_agree(selections) {
-        return Ok(alone(alloc, "Fields cannot be merged", operation.span.start)?);
+    let errors = type_errors(alloc, schema, &occurrences, start)?;
+    if !errors.is_empty() {
+        return Ok(errors);
     }
-    Ok(Vec::new(alloc))
+    if !can_merge(&occurrences) {
+        return Ok(alone(alloc, "Fields cannot be merged", start)?);
+    }
+    Ok(errors)
 }
 
 /// One error, at a place of the text.
@@ -52,88 +63,41 @@ fn alone(
     Ok(errors)
 }
 
-/// Whether some field is none that is served.
-fn has_unserved_field<S: ScalarValue>(schema: &SchemaType<S>, selections: &[Selection<'_, S>]) -> bool
-    requires { IsTrue (has_scalar_fields (view_schema S.shown schema.now)) }
-    ensures { result ≡ any_head (is_unserved (view_schema S.shown schema.now)) (view_selections S.shown selections.now) }
+/// What the rules on fields and arguments find.
+#[tactic(auto, unfolding(crate::specs::PlainSelections::type_errors_of))]
+fn type_errors<S: ScalarValue>(
+    alloc: Global,
+    schema: &SchemaType<S>,
+    occurrences: &Occurrences<'_, '_, S>,
+    location: SourcePosition,
+) -> Result<Vec<RuleError>, AllocError>
+    ensures { IfOk result (λ es. map view_rule_error es.items ≡ type_errors_of (view_schema S.shown schema.now) (view_position location) (map (λ f. head_seen S.shown f.now) occurrences.now.fields.items)) }
 {
-    for selection in selections {
-        match selection {
-            Selection::Field(field) => {
-                if is_unserved(schema, field) {
-                    return true;
-                }
-            }
-            Selection::FragmentSpread(_) => {}
-            Selection::InlineFragment(_) => {}
-        }
-    }
-    false
+    let unknown_field = has_unknown_field(schema, occurrences);
+    let unknown_argument = has_unknown_argument(schema, occurrences);
+    let missing = lacks_argument(schema, occurrences);
+    let wrong = has_wrong_argument(schema, occurrences);
+    let mut errors = Vec::new(alloc);
+    report(alloc, &mut errors, unknown_field, "Unknown field", location)?;
+    report(alloc, &mut errors, unknown_argument, "Unknown argument", location)?;
+    report(alloc, &mut errors, missing, "Argument is missing", location)?;
+    report(alloc, &mut errors, wrong, "Argument does not fit its type", location)?;
+    Ok(errors)
 }
 
-/// Whether the query type has no such field that is served.
-#[tactic(auto, using(crate::proofs::ServedTypes::none_served), unfolding(crate::specs::PlainSelections::is_unserved))]
-fn is_unserved<S: ScalarValue>(schema: &SchemaType<S>, field: &Spanning<Field<'_, S>, Span>) -> bool
-    requires { IsTrue (has_scalar_fields (view_schema S.shown schema.now)) }
-    ensures { result ≡ is_unserved (view_schema S.shown schema.now) (view_occurrence S.shown field.now).head }
+/// Adds an error, where the rule is violated.
+#[tactic(auto, unfolding(crate::specs::PlainSelections::reported_at))]
+fn report(
+    alloc: Global,
+    errors: &mut Vec<RuleError>,
+    violated: bool,
+    message: &str,
+    location: SourcePosition,
+) -> Result<(), AllocError>
+    ensures { OnOk result (map view_rule_error errors.new.items ≡ map view_rule_error errors.old.items ++ reported_at violated message.now (view_position location)) }
 {
-    schema.field_type(field.item.name.item).is_none()
-}
-
-/// Whether each two fields of one response key have one name.
-fn names_agree<S: ScalarValue>(selections: &[Selection<'_, S>]) -> bool
-    ensures { result ≡ names_agree (view_selections S.shown selections.now) }
-{
-    for (i, selection) in selections.iter().enumerate() {
-        match selection {
-            Selection::Field(field) => {
-                if !shares_with_all(field, &selections[i + 1..]) {
-                    return false;
-                }
-            }
-            Selection::FragmentSpread(_) => {}
-            Selection::InlineFragment(_) => {}
-        }
+    if violated {
+        errors.push(RuleError::new(alloc, message, location)?)?;
     }
-    true
-}
-
-/// Whether the field has another response key than each of these, or the same name.
-fn shares_with_all<'a, S: ScalarValue>(
-    field: &Spanning<Field<'a, S>, Span>,
-    selections: &[Selection<'a, S>],
-) -> bool
-    ensures { result ≡ each_head (may_share (view_occurrence S.shown field.now).head) (view_selections S.shown selections.now) }
-{
-    for selection in selections {
-        match selection {
-            Selection::Field(other) => {
-                if !may_share(field, other) {
-                    return false;
-                }
-            }
-            Selection::FragmentSpread(_) => {}
-            Selection::InlineFragment(_) => {}
-        }
-    }
-    true
-}
-
-/// Whether two fields have two response keys or one name.
-#[tactic(auto, unfolding(crate::specs::PlainSelections::may_share))]
-fn may_share<'a, S: ScalarValue>(
-    field: &Spanning<Field<'a, S>, Span>,
-    other: &Spanning<Field<'a, S>, Span>,
-) -> bool
-    ensures { result ≡ may_share (view_occurrence S.shown field.now).head (view_occurrence S.shown other.now).head }
-{
-    let key = response_key(field);
-    let other_key = response_key(other);
-    if key == other_key {
-        let name = field.item.name.item;
-        let other_name = other.item.name.item;
-        name == other_name
-    } else {
-        true
-    }
+    Ok(())
 }

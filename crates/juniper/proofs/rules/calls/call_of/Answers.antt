@@ -1,0 +1,15 @@
+use Rattle.std.proofs.Common.{refl}
+use Rattle.juniper_language.specs.DocumentView.{view_argument as view_given}
+use Rattle.juniper.specs.PlainSelections.{head_seen, call_of, view_call}
+use Rattle.juniper.specs.SchemaView.{view_argument, view_schema}
+use Rattle.juniper.specs.Served.{served_field}
+use Rattle.juniper.proofs.Calls.{call-there, call-missing}
+use Rattle.juniper.proofs.rules.calls.call_of.Goals as goal
+
+pub returns-in-Some : goal.returns-in-Some
+unfolding head_seen call_of view_call
+returns-in-Some g c = call-there _ _ _ _ c.in-Some.ensures c.written.ensures
+
+pub returns-in-None : goal.returns-in-None
+unfolding head_seen call_of
+returns-in-None g c = call-missing _ _ c.in-None.ensures
