@@ -1,9 +1,9 @@
 -- `==` of errors compares what they show.
-use Rattle.std.proofs.Common.{◌≡◌, List, [], ◌∷◌, map, Bool, true, ◌&&◌, String, Global, string_bytes, refl, sym, ap, ap₂, subst, ◌∙◌}
+use Rattle.std.proofs.Common.{◌≡◌, List, [], ◌∷◌, map, Bool, true, false, ◌&&◌, String, Global, string_bytes, refl, sym, ap, ap₂, subst, ◌∙◌}
 use Rattle.std.specs.Cmp.Lexicographic.{pointwise}
 use Rattle.std.specs.Str.{bytes_eq}
 use Rattle.std.specs.String.{string_eq}
-use Rattle.std.proofs.lemmas.Bool.{and_parts, and_from}
+use Rattle.std.proofs.lemmas.Bool.{both_ways, and_parts, and_from}
 use Rattle.graphql_spec.specs.Positions.{same_position}
 use Rattle.graphql_spec.specs.Values.{same_value}
 use Rattle.graphql_spec.specs.Resolvers.{Error}
@@ -33,23 +33,27 @@ head_key [] = []
 head_key (key k ∷ ps) = k
 head_key (index n ∷ ps) = []
 
+is_there : Place → Bool
+is_there [] = false
+is_there (p ∷ ps) = true
+
 rest : Place → Place
 rest [] = []
 rest (p ∷ ps) = ps
 
 pub keys-equal : (xs ys : List (String Global)) → pointwise string_eq xs ys ≡ true → map (λ k. key (string_bytes k)) xs ≡ map (λ k. key (string_bytes k)) ys
 keys-equal [] [] e = refl
-keys-equal [] (y ∷ ys) e = cc
-keys-equal (x ∷ xs) [] e = cc
+keys-equal [] (y ∷ ys) e = absurd (both_ways false refl e)
+keys-equal (x ∷ xs) [] e = absurd (both_ways false refl e)
 keys-equal (x ∷ xs) (y ∷ ys) e =
     let p = and_parts (string_eq x y) (pointwise string_eq xs ys) e in
     ap₂ (λ k ks. key k ∷ ks) (same_true (string_bytes x) (string_bytes y) p.0) (keys-equal xs ys p.1)
 
 pub keys-same : (xs ys : List (String Global)) → map (λ k. key (string_bytes k)) xs ≡ map (λ k. key (string_bytes k)) ys → pointwise string_eq xs ys ≡ true
-unfolding head_key rest
+unfolding head_key is_there rest
 keys-same [] [] e = refl
-keys-same [] (y ∷ ys) e = cc
-keys-same (x ∷ xs) [] e = cc
+keys-same [] (y ∷ ys) e = absurd (both_ways true (ap is_there (sym e)) refl)
+keys-same (x ∷ xs) [] e = absurd (both_ways true (ap is_there e) refl)
 keys-same (x ∷ xs) (y ∷ ys) e =
     and_from (string_eq x y) (pointwise string_eq xs ys)
     (subst (λ (k : Name). bytes_eq (string_bytes x) k ≡ true) (ap head_key e) (same_refl (string_bytes x)))
