@@ -44,7 +44,7 @@ pub trait ScalarValue: PartialEq + Debug + Drop {
 }
 
 /// The scalar that most servers take.
-#[derive(Debug, PartialEq, Drop)]
+#[derive(Debug, PartialEq, Eq, Drop)]
 pub enum DefaultScalarValue {
     /// An Int (3.5.1).
     Int(i32),

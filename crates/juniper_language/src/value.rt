@@ -11,7 +11,7 @@ use std::{mem, slice};
 
 /// A value of an answer.
 #[cycle(value)]
-#[derive(Debug, PartialEq, Drop)]
+#[derive(Debug, PartialEq, Eq, Drop)]
 pub enum Value<S> {
     /// Null.
     Null,
@@ -53,7 +53,7 @@ impl<S: ScalarValue> Value<S> {
 
 /// Keys with values, in order; its calls keep the keys distinct.
 #[cycle(value)]
-#[derive(Debug, PartialEq, Drop)]
+#[derive(Debug, PartialEq, Eq, Drop)]
 pub struct Object<S> {
     fields: Vec<(String, Value<S>)>,
 }

@@ -13,7 +13,7 @@ use std::cmp::Ordering;
 
 /// An error of an execution: the start of the field that it belongs to, the response keys from the root to it, and the
 /// field error.
-#[derive(Debug, PartialEq, Drop)]
+#[derive(Debug, PartialEq, Eq, Drop)]
 pub struct ExecutionError<S> {
     location: SourcePosition,
     path: Vec<String>,

@@ -11,7 +11,7 @@ use std::alloc::{AllocError, AllocFailed, Global};
 use std::fmt::Display;
 
 /// Why a field has no value: a message, and what more is said of it, which an answer shows as `extensions` (7.1.2).
-#[derive(Debug, PartialEq, Drop)]
+#[derive(Debug, PartialEq, Eq, Drop)]
 pub struct FieldError<S> {
     message: String,
     extensions: Value<S>,

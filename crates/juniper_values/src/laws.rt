@@ -17,8 +17,7 @@ use juniper_language::ScalarValue;
 pub fn equal_field_errors_show_the_same<S: ScalarValue>(a: &FieldError<S>, b: &FieldError<S>)
     ensures equal { ⟦<FieldError<S> as PartialEq>⟧.eq a.now b.now ≡ true → view_error S.shown a.now ≡ view_error S.shown b.now }
     ensures same { view_error S.shown a.now ≡ view_error S.shown b.now → ⟦<FieldError<S> as PartialEq>⟧.eq a.now b.now ≡ true }
-{
-}
+{}
 
 /// `==` says that locations, paths and messages are equal and that the extensions show the same.
 pub fn equal_execution_errors_show_the_same<S: ScalarValue>(
@@ -27,8 +26,7 @@ pub fn equal_execution_errors_show_the_same<S: ScalarValue>(
 )
     ensures equal { ⟦<ExecutionError<S> as PartialEq>⟧.eq a.now b.now ≡ true → view_listed S.shown a.now ≡ view_listed S.shown b.now }
     ensures same { view_listed S.shown a.now ≡ view_listed S.shown b.now → ⟦<ExecutionError<S> as PartialEq>⟧.eq a.now b.now ≡ true }
-{
-}
+{}
 
 /// The order of errors is a total preorder, in which errors are equal exactly where their locations, paths and messages
 /// are equal.

@@ -100,12 +100,17 @@ fn errors_are_compared(rt: HostRuntime) -> Result<(), Fail> {
     Ok(())
 }
 
+/// Whether two values are equal, by an equivalence.
+fn equal<T: Eq>(a: &T, b: &T) -> bool {
+    a == b
+}
+
 #[test]
 fn a_copy_is_equal(rt: HostRuntime) -> Result<(), Fail> {
     let alloc = rt.alloc();
     let error = listed(alloc, 9, &["hero", "name"], "no", 1)?;
-    assert!(rt; error.try_clone(alloc)? == error);
-    assert!(rt; error.error().try_clone(alloc)? == *error.error());
+    assert!(rt; equal(&error.try_clone(alloc)?, &error));
+    assert!(rt; equal(&error.error().try_clone(alloc)?, error.error()));
     Ok(())
 }
 
