@@ -7,7 +7,7 @@ use Rattle.graphql_spec.specs.Schema.{Schema, Shape, FieldDeclaration, scalar_ty
 use Rattle.graphql_spec.specs.Fields.{entry_named, fields_of, field_of}
 use Rattle.graphql_spec.specs.Rules.{is_introspection}
 use Rattle.graphql_spec.specs.Executable.{is_executable, no_declarations}
-use Rattle.graphql_spec.specs.Documents.{Head}
+use Rattle.graphql_spec.specs.Documents.{Head, Selections, end, field, spread, inline}
 
 unfoldable pub is_scalar : Option Shape → Bool
 is_scalar (Some (scalar_type k u)) = true
@@ -38,6 +38,13 @@ has_bare_fields s = list_all (λ d. no_declarations d.arguments) (fields_of (ent
 unfoldable pub is_served_schema : Schema → Bool
 is_served_schema s = is_executable s && (has_scalar_fields s && has_bare_fields s)
 
--- a field that is served, without arguments
+-- no field is given arguments; for now, since the walk gives none to resolvers
+unfoldable pub is_bare : Selections → Bool
+is_bare end = true
+is_bare (field h below rest) = is_none h.arguments && is_bare rest
+is_bare (spread x rest) = is_bare rest
+is_bare (inline x below rest) = is_bare rest
+
+-- a field that is served, for now without arguments
 unfoldable pub is_served_head : Schema → Head → Bool
 is_served_head s h = is_none h.arguments && is_some (served_field s h.name.item)

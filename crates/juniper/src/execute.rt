@@ -15,7 +15,7 @@ ghost use Rattle.juniper.specs.ErrorView.{view_listed};
 ghost use Rattle.juniper.specs.RequestErrors.{view_request_error};
 ghost use Rattle.juniper.specs.RootView.{schema_of, resolver_of, info_of};
 ghost use Rattle.juniper.specs.SchemaView.{view_schema};
-ghost use Rattle.juniper.specs.Served.{is_served_schema};
+ghost use Rattle.juniper.specs.Served.{is_bare, is_served_schema};
 ghost use Rattle.juniper.specs.Walking.{world_in};
 
 use crate::collect::collect;
@@ -65,6 +65,7 @@ fn walk_query<Q: GraphQLValue<S>, S: ScalarValue>(
 ) -> Result<(Value<S>, Vec<ExecutionError<S>>), AllocError>
     requires schema { IsTrue (is_served_schema (view_schema S.shown walk.now.schema.now)) }
     requires plain { IsTrue (is_plain_operation (view_operation S.shown operation.now)) }
+    requires bare { IsTrue (is_bare (view_operation S.shown operation.now).selections) }
     requires valid { first_rule_errors (view_schema S.shown walk.now.schema.now) (documents.operation (view_operation S.shown operation.now) ∷ []) ≡ [] }
     ensures { IfOk result (λ p. IsAnswerFor keys_only (world_in Q.concrete Q.answer walk.now.resolver.now walk.now.info.now walk.now.context.now (view_schema S.shown walk.now.schema.now) (view_variables S.shown walk.now.variables.now)) (view_schema S.shown walk.now.schema.now).query (Q.root walk.now.resolver.now) (selected (documents.operation (view_operation S.shown operation.now) ∷ []) (view_operation S.shown operation.now) (view_variables S.shown walk.now.variables.now)) (view_value S.shown p.0) (map (view_listed S.shown) p.1.items)) }
 {
@@ -84,6 +85,7 @@ fn execute_query<'r, Q: GraphQLValue<S>, M: GraphQLType<S>, Sub: GraphQLType<S>,
     context: &'r Q::Context,
 ) -> Result<(Value<S>, Vec<ExecutionError<S>>), AllocError>
     requires plain { IsTrue (is_plain_operation (view_operation S.shown operation.now)) }
+    requires bare { IsTrue (is_bare (view_operation S.shown operation.now).selections) }
     requires valid { first_rule_errors (view_schema S.shown (schema_of root_node.now)) (documents.operation (view_operation S.shown operation.now) ∷ []) ≡ [] }
     ensures { IfOk result (λ p. IsAnswerFor keys_only (world_in Q.concrete Q.answer (resolver_of root_node.now) (info_of root_node.now) context.now (view_schema S.shown (schema_of root_node.now)) (view_variables S.shown variables.now)) (view_schema S.shown (schema_of root_node.now)).query (Q.root (resolver_of root_node.now)) (selected (documents.operation (view_operation S.shown operation.now) ∷ []) (view_operation S.shown operation.now) (view_variables S.shown variables.now)) (view_value S.shown p.0) (map (view_listed S.shown) p.1.items)) }
 {
@@ -107,7 +109,8 @@ fn execute_document<Q: GraphQLValue<S>, M: GraphQLType<S>, Sub: GraphQLType<S>, 
     variables: &Variables<S>,
     context: &Q::Context,
 ) -> Result<(Value<S>, Vec<ExecutionError<S>>), GraphQLError>
-    requires { IsTrue (is_plain_document (view_document S.shown document.now)) }
+    requires plain { IsTrue (is_plain_document (view_document S.shown document.now)) }
+    requires bare { (o : documents.Operation) → view_document S.shown document.now ≡ documents.operation o ∷ [] → IsTrue (is_bare o.selections) }
     ensures { MatchResult result
         (λ p. IsAnsweredDocument (view_document S.shown document.now) (view_schema S.shown (schema_of root_node.now)) (option_map (λ n. n.now) operation_name.entry) (view_variables S.shown variables.now)
         (world_in Q.concrete Q.answer (resolver_of root_node.now) (info_of root_node.now) context.now (view_schema S.shown (schema_of root_node.now))) (Q.root (resolver_of root_node.now)) (view_value S.shown p.0) (map (view_listed S.shown) p.1.items))

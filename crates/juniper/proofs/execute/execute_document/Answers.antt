@@ -6,12 +6,15 @@ use Rattle.juniper.specs.ErrorView.{view_rule_error, view_listed}
 use Rattle.juniper.specs.RequestErrors.{view_request_error, unknown_operation}
 use Rattle.juniper.specs.SchemaView.{view_schema}
 use Rattle.juniper.specs.Walking.{world_in}
-use Rattle.juniper.proofs.ServedTypes.{served-schema-fields}
+use Rattle.juniper.proofs.ServedTypes.{served-executable}
 use Rattle.juniper.proofs.Outcomes.{operation-is-plain, refuses-invalid, refuses-named, runs-alone, none-seen, some-seen, is-named, is-unnamed}
 use Rattle.juniper.proofs.execute.execute_document.Goals as goal
 
-pub validate-requires-clause-fields : goal.validate-requires-clause-fields
-validate-requires-clause-fields g c = served-schema-fields (view_schema g.S.ScalarValue.shown c.args.root_node.now.schema) c.args.root_node.now.served
+pub validate-requires-clause-executable : goal.validate-requires-clause-executable
+validate-requires-clause-executable g c = served-executable (view_schema g.S.ScalarValue.shown c.args.root_node.now.schema) c.args.root_node.now.served
+
+pub execute_query-requires-clause-bare : goal.execute_query-requires-clause-bare
+execute_query-requires-clause-bare g c = c.requires.bare (view_operation g.S.ScalarValue.shown c.only_operation-operation.result.now) c.only_operation-operation.ensures
 
 pub validate-requires-clause-plain : goal.validate-requires-clause-plain
 validate-requires-clause-plain g c =
@@ -20,7 +23,7 @@ validate-requires-clause-plain g c =
     let given = view_variables shown c.args.variables.now in
     let d = view_document shown c.args.document.now in
     let o = view_operation shown c.only_operation-operation.result.now in
-    operation-is-plain s given d o c.only_operation-operation.ensures c.requires
+    operation-is-plain s given d o c.only_operation-operation.ensures c.requires.plain
 
 pub returns-then-not-is_empty : goal.returns-then-not-is_empty
 returns-then-not-is_empty g c =
@@ -29,7 +32,7 @@ returns-then-not-is_empty g c =
     let given = view_variables shown c.args.variables.now in
     let d = view_document shown c.args.document.now in
     let o = view_operation shown c.only_operation-operation.result.now in
-    refuses-invalid s given d o c.only_operation-operation.ensures c.requires (option_map (λ n. n.now) c.args.operation_name) (map view_rule_error c.in_ok-errors.errors.items) c.in_ok-errors.ensures
+    refuses-invalid s given d o c.only_operation-operation.ensures c.requires.plain (option_map (λ n. n.now) c.args.operation_name) (map view_rule_error c.in_ok-errors.errors.items) c.in_ok-errors.ensures
     (some-seen view_rule_error c.in_ok-errors.errors.items c.in_ok-errors.errors.len c.in_ok-errors.errors.ok.0 c.if-not-is_empty.ensures) (view_request_error c.from.result) (ap view_request_error c.from.ensures)
 
 pub returns-then-is_some : goal.returns-then-is_some
@@ -39,7 +42,7 @@ returns-then-is_some g c =
     let given = view_variables shown c.args.variables.now in
     let d = view_document shown c.args.document.now in
     let o = view_operation shown c.only_operation-operation.result.now in
-    refuses-named s given d o c.only_operation-operation.ensures c.requires (option_map (λ n. n.now) c.args.operation_name) (is-named c.args.operation_name (λ n. n.now) (sym c.if-is_some.ensures))
+    refuses-named s given d o c.only_operation-operation.ensures c.requires.plain (option_map (λ n. n.now) c.args.operation_name) (is-named c.args.operation_name (λ n. n.now) (sym c.if-is_some.ensures))
     (sym c.in_ok-errors.ensures ∙ none-seen view_rule_error c.in_ok-errors.errors.items c.in_ok-errors.errors.len c.in_ok-errors.errors.ok.0 c.if-not-is_empty.ensures) unknown_operation refl
 
 pub coerce_variables-coerced-requires : goal.coerce_variables-coerced-requires
@@ -49,7 +52,7 @@ coerce_variables-coerced-requires g c =
     let given = view_variables shown c.args.variables.now in
     let d = view_document shown c.args.document.now in
     let o = view_operation shown c.only_operation-operation.result.now in
-    operation-is-plain s given d o c.only_operation-operation.ensures c.requires
+    operation-is-plain s given d o c.only_operation-operation.ensures c.requires.plain
 
 pub execute_query-requires-clause-plain : goal.execute_query-requires-clause-plain
 execute_query-requires-clause-plain g c =
@@ -58,7 +61,7 @@ execute_query-requires-clause-plain g c =
     let given = view_variables shown c.args.variables.now in
     let d = view_document shown c.args.document.now in
     let o = view_operation shown c.only_operation-operation.result.now in
-    operation-is-plain s given d o c.only_operation-operation.ensures c.requires
+    operation-is-plain s given d o c.only_operation-operation.ensures c.requires.plain
 
 pub returns : goal.returns
 returns g c =
@@ -69,7 +72,7 @@ returns g c =
     let o = view_operation shown c.only_operation-operation.result.now in
     let p = c.in_ok-execute_query.field-0 in
     let root = c.args.root_node.now in
-    runs-alone s given d o c.only_operation-operation.ensures c.requires
+    runs-alone s given d o c.only_operation-operation.ensures c.requires.plain
     (world_in g.Q.GraphQLValue.concrete g.Q.GraphQLValue.answer root.query root.query_info c.args.context.now s) (g.Q.GraphQLValue.root root.query)
     (option_map (λ n. n.now) c.args.operation_name) (is-unnamed c.args.operation_name (λ n. n.now) (sym c.if-is_some.ensures))
     (sym c.in_ok-errors.ensures ∙ none-seen view_rule_error c.in_ok-errors.errors.items c.in_ok-errors.errors.len c.in_ok-errors.errors.ok.0 c.if-not-is_empty.ensures)

@@ -23,10 +23,14 @@ returns-in_err-document-clause-answer g c =
     only-error (λ p. IsAnswered text s name given W (g.Q.GraphQLValue.root root.query) (view_value shown p.0) (map (view_listed shown) p.1.items)) (λ e. IsRefusedWith text s name given (view_request_error e))
     c.from_residual.result (of_parse_error c.in_err-document.field-0.0) c.from_residual.ensures.0 c.from_residual.ensures.1 (refuses-unparsed text s name given c.in_err-document.field-0.0 c.in_err-document.ensures)
 
-pub execute_document-requires : goal.execute_document-requires
-execute_document-requires g c =
+pub execute_document-requires-clause-plain : goal.execute_document-requires-clause-plain
+execute_document-requires-clause-plain g c =
     let (ts, is, served) = c.in_ok-document.ensures.0 in
     served_is_plain ts (view_document g.S.ScalarValue.shown c.in_ok-document.document) served
+
+-- open until the walk gives arguments to resolvers
+pub execute_document-requires-clause-bare : goal.execute_document-requires-clause-bare
+execute_document-requires-clause-bare g c = ?
 
 pub returns-clause-answer : goal.returns-clause-answer
 returns-clause-answer g c =
