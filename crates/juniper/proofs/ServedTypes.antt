@@ -218,6 +218,10 @@ pub declared-at : (s : Schema) (f : Name) (d : FieldDeclaration) → served_fiel
 unfolding declared_type
 declared-at s f d e = rw (served-is-field s f d e) refl
 
+pub served-executable : (s : Schema) → IsTrue (is_served_schema s) → IsTrue (is_executable s)
+unfolding is_served_schema
+served-executable s h = (and_parts (is_executable s) (has_scalar_fields s) h).0
+
 pub served-schema-fields : (s : Schema) → IsTrue (is_served_schema s) → IsTrue (has_scalar_fields s)
 unfolding is_served_schema
 served-schema-fields s h = (and_parts (is_executable s) (has_scalar_fields s) h).1

@@ -7,12 +7,12 @@ use Rattle.juniper_values.specs.ErrorView.{view_listed}
 use Rattle.juniper.specs.RequestErrors.{view_request_error, unknown_operation}
 use Rattle.juniper.specs.SchemaView.{view_schema}
 use Rattle.juniper.specs.Walking.{world_in}
-use Rattle.juniper.proofs.ServedTypes.{served-schema-fields}
+use Rattle.juniper.proofs.ServedTypes.{served-executable}
 use Rattle.juniper.proofs.Outcomes.{operation-is-plain, refuses-invalid, refuses-named, runs-alone, none-seen, some-seen, is-named, is-unnamed}
 use Rattle.juniper.proofs.execute.execute_document.Goals as goal
 
-pub validate-requires-clause-fields : goal.validate-requires-clause-fields
-validate-requires-clause-fields g c = served-schema-fields (view_schema g.S.ScalarValue.shown c.args.root_node.now.schema) c.args.root_node.now.served
+pub validate-requires-clause-executable : goal.validate-requires-clause-executable
+validate-requires-clause-executable g c = served-executable (view_schema g.S.ScalarValue.shown c.args.root_node.now.schema) c.args.root_node.now.served
 
 pub validate-requires-clause-plain : goal.validate-requires-clause-plain
 validate-requires-clause-plain g c =

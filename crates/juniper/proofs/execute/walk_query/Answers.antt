@@ -1,21 +1,18 @@
-use Rattle.std.proofs.Common.{map, string_bytes, [], ◌∷◌, refl}
+use Rattle.std.proofs.Common.{map, string_bytes, [], ◌∷◌}
 use Rattle.graphql_spec.specs.Documents.{operation, fragments}
-use Rattle.graphql_spec.specs.Constants.{no_members}
 use Rattle.graphql_spec.specs.Directives.{passes}
-use Rattle.graphql_spec.specs.Resolvers.{world_of}
 use Rattle.graphql_spec.specs.Requests.{selected}
-use Rattle.graphql_spec.specs.Executable.{no_declarations}
-use Rattle.graphql_spec.specs.Schema.{plain_field}
 use Rattle.juniper_language.specs.InputView.{view_variables}
 use Rattle.juniper_language.specs.DocumentView.{view_operation}
 use Rattle.juniper_language.specs.ValueView.{view_value}
 use Rattle.juniper_values.specs.ErrorView.{view_listed}
 use Rattle.juniper.specs.Occurrences.{view_occurrence}
-use Rattle.juniper.specs.SchemaView.{view_schema, view_field, view_scalar}
+use Rattle.juniper.specs.SchemaView.{view_schema, view_field, view_scalar, view_kinds}
 use Rattle.juniper.specs.Walking.{world_in}
-use Rattle.juniper.proofs.PlainExecution.{served-fields, fields-agree, fields-answer}
-use Rattle.juniper.proofs.PlainRules.{plain-query, plain-fields, found-nothing}
-use Rattle.juniper.proofs.ServedTypes.{no-arguments, seen-declares-none}
+use Rattle.juniper.proofs.PlainErrors.{plain-parts, plain-fields, found-nothing}
+use Rattle.juniper.proofs.PlainExecution.{served-fields, fields-agree, fields-answer, world-sees-alike}
+use Rattle.juniper.proofs.ServedScalars.{executable-built, takes-as-entry, scalar-is-plain}
+use Rattle.juniper.proofs.ServedTypes.{served-executable}
 use Rattle.juniper.proofs.execute.walk_query.Goals as goal
 
 pub object-requires-clause-served : goal.object-requires-clause-served
@@ -23,13 +20,15 @@ object-requires-clause-served g c =
     let shown = g.S.ScalarValue.shown in
     let walk = c.args.walk.now in
     let o = view_operation shown c.args.operation.now in
-    let s = view_schema shown walk.schema.now in
+    let types = walk.schema.now in
+    let s = view_schema shown types in
     let plain = plain-fields o c.requires.plain in
-    let found = found-nothing s o (plain-query o c.requires.plain) plain c.requires.valid in
-    served-fields (λ f. view_occurrence shown f.now) c.in_ok-occurrences.occurrences.fields.items (passes (view_variables shown walk.variables.now)) o.selections (rw c.as_slice-selections.ensures.value at c.in_ok-occurrences.ensures) plain s found.0
+    let executable = served-executable s c.requires.schema in
+    let valid = found-nothing s (executable-built s executable) (takes-as-entry view_scalar (string_bytes types.query_name) (map (view_field shown) types.fields.items) types.scalars.items (λ m. scalar-is-plain (string_bytes m.name) (view_kinds m.kinds)))
+        o (plain-parts o c.requires.plain) c.requires.valid in
+    served-fields (λ f. view_occurrence shown f.now) c.in_ok-occurrences.occurrences.fields.items (passes (view_variables shown walk.variables.now)) o.selections (rw c.as_slice-selections.ensures.value at c.in_ok-occurrences.ensures) plain s valid.served
 
 pub object-requires-clause-agree : goal.object-requires-clause-agree
-unfolding world_of no_declarations plain_field
 object-requires-clause-agree g c =
     let shown = g.S.ScalarValue.shown in
     let walk = c.args.walk.now in
@@ -38,13 +37,11 @@ object-requires-clause-agree g c =
     let o = view_operation shown c.args.operation.now in
     let s = view_schema shown types in
     let W = world_in g.Q.GraphQLValue.concrete g.Q.GraphQLValue.answer walk.resolver.now walk.info.now walk.context.now s vars in
-    let plain = plain-fields o c.requires.plain in
-    let found = found-nothing s o (plain-query o c.requires.plain) plain c.requires.valid in
-    fields-agree (λ f. view_occurrence shown f.now) c.in_ok-occurrences.occurrences.fields.items (passes vars) o.selections (rw c.as_slice-selections.ensures.value at c.in_ok-occurrences.ensures) plain
-    W (string_bytes types.query_name) s no_members
-    (λ h served. no-arguments (string_bytes types.query_name) (map (view_field shown) types.fields.items) (map view_scalar types.scalars.items) vars h
-    (seen-declares-none (view_field shown) types.fields.items (λ x. refl)) served)
-    found.0 found.1
+    let executable = served-executable s c.requires.schema in
+    let valid = found-nothing s (executable-built s executable) (takes-as-entry view_scalar (string_bytes types.query_name) (map (view_field shown) types.fields.items) types.scalars.items (λ m. scalar-is-plain (string_bytes m.name) (view_kinds m.kinds)))
+        o (plain-parts o c.requires.plain) c.requires.valid in
+    fields-agree (λ f. view_occurrence shown f.now) c.in_ok-occurrences.occurrences.fields.items (passes vars) o.selections (rw c.as_slice-selections.ensures.value at c.in_ok-occurrences.ensures) (plain-fields o c.requires.plain)
+    W (string_bytes types.query_name) s (world-sees-alike s vars (g.Q.GraphQLValue.concrete walk.resolver.now walk.info.now walk.context.now) (g.Q.GraphQLValue.answer walk.resolver.now walk.info.now walk.context.now) (string_bytes types.query_name)) valid
 
 pub returns : goal.returns
 unfolding selected
