@@ -249,6 +249,15 @@ pub declared-at : (s : Schema) (f : Name) (d : FieldDeclaration) → served_fiel
 unfolding declared_type
 declared-at s f d e = rw (served-is-field s f d e) refl
 
+-- the arguments that are found are those that a resolver's field declares
+pub arguments-found : (s : Schema) (f : Name) (ds : List InputDeclaration) → Some ds ≡ option_map (λ d. d.arguments) (served_field s f) → declared_arguments (field_of s s.query f) ≡ ds
+unfolding declared_arguments
+arguments-found s f ds e = go (served_field s f) refl e
+  where
+    go : (o : Option FieldDeclaration) → served_field s f ≡ o → Some ds ≡ option_map (λ d. d.arguments) o → declared_arguments (field_of s s.query f) ≡ ds
+    go None at g = cc
+    go (Some d) at g = rw (served-is-field s f d at) (sym (same_Some ds d.arguments g))
+
 pub served-executable : (s : Schema) → IsTrue (is_served_schema s) → IsTrue (is_executable s)
 unfolding is_served_schema
 served-executable s h = (and_parts (is_executable s) (has_scalar_fields s && has_bare_fields s) h).0

@@ -101,3 +101,46 @@ fn appended<S: ScalarValue>(
         }
     }
 }
+
+#[cfg(test)]
+mod tests {
+    use super::*;
+    use crate::schema::SchemaType;
+    use juniper_language::DefaultScalarValue;
+    use std::test::Fail;
+
+    #[test]
+    fn a_field_declares_its_arguments_in_order(rt: HostRuntime) -> Result<(), Fail> {
+        let alloc = rt.alloc();
+        let int = Type::Named(String::from_str(alloc, "Int")?);
+        let plus = Argument::new(String::from_str(alloc, "plus")?, int).default_value(
+            InputValue::Scalar(DefaultScalarValue::Int(1)),
+        );
+        let text = Type::NonNullNamed(String::from_str(alloc, "String")?);
+        let unit = Argument::new(String::from_str(alloc, "unit")?, text);
+        let int = Type::Named(String::from_str(alloc, "Int")?);
+        let number = Field::new(String::from_str(alloc, "number")?, int)
+            .argument(alloc, plus)?
+            .argument(alloc, unit)?;
+        let fields = vec![in alloc; number]?;
+        let schema = SchemaType::of_object(
+            String::from_str(alloc, "Query")?,
+            fields,
+            Vec::new(alloc),
+        );
+        let declared = schema.declared_arguments("number").unwrap_or(&[]);
+        assert_eq!(rt; declared.len(), 2);
+        assert_eq!(rt; declared[0].name.as_str(), "plus");
+        assert!(rt; declared[0].default_value.is_some());
+        assert_eq!(rt; declared[1].name.as_str(), "unit");
+        assert!(rt; declared[1].default_value.is_none());
+        assert!(rt;
+            schema
+                .declared_arguments("__typename")
+                .is_some_and(|none| none.is_empty())
+        );
+        assert!(rt; schema.declared_arguments("__type").is_none());
+        assert!(rt; schema.declared_arguments("numbers").is_none());
+        Ok(())
+    }
+}
