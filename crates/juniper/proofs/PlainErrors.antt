@@ -121,12 +121,12 @@ module _ (s : Schema) (b : Built s) (k : TakesAsEntry s) (o : Operation) (q : Is
   types-are : first_type_errors s [] (operation o) ≡ type_errors_in s o
   unfolding first_type_errors reported span_of_definition type_errors_of reported_at
   types-are = rw (
-      lacks-is s o q.kind q.selections,
-      calls-break gives_unknown s o q conditions_known,
-      calls-break gives_too_few s o q conditions_complete,
-      calls-break (gives_wrong s) s o q (conditions_fit s b),
-      fields-unfit-are s k o.selections q.selections,
-    ) refl
+    lacks-is s o q.kind q.selections,
+    calls-break gives_unknown s o q conditions_known,
+    calls-break gives_too_few s o q conditions_complete,
+    calls-break (gives_wrong s) s o q (conditions_fit s b),
+    fields-unfit-are s k o.selections q.selections,
+  ) refl
 
   names-are : first_name_errors [] (operation o) ≡ name_error o
   unfolding first_name_errors reported span_of_definition reported_at

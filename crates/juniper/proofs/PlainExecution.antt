@@ -225,14 +225,15 @@ world-sees-alike s vars concrete answer T h g name i =
 pub valid-agree : {N : Type 0} (W : World N) (T : Name) (s : Schema) (test : Directive → Bool) (x : Selections) → SeesAlike W T → is_plain_selections x ≡ true → IsValid s (plain_heads x) → Agree W 1 T (admitted_fields test x)
 unfolding repeats_name
 valid-agree W T s test x alike plain valid a b i j k =
-    let c = same-call test x a b plain valid.merges i j k in
-    (c.name,
-    alike a.head b.head c.name (record {
-      first_differ = none-repeats (written a.head.arguments) (plain-admitted test x a plain i) (none-admitted repeats_name test x a valid.names_differ i);
-      second_differ = none-repeats (written b.head.arguments) (plain-admitted test x b plain j) (none-admitted repeats_name test x b valid.names_differ j);
-      same = c.arguments;
-    }),
-    λ U p. tt)
+    let c = same-call test x a b plain valid.merges i j k in (
+      c.name,
+      alike a.head b.head c.name (record {
+        first_differ = none-repeats (written a.head.arguments) (plain-admitted test x a plain i) (none-admitted repeats_name test x a valid.names_differ i);
+        second_differ = none-repeats (written b.head.arguments) (plain-admitted test x b plain j) (none-admitted repeats_name test x b valid.names_differ j);
+        same = c.arguments;
+      }),
+      λ U p. tt,
+    )
 
 -- ## The fields that were collected
 

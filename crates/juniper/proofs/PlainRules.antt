@@ -234,7 +234,6 @@ pub cannot-merge-is : (s : Schema) (d : Document) (o : Operation) → o.kind ≡
 unfolding cannot_merge definition_merges root_type
 cannot-merge-is s d o k e = rw (k, set-merges-is s (fragments d) s.query o.selections e, sets-merge-is s (fragments d) s.query o.selections e, and-true (each_two may_share (plain_heads o.selections))) refl
 
-
 -- ## Arguments
 
 pub any-map : {A B : Type 0} (p : B → Bool) (f : A → B) (xs : List A) → list_any p (map f xs) ≡ list_any (λ x. p (f x)) xs

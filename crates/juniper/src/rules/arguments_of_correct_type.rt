@@ -31,10 +31,7 @@ pub(crate) fn has_wrong_argument<S: ScalarValue>(
 }
 
 #[tactic(auto, unfolding(crate::specs::PlainSelections::call_breaks, crate::specs::PlainSelections::breaks))]
-fn call_breaks<S: ScalarValue>(
-    schema: &SchemaType<S>,
-    field: &Spanning<Field<'_, S>, Span>,
-) -> bool
+fn call_breaks<S: ScalarValue>(schema: &SchemaType<S>, field: &Spanning<Field<'_, S>, Span>) -> bool
     ensures { result ≡ call_breaks (gives_unfit (view_schema S.shown schema.now)) (view_schema S.shown schema.now) (head_seen S.shown field.now) }
 {
     match call_of(schema, field) {
@@ -48,7 +45,11 @@ fn gives_unfit<S: ScalarValue>(schema: &SchemaType<S>, call: &Call<'_, '_, S>) -
     ensures { result ≡ gives_unfit (view_schema S.shown schema.now) (view_call S.shown call.now) }
 {
     for (name, value) in call.given {
-        if misfits(schema, declared_argument(call.declared, name.item), &value.item) {
+        if misfits(
+            schema,
+            declared_argument(call.declared, name.item),
+            &value.item,
+        ) {
             return true;
         }
     }

@@ -79,9 +79,21 @@ fn type_errors<S: ScalarValue>(
     let wrong = has_wrong_argument(schema, occurrences);
     let mut errors = Vec::new(alloc);
     report(alloc, &mut errors, unknown_field, "Unknown field", location)?;
-    report(alloc, &mut errors, unknown_argument, "Unknown argument", location)?;
+    report(
+        alloc,
+        &mut errors,
+        unknown_argument,
+        "Unknown argument",
+        location,
+    )?;
     report(alloc, &mut errors, missing, "Argument is missing", location)?;
-    report(alloc, &mut errors, wrong, "Argument does not fit its type", location)?;
+    report(
+        alloc,
+        &mut errors,
+        wrong,
+        "Argument does not fit its type",
+        location,
+    )?;
     Ok(errors)
 }
 

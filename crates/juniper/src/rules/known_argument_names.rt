@@ -27,10 +27,7 @@ pub(crate) fn has_unknown_argument<S: ScalarValue>(
 }
 
 #[tactic(auto, unfolding(crate::specs::PlainSelections::call_breaks, crate::specs::PlainSelections::breaks))]
-fn call_breaks<S: ScalarValue>(
-    schema: &SchemaType<S>,
-    field: &Spanning<Field<'_, S>, Span>,
-) -> bool
+fn call_breaks<S: ScalarValue>(schema: &SchemaType<S>, field: &Spanning<Field<'_, S>, Span>) -> bool
     ensures { result ≡ call_breaks gives_unknown (view_schema S.shown schema.now) (head_seen S.shown field.now) }
 {
     match call_of(schema, field) {

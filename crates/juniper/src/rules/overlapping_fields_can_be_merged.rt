@@ -113,10 +113,7 @@ fn value_named<'b, S: ScalarValue>(
 
 /// Whether neither is there, or both are and are equal.
 #[tactic(auto, unfolding(crate::specs::PlainSelections::same_found))]
-fn same_found<S: ScalarValue>(
-    value: Option<&InputValue<S>>,
-    other: Option<&InputValue<S>>,
-) -> bool
+fn same_found<S: ScalarValue>(value: Option<&InputValue<S>>, other: Option<&InputValue<S>>) -> bool
     ensures { result ≡ same_found (option_map (λ v. view_input S.shown v.now) value.entry) (option_map (λ v. view_input S.shown v.now) other.entry) }
 {
     match (value, other) {

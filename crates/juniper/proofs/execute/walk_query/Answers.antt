@@ -25,7 +25,7 @@ object-requires-clause-served g c =
     let plain = plain-fields o c.requires.plain in
     let executable = served-executable s c.requires.schema in
     let valid = found-nothing s (executable-built s executable) (takes-as-entry view_scalar (string_bytes types.query_name) (map (view_field shown) types.fields.items) types.scalars.items (λ m. scalar-is-plain (string_bytes m.name) (view_kinds m.kinds)))
-        o (plain-parts o c.requires.plain) c.requires.valid in
+    o (plain-parts o c.requires.plain) c.requires.valid in
     served-fields (λ f. view_occurrence shown f.now) c.in_ok-occurrences.occurrences.fields.items (passes (view_variables shown walk.variables.now)) o.selections (rw c.as_slice-selections.ensures.value at c.in_ok-occurrences.ensures) plain s valid.served
 
 pub object-requires-clause-agree : goal.object-requires-clause-agree
@@ -39,7 +39,7 @@ object-requires-clause-agree g c =
     let W = world_in g.Q.GraphQLValue.concrete g.Q.GraphQLValue.answer walk.resolver.now walk.info.now walk.context.now s vars in
     let executable = served-executable s c.requires.schema in
     let valid = found-nothing s (executable-built s executable) (takes-as-entry view_scalar (string_bytes types.query_name) (map (view_field shown) types.fields.items) types.scalars.items (λ m. scalar-is-plain (string_bytes m.name) (view_kinds m.kinds)))
-        o (plain-parts o c.requires.plain) c.requires.valid in
+    o (plain-parts o c.requires.plain) c.requires.valid in
     fields-agree (λ f. view_occurrence shown f.now) c.in_ok-occurrences.occurrences.fields.items (passes vars) o.selections (rw c.as_slice-selections.ensures.value at c.in_ok-occurrences.ensures) (plain-fields o c.requires.plain)
     W (string_bytes types.query_name) s (world-sees-alike s vars (g.Q.GraphQLValue.concrete walk.resolver.now walk.info.now walk.context.now) (g.Q.GraphQLValue.answer walk.resolver.now walk.info.now walk.context.now) (string_bytes types.query_name)) valid
 
