@@ -17,7 +17,10 @@ mod walk;
 
 pub use error::GraphQLError;
 pub use execute::execute_sync;
-pub use juniper_values::{ExecutionError, ExecutionResult, FieldError, FieldResult, ResolveError};
+pub use juniper_values::{
+    ExecutionError, ExecutionResult, FieldError, FieldResult, FromInputValue, IntoFieldError,
+    ResolveError, ToInputValue,
+};
 pub use root::RootNode;
 pub use rules::RuleError;
 pub use schema::{ScalarKinds, ScalarMeta, SchemaType};
