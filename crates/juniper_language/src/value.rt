@@ -175,3 +175,47 @@ fn add<S: ScalarValue>(
     fields.push((key, value))?;
     Ok(None)
 }
+<<<<<<< HEAD
+=======
+
+#[cfg(test)]
+mod tests {
+    use super::*;
+    use crate::scalar::DefaultScalarValue;
+    use std::test::Fail;
+
+    #[test]
+    fn a_key_keeps_its_place(rt: HostRuntime) -> Result<(), Fail> {
+        let alloc = rt.alloc();
+        let mut object = Object::with_capacity(alloc, 0)?;
+        for (key, int) in [("a", 1), ("b", 2), ("a", 3)] {
+            let value = Value::Scalar(DefaultScalarValue::from_int(int));
+            object.add_field(String::from_str(alloc, key)?, value)?;
+        }
+        let mut shown = Vec::new(alloc);
+        for (key, value) in object.iter() {
+            if let Value::Scalar(scalar) = value {
+                shown.push((key.as_str(), scalar.try_to_int()))?;
+            }
+        }
+        assert!(rt; shown.as_slice() == [("a", Some(3)), ("b", Some(2))].as_slice());
+        assert_eq!(rt; object.field_count(), 2);
+        assert!(rt; object.contains_field("b"));
+        assert!(rt; object.get_field_value("c").is_none());
+        Ok(())
+    }
+
+    #[test]
+    fn a_copy_shows_the_same(rt: HostRuntime) -> Result<(), Fail> {
+        let alloc = rt.alloc();
+        let mut items = Vec::new(alloc);
+        items.push(Value::Scalar(DefaultScalarValue::from_int(1)))?;
+        items.push(Value::Null)?;
+        let mut object = Object::with_capacity(alloc, 1)?;
+        object.add_field(String::from_str(alloc, "a")?, Value::List(items))?;
+        let value = Value::Object(object);
+        assert!(rt; value.try_clone(alloc)? == value);
+        Ok(())
+    }
+}
+>>>>>>> values
