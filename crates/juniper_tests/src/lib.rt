@@ -2,7 +2,13 @@
 #![tactic(auto)]
 
 #[cfg(test)]
+mod conversions;
+#[cfg(test)]
 mod errors;
+#[cfg(test)]
+mod field_errors;
+#[cfg(test)]
+mod inputs;
 #[cfg(test)]
 mod language;
 #[cfg(test)]

@@ -47,3 +47,16 @@ fn a_key_keeps_its_place(rt: HostRuntime) -> Result<(), Fail> {
     assert!(rt; object.get_field_value("c").is_none());
     Ok(())
 }
+
+#[test]
+fn a_copy_of_a_value_shows_the_same(rt: HostRuntime) -> Result<(), Fail> {
+    let alloc = rt.alloc();
+    let mut items = Vec::new(alloc);
+    items.push(Value::Scalar(DefaultScalarValue::from_int(1)))?;
+    items.push(Value::Null)?;
+    let mut object = Object::with_capacity(alloc, 1)?;
+    object.add_field(String::from_str(alloc, "a")?, Value::List(items))?;
+    let value = Value::Object(object);
+    assert!(rt; value.try_clone(alloc)? == value);
+    Ok(())
+}

@@ -6,8 +6,6 @@ mod execution_error;
 mod field_error;
 mod into_field_error;
 pub mod laws;
-#[cfg(test)]
-mod tests;
 
 pub use convert::{FromInputValue, ToInputValue};
 pub use execution_error::ExecutionError;

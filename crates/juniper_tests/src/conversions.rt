@@ -1,0 +1,167 @@
+//! Conversions between input values and the types of resolvers, with both types of scalars.
+
+use crate::scalar::TestScalar;
+use juniper_language::{DefaultScalarValue, InputValue, ScalarValue};
+use juniper_values::{FieldError, FromInputValue, ToInputValue};
+use std::alloc::{AllocError, Global};
+use std::fmt::Display;
+use std::test::Fail;
+
+/// One input value of each kind: null, an Int, a String, a Boolean, an enum's, a variable, a list, an object.
+fn inputs<S: ScalarValue>(alloc: Global) -> Result<Vec<InputValue<S>>, AllocError> {
+    let mut made = Vec::new(alloc);
+    made.push(InputValue::Null)?;
+    made.push(InputValue::Scalar(S::from_int(-7)))?;
+    made.push(InputValue::Scalar(S::from_text(String::from_str(alloc, "q1")?)?))?;
+    made.push(InputValue::Scalar(S::from_bool(true)))?;
+    made.push(InputValue::Enum(String::from_str(alloc, "EMPIRE")?))?;
+    made.push(InputValue::Variable(String::from_str(alloc, "episode")?))?;
+    made.push(InputValue::List(Vec::new(alloc)))?;
+    made.push(InputValue::Object(Vec::new(alloc)))?;
+    Ok(made)
+}
+
+/// The answer as a text: the value, or the error's message.
+fn answer_text<T: Display + Drop, S: ScalarValue>(
+    alloc: Global,
+    answer: Result<T, FieldError<S>>,
+) -> Result<String, AllocError> {
+    match answer {
+        Ok(value) => value.to_string(alloc),
+        Err(error) => String::from_str(alloc, error.message()),
+    }
+}
+
+/// What each input value is converted to, and at last what a missing one is.
+fn answers<S: ScalarValue, T: FromInputValue<S, Error = FieldError<S>> + Display>(
+    alloc: Global,
+) -> Result<Vec<String>, AllocError> {
+    let mut made = Vec::new(alloc);
+    for input in &inputs::<S>(alloc)? {
+        made.push(answer_text(alloc, T::from_input_value(alloc, input)?)?)?;
+    }
+    made.push(answer_text(alloc, T::from_implicit_null(alloc)?)?)?;
+    Ok(made)
+}
+
+/// The same for a nullable Int, with -1 in place of `None`.
+fn nullable_answers<S: ScalarValue>(alloc: Global) -> Result<Vec<String>, AllocError> {
+    let mut made = Vec::new(alloc);
+    for input in &inputs::<S>(alloc)? {
+        let answer = <Option<i32> as FromInputValue<S>>::from_input_value(alloc, input)?;
+        made.push(answer_text(alloc, answer.map(|int| int.unwrap_or(-1)))?)?;
+    }
+    let missing = <Option<i32> as FromInputValue<S>>::from_implicit_null(alloc)?;
+    made.push(answer_text(alloc, missing.map(|int| int.unwrap_or(-1)))?)?;
+    Ok(made)
+}
+
+/// What comes back of an Int, a Boolean, a String and a nullable Int.
+fn round_trips<S: ScalarValue>(alloc: Global) -> Result<Vec<String>, AllocError> {
+    let mut made = Vec::new(alloc);
+    let int: InputValue<S> = 42.to_input_value(alloc)?;
+    made.push(answer_text(alloc, i32::from_input_value(alloc, &int)?)?)?;
+    let boolean: InputValue<S> = false.to_input_value(alloc)?;
+    made.push(answer_text(alloc, bool::from_input_value(alloc, &boolean)?)?)?;
+    let text: InputValue<S> = String::from_str(alloc, "q1")?.to_input_value(alloc)?;
+    made.push(answer_text(alloc, String::from_input_value(alloc, &text)?)?)?;
+    let some: InputValue<S> = Some(42).to_input_value(alloc)?;
+    made.push(answer_text(alloc, i32::from_input_value(alloc, &some)?)?)?;
+    let none: InputValue<S> = None::<i32>.to_input_value(alloc)?;
+    made.push(answer_text(alloc, i32::from_input_value(alloc, &none)?)?)?;
+    Ok(made)
+}
+
+const FOUND_NULL: &str = "Expected GraphQL scalar, found: null";
+
+const FOUND_ENUM: &str = "Expected GraphQL scalar, found: enum";
+
+const FOUND_VARIABLE: &str = "Expected GraphQL scalar, found: variable";
+
+const FOUND_LIST: &str = "Expected GraphQL scalar, found: list";
+
+const FOUND_OBJECT: &str = "Expected GraphQL scalar, found: object";
+
+const NO_INT: &str = "Expected `Int`, found another scalar";
+
+const NO_BOOLEAN: &str = "Expected `Boolean`, found another scalar";
+
+const NO_STRING: &str = "Expected `String`, found another scalar";
+
+/// Whether the texts are these.
+fn are(given: &[String], rows: &[&str]) -> bool {
+    let mut same = given.len() == rows.len();
+    for (text, row) in given.iter().zip(rows) {
+        if text.as_str() != *row {
+            same = false;
+        }
+    }
+    same
+}
+
+#[test]
+fn each_input_is_converted(rt: HostRuntime) -> Result<(), Fail> {
+    let alloc = rt.alloc();
+    let ints = [
+        FOUND_NULL,
+        "-7",
+        NO_INT,
+        NO_INT,
+        FOUND_ENUM,
+        FOUND_VARIABLE,
+        FOUND_LIST,
+        FOUND_OBJECT,
+        FOUND_NULL,
+    ];
+    assert!(rt; are(&answers::<DefaultScalarValue, i32>(alloc)?, &ints));
+    assert!(rt; are(&answers::<TestScalar, i32>(alloc)?, &ints));
+    let booleans = [
+        FOUND_NULL,
+        NO_BOOLEAN,
+        NO_BOOLEAN,
+        "true",
+        FOUND_ENUM,
+        FOUND_VARIABLE,
+        FOUND_LIST,
+        FOUND_OBJECT,
+        FOUND_NULL,
+    ];
+    assert!(rt; are(&answers::<DefaultScalarValue, bool>(alloc)?, &booleans));
+    assert!(rt; are(&answers::<TestScalar, bool>(alloc)?, &booleans));
+    let strings = [
+        FOUND_NULL,
+        NO_STRING,
+        "q1",
+        NO_STRING,
+        FOUND_ENUM,
+        FOUND_VARIABLE,
+        FOUND_LIST,
+        FOUND_OBJECT,
+        FOUND_NULL,
+    ];
+    assert!(rt; are(&answers::<DefaultScalarValue, String>(alloc)?, &strings));
+    assert!(rt; are(&answers::<TestScalar, String>(alloc)?, &strings));
+    let nullable = [
+        "-1",
+        "-7",
+        NO_INT,
+        NO_INT,
+        FOUND_ENUM,
+        FOUND_VARIABLE,
+        FOUND_LIST,
+        FOUND_OBJECT,
+        "-1",
+    ];
+    assert!(rt; are(&nullable_answers::<DefaultScalarValue>(alloc)?, &nullable));
+    assert!(rt; are(&nullable_answers::<TestScalar>(alloc)?, &nullable));
+    Ok(())
+}
+
+#[test]
+fn values_come_back(rt: HostRuntime) -> Result<(), Fail> {
+    let alloc = rt.alloc();
+    let rows = ["42", "false", "q1", "42", FOUND_NULL];
+    assert!(rt; are(&round_trips::<DefaultScalarValue>(alloc)?, &rows));
+    assert!(rt; are(&round_trips::<TestScalar>(alloc)?, &rows));
+    Ok(())
+}
