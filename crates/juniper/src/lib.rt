@@ -17,10 +17,10 @@ mod walk;
 pub use error::GraphQLError;
 pub use execute::execute_sync;
 pub use juniper_language::{
-    DefaultScalarValue, Definition, Directive, Document, Field, Fragment, FragmentSpread, Fragments,
-    InlineFragment, InputValue, LexerError, Object, Operation, OperationType, ParseError,
-    ScalarValue, Selection, SourcePosition, Span, Spanning, Type, Value, VariableDefinition,
-    VariableDefinitions, Variables, ast, decode_int, parse_document_source,
+    DefaultScalarValue, Definition, Directive, Document, Field, Fragment, FragmentSpread,
+    Fragments, InlineFragment, InputValue, LexerError, Object, Operation, OperationType,
+    ParseError, ScalarValue, Selection, SourcePosition, Span, Spanning, Type, Value,
+    VariableDefinition, VariableDefinitions, Variables, ast, decode_int, parse_document_source,
 };
 pub use juniper_values::{
     ExecutionError, ExecutionResult, FieldError, FieldResult, FromInputValue, IntoFieldError,

@@ -7,9 +7,9 @@ ghost use Rattle.juniper_language.specs.Scalars.{default_shown};
 ghost use Rattle.juniper_language.specs.ValueView.{view_value};
 ghost use Rattle.juniper_demo.specs.Answers.{ShowsData, ShowsRefusal};
 
-use juniper_response::answer_line;
 use juniper::{ExecutionError, GraphQLError};
 use juniper_language::{DefaultScalarValue, Value};
+use juniper_response::answer_line;
 use std::alloc::{AllocError, Global};
 
 /// The data and the errors of a request, or why it has none.

@@ -156,8 +156,14 @@ fn r1_rows(rt: HostRuntime) -> Result<(), Fail> {
         ("{ id @skip(if: 1) }", None, "Unexpected token@15"),
         ("{ id \0 }", None, "Unexpected token@5"),
     ];
-    assert_eq!(rt; first_wrong::<DefaultScalarValue>(alloc, rows.as_slice())?.as_str(), "");
-    assert_eq!(rt; first_wrong::<TestScalar>(alloc, rows.as_slice())?.as_str(), "");
+    assert_eq!(rt;
+        first_wrong::<DefaultScalarValue>(alloc, rows.as_slice())?.as_str(),
+        ""
+    );
+    assert_eq!(rt;
+        first_wrong::<TestScalar>(alloc, rows.as_slice())?.as_str(),
+        ""
+    );
     Ok(())
 }
 
@@ -165,11 +171,7 @@ fn r1_rows(rt: HostRuntime) -> Result<(), Fail> {
 fn r2_rows(rt: HostRuntime) -> Result<(), Fail> {
     let alloc = rt.alloc();
     let rows: [Row<'_>; 18] = [
-        (
-            "{ number a: number(plus: -1) }",
-            None,
-            "{ number=42 a=40 }",
-        ),
+        ("{ number a: number(plus: -1) }", None, "{ number=42 a=40 }"),
         ("{ number(plus: null) }", None, "{ number=null }"),
         (
             "{ number(plus: 2147483647) }",
@@ -212,11 +214,7 @@ fn r2_rows(rt: HostRuntime) -> Result<(), Fail> {
             None,
             "{ number=-2147483607 }",
         ),
-        (
-            "{ number(plus: 2147483648) }",
-            None,
-            "Unexpected token@15",
-        ),
+        ("{ number(plus: 2147483648) }", None, "Unexpected token@15"),
         ("{ x(a: 1) }", None, "Unknown field@0"),
         (
             "{ x number(minus: true) }",
@@ -236,8 +234,14 @@ fn r2_rows(rt: HostRuntime) -> Result<(), Fail> {
             "{ number=42 }",
         ),
     ];
-    assert_eq!(rt; first_wrong::<DefaultScalarValue>(alloc, rows.as_slice())?.as_str(), "");
-    assert_eq!(rt; first_wrong::<TestScalar>(alloc, rows.as_slice())?.as_str(), "");
+    assert_eq!(rt;
+        first_wrong::<DefaultScalarValue>(alloc, rows.as_slice())?.as_str(),
+        ""
+    );
+    assert_eq!(rt;
+        first_wrong::<TestScalar>(alloc, rows.as_slice())?.as_str(),
+        ""
+    );
     Ok(())
 }
 

@@ -114,7 +114,12 @@ fn sum<S: ScalarValue>(alloc: Global, plus: i32) -> Result<Resolved<(), S>, Reso
 }
 
 /// The root, with scalars of one type.
-pub type TestRoot<S> = RootNode<TestQuery, EmptyMutation<Requests, ()>, EmptySubscription<Requests>, S>;
+pub type TestRoot<S> = RootNode<
+    TestQuery,
+    EmptyMutation<Requests, ()>,
+    EmptySubscription<Requests>,
+    S,
+>;
 
 /// A new root; an error where memory is refused.
 #[tactic(auto, using(crate::proofs::ServedTests::test_is_served))]
@@ -181,9 +186,14 @@ fn number_field<S: ScalarValue>(alloc: Global) -> Result<Field<S>, AllocError>
     ensures { IfOk result (λ f. view_field S.shown f ≡ number_field) }
 {
     let name = String::from_str(alloc, "plus")?;
-    let plus = Argument::new(name, Type::Named(String::from_str(alloc, "Int")?))
-        .default_value(InputValue::Scalar(S::from_int(1)));
-    let number: Field<S> = field(alloc, "number", Type::Named(String::from_str(alloc, "Int")?))?;
+    let plus = Argument::new(name, Type::Named(String::from_str(alloc, "Int")?)).default_value(
+        InputValue::Scalar(S::from_int(1)),
+    );
+    let number: Field<S> = field(
+        alloc,
+        "number",
+        Type::Named(String::from_str(alloc, "Int")?),
+    )?;
     Ok(number.argument(alloc, plus)?)
 }
 
@@ -219,4 +229,3 @@ fn scalar(alloc: Global, name: &str, kinds: ScalarKinds) -> Result<ScalarMeta, A
 {
     Ok(ScalarMeta::new(String::from_str(alloc, name)?, kinds))
 }
-

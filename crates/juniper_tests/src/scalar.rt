@@ -1,6 +1,5 @@
 //! A scalar type of the tests' own.
 
-
 use juniper_language::ScalarValue;
 use std::alloc::{AllocError, Global};
 
@@ -62,7 +61,10 @@ impl ScalarValue for TestScalar {
         match self {
             TestScalar::Flag(value) => Ok(TestScalar::Flag(*value)),
             TestScalar::Number(value) => Ok(TestScalar::Number(*value)),
-            TestScalar::Text(value) => Ok(TestScalar::Text(String::from_str(alloc, value.as_str())?)),
+            TestScalar::Text(value) => Ok(TestScalar::Text(String::from_str(
+                alloc,
+                value.as_str(),
+            )?)),
         }
     }
 }
