@@ -4,7 +4,7 @@ use crate::position::{Span, Spanning};
 use std::collections::HashMap;
 
 /// An input value.
-#[derive(Debug, PartialEq, Drop)]
+#[derive(Debug, Drop)]
 pub enum InputValue<S> {
     /// `null` (2.9.5).
     Null,
