@@ -5,16 +5,16 @@ use Rattle.std.proofs.lemmas.Bool.{false≢true}
 use Rattle.std.proofs.lemmas.Slice.Eq.{bytes_eq-Decides}
 use Rattle.std.specs.List.{list_all}
 use Rattle.std.specs.Str.{bytes_eq}
-use Rattle.graphql_spec.specs.Shown.{Name, Text, boolean, text, int as int_shown, shown_boolean, shown_text}
+use Rattle.graphql_spec.specs.Shown.{Name, Text, boolean, text, int as int_shown, shown_text}
 use Rattle.graphql_spec.specs.Positions.{Span, Spanned}
 use Rattle.graphql_spec.specs.Tokens.{Lexeme, mark, name, int, string, decoded_int}
 use Rattle.graphql_spec.specs.Inputs.{Input, null, scalar, enumerated, variable, list, object}
 use Rattle.graphql_spec.specs.Documents.{Argument, Arguments, written}
-use Rattle.graphql_spec.specs.Grammar.{At, Takes, Mark, Keyword, span_of, Opt, Many, Between, IsValue, IsArgument, IsArguments, true_word, false_word, null_word, boolean_word}
+use Rattle.graphql_spec.specs.Grammar.{At, Takes, Mark, Keyword, Opt, Many, Between, IsValue, IsArgument, IsArguments, true_word, false_word, null_word, boolean_word}
 use Rattle.graphql_spec.specs.Served.{is_served_value}
-use Rattle.juniper_language.specs.Reading.{Reader, and_then, pure, refuse, sees, next, expect, a_name, some_until, with_span, spanned, known, word_value, number_value, value_by, value, argument, arguments, given}
+use Rattle.juniper_language.specs.Reading.{Reader, and_then, sees, next, expect, a_name, some_until, with_span, spanned, known, word_value, value_by, value, argument, arguments, given}
 use Rattle.juniper_language.proofs.LexLaws.{IsPlain}
-use Rattle.juniper_language.proofs.StepLaws.{bind_some, pure_some, from_pure, picked, chosen, next_takes, takes_next, fewer, mark_seen, other_seen, expect_sound, expect_read, name_sound, name_read, name_first, spanned_is, until_sound, until_read, IsSound, IsPart, Passing, many_map, many_pass, many_all, many_fewer}
+use Rattle.juniper_language.proofs.StepLaws.{bind_some, from_pure, chosen, next_takes, takes_next, fewer, mark_seen, other_seen, expect_sound, expect_read, name_sound, name_read, name_first, spanned_is, until_sound, until_read, IsSound, IsPart, Passing, many_map, many_pass, many_all, many_fewer}
 
 -- ---- values
 

@@ -1,5 +1,5 @@
 -- A directive that is read is spelled so, and one that is served and spelled so is read.
-use Rattle.std.proofs.Common.{inl, inr, ◌≡◌, ℕ, zero, suc, ◌<◌, ◌≤◌, ◌==◌, Bool, true, false, List, [], ◌∷◌, length, Some, None, refl, ap, sym, ◌∙◌, subst, arith}
+use Rattle.std.proofs.Common.{inl, inr, ◌≡◌, ℕ, zero, suc, ◌≤◌, ◌==◌, Bool, true, false, List, [], ◌∷◌, length, Some, None, refl, ap, sym, ◌∙◌, subst, arith}
 use Rattle.std.proofs.lemmas.Option.{none-some}
 use Rattle.std.proofs.lemmas.Bool.{false≢true, and_parts, and_from}
 use Rattle.std.proofs.lemmas.Slice.Eq.{bytes_eq-Decides}
@@ -11,7 +11,7 @@ use Rattle.graphql_spec.specs.Tokens.{mark, name}
 use Rattle.graphql_spec.specs.Inputs.{Input, null, scalar, enumerated, variable, list, object}
 use Rattle.graphql_spec.specs.Documents.{Word, Argument, Directive, Arguments, written}
 use Rattle.graphql_spec.specs.Directives.{if_name}
-use Rattle.graphql_spec.specs.Grammar.{At, Mark, Keyword, IsWord, span_of, Opt, Many, Between, IsValue, IsArgument, IsArguments, IsDirective, AreDirectives, true_word, false_word, boolean_word}
+use Rattle.graphql_spec.specs.Grammar.{At, Mark, Keyword, IsWord, span_of, Many, Between, IsValue, IsArgument, IsArguments, IsDirective, AreDirectives, true_word, false_word, boolean_word}
 use Rattle.graphql_spec.specs.Served.{is_truth, is_condition, is_served_directive, is_served_value}
 use Rattle.juniper_language.specs.Reading.{Reader, and_then, pure, refuse, sees, expect, a_name, a_name_of, with_span, spanned, truth_of, truth, is_if, is_conditional, condition, conditions, directive, directives}
 use Rattle.juniper_language.proofs.StepLaws.{bind_some, pure_some, picked, fewer, mark_seen, other_seen, expect_sound, expect_read, name_sound, name_read, name_of_sound, name_of_read, spanned_is, while_sound, while_read, IsSound, IsPart, Passing, many_map, many_pass, many_all, many_fewer}

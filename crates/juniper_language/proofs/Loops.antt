@@ -33,6 +33,10 @@ pub map_push : {A B : Type 0} (f : A → B) (xs : List A) (x : A) → map f (xs 
 map_push f [] x = refl
 map_push f (y ∷ xs) x = ap (λ ys. f y ∷ ys) (map_push f xs x)
 
+-- what was pushed, as it is seen
+pub map_pushed : {A B : Type 0} (f : A → B) (xs ys : List A) (x : A) → ys ≡ xs ++ x ∷ [] → map f ys ≡ map f xs ++ f x ∷ []
+map_pushed f xs ys x e = ap (map f) e ∙ map_push f xs x
+
 left_suc : (e i : ℕ) → i < e → e - i ≡ suc (e - (i + 1))
 left_suc e i h = omega arith
 
@@ -102,6 +106,18 @@ pub parts_none : {A : Type 0} (m : ℕ) (p : Reader A) (e i : ℕ) (front : List
 unfolding until
 parts_none m p e i front s past = let z : e - i ≡ 0 = omega arith in rw z refl
 
+-- one more part, behind those that are found
+pub part_on : {A : Type 0} (m : ℕ) (p : Reader A) (e i : ℕ) (front more : List A) (x : A) (s t : At) (o : Outcome (List A)) → i < e → false ≡ sees m s → p s ≡ Some (x, t)
+    → more ≡ front ++ x ∷ [] → prepend front (until m p (e - i) s) ≡ o → prepend more (until m p (e - (i + 1)) t) ≡ o
+part_on m p e i front more x s t o below other one is kept =
+    ap (λ xs. prepend xs (until m p (e - (i + 1)) t)) is ∙ sym (parts_more m p e i front s below (sym other) ∙ ap (behind_part m p (e - (i + 1)) front) one) ∙ kept
+
+-- one more part that begins with the mark
+pub part_after : {A : Type 0} (m : ℕ) (p : Reader A) (e i : ℕ) (front more : List A) (x : A) (s t : At) (o : Outcome (List A)) → i < e → true ≡ sees m s → p s ≡ Some (x, t)
+    → more ≡ front ++ x ∷ [] → prepend front (while_sees m p (e - i) s) ≡ o → prepend more (while_sees m p (e - (i + 1)) t) ≡ o
+part_after m p e i front more x s t o below seen one is kept =
+    ap (λ xs. prepend xs (while_sees m p (e - (i + 1)) t)) is ∙ sym (while_more m p e i front s below (sym seen) ∙ ap (behind_one m p (e - (i + 1)) front) one) ∙ kept
+
 -- ---- selections up to the closing brace
 
 abbrev pub Putting : Type 0
@@ -150,11 +166,11 @@ chain_push [] f = refl
 chain_push (g ∷ fs) f = ap {B = Putting} (λ (h : Putting). λ r. g (h r)) (chain_push fs f)
 
 -- one more selection, put behind those that are found
-pub turn_on : (m e i : ℕ) (fs gs : List Putting) (f : Putting) (s t : At) (o : Outcome Selections) → i < e → sees m s ≡ false → placed s ≡ Some (f, t) → gs ≡ fs ++ f ∷ []
+pub turn_on : (m e i : ℕ) (fs gs : List Putting) (f : Putting) (s t : At) (o : Outcome Selections) → i < e → false ≡ sees m s → placed s ≡ Some (f, t) → gs ≡ fs ++ f ∷ []
     → put_first (chain fs) (until m selection (e - i) s) ≡ o → put_first (chain gs) (until m selection (e - (i + 1)) t) ≡ o
 turn_on m e i fs gs f s t o below other one is kept =
     let more : chain gs ≡ (λ r. chain fs (f r)) = ap chain is ∙ chain_push fs f in
-    ap (λ (g : Putting). put_first g (until m selection (e - (i + 1)) t)) more ∙ sym (until_more m e i (chain fs) s below other ∙ ap (behind_node m (e - (i + 1)) (chain fs)) one) ∙ kept
+    ap (λ (g : Putting). put_first g (until m selection (e - (i + 1)) t)) more ∙ sym (until_more m e i (chain fs) s below (sym other) ∙ ap (behind_node m (e - (i + 1)) (chain fs)) one) ∙ kept
 
 -- a field without selections
 pub view_of_field : {S : Type 0} (shown : S → Shown) (alias : Option (Spanning (Bor (List ℕ)) Span)) (name : Spanning (Bor (List ℕ)) Span)

@@ -2,13 +2,11 @@
 use Rattle.std.proofs.Common.{◌≡◌, ℕ, zero, suc, Bool, true, false, List, [], ◌∷◌, Option, Some, None, sym, subst}
 use Rattle.std.proofs.lemmas.Bool.{false≢true, and_parts}
 use Rattle.std.specs.List.{list_all}
-use Rattle.graphql_spec.specs.Shown.{boolean, text, int as int_shown, shown_boolean}
 use Rattle.graphql_spec.specs.Positions.{Span}
 use Rattle.graphql_spec.specs.Tokens.{Lexeme, mark, name}
-use Rattle.graphql_spec.specs.Inputs.{Input, null, scalar, enumerated, variable, list, object}
 use Rattle.graphql_spec.specs.Documents.{Word, Argument, Arguments, Directive, Selections, end, field, spread, inline, written}
-use Rattle.graphql_spec.specs.Grammar.{At, Takes, Mark, IsWord, Opt, Many, Between, IsDirective, IsArgument, IsArguments, AreDirectives, Alias, IsField, AreSelections, boolean_word}
-use Rattle.graphql_spec.specs.Served.{is_truth, is_condition, is_served_directive, is_served_field, are_served}
+use Rattle.graphql_spec.specs.Grammar.{At, Takes, Mark, IsWord, Opt, Many, Between, IsDirective, IsArgument, IsArguments, AreDirectives, Alias, IsField, AreSelections}
+use Rattle.graphql_spec.specs.Served.{is_served_directive, is_served_field, are_served}
 use Rattle.juniper_language.proofs.LexLaws.{IsPlain, ArePlain}
 use Rattle.juniper_language.proofs.StepLaws.{many_pass}
 use Rattle.juniper_language.proofs.ArgumentLaws.{all_served, has_served_value, Argued, one_token}

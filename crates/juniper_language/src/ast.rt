@@ -6,13 +6,13 @@ use crate::types::Type;
 use std::collections::HashMap;
 
 /// The arguments of a field or a directive, in the order in which they are written (2.6).
-#[derive(Debug, PartialEq, Drop)]
+#[derive(Drop)]
 pub struct Arguments<'a, S> {
     pub items: Vec<(Spanning<&'a str, Span>, Spanning<InputValue<S>, Span>)>,
 }
 
 /// A directive (2.12).
-#[derive(Debug, PartialEq, Drop)]
+#[derive(Drop)]
 pub struct Directive<'a, S> {
     pub name: Spanning<&'a str, Span>,
     pub arguments: Option<Spanning<Arguments<'a, S>, Span>>,
@@ -20,7 +20,7 @@ pub struct Directive<'a, S> {
 
 /// A field (2.5); its span starts at the alias, where it has one.
 #[cycle(ast)]
-#[derive(Debug, PartialEq, Drop)]
+#[derive(Drop)]
 pub struct Field<'a, S> {
     pub alias: Option<Spanning<&'a str, Span>>,
     pub name: Spanning<&'a str, Span>,
@@ -30,7 +30,7 @@ pub struct Field<'a, S> {
 }
 
 /// A spread of a fragment by its name (2.8).
-#[derive(Debug, PartialEq, Drop)]
+#[derive(Drop)]
 pub struct FragmentSpread<'a, S> {
     pub name: Spanning<&'a str, Span>,
     pub directives: Option<Vec<Spanning<Directive<'a, S>, Span>>>,
@@ -38,7 +38,7 @@ pub struct FragmentSpread<'a, S> {
 
 /// An inline fragment (2.8.2).
 #[cycle(ast)]
-#[derive(Debug, PartialEq, Drop)]
+#[derive(Drop)]
 pub struct InlineFragment<'a, S> {
     pub type_condition: Option<Spanning<&'a str, Span>>,
     pub directives: Option<Vec<Spanning<Directive<'a, S>, Span>>>,
@@ -47,7 +47,7 @@ pub struct InlineFragment<'a, S> {
 
 /// A selection (2.4).
 #[cycle(ast)]
-#[derive(Debug, PartialEq, Drop)]
+#[derive(Drop)]
 pub enum Selection<'a, S> {
     /// A field.
     Field(Spanning<Field<'a, S>, Span>),
@@ -58,7 +58,7 @@ pub enum Selection<'a, S> {
 }
 
 /// What an operation does (2.3).
-#[derive(Clone, Copy, Debug, PartialEq, Eq)]
+#[derive(Clone, Copy)]
 pub enum OperationType {
     /// It reads.
     Query,
@@ -69,7 +69,7 @@ pub enum OperationType {
 }
 
 /// What an operation says of a variable (2.10).
-#[derive(Debug, PartialEq, Drop)]
+#[derive(Drop)]
 pub struct VariableDefinition<'a, S> {
     pub var_type: Spanning<Type<&'a str>, Span>,
     pub default_value: Option<Spanning<InputValue<S>, Span>>,
@@ -77,13 +77,13 @@ pub struct VariableDefinition<'a, S> {
 }
 
 /// The variables that an operation defines, in order; a name's place starts at its `$` (2.10).
-#[derive(Debug, PartialEq, Drop)]
+#[derive(Drop)]
 pub struct VariableDefinitions<'a, S> {
     pub items: Vec<(Spanning<&'a str, Span>, VariableDefinition<'a, S>)>,
 }
 
 /// An operation (2.3).
-#[derive(Debug, PartialEq, Drop)]
+#[derive(Drop)]
 pub struct Operation<'a, S> {
     pub operation_type: OperationType,
     pub name: Option<Spanning<&'a str, Span>>,
@@ -93,7 +93,7 @@ pub struct Operation<'a, S> {
 }
 
 /// A fragment (2.8).
-#[derive(Debug, PartialEq, Drop)]
+#[derive(Drop)]
 pub struct Fragment<'a, S> {
     pub name: Spanning<&'a str, Span>,
     pub type_condition: Spanning<&'a str, Span>,
@@ -102,7 +102,7 @@ pub struct Fragment<'a, S> {
 }
 
 /// A definition (2.2).
-#[derive(Debug, PartialEq, Drop)]
+#[derive(Drop)]
 pub enum Definition<'a, S> {
     /// An operation.
     Operation(Spanning<Operation<'a, S>, Span>),

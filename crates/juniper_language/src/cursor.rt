@@ -3,7 +3,7 @@
 ghost use Rattle.std.specs.Prelude.{◌≡◌, ◌≢◌, length, map};
 ghost use Rattle.graphql_spec.specs.Grammar.{begin_of};
 ghost use Rattle.graphql_spec.specs.Served.{before_all};
-ghost use Rattle.juniper_language.specs.Positions.{view_position};
+ghost use Rattle.juniper_language.specs.Positions.{view_position, view_span};
 ghost use Rattle.juniper_language.specs.DocumentView.{view_word};
 ghost use Rattle.juniper_language.specs.Reading as read;
 ghost use Rattle.juniper_language.specs.Reading.{Gives};
@@ -66,11 +66,14 @@ impl<'t, 'a> Parser<'t, 'a> {
         }
     }
 
-    /// Where the last token that was taken ends.
-    pub fn last(&self) -> SourcePosition
-        ensures { view_position result ≡ self.now.last }
+    /// From the place to the end of the last token that was taken.
+    pub fn since(&self, start: SourcePosition) -> Span
+        ensures { view_span result ≡ record { start = view_position start; end = self.now.last } }
     {
-        self.last
+        Span {
+            start,
+            end: self.last,
+        }
     }
 
     /// The refusal of what comes next: a token, what is none, or the end of the text.

@@ -12,8 +12,8 @@ use std::fmt;
 /// What no token begins with, or goes on with (section 2.1 of the Specification).
 ///
 /// Shown as `Unknown escape sequence "\x" in string`, `Unterminated string literal`, `Unknown character` and
-/// `Invalid number literal`. No call makes one yet: until strings and numbers are read, such a text is refused as
-/// [`ParseError::UnexpectedToken`].
+/// `Invalid number literal`. Only [`InvalidNumber`](LexerError::InvalidNumber) is made yet: until strings are read, what
+/// the others are of is refused as [`ParseError::UnexpectedToken`].
 #[derive(Debug, Drop, Eq, PartialEq)]
 pub enum LexerError {
     /// A backslash in a string, and what follows it, which stand for no character (2.9.4).
@@ -22,7 +22,7 @@ pub enum LexerError {
     UnterminatedString,
     /// A character that begins no token (2.1.6).
     UnknownCharacter,
-    /// A number with a zero too many, or with a name right behind it (2.9.1).
+    /// A number without digits, with a zero too many, or with a letter or `_` right behind it (2.9.1).
     InvalidNumber,
 }
 
@@ -54,9 +54,9 @@ impl fmt::Display for LexerError {
                 f,
                 "Unknown escape sequence \"{escape}\" in string"
             ),
-            LexerError::UnterminatedString => write!(f, "Unterminated string literal"),
-            LexerError::UnknownCharacter => write!(f, "Unknown character"),
-            LexerError::InvalidNumber => write!(f, "Invalid number literal"),
+            LexerError::UnterminatedString => f.write_str("Unterminated string literal"),
+            LexerError::UnknownCharacter => f.write_str("Unknown character"),
+            LexerError::InvalidNumber => f.write_str("Invalid number literal"),
         }
     }
 }
@@ -65,17 +65,17 @@ impl Error for LexerError {}
 
 /// Why a text is no document that is served.
 ///
-/// Now [`UnexpectedToken`](ParseError::UnexpectedToken), [`UnexpectedEndOfFile`](ParseError::UnexpectedEndOfFile) and
-/// [`Memory`](ParseError::Memory) are made; the others come with strings, numbers and nested brackets.
+/// [`BlockString`](ParseError::BlockString) and [`TooDeep`](ParseError::TooDeep) are not made yet: they come with strings
+/// and nested brackets.
 #[derive(Debug, Drop, Eq, PartialEq)]
 pub enum ParseError {
-    /// What stands there is no token. Shown as the text of the [`LexerError`]. Not made yet.
+    /// What stands there is no token: a number that is none. Shown as the text of the [`LexerError`].
     LexerError(LexerError),
     /// A token that may not stand there, or a character that begins none. Shown as `Unexpected token`.
     UnexpectedToken,
     /// The text ends before the document does. Shown as `Unexpected end of input`.
     UnexpectedEndOfFile,
-    /// A float (2.9.2). Shown as `Float literals are not supported`. Not made yet.
+    /// An Int with `.`, `e` or `E` right behind it, as in a float (2.9.2). Shown as `Float literals are not supported`.
     FloatLiteral,
     /// A string in three quotes (2.9.4). Shown as `Block strings are not supported`. Not made yet.
     BlockString,
@@ -111,12 +111,12 @@ impl fmt::Display for ParseError {
     fn fmt<W: fmt::Write>(&self, f: &mut fmt::Formatter<W>) -> fmt::Result {
         match self {
             ParseError::LexerError(error) => write!(f, "{error}"),
-            ParseError::UnexpectedToken => write!(f, "Unexpected token"),
-            ParseError::UnexpectedEndOfFile => write!(f, "Unexpected end of input"),
-            ParseError::FloatLiteral => write!(f, "Float literals are not supported"),
-            ParseError::BlockString => write!(f, "Block strings are not supported"),
-            ParseError::TooDeep => write!(f, "Brackets are nested too deeply"),
-            ParseError::Memory => write!(f, "Out of memory"),
+            ParseError::UnexpectedToken => f.write_str("Unexpected token"),
+            ParseError::UnexpectedEndOfFile => f.write_str("Unexpected end of input"),
+            ParseError::FloatLiteral => f.write_str("Float literals are not supported"),
+            ParseError::BlockString => f.write_str("Block strings are not supported"),
+            ParseError::TooDeep => f.write_str("Brackets are nested too deeply"),
+            ParseError::Memory => f.write_str("Out of memory"),
         }
     }
 }

@@ -3,7 +3,7 @@
 //! Served is one query that is written as its selection set alone, of fields without selection sets whose arguments are
 //! Ints, `true`, `false` or `null`, with any number of `@skip` and `@include` whose condition is `true` or `false`.
 
-ghost use Rattle.std.specs.Prelude.{◌≡◌, ◌≢◌, ℕ, length, map, option_map, MatchResult, true, false};
+ghost use Rattle.std.specs.Prelude.{◌≡◌, ◌≢◌, ℕ, length, map, option_map, IfOk, MatchResult, [], ◌∷◌, true, false};
 ghost use Rattle.graphql_spec.specs.Documents as spec;
 ghost use Rattle.graphql_spec.specs.Served.{SpellsServed};
 ghost use Rattle.juniper_language.specs.DocumentView.{put_selection, view_argument, view_arguments, view_directive, view_directives, view_document, view_operation, view_selections, view_word};
@@ -25,7 +25,7 @@ use crate::number::decode_int;
 use crate::position::{Span, Spanning};
 use crate::scalar::ScalarValue;
 use crate::token::{Ending, Lexeme};
-use std::alloc::Global;
+use std::alloc::{AllocError, Global};
 
 /// A name of the text, and its place.
 type Word<'a> = Spanning<&'a str, Span>;
@@ -86,15 +86,12 @@ fn argument<'a, S: ScalarValue>(parser: &mut Parser<'_, 'a>) -> ParseResult<Argu
     parser.expect(b':')?;
     let start = parser.begin();
     let item = value(parser)?;
-    let span = Span {
-        start,
-        end: parser.last(),
-    };
+    let span = parser.since(start);
     Ok((name, Spanning::new(span, item)))
 }
 
 /// One or more arguments, and the bracket behind them.
-#[tactic(auto, using(crate::proofs::Loops::parts_more, crate::proofs::Loops::parts_end, crate::proofs::Loops::parts_none, crate::proofs::Loops::prepend_nil, crate::proofs::Loops::map_push))]
+#[tactic(auto, using(crate::proofs::Loops::parts_more, crate::proofs::Loops::parts_end, crate::proofs::Loops::parts_none, crate::proofs::Loops::prepend_nil))]
 fn some_arguments<'a, S: ScalarValue>(
     alloc: Global,
     parser: &mut Parser<'_, 'a>,
@@ -126,10 +123,7 @@ fn arguments<'a, S: ScalarValue>(
     let start = parser.begin();
     parser.expect(b'(')?;
     let items = some_arguments(alloc, parser)?;
-    let span = Span {
-        start,
-        end: parser.last(),
-    };
+    let span = parser.since(start);
     Ok(Spanning::new(span, Arguments { items }))
 }
 
@@ -195,11 +189,17 @@ fn condition<'a, S: ScalarValue>(parser: &mut Parser<'_, 'a>) -> ParseResult<Arg
     parser.expect(b':')?;
     let start = parser.begin();
     let item = truth(parser)?;
-    let span = Span {
-        start,
-        end: parser.last(),
-    };
+    let span = parser.since(start);
     Ok((name, Spanning::new(span, item)))
+}
+
+/// The list of this item alone.
+fn only<T: Drop>(alloc: Global, item: T) -> Result<Vec<T>, AllocError>
+    ensures { IfOk result (λ v. v.items ≡ item ∷ []) }
+{
+    let mut items = Vec::new(alloc);
+    items.push(item)?;
+    Ok(items)
 }
 
 /// A directive's condition in parentheses (2.6).
@@ -214,12 +214,8 @@ fn conditions<'a, S: ScalarValue>(
     parser.expect(b'(')?;
     let argument = condition(parser)?;
     parser.expect(b')')?;
-    let span = Span {
-        start,
-        end: parser.last(),
-    };
-    let mut items = Vec::new(alloc);
-    items.push(argument)?;
+    let span = parser.since(start);
+    let items = only(alloc, argument)?;
     Ok(Spanning::new(span, Arguments { items }))
 }
 
@@ -235,10 +231,7 @@ fn directive<'a, S: ScalarValue>(
     parser.expect(b'@')?;
     let name = directive_name(parser)?;
     let arguments = Some(conditions(alloc, parser)?);
-    let span = Span {
-        start,
-        end: parser.last(),
-    };
+    let span = parser.since(start);
     Ok(Spanning::new(span, Directive { name, arguments }))
 }
 
@@ -289,10 +282,7 @@ fn selection<'a, S: ScalarValue>(
     let (alias, name) = label(parser)?;
     let arguments = given(alloc, parser)?;
     let directives = directives(alloc, parser)?;
-    let span = Span {
-        start,
-        end: parser.last(),
-    };
+    let span = parser.since(start);
     let item = Field {
         alias,
         name,
@@ -336,10 +326,7 @@ fn operation<'a, S: ScalarValue>(
     let start = parser.begin();
     parser.expect(b'{')?;
     let selection_set = selections(alloc, parser)?;
-    let span = Span {
-        start,
-        end: parser.last(),
-    };
+    let span = parser.since(start);
     let item = Operation {
         operation_type: OperationType::Query,
         name: None,
@@ -379,8 +366,10 @@ fn whole_text(ending: Ending) -> ParseResult<()>
 ///
 /// # Errors
 /// Exactly where the text spells no such document, the first fault in reading order: a token or a character that may not
-/// stand there is [`ParseError::UnexpectedToken`], at the place where it begins; a text that ends too early is
-/// [`ParseError::UnexpectedEndOfFile`], at its end. Where memory is refused, [`ParseError::Memory`].
+/// stand there is [`ParseError::UnexpectedToken`], and so is an Int that 32 bits do not hold; a number that is no Int is
+/// [`LexerError::InvalidNumber`](crate::LexerError::InvalidNumber), and a float [`ParseError::FloatLiteral`]; each at the
+/// place where it begins. A text that ends too early is [`ParseError::UnexpectedEndOfFile`], at its end. Where memory is
+/// refused, [`ParseError::Memory`].
 pub fn parse_document_source<'a, S: ScalarValue>(
     alloc: Global,
     text: &'a str,
@@ -393,7 +382,6 @@ pub fn parse_document_source<'a, S: ScalarValue>(
     let mut parser = Parser::new(&lexed.tokens, lexed.ending);
     let operation = whole_operation(alloc, &mut parser)?;
     whole_text(lexed.ending)?;
-    let mut document = Vec::new(alloc);
-    document.push(Definition::Operation(operation))?;
+    let document = only(alloc, Definition::Operation(operation))?;
     Ok(document)
 }
