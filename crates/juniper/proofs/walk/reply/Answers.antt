@@ -1,4 +1,4 @@
-use Rattle.std.proofs.Common.{map, string_bytes, refl, sym, subst, ◌∙◌}
+use Rattle.std.proofs.Common.{map, string_bytes, sym, subst, ◌∙◌}
 use Rattle.graphql_spec.specs.Resolvers.{world_of}
 use Rattle.juniper_language.specs.InputView.{view_variables}
 use Rattle.juniper.specs.ArgumentView.{view_arguments}
