@@ -1,25 +1,23 @@
 -- What the rules that are served find in one plain query.
-use Rattle.std.proofs.Common.{◌≡◌, Bool, true, false, not, ◌&&◌, ◌||◌, cond, List, [], ◌∷◌, ◌++◌, Option, Some, None, is_none, option_map, codes, refl, sym, ap, ap₂, ◌∙◌, inl, inr, subst}
-use Rattle.std.specs.List.{list_all, list_any}
-use Rattle.std.proofs.lemmas.Bool.{cases_Bool, and_parts}
+use Rattle.std.proofs.Common.{◌≡◌, Bool, true, false, not, ◌&&◌, ◌||◌, List, [], ◌∷◌, ◌++◌, Option, Some, None, is_none, option_map, codes, refl, sym, ap, ap₂, ◌∙◌, inl, inr}
+use Rattle.std.specs.List.{list_any}
+use Rattle.std.proofs.lemmas.Bool.{and_parts}
 use Rattle.graphql_spec.specs.Shown.{Text, Name, Shown}
 use Rattle.graphql_spec.specs.Positions.{Position}
 use Rattle.graphql_spec.specs.Types.{TypeRef}
-use Rattle.graphql_spec.specs.Inputs.{Input, null, scalar}
 use Rattle.graphql_spec.specs.Documents.{Argument, Head, Selections, end, field, spread, inline, OperationType, query, mutation, subscription, Operation, operation, written, span_of_definition}
 use Rattle.graphql_spec.specs.Schema.{Schema, FieldDeclaration, InputDeclaration}
 use Rattle.graphql_spec.specs.Fields.{entry_named, type_named, leaf_accepts, declaration_in}
 use Rattle.graphql_spec.specs.Fits.{through, scalar_fits, fits}
-use Rattle.graphql_spec.specs.Placed.{Call}
 use Rattle.graphql_spec.specs.Merging.{each_two}
 use Rattle.graphql_spec.specs.Rules.{RuleError, gives_unknown, gives_too_few, gives_wrong, reported, at_each, first_found}
 use Rattle.graphql_spec.specs.FirstRules.{first_name_errors, first_type_errors, merge_errors, first_rule_errors, is_plain_selections, is_plain_operation, is_query, is_empty}
-use Rattle.graphql_spec.proofs.PlainQueries.{Every, none, Literal, plain_field_parts}
+use Rattle.graphql_spec.proofs.PlainQueries.{Every, Literal, plain_field_parts}
 use Rattle.graphql_spec.proofs.FlatSchemas.{Built}
 use Rattle.graphql_spec.proofs.FirstRules.{conditions_known, conditions_complete, conditions_fit}
 use Rattle.juniper.specs.Served.{served_field}
 use Rattle.juniper.specs.PlainSelections.{plain_heads, repeats_name, is_unserved, call_of, breaks, call_breaks, literal_fits, misfits, gives_unfit, may_share, reported_at, type_errors_of}
-use Rattle.juniper.proofs.PlainRules.{with_words, parts, not-plain, not-plain-inline, IsPlainQuery, any-same, repeats-argument-is, lacks-is, calls-break, cannot-merge-is}
+use Rattle.juniper.proofs.PlainRules.{with_words, parts, not-plain, not-plain-inline, IsPlainQuery, repeats-argument-is, lacks-is, calls-break, cannot-merge-is}
 
 -- ## Plain operations
 

@@ -1,11 +1,11 @@
 -- The rules that are served, on plain selections.
-use Rattle.std.proofs.Common.{◌≡◌, ℕ, max, Bool, true, false, not, ◌&&◌, ◌||◌, ◌⊎◌, cond, map, List, [], ◌∷◌, ◌++◌, Option, Some, None, is_none, option_map, codes, bytes_eq, refl, sym, ap, ap₂, ◌∙◌, inl, inr, subst}
+use Rattle.std.proofs.Common.{◌≡◌, ℕ, max, Bool, true, false, not, ◌&&◌, ◌||◌, ◌⊎◌, map, List, [], ◌∷◌, ◌++◌, Option, Some, None, is_none, option_map, bytes_eq, refl, sym, ap, ap₂, ◌∙◌, inl, inr, subst}
 use Rattle.std.specs.List.{list_all, list_any, filter}
 use Rattle.std.proofs.lemmas.Bool.{cases_Bool, and_parts}
 use Rattle.std.proofs.lemmas.List.Folds.{list_any-append}
 use Rattle.graphql_spec.specs.Shown.{Name, same_bool}
 use Rattle.graphql_spec.specs.Types.{TypeRef, named, list_of, innermost}
-use Rattle.graphql_spec.specs.Documents.{Argument, Head, Spread, Inline, Selections, Directive, end, field, spread, inline, Operation, OperationType, query, mutation, subscription, Definition, operation, Document, response_key, written, fragments, Fragment, span_of_definition, variables_of}
+use Rattle.graphql_spec.specs.Documents.{Argument, Head, Spread, Inline, Selections, Directive, end, field, spread, inline, Operation, query, operation, Document, response_key, written, fragments, Fragment, variables_of}
 use Rattle.graphql_spec.specs.Directives.{admits}
 use Rattle.graphql_spec.specs.Grammar.{is_end}
 use Rattle.graphql_spec.specs.Fragments.{Contents, expand, plain}
@@ -19,15 +19,13 @@ use Rattle.graphql_spec.specs.Overlap.{Field, fields}
 use Rattle.graphql_spec.specs.Constants.{same_members}
 use Rattle.graphql_spec.specs.Arguments.{written_meaning}
 use Rattle.graphql_spec.specs.Merging.{each_two, same_key, each_pair, same_name, same_arguments, type_at, fields_at, types_agree, shapes_agree, may_meet, merge, set_merges, sets_merge, definition_merges}
-use Rattle.graphql_spec.specs.Rules.{RuleError, has_unknown_field, looks_at_schema, can_look, has_root, is_introspection, repeats_argument, gives_unknown, gives_too_few, gives_wrong, cannot_merge, reported, at_each, first_found}
-use Rattle.graphql_spec.specs.FirstRules.{lacks_field, is_asked, first_calls, first_name_errors, first_type_errors, merge_errors, first_rule_errors, is_plain_selections, is_plain_operation, is_query, is_empty}
-use Rattle.graphql_spec.specs.Served.{is_served_field, is_served_directive}
+use Rattle.graphql_spec.specs.Rules.{has_unknown_field, looks_at_schema, can_look, has_root, is_introspection, repeats_argument, cannot_merge}
+use Rattle.graphql_spec.specs.FirstRules.{lacks_field, is_asked, first_calls, is_plain_selections}
+use Rattle.graphql_spec.specs.Served.{is_served_field}
 use Rattle.graphql_spec.proofs.Lists.{same_refl, same_true}
-use Rattle.graphql_spec.proofs.PlainQueries.{Every, every-append, none, Plain, Literal, PlainField, plain_field_parts}
-use Rattle.graphql_spec.proofs.FlatSchemas.{Built}
-use Rattle.graphql_spec.proofs.FirstRules.{conditions_known, conditions_complete, conditions_fit}
+use Rattle.graphql_spec.proofs.PlainQueries.{Every, every-append, none, Plain, Literal, plain_field_parts}
 use Rattle.juniper.specs.Served.{served_field}
-use Rattle.juniper.specs.PlainSelections.{plain_heads, repeats_in, repeats_name, is_unserved, call_of, breaks, call_breaks, gives_unfit, is_same_call, may_share, reported_at, type_errors_of}
+use Rattle.juniper.specs.PlainSelections.{plain_heads, repeats_in, repeats_name, is_unserved, call_of, breaks, call_breaks, is_same_call, may_share}
 use Rattle.juniper.proofs.ArgumentMaps.{same-arguments-are}
 
 -- ## Plain selections

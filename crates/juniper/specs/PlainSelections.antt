@@ -3,13 +3,13 @@ use Rattle.std.specs.Prelude.{Bool, true, false, not, ◌&&◌, ◌||◌, cond, 
 use Rattle.std.specs.Str.{bytes_eq}
 use Rattle.std.specs.List.{list_any, list_all}
 use Rattle.std.specs.Option.{is_none}
-use Rattle.graphql_spec.specs.Shown.{Text, Name, Shown, same_shown}
+use Rattle.graphql_spec.specs.Shown.{Text, Shown, same_shown}
 use Rattle.graphql_spec.specs.Positions.{Position}
 use Rattle.graphql_spec.specs.Types.{TypeRef, required}
 use Rattle.graphql_spec.specs.Inputs.{Input, null, scalar, variable}
 use Rattle.graphql_spec.specs.Documents.{Argument, Head, Selections, end, field, spread, inline, response_key, written}
 use Rattle.graphql_spec.specs.Directives.{argument_named}
-use Rattle.graphql_spec.specs.Schema.{Schema, InputDeclaration, FieldDeclaration}
+use Rattle.graphql_spec.specs.Schema.{Schema, InputDeclaration}
 use Rattle.graphql_spec.specs.Fields.{declaration_in, entry_named, leaf_accepts}
 use Rattle.graphql_spec.specs.Fits.{through}
 use Rattle.graphql_spec.specs.Placed.{Call}

@@ -1,5 +1,5 @@
 -- How the code's schemas are seen (3).
-use Rattle.std.specs.Prelude.{List, [], ◌∷◌, ◌++◌, map, Option, Some, None, option_map, string_bytes}
+use Rattle.std.specs.Prelude.{List, [], ◌∷◌, ◌++◌, map, Some, None, option_map, string_bytes}
 use Rattle.graphql_spec.specs.Shown.{Name, Shown}
 use Rattle.graphql_spec.specs.Inputs.{Input}
 use Rattle.graphql_spec.specs.Types.{TypeRef, named}

@@ -1,8 +1,4 @@
-use Rattle.std.proofs.Common.{refl}
-use Rattle.juniper_language.specs.DocumentView.{view_argument as view_given}
 use Rattle.juniper.specs.PlainSelections.{head_seen, call_of, view_call}
-use Rattle.juniper.specs.SchemaView.{view_argument, view_schema}
-use Rattle.juniper.specs.Served.{served_field}
 use Rattle.juniper.proofs.Calls.{call-there, call-missing}
 use Rattle.juniper.proofs.rules.calls.call_of.Goals as goal
 
