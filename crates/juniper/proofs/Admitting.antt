@@ -13,8 +13,8 @@ use Rattle.juniper_language.specs.declared.ast.InlineFragment.{InlineFragment as
 use Rattle.juniper_language.specs.declared.ast.FragmentSpread.{FragmentSpread as SpreadType}
 use Rattle.juniper_language.specs.declared.ast.Selection.{Selection, Field, FragmentSpread, InlineFragment}
 use Rattle.juniper_language.proofs.Documents.{put-Field, put-FragmentSpread, put-InlineFragment}
-use Rattle.juniper.specs.Occurrences.{view_occurrence, admitted_fields}
-use Rattle.juniper.proofs.Lists.{left-is, seen-left-is}
+use Rattle.juniper_rules.specs.Occurrences.{view_occurrence, admitted_fields}
+use Rattle.juniper_rules.proofs.Lists.{left-is, seen-left-is}
 
 module _ {A : Type 0} (test : Directive → Bool) (view : A → Directive) (xs : List A) (i : ℕ) (x : A) (below : i < length xs) (is : x ≡ get_or xs i x) where
   here : admits test (map view (drop i xs)) ≡ (test (view x) && admits test (map view (drop (i + 1) xs)))

@@ -27,7 +27,7 @@ use Rattle.juniper_language.specs.declared.position.Spanning.{Spanning}
 use Rattle.juniper.specs.Answering.{outcome, Reads, IsAnswered, IsAnsweredDocument, IsRefusedWith, IsRefusedDocument}
 use Rattle.juniper.specs.RequestErrors as request
 use Rattle.juniper.specs.RequestErrors.{RequestError, view_request_error, of_parse_error}
-use Rattle.juniper.proofs.PlainErrors.{plain-query, plain-variables, plain-name}
+use Rattle.juniper_rules.proofs.PlainErrors.{plain-query, plain-variables, plain-name}
 
 no-variables : (o : Operation) → o.variables ≡ None → variables_of o ≡ []
 unfolding variables_of
@@ -142,15 +142,6 @@ module _ (text : Text) (s : Schema) (name : Option Name) (given : Variables) whe
 pub only-error : {A E : Type 0} (P : A → Type 0) (R : E → Type 0) (x : Result A E) (made : E) → IsErr x → IsErrAnd x (λ e. e ≡ made) → R made → MatchResult x P R
 only-error P R (Ok p) made failed is holds = absurd is
 only-error P R (Err e) made failed is holds = subst R (sym is) holds
-
--- a list of which none, or some, are seen
-pub none-seen : {A B : Type 0} (view : A → B) (xs : List A) (n : ℕ) → n ≡ length xs → true ≡ (n == 0) → map view xs ≡ []
-none-seen view [] n is e = refl
-none-seen view (x ∷ xs) n is e = absurd (omega (arith, eqb-true n 0 (sym e)))
-
-pub some-seen : {A B : Type 0} (view : A → B) (xs : List A) (n : ℕ) → n ≡ length xs → false ≡ (n == 0) → map view xs ≡ [] → ⊥
-some-seen view [] n is e none = cc (e, is)
-some-seen view (x ∷ xs) n is e none = cc
 
 -- a name that was given, or not
 pub is-named : {A B : Type 0} (o : Option A) (f : A → B) → is_some o ≡ true → is_some (option_map f o) ≡ true

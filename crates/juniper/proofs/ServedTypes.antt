@@ -16,12 +16,12 @@ use Rattle.graphql_spec.specs.Arguments.{coerced_arguments, given, with_defaults
 use Rattle.graphql_spec.specs.Constants.{Members, no_members}
 use Rattle.graphql_spec.specs.Rules.{is_introspection}
 use Rattle.graphql_spec.proofs.Lists.{same_true}
-use Rattle.juniper.specs.SchemaView.{schema_of, query_entry, scalar_entry}
-use Rattle.juniper.specs.Served.{served_field, has_scalar_fields, is_scalar, is_scalar_type, is_served_schema, is_served_head}
+use Rattle.juniper_schema.specs.SchemaView.{schema_of, query_entry, scalar_entry}
+use Rattle.juniper_schema.specs.Served.{served_field, has_scalar_fields, is_scalar, is_scalar_type, is_served_schema, is_served_head}
 use Rattle.graphql_spec.specs.Resolvers.{Reply, world_of}
 use Rattle.juniper.specs.Walking.{world_in}
 use Rattle.juniper.proofs.Steps.{IsServedWorld}
-use Rattle.juniper.proofs.Schemas.{served-is, all-found, query-entry-found}
+use Rattle.juniper_schema.proofs.Schemas.{served-is, all-found, query-entry-found}
 
 -- ## Scalars
 
@@ -247,10 +247,3 @@ served-world concrete answer r i c q fs rest vars served none =
       taken = λ h at x. accepts-as-entry s (innermost (declared_type (field_of s q h.name.item))) x (scalar-parts s (declared_type (field_of s q h.name.item)) (scalar h at)).1;
       never = λ h at U. never-possible s none (innermost (declared_type (field_of s q h.name.item))) (scalar-parts s (declared_type (field_of s q h.name.item)) (scalar h at)).1 U;
     }
-
--- a field is not served where no type of it is found
-pub none_served : {A B C : Type 0} (f : A → C) (h : B → C) (o : Option A) (p : Option B) → option_map f o ≡ option_map h p → is_none o ≡ is_none p
-none_served f h None None e = refl
-none_served f h None (Some y) e = cc
-none_served f h (Some x) None e = cc
-none_served f h (Some x) (Some y) e = refl

@@ -12,9 +12,9 @@ use Rattle.graphql_spec.specs.Resolvers.{World, Error}
 use Rattle.graphql_spec.specs.Execution.{type_of, reply_of, reply_to}
 use Rattle.graphql_spec.specs.Laws.{Agree}
 use Rattle.graphql_spec.proofs.Walk.{Walked, one_entry}
-use Rattle.juniper.specs.Served.{is_served_head}
+use Rattle.juniper_schema.specs.Served.{is_served_head}
 use Rattle.juniper.specs.Walking.{IsCompleted, IsWalked, type_at, taken_at, settled, listed_of, reply_fault, is_leaf_value}
-use Rattle.juniper.proofs.Lists.{left-is, seen-last}
+use Rattle.juniper_rules.proofs.Lists.{left-is, seen-last}
 use Rattle.juniper.proofs.Completing.{listed_at}
 use Rattle.juniper.proofs.Turns.{walked-field, walked-none, turn-on, turn-stop, reply-is-leaf}
 

@@ -13,9 +13,9 @@ use Rattle.juniper_language.specs.declared.position.Spanning.{Spanning}
 use Rattle.juniper_values.specs.ErrorView.{view_error}
 use Rattle.juniper_values.specs.declared.field_error.ResolveError.{ResolveError}
 use Rattle.juniper_values.specs.declared.field_error.ResolveError.TheVariants.{Field, Memory}
-use Rattle.juniper.specs.SchemaView.{view_argument}
+use Rattle.juniper_schema.specs.SchemaView.{view_argument}
 use Rattle.juniper.specs.declared.values.arguments.Arguments.{Arguments}
-use Rattle.juniper.specs.declared.meta.Argument.{Argument}
+use Rattle.juniper_schema.specs.declared.meta.Argument.{Argument}
 
 -- an argument with its place
 abbrev pub Placed : Type 0 → Type 0

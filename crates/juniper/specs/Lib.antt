@@ -2,12 +2,7 @@ pub mod Answering
 pub mod ArgumentView
 pub mod DirectiveView
 pub mod ExecutorView
-pub mod Occurrences
-pub mod PlainSelections
 pub mod RequestErrors
 pub mod ResolvedView
 pub mod RootView
-pub mod RuleView
-pub mod SchemaView
-pub mod Served
 pub mod Walking

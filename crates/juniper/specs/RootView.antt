@@ -4,7 +4,7 @@ use Rattle.std.specs.declared.fmt.Debug.{Ghosts as Shows}
 use Rattle.juniper_language.specs.declared.scalar.ScalarValue.{Ghosts as Scalars}
 use Rattle.juniper.specs.declared.types.resolver.GraphQLType.{Ghosts as Types}
 use Rattle.juniper.specs.declared.root.RootNode.{RootNode}
-use Rattle.juniper.specs.declared.schema.SchemaType.{SchemaType}
+use Rattle.juniper_schema.specs.declared.schema.SchemaType.{SchemaType}
 
 module _ {Q M Sub S I J K : Type 0} {query : Types Q S I} {mutation : Types M S J} {subscription : Types Sub S K} {scalar : Scalars S} {equality : Equality S} {shows : Shows S} where
   -- the schema, the query's resolver, and what it is told about its type

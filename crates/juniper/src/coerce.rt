@@ -8,9 +8,9 @@ ghost use Rattle.graphql_spec.specs.Inputs.{const};
 ghost use Rattle.juniper_language.specs.DocumentView.{view_argument};
 ghost use Rattle.juniper_language.specs.InputView.{view_variables};
 ghost use Rattle.juniper.specs.ArgumentView.{members_of, view_arguments, view_declared};
-ghost use Rattle.juniper.specs.Occurrences.{view_occurrence};
+ghost use Rattle.juniper_rules.specs.Occurrences.{view_occurrence};
 
-use crate::meta::Argument;
+use juniper_schema::meta::Argument;
 use crate::values::Arguments;
 use indexmap::IndexMap;
 use juniper_language::{Field, InputValue, ScalarValue, Span, Spanning, Variables};

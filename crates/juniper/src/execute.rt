@@ -14,14 +14,14 @@ ghost use Rattle.juniper.specs.Answering.{IsAnswered, IsAnsweredDocument, IsRefu
 ghost use Rattle.juniper_values.specs.ErrorView.{view_listed};
 ghost use Rattle.juniper.specs.RequestErrors.{view_request_error};
 ghost use Rattle.juniper.specs.RootView.{schema_of, resolver_of, info_of};
-ghost use Rattle.juniper.specs.SchemaView.{view_schema};
-ghost use Rattle.juniper.specs.Served.{is_served_schema};
+ghost use Rattle.juniper_schema.specs.SchemaView.{view_schema};
+ghost use Rattle.juniper_schema.specs.Served.{is_served_schema};
 ghost use Rattle.juniper.specs.Walking.{world_in};
 
 use crate::collect::collect;
 use crate::error::GraphQLError;
 use crate::root::RootNode;
-use crate::rules::first::validate;
+use juniper_rules::validate;
 use crate::types::{GraphQLType, GraphQLValue};
 use crate::values::sort::sort_errors;
 use crate::walk::{Walk, object};

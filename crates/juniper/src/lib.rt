@@ -6,10 +6,7 @@ mod coerce;
 mod collect;
 pub mod error;
 mod execute;
-pub mod meta;
 mod root;
-pub mod rules;
-mod schema;
 pub mod types;
 pub mod values;
 mod walk;
@@ -22,12 +19,12 @@ pub use juniper_language::{
     ParseError, ScalarValue, Selection, SourcePosition, Span, Spanning, Type, Value,
     VariableDefinition, VariableDefinitions, Variables, ast, decode_int, parse_document_source,
 };
+pub use juniper_rules::RuleError;
+pub use juniper_schema::{ScalarKinds, ScalarMeta, SchemaType, meta};
 pub use juniper_values::{
     ExecutionError, ExecutionResult, FieldError, FieldResult, FromInputValue, IntoFieldError,
     ResolveError, ToInputValue,
 };
 pub use root::RootNode;
-pub use rules::RuleError;
-pub use schema::{ScalarKinds, ScalarMeta, SchemaType};
 pub use types::{EmptyMutation, EmptySubscription, Executor, GraphQLType, GraphQLValue, Resolved};
 pub use values::Arguments;

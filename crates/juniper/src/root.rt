@@ -1,10 +1,10 @@
 //! The root of a server: a schema with its resolvers (section 3.3 of the Specification).
 
 ghost use Rattle.std.specs.Prelude.{◌≡◌, IsTrue};
-ghost use Rattle.juniper.specs.SchemaView.{view_schema};
-ghost use Rattle.juniper.specs.Served.{is_served_schema};
+ghost use Rattle.juniper_schema.specs.SchemaView.{view_schema};
+ghost use Rattle.juniper_schema.specs.Served.{is_served_schema};
 
-use crate::schema::SchemaType;
+use juniper_schema::SchemaType;
 use crate::types::GraphQLType;
 use juniper_language::ScalarValue;
 

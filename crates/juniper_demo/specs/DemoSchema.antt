@@ -2,7 +2,7 @@
 use Rattle.std.specs.Prelude.{codes, true, false, [], ◌∷◌, List}
 use Rattle.graphql_spec.specs.Types.{named}
 use Rattle.graphql_spec.specs.Schema.{Schema, Entry, FieldDeclaration, plain_field}
-use Rattle.juniper.specs.SchemaView.{schema_of, scalar_entry}
+use Rattle.juniper_schema.specs.SchemaView.{schema_of, scalar_entry}
 
 -- the fields of the query type
 abbrev pub demo_fields : List FieldDeclaration

@@ -3,7 +3,7 @@
 ghost use Rattle.std.specs.Prelude.{◌≡◌, IfOk, string_bytes, map, []};
 ghost use Rattle.graphql_spec.specs.Schema.{plain_field};
 ghost use Rattle.juniper.specs.RootView.{schema_of, resolver_of};
-ghost use Rattle.juniper.specs.SchemaView.{view_schema, view_field, view_scalar, view_kinds, scalar_entry};
+ghost use Rattle.juniper_schema.specs.SchemaView.{view_schema, view_field, view_scalar, view_kinds, scalar_entry};
 ghost use Rattle.juniper_language.specs.Scalars.{default_shown};
 ghost use Rattle.juniper_language.specs.TypeView.{view_type};
 ghost use Rattle.juniper_demo.specs.Demo.{root_of};

@@ -9,7 +9,7 @@ use Rattle.graphql_spec.specs.Types.{named}
 use Rattle.graphql_spec.specs.Schema.{Schema, Entry, FieldDeclaration, plain_field}
 use Rattle.graphql_spec.specs.Resolvers.{Reply, answered, failed, nothing, leaf}
 use Rattle.juniper_values.specs.Conversions.{is_null, int_of, message_alone, refusal_text}
-use Rattle.juniper.specs.SchemaView.{schema_of, scalar_entry}
+use Rattle.juniper_schema.specs.SchemaView.{schema_of, scalar_entry}
 
 -- 41 and a number, where the sum is an Int (3.5.1)
 abbrev pub sum_reply : {N : Type 0} → ℤ → Reply N

@@ -6,7 +6,7 @@ ghost use Rattle.graphql_spec.specs.Schema.{plain_field};
 ghost use Rattle.juniper_language.specs.TypeView.{view_type};
 ghost use Rattle.juniper.specs.ArgumentView.{view_arguments};
 ghost use Rattle.juniper.specs.ResolvedView.{Answers};
-ghost use Rattle.juniper.specs.SchemaView.{view_schema, view_field, view_scalar, view_kinds, scalar_entry};
+ghost use Rattle.juniper_schema.specs.SchemaView.{view_schema, view_field, view_scalar, view_kinds, scalar_entry};
 ghost use Rattle.juniper_tests.specs.TestRoot.{number_field, number_reply, sum_reply, test_reply, test_fields, test_scalars, test_schema};
 
 use juniper::meta::{Argument, Field};

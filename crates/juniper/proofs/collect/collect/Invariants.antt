@@ -2,7 +2,7 @@ use Rattle.std.proofs.Common.{◌≡◌, ◌++◌, drop, map}
 use Rattle.graphql_spec.specs.Directives.{passes}
 use Rattle.juniper_language.specs.InputView.{view_variables}
 use Rattle.juniper_language.specs.DocumentView.{view_selections}
-use Rattle.juniper.specs.Occurrences.{view_occurrence, admitted_fields}
+use Rattle.juniper_rules.specs.Occurrences.{view_occurrence, admitted_fields}
 use Rattle.juniper.proofs.collect.collect.Given as goal
 
 -- what is found, and then what is left, are all

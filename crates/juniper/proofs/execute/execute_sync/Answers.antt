@@ -6,7 +6,7 @@ use Rattle.graphql_spec.proofs.ServedQueries.{served_is_plain}
 use Rattle.juniper.specs.Answering.{IsAnswered, IsRefusedWith}
 use Rattle.juniper_values.specs.ErrorView.{view_listed}
 use Rattle.juniper.specs.RequestErrors.{view_request_error, of_parse_error}
-use Rattle.juniper.specs.SchemaView.{view_schema}
+use Rattle.juniper_schema.specs.SchemaView.{view_schema}
 use Rattle.juniper.specs.Walking.{world_in}
 use Rattle.juniper.proofs.Outcomes.{refuses-unparsed, whole-read, only-error}
 use Rattle.juniper.proofs.execute.execute_sync.Goals as goal

@@ -6,12 +6,12 @@ use Rattle.juniper_language.specs.InputView.{view_variables}
 use Rattle.juniper_language.specs.DocumentView.{view_operation}
 use Rattle.juniper_language.specs.ValueView.{view_value}
 use Rattle.juniper_values.specs.ErrorView.{view_listed}
-use Rattle.juniper.specs.Occurrences.{view_occurrence}
-use Rattle.juniper.specs.SchemaView.{view_schema, view_field, view_scalar, view_kinds}
+use Rattle.juniper_rules.specs.Occurrences.{view_occurrence}
+use Rattle.juniper_schema.specs.SchemaView.{view_schema, view_field, view_scalar, view_kinds}
 use Rattle.juniper.specs.Walking.{world_in}
-use Rattle.juniper.proofs.PlainErrors.{plain-parts, plain-fields, found-nothing}
+use Rattle.juniper_rules.proofs.PlainErrors.{plain-parts, plain-fields, found-nothing}
 use Rattle.juniper.proofs.PlainExecution.{served-fields, fields-agree, fields-answer, world-sees-alike}
-use Rattle.juniper.proofs.ServedScalars.{executable-built, takes-as-entry, scalar-is-plain}
+use Rattle.juniper_rules.proofs.ServedScalars.{executable-built, takes-as-entry, scalar-is-plain}
 use Rattle.juniper.proofs.ServedTypes.{served-executable}
 use Rattle.juniper.proofs.execute.walk_query.Goals as goal
 

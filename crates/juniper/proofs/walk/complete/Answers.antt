@@ -4,7 +4,7 @@ use Rattle.juniper_language.specs.ValueView.{view_value}
 use Rattle.juniper_language.proofs.Values as values
 use Rattle.juniper_values.specs.ErrorView.{view_error}
 use Rattle.juniper.specs.ResolvedView.{view_resolved}
-use Rattle.juniper.specs.SchemaView.{view_schema}
+use Rattle.juniper_schema.specs.SchemaView.{view_schema}
 use Rattle.juniper.proofs.Resolutions.{view-Null, view-Scalar, view-List, view-Node, leaf-null, leaf-lost, leaf-taken, leaf-refused, leaf-list, leaf-node}
 use Rattle.juniper.proofs.walk.complete.Goals as goal
 

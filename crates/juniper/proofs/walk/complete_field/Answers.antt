@@ -4,9 +4,9 @@ use Rattle.juniper_language.specs.InputView.{view_variables}
 use Rattle.juniper_language.specs.ValueView.{view_value}
 use Rattle.juniper_language.proofs.Values.{view-Null}
 use Rattle.juniper_values.specs.ErrorView.{view_error}
-use Rattle.juniper.specs.Occurrences.{view_occurrence}
+use Rattle.juniper_rules.specs.Occurrences.{view_occurrence}
 use Rattle.juniper.specs.ResolvedView.{view_resolved}
-use Rattle.juniper.specs.SchemaView.{view_schema, view_leaf_type}
+use Rattle.juniper_schema.specs.SchemaView.{view_schema, view_leaf_type}
 use Rattle.juniper.specs.Walking.{world_in}
 use Rattle.juniper.proofs.FieldCompletion.{completed-answer, completed-error}
 use Rattle.juniper.proofs.ServedTypes.{served-schema-fields, not-missing, type-found}

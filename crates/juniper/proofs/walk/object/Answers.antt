@@ -5,11 +5,11 @@ use Rattle.juniper_language.specs.InputView.{view_variables}
 use Rattle.juniper_language.specs.ValueView.{view_value, view_object}
 use Rattle.juniper_language.proofs.Values.{view-Null, view-Object}
 use Rattle.juniper_values.specs.ErrorView.{view_error, view_listed}
-use Rattle.juniper.specs.Occurrences.{view_occurrence}
-use Rattle.juniper.specs.SchemaView.{view_schema, view_field, view_scalar, view_kinds}
-use Rattle.juniper.specs.Served.{is_served_head}
+use Rattle.juniper_rules.specs.Occurrences.{view_occurrence}
+use Rattle.juniper_schema.specs.SchemaView.{view_schema, view_field, view_scalar, view_kinds}
+use Rattle.juniper_schema.specs.Served.{is_served_head}
 use Rattle.juniper.specs.Walking.{world_in}
-use Rattle.juniper.proofs.Lists.{all-at}
+use Rattle.juniper_rules.proofs.Lists.{all-at}
 use Rattle.juniper.proofs.Settling.{settled-differs}
 use Rattle.juniper.proofs.Steps.{none-walked, step-on, step-stop, all-walked}
 use Rattle.juniper.proofs.ServedTypes.{served-world, seen-lists-none, seen-scalar-lists-none}

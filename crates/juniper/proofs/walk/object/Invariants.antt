@@ -3,8 +3,8 @@ use Rattle.graphql_spec.specs.Values.{object, keys_differ}
 use Rattle.juniper_language.specs.InputView.{view_variables}
 use Rattle.juniper_language.specs.ValueView.{view_object}
 use Rattle.juniper_values.specs.ErrorView.{view_listed}
-use Rattle.juniper.specs.Occurrences.{view_occurrence}
-use Rattle.juniper.specs.SchemaView.{view_schema}
+use Rattle.juniper_rules.specs.Occurrences.{view_occurrence}
+use Rattle.juniper_schema.specs.SchemaView.{view_schema}
 use Rattle.juniper.specs.Walking.{world_in, IsWalked}
 use Rattle.juniper.proofs.walk.object.Given as goal
 

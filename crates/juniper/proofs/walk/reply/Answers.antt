@@ -4,9 +4,9 @@ use Rattle.graphql_spec.specs.Documents.{written}
 use Rattle.graphql_spec.specs.Resolvers.{world_of}
 use Rattle.juniper_language.specs.InputView.{view_variables}
 use Rattle.juniper.specs.ArgumentView.{view_arguments, view_declared}
-use Rattle.juniper.specs.Occurrences.{view_occurrence}
+use Rattle.juniper_rules.specs.Occurrences.{view_occurrence}
 use Rattle.juniper.specs.ResolvedView.{Answers}
-use Rattle.juniper.specs.SchemaView.{view_schema, view_argument}
+use Rattle.juniper_schema.specs.SchemaView.{view_schema, view_argument}
 use Rattle.juniper.specs.Walking.{world_in}
 use Rattle.juniper.proofs.FieldCompletion.{asked}
 use Rattle.juniper.proofs.ServedTypes.{declared-seen}

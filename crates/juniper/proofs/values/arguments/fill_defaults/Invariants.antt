@@ -1,7 +1,7 @@
 use Rattle.std.proofs.Common.{◌≡◌, map, take}
 use Rattle.graphql_spec.specs.Arguments.{with_defaults}
 use Rattle.juniper.specs.ArgumentView.{members_of}
-use Rattle.juniper.specs.SchemaView.{view_argument}
+use Rattle.juniper_schema.specs.SchemaView.{view_argument}
 use Rattle.juniper.proofs.values.arguments.fill_defaults.Given as goal
 
 abbrev pub invariant-loop-argument : goal.invariant-loop-argument

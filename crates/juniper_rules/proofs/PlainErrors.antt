@@ -1,0 +1,193 @@
+-- What the rules that are served find in one plain query.
+use Rattle.std.proofs.Common.{◌≡◌, Bool, true, false, not, ◌&&◌, ◌||◌, List, [], ◌∷◌, ◌++◌, Option, Some, None, is_none, option_map, codes, refl, sym, ap, ap₂, ◌∙◌, inl, inr}
+use Rattle.std.specs.List.{list_any}
+use Rattle.std.proofs.lemmas.Bool.{and_parts}
+use Rattle.graphql_spec.specs.Shown.{Text, Name, Shown}
+use Rattle.graphql_spec.specs.Positions.{Position}
+use Rattle.graphql_spec.specs.Types.{TypeRef}
+use Rattle.graphql_spec.specs.Documents.{Argument, Head, Selections, end, field, spread, inline, OperationType, query, mutation, subscription, Operation, operation, written, span_of_definition}
+use Rattle.graphql_spec.specs.Schema.{Schema, FieldDeclaration, InputDeclaration}
+use Rattle.graphql_spec.specs.Fields.{entry_named, type_named, leaf_accepts, declaration_in}
+use Rattle.graphql_spec.specs.Fits.{through, scalar_fits, fits}
+use Rattle.graphql_spec.specs.Merging.{each_two}
+use Rattle.graphql_spec.specs.Rules.{RuleError, gives_unknown, gives_too_few, gives_wrong, reported, at_each, first_found}
+use Rattle.graphql_spec.specs.FirstRules.{first_name_errors, first_type_errors, merge_errors, first_rule_errors, is_plain_selections, is_plain_operation, is_query, is_empty}
+use Rattle.graphql_spec.proofs.PlainQueries.{Every, Literal, plain_field_parts}
+use Rattle.graphql_spec.proofs.FlatSchemas.{Built}
+use Rattle.graphql_spec.proofs.FirstRules.{conditions_known, conditions_complete, conditions_fit}
+use Rattle.juniper_schema.specs.Served.{served_field}
+use Rattle.juniper_rules.specs.PlainSelections.{plain_heads, repeats_name, is_unserved, call_of, breaks, call_breaks, literal_fits, misfits, gives_unfit, may_share, reported_at, type_errors_of}
+use Rattle.juniper_rules.proofs.PlainRules.{with_words, parts, not-plain, not-plain-inline, IsPlainQuery, repeats-argument-is, lacks-is, calls-break, cannot-merge-is}
+
+-- ## Plain operations
+
+is_query-true : (k : OperationType) → is_query k ≡ true → k ≡ query
+unfolding is_query
+is_query-true query e = refl
+is_query-true mutation e = cc
+is_query-true subscription e = cc
+
+none-there : {A : Type 0} (o : Option A) → is_none o ≡ true → o ≡ None
+none-there None e = refl
+none-there (Some x) e = cc
+
+empty-there : {A : Type 0} (xs : List A) → is_empty xs ≡ true → xs ≡ []
+unfolding is_empty
+empty-there [] e = refl
+empty-there (x ∷ xs) e = cc
+
+pub plain-parts : (o : Operation) → is_plain_operation o ≡ true → IsPlainQuery o
+unfolding is_plain_operation
+plain-parts o e =
+    let a = and_parts (is_query o.kind) (is_none o.name && (is_none o.variables && (is_empty o.directives && is_plain_selections o.selections))) e in
+    let b = and_parts (is_none o.name) (is_none o.variables && (is_empty o.directives && is_plain_selections o.selections)) a.1 in
+    let c = and_parts (is_none o.variables) (is_empty o.directives && is_plain_selections o.selections) b.1 in
+    let d = and_parts (is_empty o.directives) (is_plain_selections o.selections) c.1 in
+    record { kind = is_query-true o.kind a.0; name = none-there o.name b.0; variables = none-there o.variables c.0; directives = empty-there o.directives d.0; selections = d.1 }
+
+pub plain-query : (o : Operation) → is_plain_operation o ≡ true → o.kind ≡ query
+plain-query o e = (plain-parts o e).kind
+
+pub plain-name : (o : Operation) → is_plain_operation o ≡ true → o.name ≡ None
+plain-name o e = (plain-parts o e).name
+
+pub plain-variables : (o : Operation) → is_plain_operation o ≡ true → o.variables ≡ None
+plain-variables o e = (plain-parts o e).variables
+
+pub plain-fields : (o : Operation) → is_plain_operation o ≡ true → is_plain_selections o.selections ≡ true
+plain-fields o e = (plain-parts o e).selections
+
+-- ## Literals that fit
+
+-- a scalar fits a type of no other kind than scalars where the type accepts it
+abbrev pub TakesAsEntry : Schema → Type 0
+TakesAsEntry s = (n : Name) (x : Shown) → scalar_fits false x (type_named s n) ≡ leaf_accepts (entry_named s n) x
+
+literal-fits-is : (s : Schema) → TakesAsEntry s → (a : Argument) → Literal a → (t : TypeRef) → literal_fits s a.value.item t ≡ fits s false a.value.item t
+unfolding literal_fits fits
+literal-fits-is s k a l t = elim l.is_literal [
+  | inl e ↦ rw e refl
+  | inr (x, e) ↦ rw e (ap (λ f. through f t) (λ i n. sym (k n x) i))
+]
+
+misfits-is : (s : Schema) → TakesAsEntry s → (a : Argument) → Literal a → (o : Option InputDeclaration) → misfits s o a.value.item ≡ (elim o [ None ↦ false | Some d ↦ not (fits s false a.value.item d.of_type) ])
+unfolding misfits
+misfits-is s k a l None = refl
+misfits-is s k a l (Some d) = ap not (literal-fits-is s k a l d.of_type)
+
+unfit-is : (s : Schema) → TakesAsEntry s → (ds : List InputDeclaration) (as' : List Argument) → Every Literal as' → gives_unfit s (record { declared = ds; given = as' }) ≡ gives_wrong s (record { declared = ds; given = as' })
+unfolding gives_unfit gives_wrong
+unfit-is s k ds [] l = refl
+unfit-is s k ds (a ∷ rest) l = ap₂ (λ x y. x || y) (misfits-is s k a l.0 (declaration_in ds a.name.item)) (unfit-is s k ds rest l.1)
+
+call-unfit-is : (s : Schema) → TakesAsEntry s → (h : Head) → Every Literal (written h.arguments) → (o : Option FieldDeclaration) → breaks (gives_unfit s) (option_map (with_words h) o) ≡ breaks (gives_wrong s) (option_map (with_words h) o)
+unfolding breaks
+call-unfit-is s k h l None = refl
+call-unfit-is s k h l (Some d) = unfit-is s k d.arguments (written h.arguments) l
+
+head-unfit-is : (s : Schema) → TakesAsEntry s → (h : Head) → Every Literal (written h.arguments) → call_breaks (gives_unfit s) s h ≡ call_breaks (gives_wrong s) s h
+unfolding call_breaks breaks call_of
+head-unfit-is s k h l = call-unfit-is s k h l (served_field s h.name.item)
+
+fields-unfit-are : (s : Schema) → TakesAsEntry s → (x : Selections) → is_plain_selections x ≡ true → list_any (call_breaks (gives_unfit s) s) (plain_heads x) ≡ list_any (call_breaks (gives_wrong s) s) (plain_heads x)
+unfolding plain_heads
+fields-unfit-are s k end e = refl
+fields-unfit-are s k (field h below rest) e =
+    let p = parts h below rest e in ap₂ (λ x y. x || y) (head-unfit-is s k h (plain_field_parts h p.head).literals) (fields-unfit-are s k rest p.after)
+fields-unfit-are s k (spread x rest) e = not-plain x rest e
+fields-unfit-are s k (inline x below rest) e = not-plain-inline x below rest e
+
+-- ## What is found
+
+append-nothing : (es : List RuleError) → es ++ [] ≡ es
+append-nothing [] = refl
+append-nothing (e ∷ es) = ap (λ r. e ∷ r) (append-nothing es)
+
+abbrev heads_of : Operation → List Head
+heads_of o = plain_heads o.selections
+
+abbrev name_error : Operation → List RuleError
+name_error o = reported_at (list_any repeats_name (heads_of o)) (codes "Argument name is not unique") o.span.start
+
+abbrev type_errors_in : Schema → Operation → List RuleError
+type_errors_in s o = type_errors_of s o.span.start (heads_of o)
+
+abbrev merge_error : Operation → List RuleError
+merge_error o = reported_at (not (each_two may_share (heads_of o))) (codes "Fields cannot be merged") o.span.start
+
+module _ (s : Schema) (b : Built s) (k : TakesAsEntry s) (o : Operation) (q : IsPlainQuery o) where
+  types-are : first_type_errors s [] (operation o) ≡ type_errors_in s o
+  unfolding first_type_errors reported span_of_definition type_errors_of reported_at
+  types-are = rw (
+    lacks-is s o q.kind q.selections,
+    calls-break gives_unknown s o q conditions_known,
+    calls-break gives_too_few s o q conditions_complete,
+    calls-break (gives_wrong s) s o q (conditions_fit s b),
+    fields-unfit-are s k o.selections q.selections,
+  ) refl
+
+  names-are : first_name_errors [] (operation o) ≡ name_error o
+  unfolding first_name_errors reported span_of_definition reported_at
+  names-are = rw (repeats-argument-is o q) refl
+
+  merges-are : merge_errors s (operation o ∷ []) [] (operation o) ≡ merge_error o
+  unfolding merge_errors reported span_of_definition reported_at
+  merges-are = rw (cannot-merge-is s (operation o ∷ []) o q.kind q.selections) refl
+
+  pub first-rules-are : first_rule_errors s (operation o ∷ []) ≡ first_found (name_error o) (first_found (type_errors_in s o) (merge_error o))
+  unfolding first_rule_errors at_each
+  first-rules-are = rw (names-are, types-are, merges-are, append-nothing (name_error o), append-nothing (type_errors_in s o), append-nothing (merge_error o)) refl
+
+  -- phase by phase
+  pub repeated-found : list_any repeats_name (heads_of o) ≡ true → first_rule_errors s (operation o ∷ []) ≡ record { message = codes "Argument name is not unique"; start = o.span.start } ∷ []
+  unfolding first_found reported_at
+  repeated-found e = first-rules-are ∙ rw e refl
+
+  pub types-found : list_any repeats_name (heads_of o) ≡ false → (es : List RuleError) → es ≡ type_errors_in s o → (es ≡ [] → ⊥) → first_rule_errors s (operation o ∷ []) ≡ es
+  unfolding first_found reported_at
+  types-found e [] f some = absurd (some refl)
+  types-found e (x ∷ es) f some = first-rules-are ∙ rw (e, sym f) refl
+
+  pub conflict-found : list_any repeats_name (heads_of o) ≡ false → type_errors_in s o ≡ [] → each_two may_share (heads_of o) ≡ false →
+      first_rule_errors s (operation o ∷ []) ≡ record { message = codes "Fields cannot be merged"; start = o.span.start } ∷ []
+  unfolding first_found reported_at
+  conflict-found e f m = first-rules-are ∙ rw (e, f, m) refl
+
+  pub nothing-found : list_any repeats_name (heads_of o) ≡ false → type_errors_in s o ≡ [] → each_two may_share (heads_of o) ≡ true → first_rule_errors s (operation o ∷ []) ≡ []
+  unfolding first_found reported_at
+  nothing-found e f m = first-rules-are ∙ rw (e, f, m) refl
+
+-- what holds where nothing is found
+pub record IsValid (s : Schema) (hs : List Head) : Type 0 where
+  pub names_differ : list_any repeats_name hs ≡ false
+  pub served : list_any (is_unserved s) hs ≡ false
+  pub merges : each_two may_share hs ≡ true
+
+none-of : (a b : List RuleError) → first_found a b ≡ [] → (a ≡ []) × (b ≡ [])
+unfolding first_found
+none-of [] b e = (refl, e)
+none-of (x ∷ a) b e = cc
+
+not-reported : (t : Bool) (m : Text) (p : Position) → reported_at t m p ≡ [] → t ≡ false
+unfolding reported_at
+not-reported true m p e = cc
+not-reported false m p e = refl
+
+first-none : (a b : List RuleError) → a ++ b ≡ [] → a ≡ []
+first-none [] b e = refl
+first-none (x ∷ a) b e = cc
+
+not-true : (t : Bool) → not t ≡ false → t ≡ true
+not-true true e = refl
+not-true false e = cc
+
+pub found-nothing : (s : Schema) → Built s → TakesAsEntry s → (o : Operation) → IsPlainQuery o → first_rule_errors s (operation o ∷ []) ≡ [] → IsValid s (heads_of o)
+unfolding type_errors_of
+found-nothing s b k o q e =
+    let one = none-of (name_error o) (first_found (type_errors_in s o) (merge_error o)) (sym (first-rules-are s b k o q) ∙ e) in
+    let two = none-of (type_errors_in s o) (merge_error o) one.1 in
+    record {
+      names_differ = not-reported (list_any repeats_name (heads_of o)) (codes "Argument name is not unique") o.span.start one.0;
+      served = not-reported (list_any (is_unserved s) (heads_of o)) (codes "Unknown field") o.span.start (first-none _ _ (first-none _ _ (first-none _ _ two.0)));
+      merges = not-true (each_two may_share (heads_of o)) (not-reported (not (each_two may_share (heads_of o))) (codes "Fields cannot be merged") o.span.start two.1);
+    }

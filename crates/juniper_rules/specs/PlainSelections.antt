@@ -1,0 +1,116 @@
+-- Tests of plain selections; only private clauses cite them (5.3, 5.4, 5.6.1).
+use Rattle.std.specs.Prelude.{Bool, true, false, not, ◌&&◌, ◌||◌, cond, codes, map, List, [], ◌∷◌, ◌++◌, Option, Some, None, option_map}
+use Rattle.std.specs.Str.{bytes_eq}
+use Rattle.std.specs.List.{list_any, list_all}
+use Rattle.std.specs.Option.{is_none}
+use Rattle.graphql_spec.specs.Shown.{Text, Shown, same_shown}
+use Rattle.graphql_spec.specs.Positions.{Position}
+use Rattle.graphql_spec.specs.Types.{TypeRef, required}
+use Rattle.graphql_spec.specs.Inputs.{Input, null, scalar, variable}
+use Rattle.graphql_spec.specs.Documents.{Argument, Head, Selections, end, field, spread, inline, response_key, written}
+use Rattle.graphql_spec.specs.Directives.{argument_named}
+use Rattle.graphql_spec.specs.Schema.{Schema, InputDeclaration}
+use Rattle.graphql_spec.specs.Fields.{declaration_in, entry_named, leaf_accepts}
+use Rattle.graphql_spec.specs.Fits.{through}
+use Rattle.graphql_spec.specs.Placed.{Call}
+use Rattle.graphql_spec.specs.Rules.{RuleError, gives_unknown, gives_too_few}
+use Rattle.juniper_language.specs.DocumentView.{view_argument as view_given}
+use Rattle.juniper_language.specs.declared.position.Spanning.{Spanning}
+use Rattle.juniper_language.specs.declared.position.Span.{Span}
+use Rattle.juniper_language.specs.declared.ast.Field.{Field}
+use Rattle.juniper_rules.specs.declared.calls.Call.{Call as CodeCall}
+use Rattle.juniper_rules.specs.Occurrences.{view_occurrence}
+use Rattle.juniper_schema.specs.SchemaView.{view_argument}
+use Rattle.juniper_schema.specs.Served.{served_field}
+
+-- the words of a field, and the arguments of one beside those that are declared
+unfoldable pub head_seen : {S : Type 0} → (S → Shown) → Spanning (Field S) Span → Head
+head_seen shown f = (view_occurrence shown f).head
+
+unfoldable pub view_call : {S : Type 0} → (S → Shown) → CodeCall S → Call
+view_call shown c = record { declared = map (view_argument shown) c.declared.now; given = map (view_given shown) c.given.now }
+
+-- the fields of plain selections, in order
+unfoldable pub plain_heads : Selections → List Head
+plain_heads end = []
+plain_heads (field h below rest) = h ∷ plain_heads rest
+plain_heads (spread x rest) = plain_heads rest
+plain_heads (inline x below rest) = plain_heads rest
+
+-- two of the arguments have one name (5.4.2)
+unfoldable pub repeats_in : List Argument → Bool
+repeats_in [] = false
+repeats_in (a ∷ rest) = list_any (λ b. bytes_eq a.name.item b.name.item) rest || repeats_in rest
+
+-- two arguments of a field
+unfoldable pub repeats_name : Head → Bool
+repeats_name h = repeats_in (written h.arguments)
+
+-- a field that is not served (5.3.1)
+unfoldable pub is_unserved : Schema → Head → Bool
+is_unserved s h = is_none (served_field s h.name.item)
+
+-- the arguments of a field that is served, with their declarations
+unfoldable pub call_of : Schema → Head → Option Call
+call_of s h = option_map (λ d. record { declared = d.arguments; given = written h.arguments }) (served_field s h.name.item)
+
+-- they break the rule
+unfoldable pub breaks : (Call → Bool) → Option Call → Bool
+breaks rule None = false
+breaks rule (Some c) = rule c
+
+-- so does a field
+unfoldable pub call_breaks : (Call → Bool) → Schema → Head → Bool
+call_breaks rule s h = breaks rule (call_of s h)
+
+-- a literal fits: null where it may stand, a scalar of an accepted kind; a variable fits every type (5.6.1)
+unfoldable pub literal_fits : Schema → Input → TypeRef → Bool
+literal_fits s null t = not (required t)
+literal_fits s (scalar x) t = through (λ n. leaf_accepts (entry_named s n) x) t
+literal_fits s (variable x) t = true
+literal_fits s _ t = false
+
+-- a literal that does not fit its declared argument (5.6.1)
+unfoldable pub misfits : Schema → Option InputDeclaration → Input → Bool
+misfits s None v = false
+misfits s (Some d) v = not (literal_fits s v d.of_type)
+
+-- one of the arguments' literals does not fit
+unfoldable pub gives_unfit : Schema → Call → Bool
+gives_unfit s c = list_any (λ a. misfits s (declaration_in c.declared a.name.item) a.value.item) c.given
+
+-- two literals are equal (5.3.2)
+unfoldable pub same_literal : Input → Input → Bool
+same_literal null null = true
+same_literal (scalar x) (scalar y) = same_shown x y
+same_literal _ _ = false
+
+-- neither is there, or both are and are equal
+unfoldable pub same_found : Option Input → Option Input → Bool
+same_found None None = true
+same_found (Some u) (Some v) = same_literal u v
+same_found _ _ = false
+
+-- at each name of the third list the first two have the same
+unfoldable pub same_at_names : List Argument → List Argument → List Argument → Bool
+same_at_names as' bs cs = list_all (λ c. same_found (argument_named c.name.item as') (argument_named c.name.item bs)) cs
+
+-- two fields have one name and the same arguments, in whatever order
+unfoldable pub is_same_call : Head → Head → Bool
+is_same_call h g = bytes_eq h.name.item g.name.item
+    && (same_at_names (written h.arguments) (written g.arguments) (written h.arguments) && same_at_names (written h.arguments) (written g.arguments) (written g.arguments))
+
+-- so have two fields of one response key
+unfoldable pub may_share : Head → Head → Bool
+may_share h g = not (bytes_eq (response_key h) (response_key g)) || is_same_call h g
+
+-- an error, where the rule is violated
+unfoldable pub reported_at : Bool → Text → Position → List RuleError
+reported_at violated text p = cond violated (record { message = text; start = p } ∷ []) []
+
+-- what the rules on fields and arguments find of fields
+unfoldable pub type_errors_of : Schema → Position → List Head → List RuleError
+type_errors_of s p hs = reported_at (list_any (is_unserved s) hs) (codes "Unknown field") p
+    ++ reported_at (list_any (call_breaks gives_unknown s) hs) (codes "Unknown argument") p
+    ++ reported_at (list_any (call_breaks gives_too_few s) hs) (codes "Argument is missing") p
+    ++ reported_at (list_any (call_breaks (gives_unfit s) s) hs) (codes "Argument does not fit its type") p

@@ -1,0 +1,2 @@
+pub mod AcceptedKinds
+pub mod Schemas

@@ -1,0 +1,2 @@
+pub mod SchemaView
+pub mod Served
