@@ -138,6 +138,7 @@ abbrev inner : Reader (List Argument)
 inner s = and_then (expect 40 s) (λ u. some_until 41 argument)
 
 inner_sound : (c : Bool) (n : ℕ) (s t : At) (xs : List Argument) → inner s ≡ Some (xs, t) → Bracketed c (suc n) xs s t
+unfolding some_until
 inner_sound c n s t xs e =
     let q = bind_some (expect 40 s) _ (xs, t) e in
     let opens = expect_sound 40 s q.0.1 q.0.0 q.1 in
@@ -152,6 +153,7 @@ arguments_parts : (c : Bool) (n : ℕ) (xs : List Argument) (a b : At) → Many 
 arguments_parts c n xs a b h e = many_map (Argued c n) (IsPart 41 false argument) (argument_part c n) xs a b (many_pass (IsArgument c n) has_served_value xs a b h e)
 
 inner_read : (c : Bool) (xs : List Argument) (n : ℕ) (s t : At) → Bracketed c n xs s t → inner s ≡ Some (xs, t)
+unfolding some_until
 inner_read c [] n s t h = absurd h.0
 inner_read c (x ∷ xs) zero s t h = absurd h.0
 inner_read c (x ∷ xs) (suc n) s t ((a, b, opens, inside, closes), served) =

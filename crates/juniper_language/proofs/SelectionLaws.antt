@@ -133,7 +133,7 @@ pub record Braced (x : Selections) (n : ℕ) (s t : At) : Type 0 where
   pub served : are_served x ≡ true
 
 pub selections_sound : (n : ℕ) (s t : At) (x : Selections) → selections s ≡ Some (x, t) → Braced x (suc n) s t
-unfolding selections
+unfolding some_until selections
 selections_sound n s t x e =
     let q = bind_some (some_until 125 selection s) _ (x, t) e in
     let same = pure_some (selections_of q.0.0) x q.0.1 t q.2 in
@@ -190,7 +190,7 @@ brace_ends : (b t : At) → Mark 125 b t → Ends b
 brace_ends b t h = record { no_bracket = other_seen 125 40 b t refl h; no_colon = other_seen 125 58 b t refl h; no_directive = other_seen 125 64 b t refl h }
 
 pub selections_read : (n : ℕ) (x : Selections) (s t : At) → Braced x n s t → selections s ≡ Some (x, t)
-unfolding selections
+unfolding some_until selections
 selections_read n x s t h =
     let all = until_read 125 selection (nodes x) (length s.ahead) s h.before_brace t (many_parts n x s h.before_brace h.inside h.served (brace_ends h.before_brace t h.closes)) h.closes (omega arith) in
     rw (begins n x s h.before_brace h.inside h.some h.served, all) (ap (λ y. Some (y, t)) (of_nodes x h.served))

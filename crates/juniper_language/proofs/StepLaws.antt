@@ -71,6 +71,7 @@ pub seen_mark : (m : ℕ) (s : At) (p : Token × At) → sees m s ≡ true → n
 seen_mark m s p seen e = taken_mark m s p e (first_takes m s.last s.ahead p seen e)
 
 pub expect_sound : (m : ℕ) (s t : At) (u : Unit {0}) → expect m s ≡ Some (u, t) → Mark m s t
+unfolding expect
 expect_sound m s t u e =
     let q = bind_some (next s) _ (u, t) e in
     elim (picked (is_mark_of m q.0.0.lexeme) (pure tt) refuse q.0.1 (u, t) q.2) [
@@ -79,6 +80,7 @@ expect_sound m s t u e =
     ]
 
 pub expect_read : (m : ℕ) (s t : At) → Mark m s t → expect m s ≡ Some (tt, t)
+unfolding expect
 expect_read m s t (place, h) = rw (takes_next (mark m) place s t h, eq-eqb m m refl) refl
 
 -- ---- names
@@ -92,15 +94,18 @@ named_sound (int w) place s a t x h e = absurd (none-some (x, t) e)
 named_sound (string w) place s a t x h e = absurd (none-some (x, t) e)
 
 pub name_sound : (s t : At) (x : Word) → a_name s ≡ Some (x, t) → IsWord x s t
+unfolding a_name
 name_sound s t x e = let q = bind_some (next s) _ (x, t) e in named_sound q.0.0.lexeme q.0.0.span s q.0.1 t x (next_takes s q.0 q.1) q.2
 
 pub name_read : (x : Word) (s t : At) → IsWord x s t → a_name s ≡ Some (x, t)
+unfolding a_name
 name_read x s t h = rw (takes_next (name x.item) x.span s t h) refl
 
 pub name_first : (m : ℕ) (x : Word) (s t : At) → IsWord x s t → sees m s ≡ false
 name_first m x s t h = rw h.token refl
 
 pub name_of_sound : (test : Name → Bool) (s t : At) (x : Word) → a_name_of test s ≡ Some (x, t) → IsWord x s t × (test x.item ≡ true)
+unfolding a_name_of
 name_of_sound test s t x e =
     let q = bind_some (a_name s) _ (x, t) e in
     elim (picked (test q.0.0.item) (pure q.0.0) refuse q.0.1 (x, t) q.2) [
@@ -112,6 +117,7 @@ name_of_sound test s t x e =
     ]
 
 pub name_of_read : (test : Name → Bool) (x : Word) (s t : At) → IsWord x s t → test x.item ≡ true → a_name_of test s ≡ Some (x, t)
+unfolding a_name_of
 name_of_read test x s t h e = rw (name_read x s t h, e) refl
 
 -- ---- places

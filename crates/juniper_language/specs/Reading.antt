@@ -61,7 +61,7 @@ abbrev pub sees : ℕ → At → Bool
 sees m s = first_is m s.ahead
 
 -- this punctuator
-abbrev pub expect : ℕ → Reader (Unit {0})
+unfoldable pub expect : ℕ → Reader (Unit {0})
 expect m = next >>= (λ t. cond (is_mark_of m t.lexeme) (pure tt) refuse)
 
 abbrev pub name_by : Lexeme → Span → Reader Word
@@ -70,11 +70,11 @@ name_by (token.name w) place = pure (record { item = w; span = place })
 name_by (token.int w) place = refuse
 name_by (token.string w) place = refuse
 
-abbrev pub a_name : Reader Word
+unfoldable pub a_name : Reader Word
 a_name = next >>= (λ t. name_by t.lexeme t.span)
 
 -- a name that passes the test
-abbrev pub a_name_of : (Name → Bool) → Reader Word
+unfoldable pub a_name_of : (Name → Bool) → Reader Word
 a_name_of test = a_name >>= (λ x. cond (test x.item) (pure x) refuse)
 
 -- ---- what every rule is made of
@@ -97,7 +97,7 @@ until m p zero = refuse
 until m p (suc k) = λ s. cond (sees m s) ((next >>= (λ t. pure [])) s) ((p >>= (λ x. until m p k >>= (λ xs. pure (x ∷ xs)))) s)
 
 -- one or more
-abbrev pub some_until : {A : Type 0} → ℕ → Reader A → Reader (List A)
+unfoldable pub some_until : {A : Type 0} → ℕ → Reader A → Reader (List A)
 some_until m p s = cond (sees m s) (refuse s) (until m p (length s.ahead) s)
 
 -- it stands there where the mark does

@@ -115,6 +115,7 @@ impl<'t, 'a> Parser<'t, 'a> {
     }
 
     /// Takes this punctuator.
+    #[tactic(auto, unfolding(crate::specs::Reading::expect))]
     pub fn expect(&mut self, mark: u8) -> ParseResult<()>
         ensures { Gives (λ _. tt) result self.new (read.expect mark self.old) }
     {
@@ -132,6 +133,7 @@ impl<'t, 'a> Parser<'t, 'a> {
     }
 
     /// Takes a name.
+    #[tactic(auto, unfolding(crate::specs::Reading::a_name))]
     pub fn name(&mut self) -> ParseResult<Spanning<&'a str, Span>>
         ensures { Gives view_word result self.new (read.a_name self.old) }
     {

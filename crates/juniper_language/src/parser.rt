@@ -91,7 +91,7 @@ fn argument<'a, S: ScalarValue>(parser: &mut Parser<'_, 'a>) -> ParseResult<Argu
 }
 
 /// One or more arguments, and the bracket behind them.
-#[tactic(auto, using(crate::proofs::Loops::parts_more, crate::proofs::Loops::parts_end, crate::proofs::Loops::parts_none, crate::proofs::Loops::prepend_nil))]
+#[tactic(auto, unfolding(crate::specs::Reading::some_until), using(crate::proofs::Loops::parts_more, crate::proofs::Loops::parts_end, crate::proofs::Loops::parts_none, crate::proofs::Loops::prepend_nil))]
 fn some_arguments<'a, S: ScalarValue>(
     alloc: Global,
     parser: &mut Parser<'_, 'a>,
@@ -157,6 +157,7 @@ fn truth<S: ScalarValue>(parser: &mut Parser<'_, '_>) -> ParseResult<InputValue<
 }
 
 /// The name `if`.
+#[tactic(auto, unfolding(crate::specs::Reading::a_name_of))]
 fn if_name<'a>(parser: &mut Parser<'_, 'a>) -> ParseResult<Word<'a>>
     ensures { Gives view_word result parser.new (read.a_name_of read.is_if parser.old) }
 {
@@ -169,6 +170,7 @@ fn if_name<'a>(parser: &mut Parser<'_, 'a>) -> ParseResult<Word<'a>>
 }
 
 /// The name of a directive that is served.
+#[tactic(auto, unfolding(crate::specs::Reading::a_name_of))]
 fn directive_name<'a>(parser: &mut Parser<'_, 'a>) -> ParseResult<Word<'a>>
     ensures { Gives view_word result parser.new (read.a_name_of read.is_conditional parser.old) }
 {
@@ -294,7 +296,7 @@ fn selection<'a, S: ScalarValue>(
 }
 
 /// The selections behind an open brace, up to the closing brace (2.4).
-#[tactic(auto, unfolding(crate::specs::Reading::selections), using(crate::proofs::Loops::until_more, crate::proofs::Loops::until_end, crate::proofs::Loops::until_none, crate::proofs::Loops::put_none, crate::proofs::Loops::map_push, crate::proofs::Loops::chain_push))]
+#[tactic(auto, unfolding(crate::specs::Reading::selections, crate::specs::Reading::some_until), using(crate::proofs::Loops::until_more, crate::proofs::Loops::until_end, crate::proofs::Loops::until_none, crate::proofs::Loops::put_none, crate::proofs::Loops::map_push, crate::proofs::Loops::chain_push))]
 fn selections<'a, S: ScalarValue>(
     alloc: Global,
     parser: &mut Parser<'_, 'a>,
