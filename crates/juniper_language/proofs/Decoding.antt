@@ -11,12 +11,12 @@ use Rattle.std.specs.Char.{is_ascii_digit}
 use Rattle.graphql_spec.specs.Tokens.{is_digits, is_int, digits_value, int_value, fits_int, decoded_int}
 use Rattle.juniper_language.proofs.Numbers.{digits_all}
 
-fits_is : (z : ℤ) → SFits w32 z → fits_int z ≡ true
+pub fits_is : (z : ℤ) → SFits w32 z → fits_int z ≡ true
 unfolding fits_int
 fits_is (pos k) h = le-leb k 2147483647 (omega (arith, h.sfits))
 fits_is (negsuc k) h = rw (le-leb k 2147483647 (omega (arith, h.sfits))) refl
 
-fits_from : (z : ℤ) → fits_int z ≡ true → SFits w32 z
+pub fits_from : (z : ℤ) → fits_int z ≡ true → SFits w32 z
 unfolding fits_int
 fits_from (pos k) h = record { sfits = omega (arith, leb-true k 2147483647 h) }
 fits_from (negsuc k) h = record { sfits = omega (arith, leb-true k 2147483647 (and_parts _ _ h).0) }

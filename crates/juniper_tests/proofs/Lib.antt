@@ -1,1 +1,2 @@
 pub mod ServedTests
+pub mod Sums

@@ -104,6 +104,7 @@ fn number<S: ScalarValue>(
 }
 
 /// The sum of 41 and a number, or an error where it is none of the Ints.
+#[tactic(auto, using(crate::proofs::Sums::sum_fits, crate::proofs::Sums::sum_overflows))]
 fn sum<S: ScalarValue>(alloc: Global, plus: i32) -> Result<Resolved<(), S>, ResolveError<S>>
     ensures { Answers S.shown result (sum_reply plus) }
 {
@@ -182,6 +183,7 @@ fn field<S: ScalarValue>(
 }
 
 /// The field with its argument.
+#[tactic(auto, unfolding(graphql_spec::specs::Schema::plain_field, graphql_spec::specs::Schema::plain_input))]
 fn number_field<S: ScalarValue>(alloc: Global) -> Result<Field<S>, AllocError>
     ensures { IfOk result (λ f. view_field S.shown f ≡ number_field) }
 {

@@ -33,6 +33,7 @@ impl ScalarValue for TestScalar {
         Ok(TestScalar::Text(value))
     }
 
+    #[tactic(auto, unfolding(graphql_spec::specs::Shown::shown_int))]
     fn try_to_int(&self) -> Option<i32> {
         match self {
             TestScalar::Flag(_) => None,
@@ -41,6 +42,7 @@ impl ScalarValue for TestScalar {
         }
     }
 
+    #[tactic(auto, unfolding(graphql_spec::specs::Shown::shown_text))]
     fn try_to_str(&self) -> Option<&str> {
         match self {
             TestScalar::Flag(_) => None,
@@ -49,6 +51,7 @@ impl ScalarValue for TestScalar {
         }
     }
 
+    #[tactic(auto, unfolding(graphql_spec::specs::Shown::shown_boolean))]
     fn try_to_bool(&self) -> Option<bool> {
         match self {
             TestScalar::Flag(value) => Some(*value),
