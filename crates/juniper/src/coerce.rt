@@ -10,10 +10,10 @@ ghost use Rattle.juniper_language.specs.InputView.{view_variables};
 ghost use Rattle.juniper.specs.ArgumentView.{members_of, view_arguments, view_declared};
 ghost use Rattle.juniper_rules.specs.Occurrences.{view_occurrence};
 
-use juniper_schema::meta::Argument;
 use crate::values::Arguments;
 use indexmap::IndexMap;
 use juniper_language::{Field, InputValue, ScalarValue, Span, Spanning, Variables};
+use juniper_schema::meta::Argument;
 use std::alloc::{AllocError, Global};
 
 /// An argument's name and value as they are written.

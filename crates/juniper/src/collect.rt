@@ -7,8 +7,8 @@ ghost use Rattle.juniper_language.specs.DocumentView.{view_selections};
 ghost use Rattle.juniper_rules.specs.Occurrences.{view_occurrence, admitted_fields};
 
 use crate::admits::{admits, lent};
-use juniper_rules::Occurrences;
 use juniper_language::{Field, ScalarValue, Selection, Span, Spanning, Variables};
+use juniper_rules::Occurrences;
 use std::alloc::{AllocError, Global};
 
 /// The admitted fields of selections that are fields, in document order; fragments are not served yet.

@@ -7,8 +7,8 @@ ghost use Rattle.juniper_rules.specs.RuleView.{view_rule_error};
 ghost use Rattle.juniper.specs.RequestErrors.{view_request_error, not_valid, request_error_text, messages_text, of_parse_error};
 ghost use Rattle.juniper.specs.declared.error.GraphQLError.TheVariants as gives;
 
-use juniper_rules::RuleError;
 use juniper_language::{ParseError, Span, Spanning};
+use juniper_rules::RuleError;
 use std::alloc::{AllocError, AllocFailed, Global};
 use std::error::Error;
 use std::fmt;

@@ -21,7 +21,6 @@ ghost use Rattle.juniper.specs.Walking.{world_in};
 use crate::collect::collect;
 use crate::error::GraphQLError;
 use crate::root::RootNode;
-use juniper_rules::validate;
 use crate::types::{GraphQLType, GraphQLValue};
 use crate::values::sort::sort_errors;
 use crate::walk::{Walk, object};
@@ -29,6 +28,7 @@ use juniper_language::{
     Definition, Document, Operation, ScalarValue, Span, Spanning, Value, Variables,
     parse_document_source,
 };
+use juniper_rules::validate;
 use juniper_values::ExecutionError;
 use std::alloc::{AllocError, Global};
 

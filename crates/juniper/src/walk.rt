@@ -17,10 +17,10 @@ ghost use Rattle.juniper_schema.specs.Served.{is_served_schema, is_served_head};
 ghost use Rattle.juniper.specs.Walking.{world_in, is_leaf_value, settled, IsLeaf, IsCompleted, IsWalked, listed_of};
 
 use crate::coerce::coerce_arguments;
-use juniper_rules::{Occurrences, response_key};
-use juniper_schema::{LeafType, SchemaType};
 use crate::types::{Executor, GraphQLValue, Resolved};
 use juniper_language::{Field, Object, ScalarValue, Span, Spanning, Value, Variables};
+use juniper_rules::{Occurrences, response_key};
+use juniper_schema::{LeafType, SchemaType};
 use juniper_values::{ExecutionError, FieldError, ResolveError};
 use std::alloc::{AllocError, Global};
 

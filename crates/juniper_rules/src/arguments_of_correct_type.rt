@@ -9,11 +9,11 @@ ghost use Rattle.juniper_language.specs.TypeView.{view_type};
 ghost use Rattle.juniper_rules.specs.PlainSelections.{call_breaks, gives_unfit, head_seen, literal_fits, misfits, view_call};
 ghost use Rattle.juniper_schema.specs.SchemaView.{view_argument, view_schema};
 
-use crate::occurrences::Occurrences;
-use juniper_schema::meta::Argument;
 use crate::calls::{Call, call_of, declared_argument};
-use juniper_schema::SchemaType;
+use crate::occurrences::Occurrences;
 use juniper_language::{Field, InputValue, ScalarValue, Span, Spanning, Type};
+use juniper_schema::SchemaType;
+use juniper_schema::meta::Argument;
 
 /// Whether a literal does not fit its declared argument.
 pub(crate) fn has_wrong_argument<S: ScalarValue>(

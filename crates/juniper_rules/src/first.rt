@@ -10,17 +10,17 @@ ghost use Rattle.juniper_rules.specs.RuleView.{view_rule_error};
 ghost use Rattle.juniper_rules.specs.PlainSelections.{head_seen, reported_at, type_errors_of};
 ghost use Rattle.juniper_schema.specs.SchemaView.{view_schema};
 
-use crate::occurrences::Occurrences;
 use crate::arguments_of_correct_type::has_wrong_argument;
 use crate::calls::fields_in;
 use crate::error::RuleError;
 use crate::fields_on_correct_type::has_unknown_field;
 use crate::known_argument_names::has_unknown_argument;
+use crate::occurrences::Occurrences;
 use crate::overlapping_fields_can_be_merged::can_merge;
 use crate::provided_non_null_arguments::lacks_argument;
 use crate::unique_argument_names::repeats_argument;
-use juniper_schema::SchemaType;
 use juniper_language::{Operation, ScalarValue, SourcePosition, Span, Spanning};
+use juniper_schema::SchemaType;
 use std::alloc::{AllocError, Global};
 
 /// The errors of the rules that are served, in a query that is written as its selection set alone. A later phase runs where

@@ -6,10 +6,10 @@ ghost use Rattle.graphql_spec.specs.Rules.{gives_unknown};
 ghost use Rattle.juniper_rules.specs.PlainSelections.{call_breaks, head_seen, view_call};
 ghost use Rattle.juniper_schema.specs.SchemaView.{view_schema};
 
-use crate::occurrences::Occurrences;
 use crate::calls::{Call, call_of, declared_argument};
-use juniper_schema::SchemaType;
+use crate::occurrences::Occurrences;
 use juniper_language::{Field, ScalarValue, Span, Spanning};
+use juniper_schema::SchemaType;
 
 /// Whether a field is given an argument that it does not declare.
 pub(crate) fn has_unknown_argument<S: ScalarValue>(

@@ -9,8 +9,8 @@ ghost use Rattle.juniper_language.specs.DocumentView.{view_argument as view_give
 ghost use Rattle.juniper_language.specs.InputView.{view_input};
 ghost use Rattle.juniper_rules.specs.PlainSelections.{head_seen, is_same_call, may_share, same_at_names, same_found, same_literal};
 
-use crate::occurrences::{Occurrences, response_key};
 use crate::calls::{Given, written};
+use crate::occurrences::{Occurrences, response_key};
 use juniper_language::{Field, InputValue, ScalarValue, Span, Spanning};
 
 /// Whether each two fields may share their response key.

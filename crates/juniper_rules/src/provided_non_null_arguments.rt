@@ -6,12 +6,12 @@ ghost use Rattle.graphql_spec.specs.Rules.{gives_too_few, must_be_written};
 ghost use Rattle.juniper_rules.specs.PlainSelections.{call_breaks, head_seen, view_call};
 ghost use Rattle.juniper_schema.specs.SchemaView.{view_argument, view_schema};
 
-use crate::occurrences::Occurrences;
-use juniper_schema::meta::Argument;
 use crate::calls::{Call, call_of};
+use crate::occurrences::Occurrences;
 use crate::unique_argument_names::names;
-use juniper_schema::SchemaType;
 use juniper_language::{Field, ScalarValue, Span, Spanning};
+use juniper_schema::SchemaType;
+use juniper_schema::meta::Argument;
 
 /// Whether a field lacks an argument that it asks for.
 pub(crate) fn lacks_argument<S: ScalarValue>(

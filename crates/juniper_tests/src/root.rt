@@ -2,7 +2,9 @@
 
 ghost use Rattle.std.specs.Prelude.{◌≡◌, Some, IfOk, codes, map, string_bytes, []};
 ghost use Rattle.graphql_spec.specs.Constants.{find};
+ghost use Rattle.graphql_spec.specs.Resolvers.{failed};
 ghost use Rattle.graphql_spec.specs.Schema.{plain_field};
+ghost use Rattle.juniper_values.specs.Conversions.{message_alone};
 ghost use Rattle.juniper_language.specs.TypeView.{view_type};
 ghost use Rattle.juniper.specs.ArgumentView.{view_arguments};
 ghost use Rattle.juniper.specs.ResolvedView.{Answers};
@@ -104,14 +106,20 @@ fn number<S: ScalarValue>(
 }
 
 /// The sum of 41 and a number, or an error where it is none of the Ints.
-#[tactic(auto, using(crate::proofs::Sums::sum_fits, crate::proofs::Sums::sum_overflows))]
 fn sum<S: ScalarValue>(alloc: Global, plus: i32) -> Result<Resolved<(), S>, ResolveError<S>>
     ensures { Answers S.shown result (sum_reply plus) }
 {
     match plus.checked_add(41) {
         Some(sum) => Ok(Resolved::Scalar(S::from_int(sum))),
-        None => Err(ResolveError::Field(FieldError::new(alloc, "Too large", Value::Null)?)),
+        None => too_large(alloc),
     }
+}
+
+/// The error of a sum that is none of the Ints.
+fn too_large<S: ScalarValue>(alloc: Global) -> Result<Resolved<(), S>, ResolveError<S>>
+    ensures { Answers S.shown result (failed (message_alone (codes "Too large"))) }
+{
+    Err(ResolveError::Field(FieldError::new(alloc, "Too large", Value::Null)?))
 }
 
 /// The root, with scalars of one type.

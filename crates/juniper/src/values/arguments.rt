@@ -7,9 +7,9 @@ ghost use Rattle.juniper_language.specs.InputView.{view_input};
 ghost use Rattle.juniper.specs.ArgumentView.{members_of, view_arguments, view_declared, view_given, GivesArgument};
 ghost use Rattle.juniper_schema.specs.SchemaView.{view_argument};
 
-use juniper_schema::meta::Argument;
 use indexmap::IndexMap;
 use juniper_language::{InputValue, ScalarValue, Span, Spanning};
+use juniper_schema::meta::Argument;
 use juniper_values::{FromInputValue, IntoFieldError, ResolveError};
 use std::alloc::{AllocError, Global};
 
