@@ -10,7 +10,7 @@ use std::alloc::{AllocError, Global};
 use std::collections::HashMap;
 
 /// An input value.
-#[derive(Debug, Drop)]
+#[derive(Debug, PartialEq, Drop)]
 pub enum InputValue<S> {
     /// `null` (2.9.5).
     Null,
