@@ -13,8 +13,11 @@ use std::alloc::{AllocError, Global};
 /// An argument of a field: its name, its type, and its default value, where it has one (3.6.1).
 #[derive(Debug, Drop)]
 pub struct Argument<S> {
+    /// Its name.
     pub name: String,
+    /// Its type.
     pub arg_type: Type<String>,
+    /// Its default value, where it has one.
     pub default_value: Option<InputValue<S>>,
 }
 
@@ -46,8 +49,11 @@ impl<S: ScalarValue> Argument<S> {
 /// A field of an object type: its name, its type and its arguments (3.6).
 #[derive(Debug, Drop)]
 pub struct Field<S> {
+    /// Its name.
     pub name: String,
+    /// Its type.
     pub field_type: Type<String>,
+    /// Its arguments in order, where it has some.
     pub arguments: Option<Vec<Argument<S>>>,
 }
 

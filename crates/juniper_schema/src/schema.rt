@@ -67,7 +67,9 @@ pub struct SchemaType<S> {
 /// A named type at a field, and whether it is non-null.
 #[derive(Clone, Copy, Debug)]
 pub struct LeafType<'s> {
+    /// Its name.
     pub name: &'s str,
+    /// Whether it is non-null.
     pub is_non_null: bool,
 }
 
