@@ -1,12 +1,11 @@
-pub mod Admitting
-pub mod ArgumentMembers
+pub mod Collecting
 pub mod Completing
 pub mod ErrorSorting
 pub mod FieldCompletion
 pub mod Messages
 pub mod Outcomes
 pub mod PlainExecution
-pub mod Resolutions
+pub mod Leaves
 pub mod ServedTypes
 pub mod Settling
 pub mod Steps

@@ -14,7 +14,7 @@ use Rattle.graphql_spec.specs.Laws.{Agree}
 use Rattle.graphql_spec.proofs.Walk.{Walked, one_entry}
 use Rattle.juniper_schema.specs.Served.{is_served_head}
 use Rattle.juniper.specs.Walking.{IsCompleted, IsWalked, type_at, taken_at, settled, listed_of, reply_fault, is_leaf_value}
-use Rattle.juniper_rules.proofs.Lists.{left-is, seen-last}
+use Rattle.juniper_syntax.proofs.Lists.{left-is, seen-last}
 use Rattle.juniper.proofs.Completing.{listed_at}
 use Rattle.juniper.proofs.Turns.{walked-field, walked-none, turn-on, turn-stop, reply-is-leaf}
 

@@ -1,8 +1,8 @@
 -- What a root holds (3.3).
 use Rattle.std.specs.declared.cmp.PartialEq.{Ghosts as Equality}
 use Rattle.std.specs.declared.fmt.Debug.{Ghosts as Shows}
-use Rattle.juniper_language.specs.declared.scalar.ScalarValue.{Ghosts as Scalars}
-use Rattle.juniper.specs.declared.types.resolver.GraphQLType.{Ghosts as Types}
+use Rattle.juniper_syntax.specs.declared.scalar.ScalarValue.{Ghosts as Scalars}
+use Rattle.juniper_types.specs.declared.resolver.GraphQLType.{Ghosts as Types}
 use Rattle.juniper.specs.declared.root.RootNode.{RootNode}
 use Rattle.juniper_schema.specs.declared.schema.SchemaType.{SchemaType}
 

@@ -5,15 +5,15 @@ ghost use Rattle.graphql_spec.specs.Arguments.{coerced_arguments, given, put_giv
 ghost use Rattle.graphql_spec.specs.Constants.{find};
 ghost use Rattle.graphql_spec.specs.Documents.{written};
 ghost use Rattle.graphql_spec.specs.Inputs.{const};
-ghost use Rattle.juniper_language.specs.DocumentView.{view_argument};
-ghost use Rattle.juniper_language.specs.InputView.{view_variables};
-ghost use Rattle.juniper.specs.ArgumentView.{members_of, view_arguments, view_declared};
+ghost use Rattle.juniper_syntax.specs.DocumentView.{view_argument};
+ghost use Rattle.juniper_syntax.specs.InputView.{view_variables};
+ghost use Rattle.juniper_values.specs.ArgumentView.{members_of, view_arguments, view_declared};
 ghost use Rattle.juniper_rules.specs.Occurrences.{view_occurrence};
 
-use crate::values::Arguments;
 use indexmap::IndexMap;
 use juniper_language::{Field, InputValue, ScalarValue, Span, Spanning, Variables};
 use juniper_schema::meta::Argument;
+use juniper_values::Arguments;
 use std::alloc::{AllocError, Global};
 
 /// An argument's name and value as they are written.

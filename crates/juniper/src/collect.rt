@@ -2,12 +2,13 @@
 
 ghost use Rattle.std.specs.Prelude.{◌≡◌, IfOk, map};
 ghost use Rattle.graphql_spec.specs.Directives.{passes};
-ghost use Rattle.juniper_language.specs.InputView.{view_variables};
-ghost use Rattle.juniper_language.specs.DocumentView.{view_selections};
+ghost use Rattle.juniper_syntax.specs.InputView.{view_variables};
+ghost use Rattle.juniper_lookahead.specs.DirectiveView.{view_lent};
+ghost use Rattle.juniper_syntax.specs.DocumentView.{view_directives, view_selections};
 ghost use Rattle.juniper_rules.specs.Occurrences.{view_occurrence, admitted_fields};
 
-use crate::admits::{admits, lent};
-use juniper_language::{Field, ScalarValue, Selection, Span, Spanning, Variables};
+use juniper_language::{Directive, Field, ScalarValue, Selection, Span, Spanning, Variables};
+use juniper_lookahead::admits;
 use juniper_rules::Occurrences;
 use std::alloc::{AllocError, Global};
 
@@ -32,4 +33,16 @@ pub(crate) fn collect<'d, 'a, S: ScalarValue>(
         }
     }
     Ok(Occurrences { fields })
+}
+
+/// The directives, lent.
+fn lent<'b, 'a, S: ScalarValue>(
+    directives: &'b Option<Vec<Spanning<Directive<'a, S>, Span>>>,
+) -> Option<&'b [Spanning<Directive<'a, S>, Span>]>
+    ensures { view_lent S.shown result ≡ view_directives S.shown directives.now }
+{
+    match directives {
+        Some(directives) => Some(directives.as_slice()),
+        None => None,
+    }
 }

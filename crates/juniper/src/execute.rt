@@ -7,9 +7,9 @@ ghost use Rattle.graphql_spec.specs.Errors.{keys_only};
 ghost use Rattle.graphql_spec.specs.FirstRules.{first_rule_errors, is_plain_document, is_plain_operation};
 ghost use Rattle.graphql_spec.specs.Requests.{coerced_variables, selected};
 ghost use Rattle.graphql_spec.specs.Walk.{IsAnswerFor};
-ghost use Rattle.juniper_language.specs.DocumentView.{view_document, view_operation};
-ghost use Rattle.juniper_language.specs.InputView.{view_variables};
-ghost use Rattle.juniper_language.specs.ValueView.{view_value};
+ghost use Rattle.juniper_syntax.specs.DocumentView.{view_document, view_operation};
+ghost use Rattle.juniper_syntax.specs.InputView.{view_variables};
+ghost use Rattle.juniper_syntax.specs.ValueView.{view_value};
 ghost use Rattle.juniper.specs.Answering.{IsAnswered, IsAnsweredDocument, IsRefusedDocument, IsRefusedWith};
 ghost use Rattle.juniper_values.specs.ErrorView.{view_listed};
 ghost use Rattle.juniper.specs.RequestErrors.{view_request_error};
@@ -21,14 +21,14 @@ ghost use Rattle.juniper.specs.Walking.{world_in};
 use crate::collect::collect;
 use crate::error::GraphQLError;
 use crate::root::RootNode;
-use crate::types::{GraphQLType, GraphQLValue};
-use crate::values::sort::sort_errors;
+use crate::sort::sort_errors;
 use crate::walk::{Walk, object};
 use juniper_language::{
     Definition, Document, Operation, ScalarValue, Span, Spanning, Value, Variables,
     parse_document_source,
 };
 use juniper_rules::validate;
+use juniper_types::{GraphQLType, GraphQLValue};
 use juniper_values::ExecutionError;
 use std::alloc::{AllocError, Global};
 

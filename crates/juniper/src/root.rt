@@ -4,9 +4,9 @@ ghost use Rattle.std.specs.Prelude.{◌≡◌, IsTrue};
 ghost use Rattle.juniper_schema.specs.SchemaView.{view_schema};
 ghost use Rattle.juniper_schema.specs.Served.{is_served_schema};
 
-use crate::types::GraphQLType;
 use juniper_language::ScalarValue;
 use juniper_schema::SchemaType;
+use juniper_types::GraphQLType;
 
 /// A schema with the resolvers of its operations. Introspection is disabled, and neither mutations nor subscriptions are
 /// served.

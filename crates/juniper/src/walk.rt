@@ -7,20 +7,20 @@ ghost use Rattle.graphql_spec.specs.Values.{is_null, null};
 ghost use Rattle.graphql_spec.specs.Fields.{entry_named, leaf_accepts};
 ghost use Rattle.graphql_spec.specs.Execution.{reply_to};
 ghost use Rattle.graphql_spec.specs.Laws.{Agree};
-ghost use Rattle.juniper_language.specs.InputView.{view_variables};
-ghost use Rattle.juniper_language.specs.ValueView.{view_value, view_object};
+ghost use Rattle.juniper_syntax.specs.InputView.{view_variables};
+ghost use Rattle.juniper_syntax.specs.ValueView.{view_value, view_object};
 ghost use Rattle.juniper_values.specs.ErrorView.{view_error, view_listed};
 ghost use Rattle.juniper_rules.specs.Occurrences.{view_occurrence};
-ghost use Rattle.juniper.specs.ResolvedView.{Answers, view_resolved};
+ghost use Rattle.juniper_types.specs.ResolvedView.{Answers, view_resolved};
 ghost use Rattle.juniper_schema.specs.SchemaView.{view_schema};
 ghost use Rattle.juniper_schema.specs.Served.{is_served_schema, is_served_head};
 ghost use Rattle.juniper.specs.Walking.{world_in, is_leaf_value, settled, IsLeaf, IsCompleted, IsWalked, listed_of};
 
 use crate::coerce::coerce_arguments;
-use crate::types::{Executor, GraphQLValue, Resolved};
 use juniper_language::{Field, Object, ScalarValue, Span, Spanning, Value, Variables};
 use juniper_rules::{Occurrences, response_key};
 use juniper_schema::{LeafType, SchemaType};
+use juniper_types::{Executor, GraphQLValue, Resolved};
 use juniper_values::{ExecutionError, FieldError, ResolveError};
 use std::alloc::{AllocError, Global};
 
@@ -113,10 +113,7 @@ fn reply<Q: GraphQLValue<S>, S: ScalarValue>(
     }
     let declared = walk.schema.declared_arguments(name);
     let arguments = coerce_arguments(walk.alloc, declared, field, walk.variables)?;
-    let executor = Executor {
-        context: walk.context,
-        occurrence: field,
-    };
+    let executor = Executor::at_field(walk.context, field);
     walk.resolver
         .resolve_field(walk.alloc, walk.info, node, name, &arguments, &executor)
 }

@@ -10,10 +10,10 @@ use Rattle.juniper_values.specs.ErrorView.{view_listed}
 use Rattle.juniper.specs.RequestErrors.{view_request_error}
 use Rattle.juniper.specs.declared.error.GraphQLError.{GraphQLError}
 use Rattle.juniper_values.specs.declared.execution_error.ExecutionError.{ExecutionError}
-use Rattle.juniper_language.specs.Scalars.{default_shown}
-use Rattle.juniper_language.specs.ValueView.{view_value}
-use Rattle.juniper_language.specs.declared.scalar.DefaultScalarValue.{DefaultScalarValue}
-use Rattle.juniper_language.specs.declared.value.Value.{Value}
+use Rattle.juniper_syntax.specs.Scalars.{default_shown}
+use Rattle.juniper_syntax.specs.ValueView.{view_value}
+use Rattle.juniper_syntax.specs.declared.scalar.DefaultScalarValue.{DefaultScalarValue}
+use Rattle.juniper_syntax.specs.declared.value.Value.{Value}
 use Rattle.juniper_demo.specs.Answers.{ShowsData, ShowsRefusal, IsAnswerToText, IsAnswerTo, no_values}
 use Rattle.juniper_demo.specs.Demo.{concrete_type, reply}
 use Rattle.juniper_demo.specs.DemoSchema.{demo_schema}

@@ -1,8 +1,8 @@
 //! What the program answers to the words that it is given.
 
 ghost use Rattle.std.specs.Prelude.{◌≡◌, IfOk, string_bytes, map};
-ghost use Rattle.juniper_language.specs.InputView.{view_variables};
-ghost use Rattle.juniper_language.specs.Scalars.{default_shown};
+ghost use Rattle.juniper_syntax.specs.InputView.{view_variables};
+ghost use Rattle.juniper_syntax.specs.Scalars.{default_shown};
 ghost use Rattle.juniper_demo.specs.Answers.{IsAnswerTo, IsAnswerToText, no_values};
 
 use crate::demo::DemoContext;

@@ -1,7 +1,7 @@
 //! The demo's resolver.
 
 ghost use Rattle.std.specs.Prelude.{◌≡◌, Some, codes, pos};
-ghost use Rattle.juniper.specs.ResolvedView.{Answers};
+ghost use Rattle.juniper_types.specs.ResolvedView.{Answers};
 ghost use Rattle.juniper_demo.specs.Demo.{concrete_type, query_reply, reply, root_of};
 ghost use Rattle.juniper_demo.specs.declared.demo.DemoNode.TheVariants.{Query};
 

@@ -3,8 +3,8 @@
 ghost use Rattle.std.specs.Prelude.{IfOk, OnOk, MatchResult, map};
 ghost use Rattle.juniper_values.specs.ErrorView.{view_listed};
 ghost use Rattle.juniper.specs.RequestErrors.{view_request_error};
-ghost use Rattle.juniper_language.specs.Scalars.{default_shown};
-ghost use Rattle.juniper_language.specs.ValueView.{view_value};
+ghost use Rattle.juniper_syntax.specs.Scalars.{default_shown};
+ghost use Rattle.juniper_syntax.specs.ValueView.{view_value};
 ghost use Rattle.juniper_demo.specs.Answers.{ShowsData, ShowsRefusal};
 
 use juniper::{ExecutionError, GraphQLError};

@@ -1,9 +1,3 @@
-pub mod Documents
-pub mod Inputs
-pub mod InputLists
-pub mod Values
-pub mod ValueLists
-pub mod ValueEquality
 pub mod Rooms
 pub mod Fronts
 pub mod Numbers

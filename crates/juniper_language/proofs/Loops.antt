@@ -5,19 +5,19 @@ use Rattle.graphql_spec.specs.Inputs as spec
 use Rattle.graphql_spec.specs.Tokens.{Token}
 use Rattle.graphql_spec.specs.Documents.{Selections, end}
 use Rattle.graphql_spec.specs.Grammar.{At}
-use Rattle.juniper_language.specs.InputView.{view_input}
-use Rattle.juniper_language.specs.Positions.{view_span}
-use Rattle.juniper_language.specs.DocumentView.{put_selection, view_word, view_arguments, view_directives, chain}
+use Rattle.juniper_syntax.specs.InputView.{view_input}
+use Rattle.juniper_syntax.specs.Positions.{view_span}
+use Rattle.juniper_syntax.specs.DocumentView.{put_selection, view_word, view_arguments, view_directives, chain}
 use Rattle.juniper_language.specs.Reading.{Reader, Outcome, and_then, pure, next, sees, while_sees, until, prepend, put_first, placed, ◌>>=◌, Node, field_node, put, selections_of, selection, head_of}
-use Rattle.juniper_language.specs.declared.input.InputValue.{Scalar}
-use Rattle.juniper_language.specs.declared.position.Spanning.{Spanning}
-use Rattle.juniper_language.specs.declared.position.Span.{Span}
-use Rattle.juniper_language.specs.declared.ast.Arguments.{Arguments}
-use Rattle.juniper_language.specs.declared.ast.Directive.{Directive}
-use Rattle.juniper_language.specs.declared.ast.Field.{roll-Field}
-use Rattle.juniper_language.specs.declared.ast.Selection.{Field}
-use Rattle.juniper_language.proofs.Inputs.{view-Scalar}
-use Rattle.juniper_language.proofs.Documents.{put-Field}
+use Rattle.juniper_syntax.specs.declared.input.InputValue.{Scalar}
+use Rattle.juniper_syntax.specs.declared.position.Spanning.{Spanning}
+use Rattle.juniper_syntax.specs.declared.position.Span.{Span}
+use Rattle.juniper_syntax.specs.declared.ast.Arguments.{Arguments}
+use Rattle.juniper_syntax.specs.declared.ast.Directive.{Directive}
+use Rattle.juniper_syntax.specs.declared.ast.Field.{roll-Field}
+use Rattle.juniper_syntax.specs.declared.ast.Selection.{Field}
+use Rattle.juniper_syntax.proofs.Inputs.{view-Scalar}
+use Rattle.juniper_syntax.proofs.Documents.{put-Field}
 
 pub view_truth : {S : Type 0} (shown : S → Shown) (x : S) (b : Bool) → shown x ≡ boolean b → view_input shown (Scalar x) ≡ spec.scalar (boolean b)
 view_truth shown x b e = view-Scalar shown x ∙ ap spec.scalar e

@@ -1,10 +1,3 @@
-pub mod Positions
-pub mod Scalars
-pub mod InputView
-pub mod ValueView
-pub mod TypeView
-pub mod DocumentView
-pub mod Refusals
 pub mod Lexing
 pub mod TokenViews
 pub mod Cursors

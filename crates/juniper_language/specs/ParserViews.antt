@@ -4,11 +4,11 @@ use Rattle.std.specs.Borrow.{Bor}
 use Rattle.graphql_spec.specs.Shown.{Shown}
 use Rattle.graphql_spec.specs.Positions.{Spanned}
 use Rattle.graphql_spec.specs.Documents.{Word, Argument}
-use Rattle.juniper_language.specs.Positions.{view_spanning}
-use Rattle.juniper_language.specs.DocumentView.{view_word, view_argument}
-use Rattle.juniper_language.specs.declared.position.Spanning.{Spanning}
-use Rattle.juniper_language.specs.declared.position.Span.{Span}
-use Rattle.juniper_language.specs.declared.ast.Arguments.{Arguments}
+use Rattle.juniper_syntax.specs.Positions.{view_spanning}
+use Rattle.juniper_syntax.specs.DocumentView.{view_word, view_argument}
+use Rattle.juniper_syntax.specs.declared.position.Spanning.{Spanning}
+use Rattle.juniper_syntax.specs.declared.position.Span.{Span}
+use Rattle.juniper_syntax.specs.declared.ast.Arguments.{Arguments}
 
 -- arguments in their brackets
 abbrev pub view_given : {S : Type 0} → (S → Shown) → Spanning (Arguments S) Span → Spanned (List Argument)

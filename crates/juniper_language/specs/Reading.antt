@@ -9,10 +9,10 @@ use Rattle.graphql_spec.specs.Inputs.{Input, null, scalar}
 use Rattle.graphql_spec.specs.Documents.{Word, Argument, Arguments, Directive, Head, Selections, end, field, Operation, query}
 use Rattle.graphql_spec.specs.Directives.{skip_name, include_name, if_name}
 use Rattle.graphql_spec.specs.Grammar.{At, span_of, true_word, false_word, null_word}
-use Rattle.juniper_language.specs.declared.error.ParseError.{ParseError}
-use Rattle.juniper_language.specs.declared.error.ParseError.TheVariants.{Memory}
-use Rattle.juniper_language.specs.declared.position.Span as code
-use Rattle.juniper_language.specs.declared.position.Spanning.{Spanning}
+use Rattle.juniper_syntax.specs.declared.error.ParseError.{ParseError}
+use Rattle.juniper_syntax.specs.declared.error.ParseError.TheVariants.{Memory}
+use Rattle.juniper_syntax.specs.declared.position.Span as code
+use Rattle.juniper_syntax.specs.declared.position.Spanning.{Spanning}
 
 -- what is read and where a reader stands after it, if anything is read
 abbrev pub Outcome : Type 0 → Type 0

@@ -1,7 +1,7 @@
 -- How the code's tokens are seen.
 use Rattle.std.specs.Prelude.{map}
 use Rattle.graphql_spec.specs.Tokens as spec
-use Rattle.juniper_language.specs.Positions.{view_position, view_span}
+use Rattle.juniper_syntax.specs.Positions.{view_position, view_span}
 use Rattle.juniper_language.specs.Lexing as read
 use Rattle.juniper_language.specs.declared.token.Lexeme.{Lexeme}
 use Rattle.juniper_language.specs.declared.token.Lexeme.TheVariants as lexeme

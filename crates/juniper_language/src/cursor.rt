@@ -3,16 +3,15 @@
 ghost use Rattle.std.specs.Prelude.{◌≡◌, ◌≢◌, length, map};
 ghost use Rattle.graphql_spec.specs.Grammar.{begin_of};
 ghost use Rattle.graphql_spec.specs.Served.{before_all};
-ghost use Rattle.juniper_language.specs.Positions.{view_position, view_span};
-ghost use Rattle.juniper_language.specs.DocumentView.{view_word};
+ghost use Rattle.juniper_syntax.specs.Positions.{view_position, view_span};
+ghost use Rattle.juniper_syntax.specs.DocumentView.{view_word};
 ghost use Rattle.juniper_language.specs.Reading as read;
 ghost use Rattle.juniper_language.specs.Reading.{Gives};
 ghost use Rattle.juniper_language.specs.TokenViews.{view_token};
-ghost use Rattle.juniper_language.specs.declared.error.ParseError.TheVariants.{Memory, UnexpectedToken};
+ghost use Rattle.juniper_syntax.specs.declared.error.ParseError.TheVariants.{Memory, UnexpectedToken};
 
-use crate::error::ParseError;
-use crate::position::{SourcePosition, Span, Spanning};
 use crate::token::{Ending, Lexeme, Token};
+use juniper_syntax::{ParseError, SourcePosition, Span, Spanning};
 use std::marker::Model;
 
 /// What a reader answers, or why it refuses and where.

@@ -1,29 +1,18 @@
-//! The language layer: positions, scalars, values, the document as it is written, and the parser that reads it.
+//! The language layer: the parser that reads a document from a text, beside the data that it reads.
 #![tactic(auto)]
 
-pub mod ast;
 mod cursor;
-pub mod error;
-pub mod input;
-pub mod laws;
 mod lexer;
 mod number;
 pub mod parser;
-pub mod position;
-pub mod scalar;
 mod token;
-pub mod types;
-pub mod value;
 
-pub use ast::{
-    Definition, Directive, Document, Field, Fragment, FragmentSpread, Fragments, InlineFragment,
-    Operation, OperationType, Selection, VariableDefinition, VariableDefinitions,
+pub use juniper_syntax::{
+    DefaultScalarValue, Definition, Directive, Document, Field, Fragment, FragmentSpread,
+    Fragments, InlineFragment, InputValue, LexerError, Object, Operation, OperationType,
+    ParseError, ScalarValue, Selection, SourcePosition, Span, Spanning, Type, Value,
+    VariableDefinition, VariableDefinitions, Variables,
 };
-pub use error::{LexerError, ParseError};
-pub use input::{InputValue, Variables};
+pub use juniper_syntax::{ast, error, input, laws, position, scalar, types, value};
 pub use number::decode_int;
 pub use parser::parse_document_source;
-pub use position::{SourcePosition, Span, Spanning};
-pub use scalar::{DefaultScalarValue, ScalarValue};
-pub use types::Type;
-pub use value::{Object, Value};

@@ -6,25 +6,23 @@
 ghost use Rattle.std.specs.Prelude.{◌≡◌, ◌≢◌, ℕ, length, map, option_map, IfOk, MatchResult, [], ◌∷◌, true, false};
 ghost use Rattle.graphql_spec.specs.Documents as spec;
 ghost use Rattle.graphql_spec.specs.Served.{SpellsServed};
-ghost use Rattle.juniper_language.specs.DocumentView.{put_selection, view_argument, view_arguments, view_directive, view_directives, view_document, view_operation, view_selections, view_word};
-ghost use Rattle.juniper_language.specs.InputView.{view_input};
+ghost use Rattle.juniper_syntax.specs.DocumentView.{put_selection, view_argument, view_arguments, view_directive, view_directives, view_document, view_operation, view_selections, view_word};
+ghost use Rattle.juniper_syntax.specs.InputView.{view_input};
 ghost use Rattle.juniper_language.specs.Lexing as read_tokens;
 ghost use Rattle.juniper_language.specs.TokenViews.{view_ending};
 ghost use Rattle.juniper_language.specs.Reading as read;
 ghost use Rattle.juniper_language.specs.Reading.{Gives};
 ghost use Rattle.juniper_language.specs.ParserViews.{view_given, view_label};
 
-use crate::ast::{
-    Arguments, Definition, Directive, Document, Field, Operation, OperationType, Selection,
-};
 use crate::cursor::{ParseResult, Parser, refused};
-use crate::error::ParseError;
-use crate::input::InputValue;
 use crate::lexer::lex;
 use crate::number::decode_int;
-use crate::position::{Span, Spanning};
-use crate::scalar::ScalarValue;
 use crate::token::{Ending, Lexeme};
+use juniper_syntax::ast::Arguments;
+use juniper_syntax::{
+    Definition, Directive, Document, Field, InputValue, Operation, OperationType, ParseError,
+    ScalarValue, Selection, Span, Spanning,
+};
 use std::alloc::{AllocError, Global};
 
 /// A name of the text, and its place.
@@ -34,7 +32,7 @@ type Word<'a> = Spanning<&'a str, Span>;
 type Argument<'a, S> = (Word<'a>, Spanning<InputValue<S>, Span>);
 
 /// The value that a word is, if it is one: `true`, `false` or `null` (2.9.3, 2.9.5).
-#[tactic(auto, using(crate::proofs::Loops::view_truth, crate::proofs::Inputs::input_views))]
+#[tactic(auto, using(crate::proofs::Loops::view_truth, juniper_syntax::proofs::Inputs::input_views))]
 fn word_value<S: ScalarValue>(word: &str) -> Option<InputValue<S>>
     ensures { option_map (view_input S.shown) result ≡ read.word_value word.now }
 {

@@ -1,10 +1,9 @@
 //! Tokens (section 2.1.6 of the Specification).
 
 ghost use Rattle.std.specs.Prelude.{◌≢◌};
-ghost use Rattle.juniper_language.specs.declared.error.ParseError.TheVariants.{Memory};
+ghost use Rattle.juniper_syntax.specs.declared.error.ParseError.TheVariants.{Memory};
 
-use crate::error::{LexerError, ParseError};
-use crate::position::{SourcePosition, Span, Spanning};
+use juniper_syntax::{LexerError, ParseError, SourcePosition, Span, Spanning};
 
 /// What a token is, without its place.
 #[derive(Clone, Copy)]

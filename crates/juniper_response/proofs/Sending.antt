@@ -3,8 +3,8 @@ use Rattle.std.proofs.Common.{◌≡◌, ℕ, ◌≤◌, List, [], ◌∷◌, St
 use Rattle.std.proofs.lemmas.List.{drop_all, length-map}
 use Rattle.graphql_spec.specs.Shown.{Shown}
 use Rattle.graphql_spec.specs.Values.{Entries, no_entries, entry, count_entries}
-use Rattle.juniper_language.specs.ValueView.{view_values, view_entries}
-use Rattle.juniper_language.specs.declared.value.Value.{Value}
+use Rattle.juniper_syntax.specs.ValueView.{view_values, view_entries}
+use Rattle.juniper_syntax.specs.declared.value.Value.{Value}
 use Rattle.serde.specs.Event.{Log, Logs, seq_begins, seq_ends, map_begins, map_ends}
 use Rattle.serde_json.specs.Data.{Data, Items, Members, array, object}
 use Rattle.serde_json.specs.Events.{items_len, members_len, SendsValue, SendsItems, SendsMembers}

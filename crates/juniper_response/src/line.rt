@@ -3,13 +3,13 @@
 ghost use Rattle.std.specs.Prelude.{◌≡◌, ◌+◌, IfOk, OnOk, map, string_bytes, [], ◌∷◌};
 ghost use Rattle.graphql_spec.specs.Errors.{key};
 ghost use Rattle.juniper_values.specs.ErrorView.{view_listed};
-ghost use Rattle.juniper_language.specs.Positions.{view_position};
-ghost use Rattle.juniper_language.specs.ValueView.{view_value, view_object, view_values};
+ghost use Rattle.juniper_syntax.specs.Positions.{view_position};
+ghost use Rattle.juniper_syntax.specs.ValueView.{view_value, view_object, view_values};
 ghost use Rattle.serde_json.specs.Data.{array, object};
 ghost use Rattle.serde_json.specs.Events.{SendsValue, SendsMembers, members_len};
 ghost use Rattle.juniper_response.specs.AnswerText.{answer_data, answer_text, scalar_data, value_data, values_data, entries_data, items_data, location_data, step_data, extensions_data, error_data, errors_data};
 
-use juniper_language::{Object, ScalarValue, SourcePosition, Value};
+use juniper_syntax::{Object, ScalarValue, SourcePosition, Value};
 use juniper_values::ExecutionError;
 use serde::{Described, Serialize, Serializer};
 use serde_json::Number;

@@ -1,6 +1,5 @@
 pub mod ArgumentMaps
 pub mod Pairs
-pub mod Lists
 pub mod PlainErrors
 pub mod PlainRules
 pub mod SelectionLists

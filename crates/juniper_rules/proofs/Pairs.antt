@@ -7,7 +7,7 @@ use Rattle.graphql_spec.specs.Schema.{FieldDeclaration, InputDeclaration}
 use Rattle.graphql_spec.specs.Placed.{Call}
 use Rattle.graphql_spec.specs.Merging.{each_two}
 use Rattle.juniper_rules.specs.PlainSelections.{repeats_in}
-use Rattle.juniper_rules.proofs.Lists.{left-is, seen-left-is, rest-is}
+use Rattle.juniper_syntax.proofs.Lists.{left-is, seen-left-is, rest-is}
 
 abbrev with_given : List Argument → List InputDeclaration → Call
 with_given given ds = record { declared = ds; given = given }

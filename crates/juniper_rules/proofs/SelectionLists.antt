@@ -3,16 +3,16 @@ use Rattle.std.proofs.Common.{◌≡◌, ℕ, ◌+◌, ◌<◌, ◌≤◌, List,
 use Rattle.std.proofs.lemmas.List.{drop_all}
 use Rattle.graphql_spec.specs.Shown.{Shown}
 use Rattle.graphql_spec.specs.Documents.{Head, Selections}
-use Rattle.juniper_language.specs.DocumentView.{view_selections, put_selection}
-use Rattle.juniper_language.specs.declared.position.Spanning.{Spanning}
-use Rattle.juniper_language.specs.declared.position.Span.{Span}
-use Rattle.juniper_language.specs.declared.ast.Field.{Field as FieldType}
-use Rattle.juniper_language.specs.declared.ast.InlineFragment.{InlineFragment as InlineType}
-use Rattle.juniper_language.specs.declared.ast.FragmentSpread.{FragmentSpread as SpreadType}
-use Rattle.juniper_language.specs.declared.ast.Selection.{Selection, Field, FragmentSpread, InlineFragment}
-use Rattle.juniper_language.proofs.Documents.{put-Field, put-FragmentSpread, put-InlineFragment}
+use Rattle.juniper_syntax.specs.DocumentView.{view_selections, put_selection}
+use Rattle.juniper_syntax.specs.declared.position.Spanning.{Spanning}
+use Rattle.juniper_syntax.specs.declared.position.Span.{Span}
+use Rattle.juniper_syntax.specs.declared.ast.Field.{Field as FieldType}
+use Rattle.juniper_syntax.specs.declared.ast.InlineFragment.{InlineFragment as InlineType}
+use Rattle.juniper_syntax.specs.declared.ast.FragmentSpread.{FragmentSpread as SpreadType}
+use Rattle.juniper_syntax.specs.declared.ast.Selection.{Selection, Field, FragmentSpread, InlineFragment}
+use Rattle.juniper_syntax.proofs.Documents.{put-Field, put-FragmentSpread, put-InlineFragment}
 use Rattle.juniper_rules.specs.PlainSelections.{head_seen, plain_heads}
-use Rattle.juniper_rules.proofs.Lists.{left-is}
+use Rattle.juniper_syntax.proofs.Lists.{left-is}
 
 module _ {S : Type 0} (shown : S → Shown) (xs : List (Selection S)) (i : ℕ) (x : Selection S) (below : i < length xs) (is : x ≡ get_or xs i x) where
   abbrev left : Selections

@@ -4,14 +4,14 @@ ghost use Rattle.std.specs.Prelude.{◌≡◌, option_map, string_bytes};
 ghost use Rattle.std.specs.List.{list_any};
 ghost use Rattle.graphql_spec.specs.Fields.{entry_named, leaf_accepts};
 ghost use Rattle.graphql_spec.specs.Fits.{size_met, through};
-ghost use Rattle.juniper_language.specs.InputView.{view_input};
-ghost use Rattle.juniper_language.specs.TypeView.{view_type};
+ghost use Rattle.juniper_syntax.specs.InputView.{view_input};
+ghost use Rattle.juniper_syntax.specs.TypeView.{view_type};
 ghost use Rattle.juniper_rules.specs.PlainSelections.{call_breaks, gives_unfit, head_seen, literal_fits, misfits, view_call};
 ghost use Rattle.juniper_schema.specs.SchemaView.{view_argument, view_schema};
 
 use crate::calls::{Call, call_of, declared_argument};
 use crate::occurrences::Occurrences;
-use juniper_language::{Field, InputValue, ScalarValue, Span, Spanning, Type};
+use juniper_syntax::{Field, InputValue, ScalarValue, Span, Spanning, Type};
 use juniper_schema::SchemaType;
 use juniper_schema::meta::Argument;
 
@@ -72,7 +72,7 @@ fn misfits<S: ScalarValue>(
 }
 
 /// Whether a literal fits the type.
-#[tactic(auto, using(juniper_language::proofs::Inputs::input_views), unfolding(crate::specs::PlainSelections::literal_fits))]
+#[tactic(auto, using(juniper_syntax::proofs::Inputs::input_views), unfolding(crate::specs::PlainSelections::literal_fits))]
 fn literal_fits<S: ScalarValue>(
     schema: &SchemaType<S>,
     value: &InputValue<S>,

@@ -3,13 +3,13 @@
 ghost use Rattle.std.specs.Prelude.{◌≡◌, IfOk, map, option_map, []};
 ghost use Rattle.graphql_spec.specs.Documents.{written};
 ghost use Rattle.graphql_spec.specs.Fields.{declaration_in};
-ghost use Rattle.juniper_language.specs.DocumentView.{view_argument as view_given, view_arguments, view_selections};
+ghost use Rattle.juniper_syntax.specs.DocumentView.{view_argument as view_given, view_arguments, view_selections};
 ghost use Rattle.juniper_rules.specs.PlainSelections.{call_of, head_seen, plain_heads, view_call};
 ghost use Rattle.juniper_schema.specs.SchemaView.{view_argument, view_schema};
 
 use crate::occurrences::Occurrences;
-use juniper_language::ast::Arguments;
-use juniper_language::{Field, InputValue, ScalarValue, Selection, Span, Spanning};
+use juniper_syntax::ast::Arguments;
+use juniper_syntax::{Field, InputValue, ScalarValue, Selection, Span, Spanning};
 use juniper_schema::SchemaType;
 use juniper_schema::meta::Argument;
 use std::alloc::{AllocError, Global};

@@ -1,10 +1,10 @@
 //! Errors of validation (section 5 of the Specification).
 
 ghost use Rattle.std.specs.Prelude.{◌≡◌, IfOk, map, [], ◌∷◌};
-ghost use Rattle.juniper_language.specs.Positions.{view_position};
+ghost use Rattle.juniper_syntax.specs.Positions.{view_position};
 ghost use Rattle.juniper_rules.specs.RuleView.{view_rule_error};
 
-use juniper_language::SourcePosition;
+use juniper_syntax::SourcePosition;
 use std::alloc::{AllocError, Global};
 use std::slice;
 

@@ -4,8 +4,8 @@ ghost use Rattle.std.specs.Prelude.{◌≡◌, IfOk, OnOk, IsTrue, map, [], ◌�
 ghost use Rattle.graphql_spec.specs.Documents as documents;
 ghost use Rattle.graphql_spec.specs.Executable.{is_executable};
 ghost use Rattle.graphql_spec.specs.FirstRules.{first_rule_errors, is_plain_operation};
-ghost use Rattle.juniper_language.specs.Positions.{view_position};
-ghost use Rattle.juniper_language.specs.DocumentView.{view_operation};
+ghost use Rattle.juniper_syntax.specs.Positions.{view_position};
+ghost use Rattle.juniper_syntax.specs.DocumentView.{view_operation};
 ghost use Rattle.juniper_rules.specs.RuleView.{view_rule_error};
 ghost use Rattle.juniper_rules.specs.PlainSelections.{head_seen, reported_at, type_errors_of};
 ghost use Rattle.juniper_schema.specs.SchemaView.{view_schema};
@@ -19,7 +19,7 @@ use crate::occurrences::Occurrences;
 use crate::overlapping_fields_can_be_merged::can_merge;
 use crate::provided_non_null_arguments::lacks_argument;
 use crate::unique_argument_names::repeats_argument;
-use juniper_language::{Operation, ScalarValue, SourcePosition, Span, Spanning};
+use juniper_syntax::{Operation, ScalarValue, SourcePosition, Span, Spanning};
 use juniper_schema::SchemaType;
 use std::alloc::{AllocError, Global};
 

@@ -8,7 +8,7 @@ ghost use Rattle.juniper_schema.specs.SchemaView.{view_schema};
 
 use crate::calls::{Call, call_of, declared_argument};
 use crate::occurrences::Occurrences;
-use juniper_language::{Field, ScalarValue, Span, Spanning};
+use juniper_syntax::{Field, ScalarValue, Span, Spanning};
 use juniper_schema::SchemaType;
 
 /// Whether a field is given an argument that it does not declare.

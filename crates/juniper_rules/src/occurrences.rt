@@ -4,7 +4,7 @@ ghost use Rattle.std.specs.Prelude.{◌≡◌};
 ghost use Rattle.graphql_spec.specs.Documents.{response_key};
 ghost use Rattle.juniper_rules.specs.Occurrences.{view_occurrence};
 
-use juniper_language::{Field, ScalarValue, Span, Spanning};
+use juniper_syntax::{Field, ScalarValue, Span, Spanning};
 
 /// Fields of a document, one after the other.
 #[derive(Drop)]

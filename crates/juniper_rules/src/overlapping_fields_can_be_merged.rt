@@ -5,13 +5,13 @@ ghost use Rattle.std.specs.Prelude.{◌≡◌, ◌≤◌, map, drop, length, opt
 ghost use Rattle.std.specs.List.{list_all};
 ghost use Rattle.graphql_spec.specs.Directives.{argument_named};
 ghost use Rattle.graphql_spec.specs.Merging.{each_two};
-ghost use Rattle.juniper_language.specs.DocumentView.{view_argument as view_given};
-ghost use Rattle.juniper_language.specs.InputView.{view_input};
+ghost use Rattle.juniper_syntax.specs.DocumentView.{view_argument as view_given};
+ghost use Rattle.juniper_syntax.specs.InputView.{view_input};
 ghost use Rattle.juniper_rules.specs.PlainSelections.{head_seen, is_same_call, may_share, same_at_names, same_found, same_literal};
 
 use crate::calls::{Given, written};
 use crate::occurrences::{Occurrences, response_key};
-use juniper_language::{Field, InputValue, ScalarValue, Span, Spanning};
+use juniper_syntax::{Field, InputValue, ScalarValue, Span, Spanning};
 
 /// Whether each two fields may share their response key.
 pub(crate) fn can_merge<S: ScalarValue>(occurrences: &Occurrences<'_, '_, S>) -> bool
@@ -125,7 +125,7 @@ fn same_found<S: ScalarValue>(value: Option<&InputValue<S>>, other: Option<&Inpu
 }
 
 /// Whether two literals are equal.
-#[tactic(auto, using(juniper_language::proofs::Inputs::input_views), unfolding(crate::specs::PlainSelections::same_literal))]
+#[tactic(auto, using(juniper_syntax::proofs::Inputs::input_views), unfolding(crate::specs::PlainSelections::same_literal))]
 fn same_literal<S: ScalarValue>(value: &InputValue<S>, other: &InputValue<S>) -> bool
     ensures { result ≡ same_literal (view_input S.shown value.now) (view_input S.shown other.now) }
 {

@@ -3,12 +3,12 @@
 ghost use Rattle.std.specs.Prelude.{◌≡◌, map};
 ghost use Rattle.std.specs.List.{list_any};
 ghost use Rattle.std.specs.Str.{bytes_eq};
-ghost use Rattle.juniper_language.specs.DocumentView.{view_argument as view_given};
+ghost use Rattle.juniper_syntax.specs.DocumentView.{view_argument as view_given};
 ghost use Rattle.juniper_rules.specs.PlainSelections.{head_seen, repeats_in, repeats_name};
 
 use crate::calls::{Given, written};
 use crate::occurrences::Occurrences;
-use juniper_language::{Field, ScalarValue, Span, Spanning};
+use juniper_syntax::{Field, ScalarValue, Span, Spanning};
 
 /// Whether two arguments of one of the fields have one name.
 pub(crate) fn repeats_argument<S: ScalarValue>(occurrences: &Occurrences<'_, '_, S>) -> bool

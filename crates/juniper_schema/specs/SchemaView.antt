@@ -5,9 +5,9 @@ use Rattle.graphql_spec.specs.Inputs.{Input}
 use Rattle.graphql_spec.specs.Types.{TypeRef, named}
 use Rattle.graphql_spec.specs.Schema as spec
 use Rattle.graphql_spec.specs.Schema.{Schema, Entry, FieldDeclaration, InputDeclaration, object_type, scalar_type, plain_field}
-use Rattle.juniper_language.specs.DocumentView.{items_or_none}
-use Rattle.juniper_language.specs.InputView.{view_input}
-use Rattle.juniper_language.specs.TypeView.{view_type}
+use Rattle.juniper_syntax.specs.DocumentView.{items_or_none}
+use Rattle.juniper_syntax.specs.InputView.{view_input}
+use Rattle.juniper_syntax.specs.TypeView.{view_type}
 use Rattle.juniper_schema.specs.declared.meta.Argument.{Argument}
 use Rattle.juniper_schema.specs.declared.meta.Field.{Field}
 use Rattle.juniper_schema.specs.declared.schema.ScalarKinds.{ScalarKinds}

@@ -2,12 +2,12 @@
 
 ghost use Rattle.std.specs.Prelude.{◌≡◌, IfOk, string_bytes, map, [], ◌∷◌, ◌++◌};
 ghost use Rattle.graphql_spec.specs.Schema.{plain_field, plain_input};
-ghost use Rattle.juniper_language.specs.DocumentView.{items_or_none};
-ghost use Rattle.juniper_language.specs.InputView.{view_input};
-ghost use Rattle.juniper_language.specs.TypeView.{view_type};
+ghost use Rattle.juniper_syntax.specs.DocumentView.{items_or_none};
+ghost use Rattle.juniper_syntax.specs.InputView.{view_input};
+ghost use Rattle.juniper_syntax.specs.TypeView.{view_type};
 ghost use Rattle.juniper_schema.specs.SchemaView.{view_argument, view_field, with_argument, with_default};
 
-use juniper_language::{InputValue, ScalarValue, Type};
+use juniper_syntax::{InputValue, ScalarValue, Type};
 use std::alloc::{AllocError, Global};
 
 /// An argument of a field: its name, its type, and its default value, where it has one (3.6.1).

@@ -5,13 +5,13 @@ ghost use Rattle.graphql_spec.specs.Schema.{Schema};
 ghost use Rattle.graphql_spec.specs.Fields.{accepts_kind, leaf_accepts, entry_named, entry_in, field_in, typename, typename_field};
 ghost use Rattle.juniper_schema.specs.SchemaView.{view_argument, view_field, view_scalar, view_kinds, view_schema, scalar_entry, query_entry};
 ghost use Rattle.juniper_schema.specs.Served.{served_field, has_scalar_fields, as_named};
-ghost use Rattle.juniper_language.specs.TypeView.{view_type};
+ghost use Rattle.juniper_syntax.specs.TypeView.{view_type};
 ghost use Rattle.graphql_spec.specs.Rules.{is_introspection};
 ghost use Rattle.std.specs.Str.{bytes_eq};
 ghost use Rattle.juniper_schema.specs.SchemaView.{view_leaf_type};
 
 use crate::meta::{Argument, Field};
-use juniper_language::{ScalarValue, Type};
+use juniper_syntax::{ScalarValue, Type};
 
 /// The kinds of scalars that a scalar type accepts (3.5).
 #[derive(Clone, Copy, Debug, PartialEq, Eq)]

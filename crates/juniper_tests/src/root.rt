@@ -5,9 +5,9 @@ ghost use Rattle.graphql_spec.specs.Constants.{find};
 ghost use Rattle.graphql_spec.specs.Resolvers.{failed};
 ghost use Rattle.graphql_spec.specs.Schema.{plain_field};
 ghost use Rattle.juniper_values.specs.Conversions.{message_alone};
-ghost use Rattle.juniper_language.specs.TypeView.{view_type};
-ghost use Rattle.juniper.specs.ArgumentView.{view_arguments};
-ghost use Rattle.juniper.specs.ResolvedView.{Answers};
+ghost use Rattle.juniper_syntax.specs.TypeView.{view_type};
+ghost use Rattle.juniper_values.specs.ArgumentView.{view_arguments};
+ghost use Rattle.juniper_types.specs.ResolvedView.{Answers};
 ghost use Rattle.juniper_schema.specs.SchemaView.{view_schema, view_field, view_scalar, view_kinds, scalar_entry};
 ghost use Rattle.juniper_tests.specs.TestRoot.{number_field, number_reply, sum_reply, test_reply, test_fields, test_scalars, test_schema};
 

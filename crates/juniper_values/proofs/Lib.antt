@@ -1,3 +1,4 @@
+pub mod ArgumentMembers
 pub mod ErrorEquality
 pub mod ErrorOrder
 pub mod Meanings

@@ -1,2 +1,3 @@
+pub mod ArgumentView
 pub mod Conversions
 pub mod ErrorView

@@ -2,12 +2,12 @@
 
 ghost use Rattle.std.specs.Prelude.{◌≡◌, ◌⊎◌, IfOk, Result, codes, option_map, string_bytes};
 ghost use Rattle.graphql_spec.specs.Constants.{Constant, null, meaning};
-ghost use Rattle.juniper_language.specs.InputView.{view_input};
+ghost use Rattle.juniper_syntax.specs.InputView.{view_input};
 ghost use Rattle.juniper_values.specs.Conversions.{is_null, scalar_of, int_of, boolean_of, text_of, message_alone, refusal_text};
 ghost use Rattle.juniper_values.specs.ErrorView.{view_error};
 
 use crate::field_error::FieldError;
-use juniper_language::{InputValue, ScalarValue};
+use juniper_syntax::{InputValue, ScalarValue};
 use std::alloc::{AllocError, Global};
 
 /// A type that input values are converted to.

@@ -3,11 +3,11 @@
 ghost use Rattle.std.specs.Prelude.{◌≡◌, IfOk, map, [], string_bytes};
 ghost use Rattle.graphql_spec.specs.Errors.{key, compare};
 ghost use Rattle.graphql_spec.specs.Positions.{origin};
-ghost use Rattle.juniper_language.specs.Positions.{view_position};
+ghost use Rattle.juniper_syntax.specs.Positions.{view_position};
 ghost use Rattle.juniper_values.specs.ErrorView.{view_error, view_listed};
 
 use crate::field_error::FieldError;
-use juniper_language::{ScalarValue, SourcePosition};
+use juniper_syntax::{ScalarValue, SourcePosition};
 use std::alloc::{AllocError, Global};
 use std::cmp::Ordering;
 

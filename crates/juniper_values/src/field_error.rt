@@ -1,12 +1,12 @@
 //! Field errors (section 6.4.4 of the Specification).
 
 ghost use Rattle.std.specs.Prelude.{◌≡◌, IfOk, IfSome, string_bytes};
-ghost use Rattle.juniper_language.specs.ValueView.{view_value};
+ghost use Rattle.juniper_syntax.specs.ValueView.{view_value};
 ghost use Rattle.juniper_values.specs.Conversions.{message_alone};
 ghost use Rattle.juniper_values.specs.ErrorView.{view_error};
 ghost use Rattle.juniper_values.specs.declared.field_error.ResolveError.TheVariants.{Memory};
 
-use juniper_language::{ScalarValue, Value};
+use juniper_syntax::{ScalarValue, Value};
 use std::alloc::{AllocError, AllocFailed, Global};
 use std::fmt::Display;
 

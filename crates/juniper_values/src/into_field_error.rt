@@ -5,7 +5,7 @@ ghost use Rattle.graphql_spec.specs.Resolvers.{Error};
 ghost use Rattle.juniper_values.specs.ErrorView.{view_error};
 
 use crate::field_error::FieldError;
-use juniper_language::ScalarValue;
+use juniper_syntax::ScalarValue;
 use std::alloc::{AllocError, Global};
 
 /// A type that becomes the error of a field.

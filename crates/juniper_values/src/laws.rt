@@ -11,7 +11,7 @@ ghost use Rattle.juniper_values.specs.ErrorView.{view_error, view_listed};
 use crate::convert::{FromInputValue, ToInputValue};
 use crate::execution_error::ExecutionError;
 use crate::field_error::FieldError;
-use juniper_language::ScalarValue;
+use juniper_syntax::ScalarValue;
 
 /// `==` says that the messages are equal and that the extensions show the same.
 pub fn equal_field_errors_show_the_same<S: ScalarValue>(a: &FieldError<S>, b: &FieldError<S>)

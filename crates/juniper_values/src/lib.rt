@@ -1,12 +1,14 @@
-//! Values between a server and its resolvers: conversions of input values, and the errors of execution.
+//! Values between a server and its resolvers: arguments, conversions of input values, and the errors of execution.
 #![tactic(auto)]
 
+mod arguments;
 mod convert;
 mod execution_error;
 mod field_error;
 mod into_field_error;
 pub mod laws;
 
+pub use arguments::Arguments;
 pub use convert::{FromInputValue, ToInputValue};
 pub use execution_error::ExecutionError;
 pub use field_error::{ExecutionResult, FieldError, FieldResult, ResolveError};

@@ -4,9 +4,9 @@ use Rattle.graphql_spec.specs.Arguments.{given, put_given}
 use Rattle.graphql_spec.specs.Constants.{find}
 use Rattle.graphql_spec.specs.Inputs.{const}
 use Rattle.graphql_spec.proofs.Given.{given-more}
-use Rattle.juniper_language.specs.DocumentView.{view_argument}
-use Rattle.juniper_language.specs.InputView.{view_variables}
-use Rattle.juniper.specs.ArgumentView.{members_of}
+use Rattle.juniper_syntax.specs.DocumentView.{view_argument}
+use Rattle.juniper_syntax.specs.InputView.{view_variables}
+use Rattle.juniper_values.specs.ArgumentView.{members_of}
 use Rattle.juniper.proofs.coerce.give.Goals as goal
 
 pub loop-argument-init : goal.loop-argument-init

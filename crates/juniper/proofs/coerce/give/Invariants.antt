@@ -1,8 +1,8 @@
 use Rattle.std.proofs.Common.{◌≡◌, map, take}
 use Rattle.graphql_spec.specs.Arguments.{given}
-use Rattle.juniper_language.specs.DocumentView.{view_argument}
-use Rattle.juniper_language.specs.InputView.{view_variables}
-use Rattle.juniper.specs.ArgumentView.{members_of}
+use Rattle.juniper_syntax.specs.DocumentView.{view_argument}
+use Rattle.juniper_syntax.specs.InputView.{view_variables}
+use Rattle.juniper_values.specs.ArgumentView.{members_of}
 use Rattle.juniper.proofs.coerce.give.Given as goal
 
 abbrev pub invariant-loop-argument : goal.invariant-loop-argument

@@ -1,8 +1,8 @@
 use Rattle.std.proofs.Common.{◌≡◌, ◌∙◌, sym, ap, refl}
 use Rattle.graphql_spec.specs.Constants.{insert, meaning}
-use Rattle.juniper_language.specs.InputView.{view_input}
-use Rattle.juniper.specs.ArgumentView.{members_of}
-use Rattle.juniper.proofs.ArgumentMembers.{there, put_new, given-none, given-some}
+use Rattle.juniper_syntax.specs.InputView.{view_input}
+use Rattle.juniper_values.specs.ArgumentView.{members_of}
+use Rattle.juniper_values.proofs.ArgumentMembers.{there, put_new, given-none, given-some}
 use Rattle.juniper.proofs.coerce.put_given.Goals as goal
 
 pub returns-then-contains_key : goal.returns-then-contains_key

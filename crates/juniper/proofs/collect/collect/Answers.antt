@@ -1,9 +1,9 @@
 use Rattle.std.proofs.Common.{map, sym, ap, ◌∙◌}
 use Rattle.graphql_spec.specs.Directives.{admits, passes}
-use Rattle.juniper_language.specs.InputView.{view_variables}
+use Rattle.juniper_syntax.specs.InputView.{view_variables}
 use Rattle.juniper_rules.specs.Occurrences.{view_occurrence}
-use Rattle.juniper_rules.proofs.Lists.{seen-push}
-use Rattle.juniper.proofs.Admitting.{takes-field, leaves-field, leaves-spread, leaves-inline, all-found}
+use Rattle.juniper_syntax.proofs.Lists.{seen-push}
+use Rattle.juniper.proofs.Collecting.{takes-field, leaves-field, leaves-spread, leaves-inline, all-found}
 use Rattle.juniper.proofs.collect.collect.Goals as goal
 use Rattle.juniper.proofs.collect.collect.Goals.{in-Field+then-admits+in_ok-push-in-Field, in-Field+else-admits, in-FragmentSpread, in-InlineFragment}
 

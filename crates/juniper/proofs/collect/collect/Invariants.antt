@@ -1,7 +1,7 @@
 use Rattle.std.proofs.Common.{◌≡◌, ◌++◌, drop, map}
 use Rattle.graphql_spec.specs.Directives.{passes}
-use Rattle.juniper_language.specs.InputView.{view_variables}
-use Rattle.juniper_language.specs.DocumentView.{view_selections}
+use Rattle.juniper_syntax.specs.InputView.{view_variables}
+use Rattle.juniper_syntax.specs.DocumentView.{view_selections}
 use Rattle.juniper_rules.specs.Occurrences.{view_occurrence, admitted_fields}
 use Rattle.juniper.proofs.collect.collect.Given as goal
 

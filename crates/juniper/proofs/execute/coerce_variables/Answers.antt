@@ -3,8 +3,8 @@ use Rattle.std.specs.HashMap.{get_by_text}
 use Rattle.graphql_spec.specs.Shown.{Name}
 use Rattle.graphql_spec.specs.Documents.{variables_of}
 use Rattle.graphql_spec.specs.Requests.{coerced_variables}
-use Rattle.juniper_language.specs.InputView.{view_input, view_variables}
-use Rattle.juniper_language.specs.DocumentView.{view_operation}
+use Rattle.juniper_syntax.specs.InputView.{view_input, view_variables}
+use Rattle.juniper_syntax.specs.DocumentView.{view_operation}
 use Rattle.juniper.proofs.Outcomes.{none-defined}
 use Rattle.juniper.proofs.execute.coerce_variables.Goals as goal
 

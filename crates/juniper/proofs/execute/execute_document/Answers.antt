@@ -1,14 +1,14 @@
 use Rattle.std.proofs.Common.{map, option_map, refl, sym, ap, ◌∙◌}
-use Rattle.juniper_language.specs.InputView.{view_variables}
-use Rattle.juniper_language.specs.DocumentView.{view_document, view_operation}
-use Rattle.juniper_language.specs.ValueView.{view_value}
+use Rattle.juniper_syntax.specs.InputView.{view_variables}
+use Rattle.juniper_syntax.specs.DocumentView.{view_document, view_operation}
+use Rattle.juniper_syntax.specs.ValueView.{view_value}
 use Rattle.juniper_rules.specs.RuleView.{view_rule_error}
 use Rattle.juniper_values.specs.ErrorView.{view_listed}
 use Rattle.juniper.specs.RequestErrors.{view_request_error, unknown_operation}
 use Rattle.juniper_schema.specs.SchemaView.{view_schema}
 use Rattle.juniper.specs.Walking.{world_in}
 use Rattle.juniper.proofs.ServedTypes.{served-executable}
-use Rattle.juniper_rules.proofs.Lists.{none-seen, some-seen}
+use Rattle.juniper_syntax.proofs.Lists.{none-seen, some-seen}
 use Rattle.juniper.proofs.Outcomes.{operation-is-plain, refuses-invalid, refuses-named, runs-alone, is-named, is-unnamed}
 use Rattle.juniper.proofs.execute.execute_document.Goals as goal
 

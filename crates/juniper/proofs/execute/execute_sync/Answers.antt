@@ -1,7 +1,7 @@
 use Rattle.std.proofs.Common.{map, option_map}
-use Rattle.juniper_language.specs.InputView.{view_variables}
-use Rattle.juniper_language.specs.DocumentView.{view_document}
-use Rattle.juniper_language.specs.ValueView.{view_value}
+use Rattle.juniper_syntax.specs.InputView.{view_variables}
+use Rattle.juniper_syntax.specs.DocumentView.{view_document}
+use Rattle.juniper_syntax.specs.ValueView.{view_value}
 use Rattle.graphql_spec.proofs.ServedQueries.{served_is_plain}
 use Rattle.juniper.specs.Answering.{IsAnswered, IsRefusedWith}
 use Rattle.juniper_values.specs.ErrorView.{view_listed}

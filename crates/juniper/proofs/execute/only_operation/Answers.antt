@@ -1,5 +1,5 @@
 use Rattle.std.proofs.Common.{ap}
-use Rattle.juniper_language.specs.DocumentView.{view_definition, view_fragment, view_operation}
+use Rattle.juniper_syntax.specs.DocumentView.{view_definition, view_fragment, view_operation}
 use Rattle.juniper.proofs.Outcomes.{first-no-fragment, first-is, first-is-some}
 use Rattle.juniper.proofs.execute.only_operation.Goals as goal
 

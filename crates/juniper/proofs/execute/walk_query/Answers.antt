@@ -2,9 +2,9 @@ use Rattle.std.proofs.Common.{map, string_bytes, [], ◌∷◌}
 use Rattle.graphql_spec.specs.Documents.{operation, fragments}
 use Rattle.graphql_spec.specs.Directives.{passes}
 use Rattle.graphql_spec.specs.Requests.{selected}
-use Rattle.juniper_language.specs.InputView.{view_variables}
-use Rattle.juniper_language.specs.DocumentView.{view_operation}
-use Rattle.juniper_language.specs.ValueView.{view_value}
+use Rattle.juniper_syntax.specs.InputView.{view_variables}
+use Rattle.juniper_syntax.specs.DocumentView.{view_operation}
+use Rattle.juniper_syntax.specs.ValueView.{view_value}
 use Rattle.juniper_values.specs.ErrorView.{view_listed}
 use Rattle.juniper_rules.specs.Occurrences.{view_occurrence}
 use Rattle.juniper_schema.specs.SchemaView.{view_schema, view_field, view_scalar, view_kinds}

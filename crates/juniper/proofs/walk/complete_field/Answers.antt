@@ -1,11 +1,11 @@
 use Rattle.std.proofs.Common.{refl, Some, option_map}
 use Rattle.graphql_spec.specs.Resolvers.{world_of}
-use Rattle.juniper_language.specs.InputView.{view_variables}
-use Rattle.juniper_language.specs.ValueView.{view_value}
-use Rattle.juniper_language.proofs.Values.{view-Null}
+use Rattle.juniper_syntax.specs.InputView.{view_variables}
+use Rattle.juniper_syntax.specs.ValueView.{view_value}
+use Rattle.juniper_syntax.proofs.Values.{view-Null}
 use Rattle.juniper_values.specs.ErrorView.{view_error}
 use Rattle.juniper_rules.specs.Occurrences.{view_occurrence}
-use Rattle.juniper.specs.ResolvedView.{view_resolved}
+use Rattle.juniper_types.specs.ResolvedView.{view_resolved}
 use Rattle.juniper_schema.specs.SchemaView.{view_schema, view_leaf_type}
 use Rattle.juniper.specs.Walking.{world_in}
 use Rattle.juniper.proofs.FieldCompletion.{completed-answer, completed-error}

@@ -1,15 +1,15 @@
 use Rattle.std.proofs.Common.{◌<◌, length, arith, map, string_bytes, refl, sym, ap, ◌∙◌, option_map}
 use Rattle.graphql_spec.specs.Values.{object, keys_differ}
 use Rattle.graphql_spec.specs.Schema.{plain_field}
-use Rattle.juniper_language.specs.InputView.{view_variables}
-use Rattle.juniper_language.specs.ValueView.{view_value, view_object}
-use Rattle.juniper_language.proofs.Values.{view-Null, view-Object}
+use Rattle.juniper_syntax.specs.InputView.{view_variables}
+use Rattle.juniper_syntax.specs.ValueView.{view_value, view_object}
+use Rattle.juniper_syntax.proofs.Values.{view-Null, view-Object}
 use Rattle.juniper_values.specs.ErrorView.{view_error, view_listed}
 use Rattle.juniper_rules.specs.Occurrences.{view_occurrence}
 use Rattle.juniper_schema.specs.SchemaView.{view_schema, view_field, view_scalar, view_kinds}
 use Rattle.juniper_schema.specs.Served.{is_served_head}
 use Rattle.juniper.specs.Walking.{world_in}
-use Rattle.juniper_rules.proofs.Lists.{all-at}
+use Rattle.juniper_syntax.proofs.Lists.{all-at}
 use Rattle.juniper.proofs.Settling.{settled-differs}
 use Rattle.juniper.proofs.Steps.{none-walked, step-on, step-stop, all-walked}
 use Rattle.juniper.proofs.ServedTypes.{served-world, seen-lists-none, seen-scalar-lists-none}

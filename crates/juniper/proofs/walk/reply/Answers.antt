@@ -2,10 +2,10 @@ use Rattle.std.proofs.Common.{map, string_bytes, refl, sym, ap, subst, ◌∙◌
 use Rattle.graphql_spec.specs.Arguments.{coerced_arguments}
 use Rattle.graphql_spec.specs.Documents.{written}
 use Rattle.graphql_spec.specs.Resolvers.{world_of}
-use Rattle.juniper_language.specs.InputView.{view_variables}
-use Rattle.juniper.specs.ArgumentView.{view_arguments, view_declared}
+use Rattle.juniper_syntax.specs.InputView.{view_variables}
+use Rattle.juniper_values.specs.ArgumentView.{view_arguments, view_declared}
 use Rattle.juniper_rules.specs.Occurrences.{view_occurrence}
-use Rattle.juniper.specs.ResolvedView.{Answers}
+use Rattle.juniper_types.specs.ResolvedView.{Answers}
 use Rattle.juniper_schema.specs.SchemaView.{view_schema, view_argument}
 use Rattle.juniper.specs.Walking.{world_in}
 use Rattle.juniper.proofs.FieldCompletion.{asked}
@@ -25,4 +25,4 @@ returns g c =
     subst (Answers shown c.resolve_field.result)
     (sym (asked W (string_bytes s.query_name) c.args.node.now h (view_arguments shown c.in_ok-arguments.arguments) (sym c.if-eq.ensures)
     (sym (c.in_ok-arguments.ensures ∙ ap (λ ds. coerced_arguments ds vars (written h.arguments)) declared))))
-    c.resolve_field.ensures
+    (subst (λ context. Answers shown c.resolve_field.result (g.Q.GraphQLValue.answer walk.resolver.now walk.info.now context c.args.node.now h.name.item (view_arguments shown c.in_ok-arguments.arguments))) c.at_field-executor.ensures.0 c.resolve_field.ensures)

@@ -1,8 +1,8 @@
 use Rattle.std.proofs.Common.{◌≡◌, None, option_map, refl}
 use Rattle.std.specs.HashMap.{get_by_text}
 use Rattle.graphql_spec.specs.Shown.{Name}
-use Rattle.juniper_language.specs.InputView.{view_input}
-use Rattle.juniper_language.specs.Scalars.{default_shown}
+use Rattle.juniper_syntax.specs.InputView.{view_input}
+use Rattle.juniper_syntax.specs.Scalars.{default_shown}
 use Rattle.juniper_demo.proofs.answer.no_variables.Goals as goal
 
 -- at each name there is no value

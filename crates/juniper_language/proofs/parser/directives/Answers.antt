@@ -1,5 +1,5 @@
 use Rattle.std.proofs.Common.{map}
-use Rattle.juniper_language.specs.DocumentView.{view_directive}
+use Rattle.juniper_syntax.specs.DocumentView.{view_directive}
 use Rattle.juniper_language.specs.Reading.{directive}
 use Rattle.juniper_language.proofs.Loops.{part_after, map_pushed}
 use Rattle.juniper_language.proofs.parser.directives.Goals as goal

@@ -1,6 +1,6 @@
 use Rattle.std.proofs.Common.{◌≡◌, ◌-◌, map, length}
 use Rattle.juniper_language.specs.Reading as read
-use Rattle.juniper_language.specs.DocumentView.{view_directive}
+use Rattle.juniper_syntax.specs.DocumentView.{view_directive}
 use Rattle.juniper_language.proofs.parser.directives.Given as goal
 
 abbrev pub invariant-loop-turn : goal.invariant-loop-turn

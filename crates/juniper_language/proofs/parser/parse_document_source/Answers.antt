@@ -5,7 +5,7 @@ use Rattle.graphql_spec.specs.Served.{SpellsServed, before_all}
 use Rattle.juniper_language.specs.Lexing.{Lexed}
 use Rattle.juniper_language.specs.Reading as read
 use Rattle.juniper_language.specs.TokenViews.{view_lexed, view_token}
-use Rattle.juniper_language.specs.DocumentView.{view_operation, view_definition, view_document}
+use Rattle.juniper_syntax.specs.DocumentView.{view_operation, view_definition, view_document}
 use Rattle.juniper_language.proofs.DocumentLaws.{spells_alone, nothing_read, fault_spells}
 use Rattle.juniper_language.proofs.parser.parse_document_source.Goals as goal
 

@@ -1,5 +1,5 @@
 use Rattle.std.proofs.Common.{map}
-use Rattle.juniper_language.specs.DocumentView.{put_selection}
+use Rattle.juniper_syntax.specs.DocumentView.{put_selection}
 use Rattle.juniper_language.proofs.Loops.{turn_on, map_pushed}
 use Rattle.juniper_language.proofs.parser.selections.Goals as goal
 

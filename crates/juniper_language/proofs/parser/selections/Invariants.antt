@@ -1,6 +1,6 @@
 use Rattle.std.proofs.Common.{◌≡◌, ◌-◌, map, length}
 use Rattle.juniper_language.specs.Reading as read
-use Rattle.juniper_language.specs.DocumentView.{put_selection, chain}
+use Rattle.juniper_syntax.specs.DocumentView.{put_selection, chain}
 use Rattle.juniper_language.proofs.parser.selections.Given as goal
 
 abbrev pub invariant-loop-turn : goal.invariant-loop-turn

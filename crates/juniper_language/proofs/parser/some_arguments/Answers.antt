@@ -1,5 +1,5 @@
 use Rattle.std.proofs.Common.{map}
-use Rattle.juniper_language.specs.DocumentView.{view_argument}
+use Rattle.juniper_syntax.specs.DocumentView.{view_argument}
 use Rattle.juniper_language.specs.Reading.{argument}
 use Rattle.juniper_language.proofs.Loops.{part_on, map_pushed}
 use Rattle.juniper_language.proofs.parser.some_arguments.Goals as goal

@@ -1,6 +1,6 @@
 use Rattle.std.proofs.Common.{◌≤◌, drop}
 use Rattle.std.specs.Slice.Iter.{iter_rest}
-use Rattle.juniper_language.specs.ValueView.{view_value, view_values, view_object, view_entries}
+use Rattle.juniper_syntax.specs.ValueView.{view_value, view_values, view_object, view_entries}
 use Rattle.juniper_response.specs.AnswerText.{values_data, entries_data}
 use Rattle.juniper_response.proofs.Sending.{Goes, GoesInside}
 use Rattle.juniper_response.proofs.Sizes.{value_size, values_size, entries_size}

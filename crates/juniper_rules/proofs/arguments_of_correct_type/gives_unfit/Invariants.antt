@@ -2,7 +2,7 @@ use Rattle.std.proofs.Common.{◌≡◌, Bool, drop, map}
 use Rattle.graphql_spec.specs.Documents.{Argument}
 use Rattle.std.specs.List.{list_any}
 use Rattle.graphql_spec.specs.Fields.{declaration_in}
-use Rattle.juniper_language.specs.DocumentView.{view_argument as view_given}
+use Rattle.juniper_syntax.specs.DocumentView.{view_argument as view_given}
 use Rattle.juniper_schema.specs.SchemaView.{view_argument, view_schema}
 use Rattle.juniper_rules.specs.PlainSelections.{misfits}
 use Rattle.juniper_rules.proofs.arguments_of_correct_type.gives_unfit.Given as goal

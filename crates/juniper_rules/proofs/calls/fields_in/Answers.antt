@@ -1,6 +1,6 @@
 use Rattle.std.proofs.Common.{map, ap, ◌∙◌}
 use Rattle.juniper_rules.specs.PlainSelections.{head_seen}
-use Rattle.juniper_rules.proofs.Lists.{seen-push}
+use Rattle.juniper_syntax.proofs.Lists.{seen-push}
 use Rattle.juniper_rules.proofs.SelectionLists.{takes-head, passes-spread, passes-inline, all-heads}
 use Rattle.juniper_rules.proofs.calls.fields_in.Goals as goal
 use Rattle.juniper_rules.proofs.calls.fields_in.Goals.{in-Field+in_ok-push-in-Field, in-FragmentSpread, in-InlineFragment}

@@ -1,5 +1,5 @@
 use Rattle.std.proofs.Common.{◌≡◌, ◌++◌, drop, map}
-use Rattle.juniper_language.specs.DocumentView.{view_selections}
+use Rattle.juniper_syntax.specs.DocumentView.{view_selections}
 use Rattle.juniper_rules.specs.PlainSelections.{head_seen, plain_heads}
 use Rattle.juniper_rules.proofs.calls.fields_in.Given as goal
 

@@ -1,9 +1,9 @@
 use Rattle.std.proofs.Common.{map, string_bytes, ap, ◌∙◌}
-use Rattle.juniper_language.specs.DocumentView.{view_operation, view_selections}
+use Rattle.juniper_syntax.specs.DocumentView.{view_operation, view_selections}
 use Rattle.juniper_rules.specs.RuleView.{view_rule_error}
 use Rattle.juniper_rules.specs.PlainSelections.{head_seen, plain_heads}
 use Rattle.juniper_schema.specs.SchemaView.{view_schema, view_field, view_scalar, view_kinds}
-use Rattle.juniper_rules.proofs.Lists.{none-seen, some-seen}
+use Rattle.juniper_syntax.proofs.Lists.{none-seen, some-seen}
 use Rattle.juniper_rules.proofs.ServedScalars.{takes-as-entry, scalar-is-plain}
 use Rattle.juniper_rules.proofs.Validating.{says-repeated, says-types, says-conflict, says-nothing}
 use Rattle.juniper_rules.proofs.first.validate.Goals as goal

@@ -2,7 +2,7 @@ use Rattle.std.proofs.Common.{◌≡◌, Bool, drop, map}
 use Rattle.graphql_spec.specs.Documents.{Argument}
 use Rattle.std.specs.List.{list_all}
 use Rattle.graphql_spec.specs.Directives.{argument_named}
-use Rattle.juniper_language.specs.DocumentView.{view_argument as view_given}
+use Rattle.juniper_syntax.specs.DocumentView.{view_argument as view_given}
 use Rattle.juniper_rules.specs.PlainSelections.{same_found}
 use Rattle.juniper_rules.proofs.overlapping_fields_can_be_merged.same_at_names.Given as goal
 

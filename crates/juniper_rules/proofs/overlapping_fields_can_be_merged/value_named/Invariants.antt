@@ -1,6 +1,6 @@
 use Rattle.std.proofs.Common.{◌≡◌, drop, map}
 use Rattle.graphql_spec.specs.Directives.{argument_named}
-use Rattle.juniper_language.specs.DocumentView.{view_argument as view_given}
+use Rattle.juniper_syntax.specs.DocumentView.{view_argument as view_given}
 use Rattle.juniper_rules.proofs.overlapping_fields_can_be_merged.value_named.Given as goal
 
 -- what is left decides

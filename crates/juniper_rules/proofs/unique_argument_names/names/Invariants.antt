@@ -2,7 +2,7 @@ use Rattle.std.proofs.Common.{◌≡◌, Bool, drop, map}
 use Rattle.graphql_spec.specs.Documents.{Argument}
 use Rattle.std.specs.List.{list_any}
 use Rattle.std.specs.Str.{bytes_eq}
-use Rattle.juniper_language.specs.DocumentView.{view_argument as view_given}
+use Rattle.juniper_syntax.specs.DocumentView.{view_argument as view_given}
 use Rattle.juniper_rules.proofs.unique_argument_names.names.Given as goal
 
 -- what is left decides

@@ -1,4 +1,4 @@
-use Rattle.juniper_language.specs.DocumentView.{view_argument as view_given}
+use Rattle.juniper_syntax.specs.DocumentView.{view_argument as view_given}
 use Rattle.juniper_rules.proofs.Pairs.{repeats-here, repeats-later, repeats-end}
 use Rattle.juniper_rules.proofs.unique_argument_names.repeats_in.Goals as goal
 

@@ -1,5 +1,5 @@
 use Rattle.std.proofs.Common.{◌≡◌, drop, map}
-use Rattle.juniper_language.specs.DocumentView.{view_argument as view_given}
+use Rattle.juniper_syntax.specs.DocumentView.{view_argument as view_given}
 use Rattle.juniper_rules.specs.PlainSelections.{repeats_in}
 use Rattle.juniper_rules.proofs.unique_argument_names.repeats_in.Given as goal
 

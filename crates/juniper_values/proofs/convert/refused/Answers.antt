@@ -1,6 +1,6 @@
 use Rattle.std.proofs.Common.{◌≡◌, ap, ◌∙◌, string_bytes}
 use Rattle.graphql_spec.specs.Constants.{meaning}
-use Rattle.juniper_language.specs.InputView.{view_input}
+use Rattle.juniper_syntax.specs.InputView.{view_input}
 use Rattle.juniper_values.specs.Conversions.{message_alone, refusal_text}
 use Rattle.juniper_values.proofs.Meanings.{means-Null, means-Scalar, means-Enum, means-Variable, means-List, means-Object}
 use Rattle.juniper_values.proofs.convert.refused.Goals as goal

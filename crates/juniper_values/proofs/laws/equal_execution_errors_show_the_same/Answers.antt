@@ -1,4 +1,4 @@
-use Rattle.juniper_language.proofs.ValueEquality.{values-same}
+use Rattle.juniper_syntax.proofs.ValueEquality.{values-same}
 use Rattle.graphql_spec.specs.Positions.{same_position}
 use Rattle.juniper_values.specs.ErrorView.{view_listed}
 use Rattle.juniper_values.proofs.ErrorEquality.{keys-equal, keys-same, listed-equal, listed-same}

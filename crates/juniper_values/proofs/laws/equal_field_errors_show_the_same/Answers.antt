@@ -1,4 +1,4 @@
-use Rattle.juniper_language.proofs.ValueEquality.{values-same}
+use Rattle.juniper_syntax.proofs.ValueEquality.{values-same}
 use Rattle.juniper_values.specs.ErrorView.{view_error}
 use Rattle.juniper_values.proofs.ErrorEquality.{error-equal, error-same}
 use Rattle.juniper_values.proofs.laws.equal_field_errors_show_the_same.Goals as goal

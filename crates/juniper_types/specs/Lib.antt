@@ -1,0 +1,2 @@
+pub mod ExecutorView
+pub mod ResolvedView

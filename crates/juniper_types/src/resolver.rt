@@ -1,0 +1,76 @@
+//! Resolvers.
+
+ghost use Rattle.std.specs.Prelude.{◌≡◌, Option, option_map};
+ghost use Rattle.graphql_spec.specs.Shown.{Name};
+ghost use Rattle.graphql_spec.specs.Constants.{Members};
+ghost use Rattle.graphql_spec.specs.Resolvers.{Reply};
+ghost use Rattle.juniper_values.specs.ArgumentView.{view_arguments};
+ghost use Rattle.juniper_types.specs.ExecutorView.{context_of};
+ghost use Rattle.juniper_types.specs.ResolvedView.{Answers};
+
+use crate::executor::Executor;
+use crate::resolved::Resolved;
+use juniper_syntax::ScalarValue;
+use juniper_values::{Arguments, ResolveError};
+use std::alloc::Global;
+
+/// A type of GraphQL.
+pub trait GraphQLType<S: ScalarValue> {
+    /// What tells several GraphQL types of one Rust type apart.
+    type TypeInfo;
+
+    /// Its name.
+    ghost named: { Self.TypeInfo → Option Name };
+
+    /// Its name; `None` for lists and other types without one.
+    fn name(info: &Self::TypeInfo) -> Option<&str>
+        ensures { option_map (λ n. n.now) result ≡ named info.now };
+}
+
+/// A resolver by its meaning: two definitions, which each implementation writes and which its calls answer, memory aside.
+/// They see the arguments' meaning alone, so neither their order nor where they are written can count.
+pub trait GraphQLValue<S: ScalarValue>: GraphQLType<S> {
+    /// What requests bring along.
+    type Context;
+
+    /// What stands for an object.
+    type Node: Drop;
+
+    /// The object type of a node.
+    ghost concrete: { Self → Self.TypeInfo → Self.Context → Self.Node → Name };
+
+    /// The reply to a field of a node.
+    ghost answer: { Self → Self.TypeInfo → Self.Context → Self.Node → Name → Members → Reply Self.Node };
+
+    /// The node of the root.
+    ghost root: { Self → Self.Node };
+
+    /// The name of this type.
+    fn type_name<'i>(&self, info: &'i Self::TypeInfo) -> Option<&'i str>
+        ensures { option_map (λ n. n.now) result ≡ Self.named info.now };
+
+    /// The node of the root.
+    fn root_node(&self) -> &Self::Node
+        ensures { result.now ≡ root self.now };
+
+    /// The name of a node's object type.
+    fn concrete_type_name<'r>(
+        &'r self,
+        context: &'r Self::Context,
+        info: &'r Self::TypeInfo,
+        node: &'r Self::Node,
+    ) -> &'r str
+        ensures { result.now ≡ concrete self.now info.now context.now node.now };
+
+    /// The answer to a field of a node, or the error with which the field fails.
+    fn resolve_field(
+        &self,
+        alloc: Global,
+        info: &Self::TypeInfo,
+        node: &Self::Node,
+        field_name: &str,
+        arguments: &Arguments<'_, S>,
+        executor: &Executor<'_, '_, Self::Context, S>,
+    ) -> Result<Resolved<Self::Node, S>, ResolveError<S>>
+        ensures { Answers S.shown result (answer self.now info.now (context_of executor.now) node.now field_name.now (view_arguments S.shown arguments.now)) };
+}
