@@ -1,5 +1,5 @@
 -- A turn of the loop over selections.
-use Rattle.std.proofs.Common.{◌≡◌, ℕ, ◌+◌, ◌<◌, ◌≤◌, Bool, true, false, ◌&&◌, List, [], ◌∷◌, ◌++◌, length, get_or, drop, map, refl, sym, ap, ◌∙◌, append_assoc, append-nil}
+use Rattle.std.proofs.Common.{◌≡◌, ℕ, ◌+◌, ◌<◌, ◌≤◌, Bool, true, false, List, [], ◌∷◌, ◌++◌, length, get_or, drop, refl, sym, ap, ◌∙◌, append_assoc, append-nil}
 use Rattle.std.proofs.lemmas.List.{drop_all}
 use Rattle.graphql_spec.specs.Documents.{Directive, Selections}
 use Rattle.graphql_spec.specs.Directives.{admits}
@@ -14,7 +14,7 @@ use Rattle.juniper_syntax.specs.declared.ast.FragmentSpread.{FragmentSpread as S
 use Rattle.juniper_syntax.specs.declared.ast.Selection.{Selection, Field, FragmentSpread, InlineFragment}
 use Rattle.juniper_syntax.proofs.Documents.{put-Field, put-FragmentSpread, put-InlineFragment}
 use Rattle.juniper_rules.specs.Occurrences.{view_occurrence, admitted_fields}
-use Rattle.juniper_syntax.proofs.Lists.{left-is, seen-left-is}
+use Rattle.juniper_syntax.proofs.Lists.{left-is}
 
 module _ {S : Type 0} (shown : S → Shown) (test : Directive → Bool) (xs : List (Selection S)) (i : ℕ) (x : Selection S) (below : i < length xs) (is : x ≡ get_or xs i x) where
   next-is : view_selections shown (drop i xs) ≡ put_selection shown x (view_selections shown (drop (i + 1) xs))

@@ -1,19 +1,18 @@
 -- The types of served fields: scalars of the schema.
-use Rattle.std.proofs.Common.{◌≡◌, Bool, true, false, ◌&&◌, cond, List, [], ◌∷◌, map, Option, Some, None, is_some, is_none, option_map, codes, bytes_eq, IsTrue, refl, sym, ap, ◌∙◌, inl, inr}
+use Rattle.std.proofs.Common.{◌≡◌, Bool, true, false, ◌&&◌, cond, List, [], ◌∷◌, map, Option, Some, None, is_some, option_map, codes, bytes_eq, IsTrue, refl, sym, ap, ◌∙◌, inl, inr}
 use Rattle.std.specs.List.{list_all}
 use Rattle.std.proofs.lemmas.Bool.{cases_Bool, and_parts}
 use Rattle.std.proofs.lemmas.Option.{none-some, same_Some}
 use Rattle.graphql_spec.specs.Shown.{Name, Shown}
 use Rattle.graphql_spec.specs.Types.{TypeRef, named, list_of, required, innermost}
 use Rattle.graphql_spec.specs.Inputs.{Variables}
-use Rattle.graphql_spec.specs.Documents.{Head, written}
+use Rattle.graphql_spec.specs.Documents.{Head}
 use Rattle.graphql_spec.specs.Schema.{Schema, Entry, FieldDeclaration, Shape, object_type, scalar_type, enum_type, interface_type, union_type, input_object_type, list_type, nullable_type, placeholder, plain_field, InputDeclaration, ScalarKinds}
 use Rattle.graphql_spec.specs.Fields.{entry_in, shape_of, or_else, entry_named, type_named, field_in, field_of, declared_type, declared_arguments, typename_field, typename, accepts, leaf_accepts, is_possible, is_object, interfaces_of, members_of, fields_of}
 use Rattle.graphql_spec.specs.BuiltIns as built
 use Rattle.graphql_spec.specs.BuiltIns.{introspection_types}
-use Rattle.graphql_spec.specs.Executable.{is_executable, built_ins_are_right, accepts_just, scalar_if_there, entries_are_named, roots_are_objects, types_are_known, all_names_differ, interfaces_are_met, defaults_fit, no_declarations}
-use Rattle.graphql_spec.specs.Arguments.{coerced_arguments, given, with_defaults}
-use Rattle.graphql_spec.specs.Constants.{Members, no_members}
+use Rattle.graphql_spec.specs.Executable.{is_executable, built_ins_are_right, accepts_just, scalar_if_there, entries_are_named, roots_are_objects, types_are_known, all_names_differ, interfaces_are_met, defaults_fit}
+use Rattle.graphql_spec.specs.Constants.{Members}
 use Rattle.graphql_spec.specs.Rules.{is_introspection}
 use Rattle.graphql_spec.proofs.Lists.{same_true}
 use Rattle.juniper_schema.specs.SchemaView.{schema_of, query_entry, scalar_entry}

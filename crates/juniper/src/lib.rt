@@ -24,7 +24,7 @@ pub use juniper_types::{
     EmptyMutation, EmptySubscription, Executor, GraphQLType, GraphQLValue, Resolved,
 };
 pub use juniper_values::{
-    Arguments, ExecutionError, ExecutionResult, FieldError, FieldResult, FromInputValue, IntoFieldError,
-    ResolveError, ToInputValue,
+    Arguments, ExecutionError, ExecutionResult, FieldError, FieldResult, FromInputValue,
+    IntoFieldError, ResolveError, ToInputValue,
 };
 pub use root::RootNode;

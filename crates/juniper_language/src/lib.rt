@@ -11,8 +11,8 @@ pub use juniper_syntax::{
     DefaultScalarValue, Definition, Directive, Document, Field, Fragment, FragmentSpread,
     Fragments, InlineFragment, InputValue, LexerError, Object, Operation, OperationType,
     ParseError, ScalarValue, Selection, SourcePosition, Span, Spanning, Type, Value,
-    VariableDefinition, VariableDefinitions, Variables,
+    VariableDefinition, VariableDefinitions, Variables, ast, error, input, laws, position, scalar,
+    types, value,
 };
-pub use juniper_syntax::{ast, error, input, laws, position, scalar, types, value};
 pub use number::decode_int;
 pub use parser::parse_document_source;

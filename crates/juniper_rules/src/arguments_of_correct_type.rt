@@ -11,9 +11,9 @@ ghost use Rattle.juniper_schema.specs.SchemaView.{view_argument, view_schema};
 
 use crate::calls::{Call, call_of, declared_argument};
 use crate::occurrences::Occurrences;
-use juniper_syntax::{Field, InputValue, ScalarValue, Span, Spanning, Type};
 use juniper_schema::SchemaType;
 use juniper_schema::meta::Argument;
+use juniper_syntax::{Field, InputValue, ScalarValue, Span, Spanning, Type};
 
 /// Whether a literal does not fit its declared argument.
 pub(crate) fn has_wrong_argument<S: ScalarValue>(

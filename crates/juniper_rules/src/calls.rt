@@ -8,10 +8,10 @@ ghost use Rattle.juniper_rules.specs.PlainSelections.{call_of, head_seen, plain_
 ghost use Rattle.juniper_schema.specs.SchemaView.{view_argument, view_schema};
 
 use crate::occurrences::Occurrences;
-use juniper_syntax::ast::Arguments;
-use juniper_syntax::{Field, InputValue, ScalarValue, Selection, Span, Spanning};
 use juniper_schema::SchemaType;
 use juniper_schema::meta::Argument;
+use juniper_syntax::ast::Arguments;
+use juniper_syntax::{Field, InputValue, ScalarValue, Selection, Span, Spanning};
 use std::alloc::{AllocError, Global};
 
 /// An argument as it is written: its name and its value.

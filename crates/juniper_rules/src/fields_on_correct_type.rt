@@ -6,8 +6,8 @@ ghost use Rattle.juniper_rules.specs.PlainSelections.{head_seen, is_unserved};
 ghost use Rattle.juniper_schema.specs.SchemaView.{view_schema};
 
 use crate::occurrences::Occurrences;
-use juniper_syntax::{Field, ScalarValue, Span, Spanning};
 use juniper_schema::SchemaType;
+use juniper_syntax::{Field, ScalarValue, Span, Spanning};
 
 /// Whether the query type has no such field that is served as one of these.
 pub(crate) fn has_unknown_field<S: ScalarValue>(

@@ -19,8 +19,8 @@ use crate::occurrences::Occurrences;
 use crate::overlapping_fields_can_be_merged::can_merge;
 use crate::provided_non_null_arguments::lacks_argument;
 use crate::unique_argument_names::repeats_argument;
-use juniper_syntax::{Operation, ScalarValue, SourcePosition, Span, Spanning};
 use juniper_schema::SchemaType;
+use juniper_syntax::{Operation, ScalarValue, SourcePosition, Span, Spanning};
 use std::alloc::{AllocError, Global};
 
 /// The errors of the rules that are served, in a query that is written as its selection set alone. A later phase runs where

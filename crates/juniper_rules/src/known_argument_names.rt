@@ -8,8 +8,8 @@ ghost use Rattle.juniper_schema.specs.SchemaView.{view_schema};
 
 use crate::calls::{Call, call_of, declared_argument};
 use crate::occurrences::Occurrences;
-use juniper_syntax::{Field, ScalarValue, Span, Spanning};
 use juniper_schema::SchemaType;
+use juniper_syntax::{Field, ScalarValue, Span, Spanning};
 
 /// Whether a field is given an argument that it does not declare.
 pub(crate) fn has_unknown_argument<S: ScalarValue>(

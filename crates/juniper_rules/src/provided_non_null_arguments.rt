@@ -9,9 +9,9 @@ ghost use Rattle.juniper_schema.specs.SchemaView.{view_argument, view_schema};
 use crate::calls::{Call, call_of};
 use crate::occurrences::Occurrences;
 use crate::unique_argument_names::names;
-use juniper_syntax::{Field, ScalarValue, Span, Spanning};
 use juniper_schema::SchemaType;
 use juniper_schema::meta::Argument;
+use juniper_syntax::{Field, ScalarValue, Span, Spanning};
 
 /// Whether a field lacks an argument that it asks for.
 pub(crate) fn lacks_argument<S: ScalarValue>(

@@ -1,5 +1,5 @@
 -- What is served now: fields of scalar types, and no introspection.
-use Rattle.std.specs.Prelude.{Bool, true, false, ◌&&◌, cond, Option, Some, None, is_some, is_none}
+use Rattle.std.specs.Prelude.{Bool, true, false, ◌&&◌, cond, Option, Some, None, is_some}
 use Rattle.std.specs.List.{list_all}
 use Rattle.graphql_spec.specs.Shown.{Name}
 use Rattle.graphql_spec.specs.Types.{TypeRef, named, list_of}

@@ -1,10 +1,10 @@
 -- Sums that are Ints.
-use Rattle.std.proofs.Common.{◌≡◌, ℤ, pos, ◌+ℤ◌, true, false, codes, refl, sym, ap, ◌∙◌, subst, inl, inr, SFits, w32, to_z, of_z}
+use Rattle.std.proofs.Common.{◌≡◌, ℤ, pos, ◌+ℤ◌, codes, refl, sym, ap, ◌∙◌, subst, inl, inr, SFits, w32, to_z, of_z}
 use Rattle.std.proofs.lemmas.Bool.{cases_Bool}
 use Rattle.std.proofs.lemmas.Int.{to_z-of_z}
 use Rattle.graphql_spec.specs.Shown.{Shown, int}
 use Rattle.graphql_spec.specs.Tokens.{fits_int}
-use Rattle.graphql_spec.specs.Resolvers.{Reply, answered, failed, leaf}
+use Rattle.graphql_spec.specs.Resolvers.{answered, failed, leaf}
 use Rattle.juniper_language.proofs.Decoding.{fits_is, fits_from}
 use Rattle.juniper_values.specs.Conversions.{message_alone}
 use Rattle.juniper_tests.specs.TestRoot.{sum_reply}

@@ -1,4 +1,4 @@
-use Rattle.std.proofs.Common.{◌≡◌, ◌∙◌, [], ◌∷◌, cond, is_some, sym, ap, map, take, take_all}
+use Rattle.std.proofs.Common.{◌∙◌, [], ◌∷◌, cond, is_some, sym, ap, map, take, take_all}
 use Rattle.std.proofs.lemmas.List.{take_more, map-append}
 use Rattle.graphql_spec.specs.Arguments.{given, put_given}
 use Rattle.graphql_spec.specs.Constants.{find}

@@ -1,4 +1,4 @@
-use Rattle.std.proofs.Common.{◌≡◌, ◌∙◌, sym, ap, refl}
+use Rattle.std.proofs.Common.{◌∙◌, sym, ap, refl}
 use Rattle.graphql_spec.specs.Constants.{insert, meaning}
 use Rattle.juniper_syntax.specs.InputView.{view_input}
 use Rattle.juniper_values.specs.ArgumentView.{members_of}

@@ -1,4 +1,4 @@
-use Rattle.std.proofs.Common.{◌≡◌, ◌∙◌, sym, ap, subst}
+use Rattle.std.proofs.Common.{◌∙◌, sym, ap, subst}
 use Rattle.graphql_spec.specs.Resolvers.{answered}
 use Rattle.juniper_types.specs.ResolvedView.{Answers}
 use Rattle.juniper_types.proofs.Resolutions.{view-Scalar}

@@ -1,4 +1,4 @@
-use Rattle.std.proofs.Common.{◌≡◌, ◌∙◌, [], ◌∷◌, sym, ap, refl, map, take, take_all}
+use Rattle.std.proofs.Common.{◌∙◌, [], ◌∷◌, sym, ap, refl, map, take, take_all}
 use Rattle.std.proofs.lemmas.List.{take_more, map-append}
 use Rattle.graphql_spec.specs.Arguments.{with_defaults, put_default}
 use Rattle.graphql_spec.proofs.Given.{defaults-more}

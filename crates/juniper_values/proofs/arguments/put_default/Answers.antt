@@ -1,4 +1,4 @@
-use Rattle.std.proofs.Common.{◌≡◌, ◌∙◌, sym, ap, option_map, string_bytes}
+use Rattle.std.proofs.Common.{◌∙◌, sym, ap, option_map, string_bytes}
 use Rattle.graphql_spec.specs.Constants.{insert, meaning}
 use Rattle.juniper_syntax.specs.InputView.{view_input}
 use Rattle.juniper_values.specs.ArgumentView.{members_of}
