@@ -3,9 +3,8 @@ use Rattle.std.proofs.Common.{◌≡◌, Bool, true, false, ◌&&◌, ◌||◌, 
 use Rattle.std.specs.List.{list_any}
 use Rattle.std.specs.Ordering.{match_ordering, ordering_reverse}
 use Rattle.std.proofs.lemmas.Bool.{cases_Bool, and_parts, and_from, or_parts, both_ways}
-use Rattle.std.proofs.lemmas.Bool.Decides.{Decides-int_eq}
 use Rattle.std.proofs.lemmas.Cmp.{nat_list_cmp_total, tied_itself}
-use Rattle.graphql_spec.specs.Shown.{Name, Shown, int, text, boolean, same_bool, same_shown}
+use Rattle.graphql_spec.specs.Shown.{Name, Shown}
 use Rattle.graphql_spec.specs.Inputs as inputs
 use Rattle.graphql_spec.specs.Inputs.{Input}
 use Rattle.graphql_spec.specs.Constants.{Constant, null, scalar, enumerated, variable, list, object, Constants, no_constants, constant, Members, no_members, member, insert, find, meaning, same_constant, same_constants, same_members}
@@ -13,6 +12,7 @@ use Rattle.graphql_spec.specs.Documents.{Argument}
 use Rattle.graphql_spec.specs.Directives.{argument_named}
 use Rattle.graphql_spec.specs.Arguments.{written_meaning}
 use Rattle.graphql_spec.specs.Written.{field_repeats, has_argument, arguments_repeat}
+use Rattle.graphql_spec.proofs.Equality.{same_shown-true}
 use Rattle.graphql_spec.proofs.Lists.{same_refl, same_true}
 use Rattle.graphql_spec.proofs.Members.{order, one_text, find-insert}
 use Rattle.graphql_spec.proofs.PlainQueries.{Every, Literal}
@@ -258,21 +258,6 @@ module _ (as' bs : List Argument) where
         iff false false f g = refl
 
 -- ## Equal meanings are one
-
-same_shown-true : (x y : Shown) → same_shown x y ≡ true → x ≡ y
-unfolding same_shown same_bool
-same_shown-true (int i) (int j) e = ap int ((Decides-int_eq i j).0 e)
-same_shown-true (text s) (text t) e = ap text (same_true s t e)
-same_shown-true (boolean true) (boolean true) e = refl
-same_shown-true (boolean true) (boolean false) e = absurd (both_ways false refl e)
-same_shown-true (boolean false) (boolean true) e = absurd (both_ways false refl e)
-same_shown-true (boolean false) (boolean false) e = refl
-same_shown-true (int i) (text t) e = absurd (both_ways false refl e)
-same_shown-true (int i) (boolean t) e = absurd (both_ways false refl e)
-same_shown-true (text i) (int t) e = absurd (both_ways false refl e)
-same_shown-true (text i) (boolean t) e = absurd (both_ways false refl e)
-same_shown-true (boolean i) (int t) e = absurd (both_ways false refl e)
-same_shown-true (boolean i) (text t) e = absurd (both_ways false refl e)
 
 mutual
   unfolding same_constant

@@ -56,19 +56,25 @@ fn nullable_answers<S: ScalarValue>(alloc: Global) -> Result<Vec<String>, AllocE
     Ok(made)
 }
 
+/// What comes back of a value that was made an input value, read as a `U`.
+fn back<S, T, U>(alloc: Global, value: T) -> Result<String, AllocError>
+where
+    S: ScalarValue,
+    T: ToInputValue<S>,
+    U: FromInputValue<S, Error = FieldError<S>> + Display,
+{
+    let input: InputValue<S> = value.to_input_value(alloc)?;
+    answer_text(alloc, U::from_input_value(alloc, &input)?)
+}
+
 /// What comes back of an Int, a Boolean, a String and a nullable Int.
 fn round_trips<S: ScalarValue>(alloc: Global) -> Result<Vec<String>, AllocError> {
     let mut made = Vec::new(alloc);
-    let int: InputValue<S> = 42.to_input_value(alloc)?;
-    made.push(answer_text(alloc, i32::from_input_value(alloc, &int)?)?)?;
-    let boolean: InputValue<S> = false.to_input_value(alloc)?;
-    made.push(answer_text(alloc, bool::from_input_value(alloc, &boolean)?)?)?;
-    let text: InputValue<S> = String::from_str(alloc, "q1")?.to_input_value(alloc)?;
-    made.push(answer_text(alloc, String::from_input_value(alloc, &text)?)?)?;
-    let some: InputValue<S> = Some(42).to_input_value(alloc)?;
-    made.push(answer_text(alloc, i32::from_input_value(alloc, &some)?)?)?;
-    let none: InputValue<S> = None::<i32>.to_input_value(alloc)?;
-    made.push(answer_text(alloc, i32::from_input_value(alloc, &none)?)?)?;
+    made.push(back::<S, i32, i32>(alloc, 42)?)?;
+    made.push(back::<S, bool, bool>(alloc, false)?)?;
+    made.push(back::<S, String, String>(alloc, String::from_str(alloc, "q1")?)?)?;
+    made.push(back::<S, Option<i32>, i32>(alloc, Some(42))?)?;
+    made.push(back::<S, Option<i32>, i32>(alloc, None)?)?;
     Ok(made)
 }
 

@@ -28,20 +28,39 @@ fn int(value: i32) -> Input {
     InputValue::Scalar(DefaultScalarValue::Int(value))
 }
 
-#[test]
-fn variables_take_their_values(rt: HostRuntime) -> Result<(), Fail> {
-    let alloc = rt.alloc();
+/// Variables of which `a` is 1.
+fn with_a(alloc: Global) -> Result<Variables<DefaultScalarValue>, AllocError> {
     let mut variables = Variables::new(alloc);
     variables.insert(String::from_str(alloc, "a")?, int(1))?;
+    Ok(variables)
+}
+
+#[test]
+fn an_item_without_value_is_null(rt: HostRuntime) -> Result<(), Fail> {
+    let alloc = rt.alloc();
+    let variables = with_a(alloc)?;
     let given = list(alloc, variable(alloc, "a")?, variable(alloc, "b")?)?;
     assert!(rt; !given.is_const());
     let made = given.into_const(alloc, &variables)?;
     assert!(rt; made == Some(list(alloc, int(1), InputValue::Null)?));
+    Ok(())
+}
+
+#[test]
+fn a_field_without_value_is_absent(rt: HostRuntime) -> Result<(), Fail> {
+    let alloc = rt.alloc();
+    let variables = with_a(alloc)?;
     let known = object(alloc, "x", variable(alloc, "a")?)?.into_const(alloc, &variables)?;
     assert!(rt; known == Some(object(alloc, "x", int(1))?));
     let unknown = object(alloc, "x", variable(alloc, "b")?)?.into_const(alloc, &variables)?;
     assert!(rt; unknown == Some(InputValue::Object(Vec::new(alloc))));
-    let absent = variable(alloc, "b")?.into_const(alloc, &variables)?;
+    Ok(())
+}
+
+#[test]
+fn a_variable_without_value_is_absent(rt: HostRuntime) -> Result<(), Fail> {
+    let alloc = rt.alloc();
+    let absent = variable(alloc, "b")?.into_const(alloc, &with_a(alloc)?)?;
     assert!(rt; absent.is_none());
     Ok(())
 }

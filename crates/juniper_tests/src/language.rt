@@ -1,14 +1,14 @@
-//! Texts that are read, with their places, and texts that are refused, with the kind and the place of the refusal.
+//! Texts that are read, with their places.
 
 use juniper_language::{
-    DefaultScalarValue, Definition, Document, InputValue, LexerError, ParseError, ScalarValue,
-    Selection, SourcePosition, decode_int, parse_document_source,
+    DefaultScalarValue, Definition, Document, InputValue, ParseError, ScalarValue, Selection,
+    SourcePosition, decode_int, parse_document_source,
 };
 use std::alloc::Global;
 use std::test::Fail;
 
 /// Index, line and column.
-type Place = (usize, usize, usize);
+pub(crate) type Place = (usize, usize, usize);
 
 /// A field: its alias, its name, its first and its last place, how many directives it has, and the last one's name and
 /// condition.
@@ -20,7 +20,7 @@ type Row<'a> = (
     Option<(usize, &'a str, bool)>,
 );
 
-fn place(position: SourcePosition) -> Place {
+pub(crate) fn place(position: SourcePosition) -> Place {
     (position.index(), position.line(), position.column())
 }
 
@@ -93,14 +93,6 @@ fn reads(alloc: Global, text: &str, start: Place, end: Place, rows: &[Row<'_>]) 
         }
     }
     true
-}
-
-/// Whether the text is refused so, at this place.
-fn refuses(alloc: Global, text: &str, kind: &ParseError, at: Place) -> bool {
-    match parse_document_source::<DefaultScalarValue>(alloc, text) {
-        Ok(_) => false,
-        Err(error) => error.item == *kind && place(error.span.start) == at,
-    }
 }
 
 #[test]
@@ -283,9 +275,9 @@ fn reads_arguments(
 }
 
 #[test]
-fn arguments_and_values(rt: HostRuntime) {
+fn ints_are_read(rt: HostRuntime) {
     let alloc = rt.alloc();
-    // One Int: the text, where it ends, and its number. The arguments start at 3, the name at 4, the value at 7.
+    // The text, where its Int ends, and its number. The arguments start at 3, the name at 4, the value at 7.
     let ints = [
         ("{ a(x: 1) }", 8, 1),
         ("{ a(x: 0) }", 8, 0),
@@ -308,7 +300,11 @@ fn arguments_and_values(rt: HostRuntime) {
             "{text}"
         );
     }
-    // Words, on two lines; a comma stands where one likes.
+}
+
+// On two lines; a comma stands where one likes.
+#[test]
+fn words_are_read(rt: HostRuntime) {
     let words = [
         ("x", (4, 0, 4), Literal::Null, (7, 0, 7), (11, 0, 11)),
         (
@@ -329,14 +325,17 @@ fn arguments_and_values(rt: HostRuntime) {
     ];
     assert!(rt;
         reads_arguments(
-            alloc,
+            rt.alloc(),
             "{ a(x: null y: true,\n null: false x:-7) @skip(if: false) }",
             (3, 0, 3),
             (39, 1, 18),
             &words
         )
     );
-    // An alias before, a directive and another field behind.
+}
+
+#[test]
+fn arguments_stand_between_name_and_directives(rt: HostRuntime) {
     let fields = [
         (
             Some("b"),
@@ -348,52 +347,7 @@ fn arguments_and_values(rt: HostRuntime) {
         (None, "c", (27, 0, 27), (33, 0, 33), None),
     ];
     let text = "{b:a(x:1,y:2)@skip(if:true)c(x:3)}";
-    assert!(rt; reads(alloc, text, (0, 0, 0), (34, 0, 34), &fields));
-}
-
-#[test]
-fn refused_numbers(rt: HostRuntime) {
-    let alloc = rt.alloc();
-    let rows = [
-        ("{ a(x: 01) }", (7, 0, 7)),
-        ("{ a(x: 00) }", (7, 0, 7)),
-        ("{ a(x: -01) }", (7, 0, 7)),
-        ("{ a(x: 01.5) }", (7, 0, 7)),
-        ("{ a(x: 1a) }", (7, 0, 7)),
-        ("{ a(x: 1_) }", (7, 0, 7)),
-        ("{ a(x: -) }", (7, 0, 7)),
-        ("{ a(x: -a) }", (7, 0, 7)),
-        ("{ a(x: --1) }", (7, 0, 7)),
-        ("{ a(x: -.5) }", (7, 0, 7)),
-        // the first fault in reading order
-        ("{ a(x: 1 y: 2b z: 1.5 ~", (12, 0, 12)),
-        ("{ a }\n # 1.5\n 0x1", (14, 2, 1)),
-    ];
-    for (text, at) in rows {
-        assert!(rt;
-            refuses(
-                alloc,
-                text,
-                &ParseError::LexerError(LexerError::InvalidNumber),
-                at
-            ),
-            "{text}"
-        );
-    }
-    let floats = [
-        ("{ a(x: 1.5) }", (7, 0, 7)),
-        ("{ a(x: -0.0) }", (7, 0, 7)),
-        ("{ a(x: 1e3) }", (7, 0, 7)),
-        ("{ a(x: 1E3) }", (7, 0, 7)),
-        ("{ a(x: 1.) }", (7, 0, 7)),
-        ("{ a(x: 10...) }", (7, 0, 7)),
-    ];
-    for (text, at) in floats {
-        assert!(rt;
-            refuses(alloc, text, &ParseError::FloatLiteral, at),
-            "{text}"
-        );
-    }
+    assert!(rt; reads(rt.alloc(), text, (0, 0, 0), (34, 0, 34), &fields));
 }
 
 #[test]
@@ -429,149 +383,4 @@ fn ints_are_decoded(rt: HostRuntime) {
             "{word}"
         );
     }
-}
-
-#[test]
-fn refused_tokens(rt: HostRuntime) {
-    let alloc = rt.alloc();
-    let rows = [
-        // other forms of documents, and what stands after the operation
-        ("query { id }", (0, 0, 0)),
-        ("} id {", (0, 0, 0)),
-        ("{ id } x", (7, 0, 7)),
-        ("{ id }\r\n{ id }", (8, 1, 0)),
-        ("{ id } ~", (7, 0, 7)),
-        ("{ id } x ~", (7, 0, 7)),
-        // selections
-        ("{}", (1, 0, 1)),
-        ("{ }", (2, 0, 2)),
-        ("{ id { a } }", (5, 0, 5)),
-        ("{ ...F }", (2, 0, 2)),
-        ("{ 1 }", (2, 0, 2)),
-        // arguments
-        ("{ a() }", (4, 0, 4)),
-        ("{ a(x) }", (5, 0, 5)),
-        ("{ a(x: ) }", (7, 0, 7)),
-        ("{ a(x: 1 }", (9, 0, 9)),
-        ("{ a(1: x) }", (4, 0, 4)),
-        ("{ a(: 1) }", (4, 0, 4)),
-        ("{ a(x: 1 2) }", (9, 0, 9)),
-        ("{ a(x: 1)(y: 2) }", (9, 0, 9)),
-        ("{ a(x: 1): b }", (9, 0, 9)),
-        ("{ a @skip(if: true) (x: 1) }", (20, 0, 20)),
-        ("{ (x: 1) }", (2, 0, 2)),
-        ("{ a(x: 2147483648) }", (7, 0, 7)),
-        ("{ a(x: -2147483649) }", (7, 0, 7)),
-        ("{ a(x: RED) }", (7, 0, 7)),
-        ("{ a(x: nul) }", (7, 0, 7)),
-        ("{ a(x: $v) }", (7, 0, 7)),
-        ("{ a(x: \"s\") }", (7, 0, 7)),
-        ("{ a(x: [1]) }", (7, 0, 7)),
-        ("{ a(x: {}) }", (7, 0, 7)),
-        ("{ a: }", (5, 0, 5)),
-        ("{ a: b: c }", (6, 0, 6)),
-        ("{ :a }", (2, 0, 2)),
-        // directives
-        ("{ @skip(if: true) }", (2, 0, 2)),
-        ("{ id @skip }", (11, 0, 11)),
-        ("{ id @skip(if: 1) }", (15, 0, 15)),
-        ("{ id @skip(if: null) }", (15, 0, 15)),
-        ("{ id @skip(if: yes) }", (15, 0, 15)),
-        ("{ id @skip(if: \"true\") }", (15, 0, 15)),
-        ("{ id @skip(if: $b) }", (15, 0, 15)),
-        ("{ id @skip(if true) }", (14, 0, 14)),
-        ("{ id @skip(unless: true) }", (11, 0, 11)),
-        ("{ id @skip(if: true, if: true) }", (21, 0, 21)),
-        ("{ id @skip() }", (11, 0, 11)),
-        ("{ id @skips(if: true) }", (6, 0, 6)),
-        ("{ id @ski(if: true) }", (6, 0, 6)),
-        ("{ id @(if: true) }", (6, 0, 6)),
-        // characters that begin no token, the first fault in reading order
-        ("{ id \0 }", (5, 0, 5)),
-        ("{ id ? }", (5, 0, 5)),
-        ("{ .. }", (2, 0, 2)),
-        ("{ \u{1F600}~ }", (2, 0, 2)),
-        ("{ id\u{A0}~ { }", (4, 0, 4)),
-        ("{ id { ~", (5, 0, 5)),
-        ("{\n id # a\u{1F600}b\u{1}c\n ~ }", (14, 1, 9)),
-        ("\u{FEFE}{ id }", (0, 0, 0)),
-        ("\u{FEFF}\u{FEFF}\u{7}", (6, 0, 2)),
-    ];
-    for (text, at) in rows {
-        assert!(rt;
-            refuses(alloc, text, &ParseError::UnexpectedToken, at),
-            "{text}"
-        );
-    }
-}
-
-#[test]
-fn ends_too_early(rt: HostRuntime) {
-    let alloc = rt.alloc();
-    let rows = [
-        ("", (0, 0, 0)),
-        (" ,\u{FEFF}", (5, 0, 3)),
-        ("# { id }", (8, 0, 8)),
-        ("{", (1, 0, 1)),
-        ("{\r\n", (3, 1, 0)),
-        ("{ id", (4, 0, 4)),
-        ("{ id # }", (8, 0, 8)),
-        ("{ a:", (4, 0, 4)),
-        ("{ a(", (4, 0, 4)),
-        ("{ a(x", (5, 0, 5)),
-        ("{ a(x:", (6, 0, 6)),
-        ("{ a(x: -1", (9, 0, 9)),
-        ("{ a(x: 1)", (9, 0, 9)),
-        ("{ id @", (6, 0, 6)),
-        ("{ id @skip", (10, 0, 10)),
-        ("{ id @skip(", (11, 0, 11)),
-        ("{ id @skip(if", (13, 0, 13)),
-        ("{ id @skip(if:", (14, 0, 14)),
-        ("{ id @skip(if: true", (19, 0, 19)),
-        ("{ id @skip(if: true)", (20, 0, 20)),
-    ];
-    for (text, at) in rows {
-        assert!(rt;
-            refuses(alloc, text, &ParseError::UnexpectedEndOfFile, at),
-            "{text}"
-        );
-    }
-}
-
-#[test]
-fn errors_are_shown(rt: HostRuntime) -> Result<(), Fail> {
-    let alloc = rt.alloc();
-    let rows = [
-        (
-            ParseError::LexerError(LexerError::UnknownEscapeSequence(String::from_str(
-                alloc, "\\x",
-            )?)),
-            "Unknown escape sequence \"\\x\" in string",
-        ),
-        (
-            ParseError::LexerError(LexerError::UnterminatedString),
-            "Unterminated string literal",
-        ),
-        (
-            ParseError::LexerError(LexerError::UnknownCharacter),
-            "Unknown character",
-        ),
-        (
-            ParseError::LexerError(LexerError::InvalidNumber),
-            "Invalid number literal",
-        ),
-        (ParseError::UnexpectedToken, "Unexpected token"),
-        (ParseError::UnexpectedEndOfFile, "Unexpected end of input"),
-        (ParseError::FloatLiteral, "Float literals are not supported"),
-        (ParseError::BlockString, "Block strings are not supported"),
-        (ParseError::TooDeep, "Brackets are nested too deeply"),
-        (ParseError::Memory, "Out of memory"),
-    ];
-    for (error, text) in &rows {
-        let shown = format!(in alloc; "{error}")?;
-        assert!(rt; shown.as_str() == *text, "{text}");
-        let copy = error.try_clone(alloc)?;
-        assert!(rt; copy == *error, "{text}");
-    }
-    Ok(())
 }

@@ -12,6 +12,8 @@ mod inputs;
 #[cfg(test)]
 mod language;
 #[cfg(test)]
+mod refusals;
+#[cfg(test)]
 mod requests;
 pub mod root;
 pub mod scalar;

@@ -1,0 +1,249 @@
+//! Texts that are refused: by which error, and at which place.
+
+use crate::language::{Place, place};
+use juniper_language::{DefaultScalarValue, LexerError, ParseError, parse_document_source};
+use std::alloc::Global;
+use std::test::Fail;
+
+/// A text, and the place of its refusal.
+type Row<'t> = (&'t str, Place);
+
+/// Whether the text is refused so, at this place.
+fn refuses(alloc: Global, text: &str, kind: &ParseError, at: Place) -> bool {
+    match parse_document_source::<DefaultScalarValue>(alloc, text) {
+        Ok(_) => false,
+        Err(error) => error.item == *kind && place(error.span.start) == at,
+    }
+}
+
+/// The first text that is not refused so, at its place.
+fn first_other<'t>(alloc: Global, kind: &ParseError, rows: &[Row<'t>]) -> Option<&'t str> {
+    for (text, at) in rows {
+        if !refuses(alloc, text, kind, *at) {
+            return Some(text);
+        }
+    }
+    None
+}
+
+#[test]
+fn other_documents_are_refused(rt: HostRuntime) {
+    let rows = [
+        ("query { id }", (0, 0, 0)),
+        ("} id {", (0, 0, 0)),
+        ("{ id } x", (7, 0, 7)),
+        ("{ id }\r\n{ id }", (8, 1, 0)),
+        ("{ id } ~", (7, 0, 7)),
+        ("{ id } x ~", (7, 0, 7)),
+    ];
+    assert_eq!(rt;
+        first_other(rt.alloc(), &ParseError::UnexpectedToken, rows.as_slice()),
+        None
+    );
+}
+
+#[test]
+fn broken_selections_are_refused(rt: HostRuntime) {
+    let rows = [
+        ("{}", (1, 0, 1)),
+        ("{ }", (2, 0, 2)),
+        ("{ id { a } }", (5, 0, 5)),
+        ("{ ...F }", (2, 0, 2)),
+        ("{ 1 }", (2, 0, 2)),
+    ];
+    assert_eq!(rt;
+        first_other(rt.alloc(), &ParseError::UnexpectedToken, rows.as_slice()),
+        None
+    );
+}
+
+#[test]
+fn broken_arguments_are_refused(rt: HostRuntime) {
+    let rows = [
+        ("{ a() }", (4, 0, 4)),
+        ("{ a(x) }", (5, 0, 5)),
+        ("{ a(x: ) }", (7, 0, 7)),
+        ("{ a(x: 1 }", (9, 0, 9)),
+        ("{ a(1: x) }", (4, 0, 4)),
+        ("{ a(: 1) }", (4, 0, 4)),
+        ("{ a(x: 1 2) }", (9, 0, 9)),
+        ("{ a(x: 1)(y: 2) }", (9, 0, 9)),
+        ("{ a(x: 1): b }", (9, 0, 9)),
+        ("{ a @skip(if: true) (x: 1) }", (20, 0, 20)),
+        ("{ (x: 1) }", (2, 0, 2)),
+        ("{ a(x: 2147483648) }", (7, 0, 7)),
+        ("{ a(x: -2147483649) }", (7, 0, 7)),
+        ("{ a(x: RED) }", (7, 0, 7)),
+        ("{ a(x: nul) }", (7, 0, 7)),
+        ("{ a(x: $v) }", (7, 0, 7)),
+        ("{ a(x: \"s\") }", (7, 0, 7)),
+        ("{ a(x: [1]) }", (7, 0, 7)),
+        ("{ a(x: {}) }", (7, 0, 7)),
+        ("{ a: }", (5, 0, 5)),
+        ("{ a: b: c }", (6, 0, 6)),
+        ("{ :a }", (2, 0, 2)),
+    ];
+    assert_eq!(rt;
+        first_other(rt.alloc(), &ParseError::UnexpectedToken, rows.as_slice()),
+        None
+    );
+}
+
+#[test]
+fn broken_directives_are_refused(rt: HostRuntime) {
+    let rows = [
+        ("{ @skip(if: true) }", (2, 0, 2)),
+        ("{ id @skip }", (11, 0, 11)),
+        ("{ id @skip(if: 1) }", (15, 0, 15)),
+        ("{ id @skip(if: null) }", (15, 0, 15)),
+        ("{ id @skip(if: yes) }", (15, 0, 15)),
+        ("{ id @skip(if: \"true\") }", (15, 0, 15)),
+        ("{ id @skip(if: $b) }", (15, 0, 15)),
+        ("{ id @skip(if true) }", (14, 0, 14)),
+        ("{ id @skip(unless: true) }", (11, 0, 11)),
+        ("{ id @skip(if: true, if: true) }", (21, 0, 21)),
+        ("{ id @skip() }", (11, 0, 11)),
+        ("{ id @skips(if: true) }", (6, 0, 6)),
+        ("{ id @ski(if: true) }", (6, 0, 6)),
+        ("{ id @(if: true) }", (6, 0, 6)),
+    ];
+    assert_eq!(rt;
+        first_other(rt.alloc(), &ParseError::UnexpectedToken, rows.as_slice()),
+        None
+    );
+}
+
+// The first fault in reading order counts.
+#[test]
+fn characters_that_begin_no_token_are_refused(rt: HostRuntime) {
+    let rows = [
+        ("{ id \0 }", (5, 0, 5)),
+        ("{ id ? }", (5, 0, 5)),
+        ("{ .. }", (2, 0, 2)),
+        ("{ \u{1F600}~ }", (2, 0, 2)),
+        ("{ id\u{A0}~ { }", (4, 0, 4)),
+        ("{ id { ~", (5, 0, 5)),
+        ("{\n id # a\u{1F600}b\u{1}c\n ~ }", (14, 1, 9)),
+        ("\u{FEFE}{ id }", (0, 0, 0)),
+        ("\u{FEFF}\u{FEFF}\u{7}", (6, 0, 2)),
+    ];
+    assert_eq!(rt;
+        first_other(rt.alloc(), &ParseError::UnexpectedToken, rows.as_slice()),
+        None
+    );
+}
+
+#[test]
+fn broken_numbers_are_refused(rt: HostRuntime) {
+    let rows = [
+        ("{ a(x: 01) }", (7, 0, 7)),
+        ("{ a(x: 00) }", (7, 0, 7)),
+        ("{ a(x: -01) }", (7, 0, 7)),
+        ("{ a(x: 01.5) }", (7, 0, 7)),
+        ("{ a(x: 1a) }", (7, 0, 7)),
+        ("{ a(x: 1_) }", (7, 0, 7)),
+        ("{ a(x: -) }", (7, 0, 7)),
+        ("{ a(x: -a) }", (7, 0, 7)),
+        ("{ a(x: --1) }", (7, 0, 7)),
+        ("{ a(x: -.5) }", (7, 0, 7)),
+        // the first fault in reading order
+        ("{ a(x: 1 y: 2b z: 1.5 ~", (12, 0, 12)),
+        ("{ a }\n # 1.5\n 0x1", (14, 2, 1)),
+    ];
+    assert_eq!(rt;
+        first_other(
+            rt.alloc(),
+            &ParseError::LexerError(LexerError::InvalidNumber),
+            rows.as_slice()
+        ),
+        None
+    );
+}
+
+#[test]
+fn floats_are_refused(rt: HostRuntime) {
+    let rows = [
+        ("{ a(x: 1.5) }", (7, 0, 7)),
+        ("{ a(x: -0.0) }", (7, 0, 7)),
+        ("{ a(x: 1e3) }", (7, 0, 7)),
+        ("{ a(x: 1E3) }", (7, 0, 7)),
+        ("{ a(x: 1.) }", (7, 0, 7)),
+        ("{ a(x: 10...) }", (7, 0, 7)),
+    ];
+    assert_eq!(rt;
+        first_other(rt.alloc(), &ParseError::FloatLiteral, rows.as_slice()),
+        None
+    );
+}
+
+#[test]
+fn texts_that_end_too_early_are_refused(rt: HostRuntime) {
+    let rows = [
+        ("", (0, 0, 0)),
+        (" ,\u{FEFF}", (5, 0, 3)),
+        ("# { id }", (8, 0, 8)),
+        ("{", (1, 0, 1)),
+        ("{\r\n", (3, 1, 0)),
+        ("{ id", (4, 0, 4)),
+        ("{ id # }", (8, 0, 8)),
+        ("{ a:", (4, 0, 4)),
+        ("{ a(", (4, 0, 4)),
+        ("{ a(x", (5, 0, 5)),
+        ("{ a(x:", (6, 0, 6)),
+        ("{ a(x: -1", (9, 0, 9)),
+        ("{ a(x: 1)", (9, 0, 9)),
+        ("{ id @", (6, 0, 6)),
+        ("{ id @skip", (10, 0, 10)),
+        ("{ id @skip(", (11, 0, 11)),
+        ("{ id @skip(if", (13, 0, 13)),
+        ("{ id @skip(if:", (14, 0, 14)),
+        ("{ id @skip(if: true", (19, 0, 19)),
+        ("{ id @skip(if: true)", (20, 0, 20)),
+    ];
+    assert_eq!(rt;
+        first_other(
+            rt.alloc(),
+            &ParseError::UnexpectedEndOfFile,
+            rows.as_slice()
+        ),
+        None
+    );
+}
+
+#[test]
+fn errors_are_shown(rt: HostRuntime) -> Result<(), Fail> {
+    let alloc = rt.alloc();
+    let rows = [
+        (
+            ParseError::LexerError(LexerError::UnknownEscapeSequence(String::from_str(
+                alloc, "\\x",
+            )?)),
+            "Unknown escape sequence \"\\x\" in string",
+        ),
+        (
+            ParseError::LexerError(LexerError::UnterminatedString),
+            "Unterminated string literal",
+        ),
+        (
+            ParseError::LexerError(LexerError::UnknownCharacter),
+            "Unknown character",
+        ),
+        (
+            ParseError::LexerError(LexerError::InvalidNumber),
+            "Invalid number literal",
+        ),
+        (ParseError::UnexpectedToken, "Unexpected token"),
+        (ParseError::UnexpectedEndOfFile, "Unexpected end of input"),
+        (ParseError::FloatLiteral, "Float literals are not supported"),
+        (ParseError::BlockString, "Block strings are not supported"),
+        (ParseError::TooDeep, "Brackets are nested too deeply"),
+        (ParseError::Memory, "Out of memory"),
+    ];
+    for (error, text) in &rows {
+        let shown = format!(in alloc; "{error}")?;
+        assert!(rt; shown.as_str() == *text, "{text}");
+        let copy = error.try_clone(alloc)?;
+        assert!(rt; copy == *error, "{text}");
+    }
+    Ok(())
+}
