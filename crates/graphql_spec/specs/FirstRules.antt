@@ -1,11 +1,11 @@
 -- The rules that are served first: no two arguments have one name (5.4.2), each field is one of its parent type (5.3.1), its
 -- arguments are declared (5.4.1), complete (5.4.2.1) and of their types (5.6.1), and fields of one response key merge (5.3.2).
 -- Introspection is not served yet, so `__schema` and `__type` count as fields that no type has.
-use Rattle.std.specs.Prelude.{◌≡◌, Bool, true, false, not, ◌&&◌, ◌||◌, codes, List, [], ◌∷◌, ◌++◌}
+use Rattle.std.specs.Prelude.{◌≡◌, Bool, true, false, not, ◌&&◌, ◌||◌, cond, codes, List, [], ◌∷◌, ◌++◌}
 use Rattle.std.specs.List.{list_all, list_any, filter}
 use Rattle.std.specs.Option.{is_none}
 use Rattle.graphql_spec.specs.Types.{innermost}
-use Rattle.graphql_spec.specs.Documents.{Selections, end, field, OperationType, query, Operation, Definition, operation, Document}
+use Rattle.graphql_spec.specs.Documents.{Selections, end, field, OperationType, query, Operation, Definition, operation, Document, span_of_definition}
 use Rattle.graphql_spec.specs.Served.{is_served_field}
 use Rattle.graphql_spec.specs.Grammar.{is_end}
 use Rattle.graphql_spec.specs.Schema.{FieldDeclaration, Schema}
@@ -72,6 +72,15 @@ is_plain_operation o = is_query o.kind && (is_none o.name && (is_none o.variable
 unfoldable pub is_plain_document : Document → Bool
 is_plain_document (operation o ∷ []) = is_plain_operation o
 is_plain_document _ = false
+
+-- one error of a document that is not served, at the start of its first definition; this is the project's own
+unfoldable pub unsupported : Document → List RuleError
+unsupported [] = []
+unsupported (x ∷ d) = record { message = codes "Not supported yet"; start = (span_of_definition x).start } ∷ []
+
+-- what validation finds: the first rules' errors of a document that is served, else that it is not
+unfoldable pub served_rule_errors : Schema → Document → List RuleError
+served_rule_errors s d = cond (is_plain_document d) (first_rule_errors s d) (unsupported d)
 
 -- a field whose type ends in a scalar or an enum
 unfoldable pub is_flat_field : Schema → FieldDeclaration → Bool

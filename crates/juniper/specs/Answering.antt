@@ -8,7 +8,7 @@ use Rattle.graphql_spec.specs.Schema.{Schema}
 use Rattle.graphql_spec.specs.Errors.{Listed, keys_only}
 use Rattle.graphql_spec.specs.Resolvers.{World}
 use Rattle.graphql_spec.specs.Served.{SpellsServed}
-use Rattle.graphql_spec.specs.FirstRules.{first_rule_errors}
+use Rattle.graphql_spec.specs.FirstRules.{served_rule_errors}
 use Rattle.graphql_spec.specs.Requests as spec
 use Rattle.graphql_spec.specs.Requests.{Refusal, Outcome, refused, runs, of_document_by, selected}
 use Rattle.graphql_spec.specs.Walk.{IsAnswerFor}
@@ -21,7 +21,7 @@ Reads text (Some d) = SpellsServed text d × ((e : Document) → SpellsServed te
 
 -- what becomes of a request, by the rules that are served
 abbrev pub outcome : Schema → Option Name → Variables → Option Document → Outcome
-outcome s name given d = of_document_by (first_rule_errors s) s name given d
+outcome s name given d = of_document_by (served_rule_errors s) s name given d
 
 -- the refusal that an error stands for; two are never made
 abbrev pub refusal_of : RequestError → Option Refusal

@@ -3,5 +3,6 @@ pub mod Pairs
 pub mod PlainErrors
 pub mod PlainRules
 pub mod SelectionLists
+pub mod ServedDocuments
 pub mod ServedScalars
 pub mod Validating

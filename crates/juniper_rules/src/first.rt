@@ -3,9 +3,9 @@
 ghost use Rattle.std.specs.Prelude.{◌≡◌, IfOk, OnOk, IsTrue, map, [], ◌∷◌, ◌++◌};
 ghost use Rattle.graphql_spec.specs.Documents as documents;
 ghost use Rattle.graphql_spec.specs.Executable.{is_executable};
-ghost use Rattle.graphql_spec.specs.FirstRules.{first_rule_errors, is_plain_operation};
+ghost use Rattle.graphql_spec.specs.FirstRules.{first_rule_errors, is_plain_operation, served_rule_errors, unsupported};
 ghost use Rattle.juniper_syntax.specs.Positions.{view_position};
-ghost use Rattle.juniper_syntax.specs.DocumentView.{view_operation};
+ghost use Rattle.juniper_syntax.specs.DocumentView.{view_definition, view_document, view_operation};
 ghost use Rattle.juniper_rules.specs.RuleView.{view_rule_error};
 ghost use Rattle.juniper_rules.specs.PlainSelections.{head_seen, reported_at, type_errors_of};
 ghost use Rattle.juniper_schema.specs.SchemaView.{view_schema};
@@ -18,14 +18,55 @@ use crate::known_argument_names::has_unknown_argument;
 use crate::occurrences::Occurrences;
 use crate::overlapping_fields_can_be_merged::can_merge;
 use crate::provided_non_null_arguments::lacks_argument;
+use crate::served::served_operation;
 use crate::unique_argument_names::repeats_argument;
 use juniper_schema::SchemaType;
-use juniper_syntax::{Operation, ScalarValue, SourcePosition, Span, Spanning};
+use juniper_syntax::{Definition, Document, Operation, ScalarValue, SourcePosition, Span, Spanning};
 use std::alloc::{AllocError, Global};
 
-/// The errors of the rules that are served, in a query that is written as its selection set alone. A later phase runs where
-/// the earlier ones found nothing, so whether fields merge is asked where each of them is known.
+/// The errors of a document (section 5): those of the rules that are served, and of a document that is not served one error
+/// alone, `Not supported yet`, at the start of its first definition. An error where memory is refused.
 pub fn validate<S: ScalarValue>(
+    alloc: Global,
+    document: &Document<'_, S>,
+    schema: &SchemaType<S>,
+) -> Result<Vec<RuleError>, AllocError>
+    requires { IsTrue (is_executable (view_schema S.shown schema.now)) }
+    ensures { IfOk result (λ es. map view_rule_error es.items ≡ served_rule_errors (view_schema S.shown schema.now) (view_document S.shown document.now)) }
+{
+    match served_operation(document) {
+        Some(operation) => query_errors(alloc, operation, schema),
+        None => unsupported(alloc, document),
+    }
+}
+
+/// The error of a document that is not served.
+fn unsupported<S: ScalarValue>(
+    alloc: Global,
+    document: &Document<'_, S>,
+) -> Result<Vec<RuleError>, AllocError>
+    ensures { IfOk result (λ es. map view_rule_error es.items ≡ unsupported (view_document S.shown document.now)) }
+{
+    match document.as_slice() {
+        [] => Ok(Vec::new(alloc)),
+        [first, ..] => alone(alloc, "Not supported yet", start_of(first)),
+    }
+}
+
+/// Where a definition starts.
+#[tactic(auto, unfolding(graphql_spec::specs::Documents::span_of_definition))]
+fn start_of<S: ScalarValue>(definition: &Definition<'_, S>) -> SourcePosition
+    ensures { view_position result ≡ (documents.span_of_definition (view_definition S.shown definition.now)).start }
+{
+    match definition {
+        Definition::Operation(operation) => operation.span.start,
+        Definition::Fragment(fragment) => fragment.span.start,
+    }
+}
+
+/// The errors of the rules that are served, in a query that is served. A later phase runs where the earlier ones found
+/// nothing, so whether fields merge is asked where each of them is known.
+fn query_errors<S: ScalarValue>(
     alloc: Global,
     operation: &Spanning<Operation<'_, S>, Span>,
     schema: &SchemaType<S>,

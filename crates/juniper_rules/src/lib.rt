@@ -10,8 +10,10 @@ mod known_argument_names;
 mod occurrences;
 mod overlapping_fields_can_be_merged;
 mod provided_non_null_arguments;
+mod served;
 mod unique_argument_names;
 
 pub use error::RuleError;
 pub use first::validate;
 pub use occurrences::{Occurrences, response_key};
+pub use served::served_operation;

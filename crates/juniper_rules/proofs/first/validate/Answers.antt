@@ -1,44 +1,24 @@
-use Rattle.std.proofs.Common.{map, string_bytes, ap, ◌∙◌}
-use Rattle.juniper_syntax.specs.DocumentView.{view_operation, view_selections}
+use Rattle.std.proofs.Common.{◌≡◌, IfOk, map, subst}
+use Rattle.juniper_syntax.specs.DocumentView.{view_document, view_operation}
+use Rattle.juniper_schema.specs.SchemaView.{view_schema}
 use Rattle.juniper_rules.specs.RuleView.{view_rule_error}
-use Rattle.juniper_rules.specs.PlainSelections.{head_seen, plain_heads}
-use Rattle.juniper_schema.specs.SchemaView.{view_schema, view_field, view_scalar, view_kinds}
-use Rattle.juniper_syntax.proofs.Lists.{none-seen, some-seen}
-use Rattle.juniper_rules.proofs.ServedScalars.{takes-as-entry, scalar-is-plain}
-use Rattle.juniper_rules.proofs.Validating.{says-repeated, says-types, says-conflict, says-nothing}
+use Rattle.juniper_rules.proofs.ServedDocuments.{served-errors, unserved-errors, only-is-plain}
 use Rattle.juniper_rules.proofs.first.validate.Goals as goal
 
-pub returns-then-repeats_argument : goal.returns-then-repeats_argument
-returns-then-repeats_argument g c =
-    let shown = g.S.ScalarValue.shown in let schema = c.args.schema.now in let o = view_operation shown c.args.operation.now in
-    let heads = c.in_ok-occurrences.ensures ∙ ap (λ ys. plain_heads (view_selections shown ys)) c.as_slice-selections.ensures.value in
-    c.in_ok-alone.ensures ∙ says-repeated (view_schema shown schema) c.requires.executable
-    (takes-as-entry view_scalar (string_bytes schema.query_name) (map (view_field shown) schema.fields.items) schema.scalars.items (λ m. scalar-is-plain (string_bytes m.name) (view_kinds m.kinds)))
-    o c.requires.plain (λ f. head_seen shown f.now) c.in_ok-occurrences.occurrences.fields.items heads c.if-repeats_argument.ensures
+pub query_errors-requires-clause-plain : goal.query_errors-requires-clause-plain
+query_errors-requires-clause-plain g c =
+    let shown = g.S.ScalarValue.shown in
+    only-is-plain (view_document shown c.args.document.now) (view_operation shown c.in-Some.operation.now) c.in-Some.ensures.0 c.in-Some.ensures.1
 
-pub returns-then-not-is_empty : goal.returns-then-not-is_empty
-returns-then-not-is_empty g c =
-    let shown = g.S.ScalarValue.shown in let schema = c.args.schema.now in let o = view_operation shown c.args.operation.now in
-    let heads = c.in_ok-occurrences.ensures ∙ ap (λ ys. plain_heads (view_selections shown ys)) c.as_slice-selections.ensures.value in
-    says-types (view_schema shown schema) c.requires.executable
-    (takes-as-entry view_scalar (string_bytes schema.query_name) (map (view_field shown) schema.fields.items) schema.scalars.items (λ m. scalar-is-plain (string_bytes m.name) (view_kinds m.kinds)))
-    o c.requires.plain (λ f. head_seen shown f.now) c.in_ok-occurrences.occurrences.fields.items heads c.if-repeats_argument.ensures (map view_rule_error c.in_ok-errors.errors.items) c.in_ok-errors.ensures
-    (some-seen view_rule_error c.in_ok-errors.errors.items c.in_ok-errors.errors.len c.in_ok-errors.errors.ok.0 c.if-not-is_empty.ensures)
+pub returns-in-Some : goal.returns-in-Some
+returns-in-Some g c =
+    let shown = g.S.ScalarValue.shown in
+    subst (λ y. IfOk c.query_errors.result (λ es. map view_rule_error es.items ≡ y))
+    (served-errors (view_schema shown c.args.schema.now) (view_document shown c.args.document.now) (view_operation shown c.in-Some.operation.now) c.in-Some.ensures.0 c.in-Some.ensures.1)
+    c.query_errors.ensures
 
-pub returns-then-not-can_merge : goal.returns-then-not-can_merge
-returns-then-not-can_merge g c =
-    let shown = g.S.ScalarValue.shown in let schema = c.args.schema.now in let o = view_operation shown c.args.operation.now in
-    let heads = c.in_ok-occurrences.ensures ∙ ap (λ ys. plain_heads (view_selections shown ys)) c.as_slice-selections.ensures.value in
-    c.in_ok-alone-2.ensures ∙ says-conflict (view_schema shown schema) c.requires.executable
-    (takes-as-entry view_scalar (string_bytes schema.query_name) (map (view_field shown) schema.fields.items) schema.scalars.items (λ m. scalar-is-plain (string_bytes m.name) (view_kinds m.kinds)))
-    o c.requires.plain (λ f. head_seen shown f.now) c.in_ok-occurrences.occurrences.fields.items heads c.if-repeats_argument.ensures (map view_rule_error c.in_ok-errors.errors.items) c.in_ok-errors.ensures
-    (none-seen view_rule_error c.in_ok-errors.errors.items c.in_ok-errors.errors.len c.in_ok-errors.errors.ok.0 c.if-not-is_empty.ensures) c.if-not-can_merge.ensures
-
-pub returns : goal.returns
-returns g c =
-    let shown = g.S.ScalarValue.shown in let schema = c.args.schema.now in let o = view_operation shown c.args.operation.now in
-    let heads = c.in_ok-occurrences.ensures ∙ ap (λ ys. plain_heads (view_selections shown ys)) c.as_slice-selections.ensures.value in
-    says-nothing (view_schema shown schema) c.requires.executable
-    (takes-as-entry view_scalar (string_bytes schema.query_name) (map (view_field shown) schema.fields.items) schema.scalars.items (λ m. scalar-is-plain (string_bytes m.name) (view_kinds m.kinds)))
-    o c.requires.plain (λ f. head_seen shown f.now) c.in_ok-occurrences.occurrences.fields.items heads c.if-repeats_argument.ensures (map view_rule_error c.in_ok-errors.errors.items) c.in_ok-errors.ensures
-    (none-seen view_rule_error c.in_ok-errors.errors.items c.in_ok-errors.errors.len c.in_ok-errors.errors.ok.0 c.if-not-is_empty.ensures) c.if-not-can_merge.ensures
+pub returns-in-None : goal.returns-in-None
+returns-in-None g c =
+    let shown = g.S.ScalarValue.shown in
+    subst (λ y. IfOk c.unsupported.result (λ es. map view_rule_error es.items ≡ y))
+    (unserved-errors (view_schema shown c.args.schema.now) (view_document shown c.args.document.now) c.in-None.ensures) c.unsupported.ensures
