@@ -1,5 +1,5 @@
 -- worked rows of the first path: queries of plain fields on a small schema, from the document to the answer
-use Rattle.std.specs.Prelude.{◌≡◌, ℕ, length, Bool, true, false, codes, List, [], ◌∷◌, Option, None, Some}
+use Rattle.std.specs.Prelude.{◌≡◌, ℕ, length, Bool, true, false, codes, List, [], ◌∷◌, ◌++◌, Option, None, Some}
 use Rattle.std.specs.List.{list_any}
 use Rattle.std.proofs.lemmas.Bool.{both_ways}
 use Rattle.std.proofs.Common.{refl, sym, ap, inl, inr, arith}
@@ -7,7 +7,7 @@ use Rattle.graphql_spec.specs.Shown.{Text, Name, text, boolean}
 use Rattle.graphql_spec.specs.Inputs as i
 use Rattle.graphql_spec.specs.Inputs.{Variables}
 use Rattle.graphql_spec.specs.Types.{named}
-use Rattle.graphql_spec.specs.Documents.{Directive, Selections, end, field, query, operation, Document}
+use Rattle.graphql_spec.specs.Documents.{Directive, Selections, end, field, query, mutation, operation, Document}
 use Rattle.graphql_spec.specs.Schema.{Schema, object_type, plain_field}
 use Rattle.graphql_spec.specs.Values.{Value, null, scalar, object, no_entries, entry}
 use Rattle.graphql_spec.specs.Resolvers.{World, Reply, answered, failed, leaf, world_of}
@@ -24,7 +24,7 @@ use Rattle.graphql_spec.specs.Selections.{Forest}
 use Rattle.graphql_spec.specs.Rules.{looks_at_schema}
 use Rattle.graphql_spec.specs.Executable.{built_ins_are_right, is_executable}
 use Rattle.graphql_spec.specs.Requests.{Outcome, refused, runs, not_parsed, not_valid, unknown_operation, of_document_by}
-use Rattle.graphql_spec.specs.FirstRules.{lacks_field, is_asked, first_calls, first_name_errors, first_type_errors, merge_errors, first_rule_errors, is_plain_selections, is_query, is_empty, is_plain_operation, is_plain_document, is_flat_field, is_flat}
+use Rattle.graphql_spec.specs.FirstRules.{lacks_field, is_asked, first_calls, first_name_errors, first_type_errors, merge_errors, first_rule_errors, served_rule_errors, unsupported, is_plain_selections, is_query, is_empty, is_plain_operation, is_plain_document, is_flat_field, is_flat}
 use Rattle.graphql_spec.proofs.Demo.{at, span, word, here, leaf_field, as_field, may, must, entry_of, kinds, typename_last, bad, case, first_case, Node, root}
 use Rattle.graphql_spec.proofs.Rows.{outcome}
 
@@ -113,8 +113,8 @@ rising = (refl, refl, refl)
 -- ## The two rules, and the choice
 
 unfoldable becomes : Option Name → Option Document → Outcome
-unfolding outcome small lacks_field is_asked first_calls first_name_errors first_type_errors merge_errors first_rule_errors Rattle.graphql_spec.specs.Rules.gives_unknown Rattle.graphql_spec.specs.Rules.gives_too_few Rattle.graphql_spec.specs.Rules.gives_wrong
-becomes n d = of_document_by (first_rule_errors small) small n none d
+unfolding outcome small lacks_field is_asked first_calls first_name_errors first_type_errors merge_errors first_rule_errors Rattle.graphql_spec.specs.Rules.gives_unknown Rattle.graphql_spec.specs.Rules.gives_too_few Rattle.graphql_spec.specs.Rules.gives_wrong Rattle.graphql_spec.specs.Served.is_truth Rattle.graphql_spec.specs.Served.is_condition Rattle.graphql_spec.specs.Served.is_served_directive Rattle.graphql_spec.specs.Served.is_served_value Rattle.graphql_spec.specs.Served.is_served_field is_plain_selections is_query is_empty is_plain_operation is_plain_document is_flat_field is_flat Rattle.graphql_spec.specs.Tokens.is_name Rattle.graphql_spec.specs.Tokens.starts_name Rattle.graphql_spec.specs.Tokens.continues_name Rattle.graphql_spec.specs.Grammar.is_end served_rule_errors unsupported
+becomes n d = of_document_by (served_rule_errors small) small n none d
 
 abbrev invalid : Text → Outcome
 invalid t = refused (not_valid (record { message = t; start = at 0 } ∷ []))
@@ -134,6 +134,13 @@ refusals = (refl, refl, refl, refl, refl, refl)
 names : (becomes (Some (codes "Q")) (Some (asking (leaf_field (codes "id") 2 end) 6)) ≡ refused unknown_operation) × (becomes (Some (codes "Q")) (Some (asking (leaf_field (codes "x") 2 end) 5)) ≡ invalid (codes "Unknown field"))
 unfolding becomes
 names = (refl, refl)
+
+-- two queries, a mutation from 3 on, and nothing at all
+unserved : (becomes None (Some (asking (leaf_field (codes "x") 2 end) 5 ++ asking (leaf_field (codes "id") 8 end) 12)) ≡ invalid (codes "Not supported yet"))
+    × (becomes (Some (codes "Q")) (Some (operation (record { kind = mutation; name = None; variables = None; directives = []; selections = leaf_field (codes "x") 14 end; span = span 3 17 }) ∷ [])) ≡ refused (not_valid (record { message = codes "Not supported yet"; start = at 3 } ∷ [])))
+    × (becomes None (Some []) ≡ refused unknown_operation)
+unfolding becomes
+unserved = (refl, refl, refl)
 
 -- the law on the first rules speaks of this schema and of the first line
 premises : (is_executable small ≡ true) × (built_ins_are_right small ≡ true) × (is_flat small ≡ true) × (is_plain_document (asking first_line 44) ≡ true) × (list_any (looks_at_schema small true) (asking first_line 44) ≡ false)

@@ -1,14 +1,12 @@
 -- What becomes of a request for one plain query.
 use Rattle.std.proofs.Common.{◌≡◌, ◌≢◌, Result, Ok, Err, MatchResult, map, true, false, List, [], ◌∷◌, Option, Some, None, is_some, option_map, refl, sym, ap, ◌∙◌, subst}
-use Rattle.std.specs.List.{slice_get}
-use Rattle.std.proofs.lemmas.Option.{same_Some}
 use Rattle.std.specs.Result.{IsErr, IsErrAnd}
 use Rattle.graphql_spec.specs.Shown.{Name}
 use Rattle.graphql_spec.specs.Inputs.{Variables}
-use Rattle.graphql_spec.specs.Documents.{Operation, Fragment, Definition, operation, fragment, Document, operations, variables_of, word_name}
+use Rattle.graphql_spec.specs.Documents.{Operation, operation, Document, operations, variables_of, word_name}
 use Rattle.graphql_spec.specs.Schema.{Schema}
 use Rattle.graphql_spec.specs.Rules.{RuleError}
-use Rattle.graphql_spec.specs.FirstRules.{first_rule_errors, is_plain_operation, is_plain_document}
+use Rattle.graphql_spec.specs.FirstRules.{first_rule_errors, served_rule_errors, unsupported, is_plain_operation, is_plain_document}
 use Rattle.graphql_spec.specs.Shown.{Text}
 use Rattle.graphql_spec.specs.Positions.{Spanned}
 use Rattle.graphql_spec.specs.Values.{Value}
@@ -26,28 +24,39 @@ use Rattle.juniper.specs.Answering.{outcome, Reads, IsAnswered, IsAnsweredDocume
 use Rattle.juniper.specs.RequestErrors as request
 use Rattle.juniper.specs.RequestErrors.{RequestError, view_request_error, of_parse_error}
 use Rattle.juniper_rules.proofs.PlainErrors.{plain-query, plain-variables, plain-name}
+use Rattle.juniper_rules.proofs.ServedDocuments.{served-errors, only-is-plain}
 
 no-variables : (o : Operation) → o.variables ≡ None → variables_of o ≡ []
 unfolding variables_of
 no-variables o e = rw e refl
 
-module _ (s : Schema) (o : Operation) (plain : is_plain_operation o ≡ true) (given : Variables) where
-  -- the rules find something
-  pub rules-refuse : (name : Option Name) → (is_nil : first_rule_errors s (operation o ∷ []) ≡ [] → ⊥) → outcome s name given (Some (operation o ∷ [])) ≡ refused (not_valid (first_rule_errors s (operation o ∷ [])))
-  unfolding of_document_by if_valid
-  rules-refuse name some = go (first_rule_errors s (operation o ∷ [])) (of_choice s given (operation o ∷ []) (choose (operation o ∷ []) name)) some
-    where
-      go : (es : List RuleError) (x : Outcome) → (es ≡ [] → ⊥) → if_valid es x ≡ refused (not_valid es)
-      go [] x none = absurd (none refl)
-      go (e ∷ es) x none = refl
+-- validation finds something
+pub rules-refuse : (s : Schema) (given : Variables) (d : Document) (name : Option Name) → (served_rule_errors s d ≡ [] → ⊥) → outcome s name given (Some d) ≡ refused (not_valid (served_rule_errors s d))
+unfolding of_document_by if_valid
+rules-refuse s given d name some = go (served_rule_errors s d) (of_choice s given d (choose d name)) some
+  where
+    go : (es : List RuleError) (x : Outcome) → (es ≡ [] → ⊥) → if_valid es x ≡ refused (not_valid es)
+    go [] x none = absurd (none refl)
+    go (e ∷ es) x none = refl
 
+-- nothing is written
+pub unserved-unknown : (s : Schema) (given : Variables) (d : Document) (name : Option Name) → is_plain_document d ≡ false → served_rule_errors s d ≡ [] → outcome s name given (Some d) ≡ refused unknown_operation
+unfolding of_document_by if_valid of_choice choose operations choose_only choose_named served_rule_errors unsupported
+unserved-unknown s given [] None plain valid = rw valid refl
+unserved-unknown s given [] (Some n) plain valid = rw valid refl
+unserved-unknown s given (x ∷ d) name plain valid = absurd (some (sym (rw plain refl) ∙ valid))
+  where
+    some : unsupported (x ∷ d) ≡ [] → ⊥
+    some e = cc
+
+module _ (s : Schema) (o : Operation) (plain : is_plain_operation o ≡ true) (given : Variables) where
   -- a name was given
-  pub name-refuses : (n : Name) → first_rule_errors s (operation o ∷ []) ≡ [] → outcome s (Some n) given (Some (operation o ∷ [])) ≡ refused unknown_operation
+  pub name-refuses : (n : Name) → served_rule_errors s (operation o ∷ []) ≡ [] → outcome s (Some n) given (Some (operation o ∷ [])) ≡ refused unknown_operation
   unfolding of_document_by if_valid of_choice choose operations choose_named is_named word_name
   name-refuses n valid = rw (valid, plain-name o plain) refl
 
   -- the query runs
-  pub query-runs : first_rule_errors s (operation o ∷ []) ≡ [] → outcome s None given (Some (operation o ∷ [])) ≡ runs (operation o ∷ []) o (coerced_variables (variables_of o) given)
+  pub query-runs : served_rule_errors s (operation o ∷ []) ≡ [] → outcome s None given (Some (operation o ∷ [])) ≡ runs (operation o ∷ []) o (coerced_variables (variables_of o) given)
   unfolding of_document_by if_valid of_choice choose operations choose_only of_operation if_constant of_kind variable_errors first_not_constant
   query-runs valid = rw (valid, no-variables o (plain-variables o plain), plain-query o plain) refl
 
@@ -56,42 +65,32 @@ pub none-defined : (o : Operation) (given : Variables) → is_plain_operation o 
 unfolding coerced_variables
 none-defined o given plain n = rw (no-variables o (plain-variables o plain)) refl
 
--- a plain document is one plain query
-pub document-is-plain : (o : Operation) → is_plain_document (operation o ∷ []) ≡ true → is_plain_operation o ≡ true
-unfolding is_plain_document
-document-is-plain o e = e
-
-pub no-document : is_plain_document [] ≡ true → ⊥
-unfolding is_plain_document
-no-document e = cc
-
-pub no-fragment : (f : Fragment) (d : Document) → is_plain_document (fragment f ∷ d) ≡ true → ⊥
-unfolding is_plain_document
-no-fragment f d e = cc
-
-pub no-second : (x y : Definition) (d : Document) → is_plain_document (x ∷ y ∷ d) ≡ true → ⊥
-unfolding is_plain_document
-no-second (operation o) y d e = cc
-no-second (fragment f) y d e = cc
-
 -- ## What a request is answered
 
--- the document that was read is one plain query
-module _ (s : Schema) (given : Variables) (d : Document) (o : Operation) (is : d ≡ operation o ∷ []) (plain : is_plain_document d ≡ true) where
-  pub operation-is-plain : is_plain_operation o ≡ true
-  operation-is-plain = document-is-plain o (ap is_plain_document (sym is) ∙ plain)
+-- validation finds something, or the document has no operation
+module _ (s : Schema) (given : Variables) (d : Document) (name : Option Name) where
+  pub refuses-invalid : (es : List RuleError) → es ≡ served_rule_errors s d → (es ≡ [] → ⊥) → (e : RequestError) → e ≡ request.not_valid es → IsRefusedDocument d s name given e
+  refuses-invalid es found some e made = rw (made, found) (not_valid (served_rule_errors s d), rules-refuse s given d name (λ none. some (found ∙ none)), refl)
 
-  pub refuses-invalid : (name : Option Name) (es : List RuleError) → es ≡ first_rule_errors s (operation o ∷ []) → (es ≡ [] → ⊥) → (e : RequestError) → e ≡ request.not_valid es → IsRefusedDocument d s name given e
-  refuses-invalid name es found some e made = rw (made, is, found) (not_valid (first_rule_errors s (operation o ∷ [])), rules-refuse s o operation-is-plain given name (λ none. some (found ∙ none)), refl)
+  pub refuses-unserved : is_plain_document d ≡ false → served_rule_errors s d ≡ [] → (e : RequestError) → e ≡ request.unknown_operation → IsRefusedDocument d s name given e
+  refuses-unserved plain valid e made = rw made (unknown_operation, unserved-unknown s given d name plain valid, refl)
 
-  pub refuses-named : (name : Option Name) → is_some name ≡ true → first_rule_errors s (operation o ∷ []) ≡ [] → (e : RequestError) → e ≡ request.unknown_operation → IsRefusedDocument d s name given e
-  refuses-named (Some n) named valid e made = rw (made, is) (unknown_operation, name-refuses s o operation-is-plain given n valid, refl)
-  refuses-named None named valid e made = cc
+-- the document is one plain query
+module _ (s : Schema) (given : Variables) (d : Document) (o : Operation) (plain : is_plain_document d ≡ true) (is : d ≡ operation o ∷ []) (valid : served_rule_errors s d ≡ []) where
+  here : served_rule_errors s (operation o ∷ []) ≡ []
+  here = ap (served_rule_errors s) (sym is) ∙ valid
 
-  pub runs-alone : {N : Type 0} (W : Variables → World N) (m : N) (name : Option Name) → is_some name ≡ false → first_rule_errors s (operation o ∷ []) ≡ [] → (vars : Variables) → vars ≡ coerced_variables (variables_of o) given →
+  pub nothing-found : first_rule_errors s (operation o ∷ []) ≡ []
+  nothing-found = served-errors s d o plain is ∙ valid
+
+  pub refuses-named : (name : Option Name) → is_some name ≡ true → (e : RequestError) → e ≡ request.unknown_operation → IsRefusedDocument d s name given e
+  refuses-named (Some n) named e made = rw (made, is) (unknown_operation, name-refuses s o (only-is-plain d o plain is) given n here, refl)
+  refuses-named None named e made = cc
+
+  pub runs-alone : {N : Type 0} (W : Variables → World N) (m : N) (name : Option Name) → is_some name ≡ false → (vars : Variables) → vars ≡ coerced_variables (variables_of o) given →
       (v : Value) (es : List Listed) → IsAnswerFor keys_only (W vars) s.query m (selected (operation o ∷ []) o vars) v es → IsAnsweredDocument d s name given W m v es
-  runs-alone W m (Some n) unnamed valid vars coerced v es answer = cc
-  runs-alone W m None unnamed valid vars coerced v es answer = rw is (o, vars, rw coerced (query-runs s o operation-is-plain given valid), answer)
+  runs-alone W m (Some n) unnamed vars coerced v es answer = cc
+  runs-alone W m None unnamed vars coerced v es answer = rw is (o, vars, rw coerced (query-runs s o (only-is-plain d o plain is) given here), answer)
 
 -- a text that was read, or not
 module _ (text : Text) (s : Schema) (name : Option Name) (given : Variables) where
@@ -149,18 +148,3 @@ is-named (Some x) f e = refl
 pub is-unnamed : {A B : Type 0} (o : Option A) (f : A → B) → is_some o ≡ false → is_some (option_map f o) ≡ false
 is-unnamed None f e = refl
 is-unnamed (Some x) f e = cc
-
--- a plain document of which each item is seen as a definition, and its first
-module _ {A : Type 0} (view : A → Definition) where
-  pub first-no-fragment : (xs : List A) (x : A) (f : Fragment) → Some x ≡ slice_get xs 0 → view x ≡ fragment f → is_plain_document (map view xs) ≡ true → ⊥
-  first-no-fragment [] x f is seen plain = no-document plain
-  first-no-fragment (y ∷ xs) x f is seen plain = no-fragment f (map view xs) (ap (λ z. is_plain_document (z ∷ map view xs)) (sym seen ∙ ap view (same_Some x y is)) ∙ plain)
-
-  pub first-is : (xs : List A) (x : A) (o : Operation) → Some x ≡ slice_get xs 0 → view x ≡ operation o → is_plain_document (map view xs) ≡ true → map view xs ≡ operation o ∷ []
-  first-is [] x o is seen plain = absurd (no-document plain)
-  first-is (y ∷ []) x o is seen plain = ap (λ z. z ∷ []) (ap view (sym (same_Some x y is)) ∙ seen)
-  first-is (y ∷ z ∷ xs) x o is seen plain = absurd (no-second (view y) (view z) (map view xs) plain)
-
-  pub first-is-some : (xs : List A) → None ≡ slice_get xs 0 → is_plain_document (map view xs) ≡ true → ⊥
-  first-is-some [] none plain = no-document plain
-  first-is-some (y ∷ xs) none plain = cc

@@ -4,7 +4,7 @@ ghost use Rattle.std.specs.Prelude.{◌≡◌, IfOk, IsTrue, MatchResult, [], �
 ghost use Rattle.graphql_spec.specs.Documents as documents;
 ghost use Rattle.graphql_spec.specs.Documents.{variables_of};
 ghost use Rattle.graphql_spec.specs.Errors.{keys_only};
-ghost use Rattle.graphql_spec.specs.FirstRules.{first_rule_errors, is_plain_document, is_plain_operation};
+ghost use Rattle.graphql_spec.specs.FirstRules.{first_rule_errors, is_plain_operation};
 ghost use Rattle.graphql_spec.specs.Requests.{coerced_variables, selected};
 ghost use Rattle.graphql_spec.specs.Walk.{IsAnswerFor};
 ghost use Rattle.juniper_syntax.specs.DocumentView.{view_document, view_operation};
@@ -24,27 +24,12 @@ use crate::root::RootNode;
 use crate::sort::sort_errors;
 use crate::walk::{Walk, object};
 use juniper_language::{
-    Definition, Document, Operation, ScalarValue, Span, Spanning, Value, Variables,
-    parse_document_source,
+    Document, Operation, ScalarValue, Span, Spanning, Value, Variables, parse_document_source,
 };
-use juniper_rules::validate;
+use juniper_rules::{served_operation, validate};
 use juniper_types::{GraphQLType, GraphQLValue};
 use juniper_values::ExecutionError;
 use std::alloc::{AllocError, Global};
-
-/// The operation of a document that holds one query alone.
-fn only_operation<'d, 'a, S: ScalarValue>(
-    document: &'d Document<'a, S>,
-) -> &'d Spanning<Operation<'a, S>, Span>
-    requires { IsTrue (is_plain_document (view_document S.shown document.now)) }
-    ensures { view_document S.shown document.now ≡ documents.operation (view_operation S.shown result.now) ∷ [] }
-{
-    match document.first() {
-        Some(Definition::Operation(operation)) => operation,
-        Some(Definition::Fragment(_)) => unreachable!(),
-        None => unreachable!(),
-    }
-}
 
 /// The values of the variables that a query defines (CoerceVariableValues, 6.1.2); one that is served defines none.
 fn coerce_variables<S: ScalarValue>(
@@ -98,7 +83,7 @@ fn execute_query<'r, Q: GraphQLValue<S>, M: GraphQLType<S>, Sub: GraphQLType<S>,
     walk_query(&walk, operation)
 }
 
-/// Executes a document that was read: the first step that fails refuses it.
+/// Executes a document: the first step that fails refuses it.
 fn execute_document<Q: GraphQLValue<S>, M: GraphQLType<S>, Sub: GraphQLType<S>, S: ScalarValue>(
     alloc: Global,
     document: &Document<'_, S>,
@@ -107,17 +92,18 @@ fn execute_document<Q: GraphQLValue<S>, M: GraphQLType<S>, Sub: GraphQLType<S>, 
     variables: &Variables<S>,
     context: &Q::Context,
 ) -> Result<(Value<S>, Vec<ExecutionError<S>>), GraphQLError>
-    requires { IsTrue (is_plain_document (view_document S.shown document.now)) }
     ensures { MatchResult result
         (λ p. IsAnsweredDocument (view_document S.shown document.now) (view_schema S.shown (schema_of root_node.now)) (option_map (λ n. n.now) operation_name.entry) (view_variables S.shown variables.now)
         (world_in Q.concrete Q.answer (resolver_of root_node.now) (info_of root_node.now) context.now (view_schema S.shown (schema_of root_node.now))) (Q.root (resolver_of root_node.now)) (view_value S.shown p.0) (map (view_listed S.shown) p.1.items))
         (λ e. IsRefusedDocument (view_document S.shown document.now) (view_schema S.shown (schema_of root_node.now)) (option_map (λ n. n.now) operation_name.entry) (view_variables S.shown variables.now) (view_request_error e)) }
 {
-    let operation = only_operation(document);
-    let errors = validate(alloc, operation, &root_node.schema)?;
+    let errors = validate(alloc, document, &root_node.schema)?;
     if !errors.is_empty() {
         return Err(GraphQLError::from(errors));
     }
+    let Some(operation) = served_operation(document) else {
+        return Err(GraphQLError::UnknownOperationName);
+    };
     if operation_name.is_some() {
         return Err(GraphQLError::UnknownOperationName);
     }

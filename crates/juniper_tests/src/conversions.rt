@@ -60,7 +60,7 @@ fn nullable_answers<S: ScalarValue>(alloc: Global) -> Result<Vec<String>, AllocE
 fn back<S, T, U>(alloc: Global, value: T) -> Result<String, AllocError>
 where
     S: ScalarValue,
-    T: ToInputValue<S>,
+    T: ToInputValue<S> + Drop,
     U: FromInputValue<S, Error = FieldError<S>> + Display,
 {
     let input: InputValue<S> = value.to_input_value(alloc)?;

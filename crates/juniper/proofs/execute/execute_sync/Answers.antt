@@ -2,7 +2,6 @@ use Rattle.std.proofs.Common.{map, option_map}
 use Rattle.juniper_syntax.specs.InputView.{view_variables}
 use Rattle.juniper_syntax.specs.DocumentView.{view_document}
 use Rattle.juniper_syntax.specs.ValueView.{view_value}
-use Rattle.graphql_spec.proofs.ServedQueries.{served_is_plain}
 use Rattle.juniper.specs.Answering.{IsAnswered, IsRefusedWith}
 use Rattle.juniper_values.specs.ErrorView.{view_listed}
 use Rattle.juniper.specs.RequestErrors.{view_request_error, of_parse_error}
@@ -22,11 +21,6 @@ returns-in_err-document-clause-answer g c =
     let W = world_in g.Q.GraphQLValue.concrete g.Q.GraphQLValue.answer root.query root.query_info c.args.context.now s in
     only-error (λ p. IsAnswered text s name given W (g.Q.GraphQLValue.root root.query) (view_value shown p.0) (map (view_listed shown) p.1.items)) (λ e. IsRefusedWith text s name given (view_request_error e))
     c.from_residual.result (of_parse_error c.in_err-document.field-0.0) c.from_residual.ensures.0 c.from_residual.ensures.1 (refuses-unparsed text s name given c.in_err-document.field-0.0 c.in_err-document.ensures)
-
-pub execute_document-requires : goal.execute_document-requires
-execute_document-requires g c =
-    let (ts, is, served) = c.in_ok-document.ensures.0 in
-    served_is_plain ts (view_document g.S.ScalarValue.shown c.in_ok-document.document) served
 
 pub returns-clause-answer : goal.returns-clause-answer
 returns-clause-answer g c =
