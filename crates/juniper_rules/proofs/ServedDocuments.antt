@@ -1,13 +1,12 @@
 -- Whether a document is served, selection by selection.
-use Rattle.std.proofs.Common.{◌≡◌, ℕ, ◌+◌, ◌<◌, ◌≤◌, codes, Vec, Global, Bool, true, false, not, ◌&&◌, List, length, get_or, drop, map, [], ◌∷◌, arith, Option, Some, None, is_some, is_none, refl, sym, ap, ◌∙◌}
+use Rattle.std.proofs.Common.{◌≡◌, ℕ, ◌+◌, ◌<◌, ◌≤◌, codes, Vec, Global, Bool, true, false, ◌&&◌, List, length, get_or, drop, map, [], ◌∷◌, arith, Option, Some, None, is_some, refl, sym, ap, ◌∙◌}
 use Rattle.std.proofs.lemmas.List.{drop_all}
 use Rattle.std.specs.List.{list_all}
 use Rattle.graphql_spec.specs.Shown.{Shown}
 use Rattle.graphql_spec.specs.Documents.{Argument, Head, Selections, Operation, Definition, operation, Document, span_of_definition, written}
 use Rattle.graphql_spec.specs.Grammar.{is_end}
 use Rattle.graphql_spec.specs.Schema.{Schema}
-use Rattle.graphql_spec.specs.Rules.{RuleError}
-use Rattle.graphql_spec.specs.Served.{is_condition, is_served_field, is_served_directive, is_served_value}
+use Rattle.graphql_spec.specs.Served.{is_condition, is_served_field, is_served_value}
 use Rattle.graphql_spec.specs.FirstRules.{is_plain_document, is_plain_operation, is_plain_selections, first_rule_errors, unsupported, served_rule_errors}
 use Rattle.juniper_syntax.specs.DocumentView.{view_head, view_selections, put_selection, view_set}
 use Rattle.juniper_syntax.specs.Positions.{view_span}

@@ -21,7 +21,9 @@ use crate::provided_non_null_arguments::lacks_argument;
 use crate::served::served_operation;
 use crate::unique_argument_names::repeats_argument;
 use juniper_schema::SchemaType;
-use juniper_syntax::{Definition, Document, Operation, ScalarValue, SourcePosition, Span, Spanning};
+use juniper_syntax::{
+    Definition, Document, Operation, ScalarValue, SourcePosition, Span, Spanning,
+};
 use std::alloc::{AllocError, Global};
 
 /// The errors of a document (section 5): those of the rules that are served, and of a document that is not served one error

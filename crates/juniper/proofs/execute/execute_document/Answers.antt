@@ -1,4 +1,4 @@
-use Rattle.std.proofs.Common.{◌≡◌, [], map, option_map, refl, sym, ap, ◌∙◌}
+use Rattle.std.proofs.Common.{map, option_map, refl, sym, ap, ◌∙◌}
 use Rattle.juniper_syntax.specs.InputView.{view_variables}
 use Rattle.juniper_syntax.specs.DocumentView.{view_document, view_operation}
 use Rattle.juniper_syntax.specs.ValueView.{view_value}
