@@ -9,6 +9,13 @@ pub mod Gaps
 pub mod LexLaws
 pub mod Loops
 pub mod StepLaws
+pub mod FullValues
+pub mod FullTypes
+pub mod FullDirectives
+pub mod FullSelections
+pub mod FullForests
+pub mod FullVariables
+pub mod FullDefinitions
 pub mod ArgumentLaws
 pub mod DirectiveLaws
 pub mod SelectionLaws

@@ -18,7 +18,7 @@ use Rattle.juniper_language.proofs.DirectiveLaws.{directives_sound, directives_r
 abbrev pub Label : Option Word × Word → At → At → Type 0
 Label l s t = (a : At) × Opt Alias l.0 s a × IsWord l.1 a t
 
-label_sound : IsSound label Label
+pub label_sound : IsSound label Label
 unfolding label
 label_sound s t l e =
     let q = bind_some (a_name s) _ (l, t) e in
@@ -36,17 +36,17 @@ label_sound s t l e =
           subst (λ z. Label z s t) same.0 (subst (λ u. Label (None, q.0.0) s u) same.1 made)
     ]
 
-label_read : (alias : Option Word) (x : Word) (s a t : At) → Opt Alias alias s a → IsWord x a t → sees 58 t ≡ false → label s ≡ Some ((alias, x), t)
+pub label_read : (alias : Option Word) (x : Word) (s a t : At) → Opt Alias alias s a → IsWord x a t → sees 58 t ≡ false → label s ≡ Some ((alias, x), t)
 unfolding label
 label_read None x s a t h called other = let named : IsWord x s t = subst (λ u. IsWord x u t) (sym h) called in rw (name_read x s t named, other) refl
 label_read (Some y) x s a t h called other =
     rw (name_read y s h.0 h.1, mark_seen 58 h.0 a h.2, takes_next (mark 58) h.2.0 h.0 a h.2.1, name_read x a t called) refl
 
-alias_first : (m : ℕ) (alias : Option Word) (x : Word) (s a t : At) → Opt Alias alias s a → IsWord x a t → sees m s ≡ false
+pub alias_first : (m : ℕ) (alias : Option Word) (x : Word) (s a t : At) → Opt Alias alias s a → IsWord x a t → sees m s ≡ false
 alias_first m None x s a t h called = ap (sees m) h ∙ name_first m x a t called
 alias_first m (Some y) x s a t h called = name_first m y s h.0 h.1
 
-alias_fewer : (alias : Option Word) (s a : At) → Opt Alias alias s a → length a.ahead ≤ length s.ahead
+pub alias_fewer : (alias : Option Word) (s a : At) → Opt Alias alias s a → length a.ahead ≤ length s.ahead
 alias_fewer None s a h = omega (arith, ap (λ (u : At). length u.ahead) h)
 alias_fewer (Some y) s a h = omega (arith, fewer (name y.item) y.span s h.0 h.1, fewer (mark 58) h.2.0 h.0 a h.2.1)
 

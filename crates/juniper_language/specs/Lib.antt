@@ -2,4 +2,5 @@ pub mod Lexing
 pub mod TokenViews
 pub mod Cursors
 pub mod Reading
+pub mod FullReading
 pub mod ParserViews
