@@ -2,6 +2,8 @@ pub mod Lists
 pub mod Documents
 pub mod Inputs
 pub mod InputLists
+pub mod Displays
+pub mod Escapes
 pub mod Values
 pub mod ValueLists
 pub mod ValueEquality

@@ -2,6 +2,7 @@ pub mod Refusals
 pub mod Positions
 pub mod Scalars
 pub mod InputView
+pub mod Escapes
 pub mod ValueView
 pub mod TypeView
 pub mod DocumentView

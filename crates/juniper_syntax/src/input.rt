@@ -30,7 +30,7 @@ pub enum InputValue<S> {
 pub type Variables<S> = HashMap<String, InputValue<S>>;
 
 /// A field of an object: its name and its value, each with its place.
-type InputField<S> = (Spanning<String, Span>, Spanning<InputValue<S>, Span>);
+pub(crate) type InputField<S> = (Spanning<String, Span>, Spanning<InputValue<S>, Span>);
 
 impl<S: ScalarValue> InputValue<S> {
     /// Whether no variable stands in it (2.10).
@@ -217,7 +217,7 @@ fn const_fields<S: ScalarValue>(
 }
 
 /// The value of a field. A name for it keeps the terms of a proof small.
-fn value_of<S>(field: &InputField<S>) -> &InputValue<S>
+pub(crate) fn value_of<S>(field: &InputField<S>) -> &InputValue<S>
     ensures { result.now ≡ field.now.1.item }
 {
     &field.1.item

@@ -3,6 +3,7 @@
 #![tactic(auto)]
 
 pub mod ast;
+mod display;
 pub mod error;
 pub mod input;
 pub mod laws;

@@ -1,11 +1,13 @@
 //! References to types (section 2.11 of the Specification).
 
-ghost use Rattle.std.specs.Prelude.{◌≡◌, IfOk, option_map, false};
-ghost use Rattle.graphql_spec.specs.Types.{list_of, required, nullable, innermost};
+ghost use Rattle.std.specs.Prelude.{◌≡◌, Some, IfOk, option_map, false};
+ghost use Rattle.graphql_spec.specs.Types.{list_of, required, nullable, innermost, type_text};
 ghost use Rattle.juniper_syntax.specs.TypeView.{view_type, non_null, contents};
 
 use std::alloc::{AllocError, Global};
 use std::convert::AsStr;
+use std::fmt;
+use std::fmt::Display;
 
 /// A reference to a type: a name or a list, each nullable or not. A list may have an expected number of items, which is
 /// never written and comes from arrays of a fixed length.
@@ -83,6 +85,32 @@ impl<N: AsStr + Drop> Type<N> {
             Type::NonNullNamed(name) => name.as_str(),
             Type::List(inner, _) => inner.innermost_name(),
             Type::NonNullList(inner, _) => inner.innermost_name(),
+        }
+    }
+}
+
+/// As it is written (2.11): `[Episode!]!`. The expected number of items is left out.
+impl<N: AsStr + Drop> Display for Type<N> {
+    ghost output = { λ t. Some (type_text (view_type N.text t)) };
+
+    #[tactic(auto, unfolding(graphql_spec::specs::Types::type_text, graphql_spec::specs::Types::with_mark))]
+    fn fmt<W: fmt::Write>(&self, f: &mut fmt::Formatter<W>) -> fmt::Result {
+        match self {
+            Type::Named(name) => f.write_str(name.as_str()),
+            Type::List(inner, _) => {
+                f.write_str("[")?;
+                (**inner).fmt(f)?;
+                f.write_str("]")
+            }
+            Type::NonNullNamed(name) => {
+                f.write_str(name.as_str())?;
+                f.write_str("!")
+            }
+            Type::NonNullList(inner, _) => {
+                f.write_str("[")?;
+                (**inner).fmt(f)?;
+                f.write_str("]!")
+            }
         }
     }
 }
