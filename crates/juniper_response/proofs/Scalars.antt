@@ -23,9 +23,3 @@ unfolding shown_text scalar_data
 text_data (int j) o t e f = cc
 text_data (text s) o t e f = cc
 text_data (boolean c) o t e f = cc
-
-pub shows_one : (x : Shown) (o : Option ℤ) (p : Option Bool) (q : Option Text) → o ≡ shown_int x → p ≡ shown_boolean x → q ≡ shown_text x → o ≡ None → p ≡ None → q ≡ None → ⊥
-unfolding shown_int shown_boolean shown_text
-shows_one (int j) o p q a b c d e f = cc
-shows_one (text t) o p q a b c d e f = cc
-shows_one (boolean t) o p q a b c d e f = cc

@@ -18,4 +18,6 @@ mod requests;
 pub mod root;
 pub mod scalar;
 #[cfg(test)]
+mod shown;
+#[cfg(test)]
 mod values;

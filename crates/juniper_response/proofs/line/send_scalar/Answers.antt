@@ -1,5 +1,6 @@
 use Rattle.std.proofs.Common.{rules, refl}
-use Rattle.juniper_response.proofs.Scalars.{number_data, truth_data, text_data, shows_one}
+use Rattle.juniper_syntax.proofs.Displays.{shows_one}
+use Rattle.juniper_response.proofs.Scalars.{number_data, truth_data, text_data}
 use Rattle.juniper_response.proofs.line.send_scalar.Goals as goal
 
 pub returns-in-Some : goal.returns-in-Some
