@@ -5,6 +5,9 @@ pub mod Decoding
 pub mod LexSteps
 pub mod Boundaries
 pub mod Bytes
+pub mod Escapes
+pub mod UnicodeEscapes
+pub mod StringParts
 pub mod Gaps
 pub mod LexLaws
 pub mod Loops

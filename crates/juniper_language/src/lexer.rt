@@ -27,7 +27,7 @@ fn is_blank(b: u8) -> bool
 
 /// What goes on in a comment: tab, and all that stands from the space up (2.1.4).
 #[tactic(auto, unfolding(graphql_spec::specs::Tokens::is_source_byte))]
-fn is_source_byte(b: u8) -> bool
+pub fn is_source_byte(b: u8) -> bool
     ensures { result ≡ tokens.is_source_byte b }
 {
     b == b'\t' || b >= b' '
