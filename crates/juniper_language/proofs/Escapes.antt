@@ -16,13 +16,13 @@ use Rattle.juniper_language.proofs.Bytes.{run_suc, run_zero}
 
 -- ---- one byte
 
-decode_stops : (m : Mode) (b : ℕ) (bs : List ℕ) → read_byte m b ≡ None → decode_from m (b ∷ bs) ≡ None
+pub decode_stops : (m : Mode) (b : ℕ) (bs : List ℕ) → read_byte m b ≡ None → decode_from m (b ∷ bs) ≡ None
 unfolding decode_from
 decode_stops characters b bs e = rw (e, decode_from) refl
 decode_stops after_backslash b bs e = rw (e, decode_from) refl
 decode_stops (hex_digits k n) b bs e = rw (e, decode_from) refl
 
-decode_goes : (m : Mode) (b : ℕ) (bs : List ℕ) (p : Mode × Text) → read_byte m b ≡ Some p → decode_from m (b ∷ bs) ≡ before p.1 (decode_from p.0 bs)
+pub decode_goes : (m : Mode) (b : ℕ) (bs : List ℕ) (p : Mode × Text) → read_byte m b ≡ Some p → decode_from m (b ∷ bs) ≡ before p.1 (decode_from p.0 bs)
 unfolding decode_from
 decode_goes characters b bs p e = rw (e, decode_from) refl
 decode_goes after_backslash b bs p e = rw (e, decode_from) refl
@@ -34,13 +34,13 @@ IsInside characters = ⊥
 IsInside after_backslash = Unit {0}
 IsInside (hex_digits k n) = Unit {0}
 
-escape_stops : (m : Mode) → IsInside m → (b : ℕ) (bs : List ℕ) → read_byte m b ≡ None → escape_from m (b ∷ bs) ≡ None
+pub escape_stops : (m : Mode) → IsInside m → (b : ℕ) (bs : List ℕ) → read_byte m b ≡ None → escape_from m (b ∷ bs) ≡ None
 unfolding escape_from
 escape_stops characters inside b bs e = absurd inside
 escape_stops after_backslash inside b bs e = rw (e, escape_from) refl
 escape_stops (hex_digits k n) inside b bs e = rw (e, escape_from) refl
 
-escape_goes : (m : Mode) → IsInside m → (b : ℕ) (bs : List ℕ) (p : Mode × Text) → read_byte m b ≡ Some p → escape_from m (b ∷ bs) ≡ join p.1 (escape_from p.0 bs)
+pub escape_goes : (m : Mode) → IsInside m → (b : ℕ) (bs : List ℕ) (p : Mode × Text) → read_byte m b ≡ Some p → escape_from m (b ∷ bs) ≡ join p.1 (escape_from p.0 bs)
 unfolding escape_from
 escape_goes characters inside b bs p e = absurd inside
 escape_goes after_backslash inside b bs p e = rw (e, escape_from) refl
@@ -92,14 +92,14 @@ escape_decoded [] (hex_digits k n) = refl
 escape_decoded (b ∷ bs) after_backslash = byte_decoded after_backslash tt b bs (read_byte after_backslash b) refl (λ m. escape_decoded bs m)
 escape_decoded (b ∷ bs) (hex_digits k n) = byte_decoded (hex_digits k n) tt b bs (read_byte (hex_digits k n) b) refl (λ m. escape_decoded bs m)
 
-read_plain : (b : ℕ) → is_plain b ≡ true → read_byte characters b ≡ Some (characters, b ∷ [])
+pub read_plain : (b : ℕ) → is_plain b ≡ true → read_byte characters b ≡ Some (characters, b ∷ [])
 unfolding is_plain read_byte
 read_plain b e =
     let parts = and_parts (is_source_byte b) _ e in
     let others = or_parts (b == quote) (b == backslash) (not-true _ parts.1) in
     rw (others.1, parts.0, others.0) refl
 
-read_other : (b : ℕ) → is_plain b ≡ false → b == backslash ≡ false → read_byte characters b ≡ None
+pub read_other : (b : ℕ) → is_plain b ≡ false → b == backslash ≡ false → read_byte characters b ≡ None
 unfolding is_plain read_byte
 read_other b e f = elim (cases_Bool (is_source_byte b)) [
   | inl g ↦ elim (cases_Bool (b == quote)) [
@@ -109,7 +109,7 @@ read_other b e f = elim (cases_Bool (is_source_byte b)) [
   | inr g ↦ rw (f, g) refl
 ]
 
-read_backslash : (b : ℕ) → b == backslash ≡ true → read_byte characters b ≡ Some (after_backslash, [])
+pub read_backslash : (b : ℕ) → b == backslash ≡ true → read_byte characters b ≡ Some (after_backslash, [])
 unfolding read_byte
 read_backslash b e = rw e refl
 
@@ -124,7 +124,7 @@ plain_decoded (b ∷ bs) = elim (cases_Bool (is_plain b)) [
   | inr e ↦ rw (run_zero is_plain b bs e) (sym (before_nil (decode_from characters (b ∷ bs))))
 ]
 
-not_plain : (b : ℕ) (bs : List ℕ) → prefix_len is_plain (b ∷ bs) ≡ 0 → is_plain b ≡ false
+pub not_plain : (b : ℕ) (bs : List ℕ) → prefix_len is_plain (b ∷ bs) ≡ 0 → is_plain b ≡ false
 not_plain b bs none = elim (cases_Bool (is_plain b)) [
   | inl e ↦ absurd (omega (arith, none, run_suc is_plain b bs e))
   | inr e ↦ e

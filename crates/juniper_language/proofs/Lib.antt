@@ -8,6 +8,8 @@ pub mod Bytes
 pub mod Escapes
 pub mod UnicodeEscapes
 pub mod StringParts
+pub mod StringTokens
+pub mod QuotedTokens
 pub mod Gaps
 pub mod LexLaws
 pub mod Loops
@@ -15,5 +17,4 @@ pub mod StepLaws
 pub mod ArgumentLaws
 pub mod DirectiveLaws
 pub mod SelectionLaws
-pub mod Plain
 pub mod DocumentLaws

@@ -18,6 +18,7 @@ abbrev pub view_lexeme : Lexeme → spec.Lexeme
 view_lexeme (lexeme.Mark m) = spec.mark m
 view_lexeme (lexeme.Name s) = spec.name s.now
 view_lexeme (lexeme.Int s) = spec.int s.now
+view_lexeme (lexeme.String s) = spec.string s.now
 
 abbrev pub view_token : Token → spec.Token
 view_token t = record { lexeme = view_lexeme t.lexeme; span = view_span t.span }

@@ -5,12 +5,13 @@ ghost use Rattle.std.specs.Char.{encode_utf8};
 ghost use Rattle.std.specs.List.{prefix_len};
 ghost use Rattle.std.specs.String.{string_bytes};
 ghost use Rattle.graphql_spec.specs.Tokens as tokens;
-ghost use Rattle.graphql_spec.specs.Tokens.{after_backslash, decoded_string, hex_digits};
+ghost use Rattle.graphql_spec.specs.Tokens.{after_backslash, characters, decoded_string, hex_digits};
 ghost use Rattle.juniper_language.specs.Strings as read;
 ghost use Rattle.juniper_language.specs.TokenViews.{view_part};
 ghost use Rattle.juniper_syntax.specs.declared.error.ParseError.TheVariants.{Memory};
 
 use crate::lexer::is_source_byte;
+use crate::token::Fault;
 use juniper_syntax::{LexerError, ParseError};
 use std::alloc::{AllocError, Global};
 
@@ -138,6 +139,76 @@ fn push_part(text: &mut String, part: Part<'_>) -> Result<(), AllocError>
     match part {
         Part::Plain(characters) => text.push_str(characters),
         Part::Escape(character) => text.push(character),
+    }
+}
+
+/// What stands behind the quote at the front, if one stands there.
+fn behind_quote(text: &str) -> Option<&str>
+    ensures { option_map (λ left. left.now) result ≡ read.behind_quote text.now }
+{
+    text.strip_prefix('"')
+}
+
+/// What stands from the quote on that ends a string, from behind the quote that begins it.
+///
+/// # Errors
+/// What stands from the first fault on.
+#[tactic(auto, using(crate::proofs::StringTokens::nothing_closing))]
+fn closing(text: &str) -> Result<&str, &str>
+    ensures { MatchResult result (λ left. read.closing characters text.now ≡ Some left.now) (λ _. read.closing characters text.now ≡ None) }
+{
+    let mut left = text;
+    while !left.is_empty() {
+        if behind_quote(left).is_some() {
+            return Ok(left);
+        }
+        let Some((_, behind)) = first_part(left) else {
+            return Err(left);
+        };
+        left = behind;
+    }
+    Err(left)
+}
+
+/// How many bytes the string token at the front has; 0 where the text begins with none, as with three quotes.
+pub fn string_len(text: &str) -> usize
+    ensures { result ≡ read.string_len text.now }
+{
+    if text.as_bytes().starts_with(b"\"\"\"") {
+        return 0;
+    }
+    match behind_quote(text) {
+        None => 0,
+        Some(behind) => match closing(behind) {
+            Ok(left) => text.len() - left.len() + 1,
+            Err(_) => 0,
+        },
+    }
+}
+
+/// What stands between the quotes of a string token.
+pub fn without_quotes(word: &str) -> &str
+    ensures { result.now ≡ read.without_quotes word.now }
+{
+    match behind_quote(word) {
+        None => word,
+        Some(left) => match left.strip_suffix('"') {
+            None => left,
+            Some(raw) => raw,
+        },
+    }
+}
+
+/// Why no string token stands at the front.
+pub fn string_fault(text: &str) -> Fault<'_> {
+    if text.as_bytes().starts_with(b"\"\"\"") {
+        return Fault::BlockString;
+    }
+    match behind_quote(text) {
+        None => Fault::Character,
+        Some(behind) => match closing(behind) {
+            Ok(left) | Err(left) => Fault::String(left),
+        },
     }
 }
 
