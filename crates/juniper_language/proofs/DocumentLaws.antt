@@ -2,8 +2,8 @@
 use Rattle.std.proofs.Common.{◌≡◌, ℕ, true, false, List, [], ◌∷◌, Some, None, refl, ap, sym, ◌∙◌}
 use Rattle.std.proofs.lemmas.Bool.{false≢true}
 use Rattle.std.proofs.lemmas.Option.{none-some, same_Some}
-use Rattle.graphql_spec.specs.Positions.{Position, beginning}
-use Rattle.graphql_spec.specs.Tokens.{Token, IsText}
+use Rattle.graphql_spec.specs.Positions.{Position}
+use Rattle.graphql_spec.specs.Tokens.{Token}
 use Rattle.graphql_spec.specs.Documents.{Operation, operation, Document}
 use Rattle.graphql_spec.specs.Grammar.{At, most_brackets}
 use Rattle.graphql_spec.specs.Served.{IsServed, SpellsServed, before_all}

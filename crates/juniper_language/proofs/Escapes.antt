@@ -1,16 +1,16 @@
 -- What a string stands for, part by part.
-use Rattle.std.proofs.Common.{inl, inr, ◌≡◌, ◌≢◌, ℕ, suc, ◌+◌, ◌*◌, ◌<◌, ◌≤◌, ◌==◌, Bool, true, false, not, ◌&&◌, ◌||◌, cond, List, [], ◌∷◌, ◌++◌, length, take, drop, Option, Some, None, refl, ap, sym, ◌∙◌, arith, subst, append_assoc, append-nil}
+use Rattle.std.proofs.Common.{inl, inr, ◌≡◌, ◌≢◌, ℕ, suc, ◌+◌, ◌*◌, ◌<◌, ◌≤◌, ◌==◌, true, false, List, [], ◌∷◌, ◌++◌, length, take, drop, Option, Some, None, refl, ap, sym, ◌∙◌, arith, subst, append_assoc, append-nil}
 use Rattle.std.proofs.lemmas.Bool.{cases_Bool, cases_eq, eqb-true, eq-eqb, ne_eqb, false≢true, not-true, and_parts, or_parts}
 use Rattle.std.proofs.lemmas.Bool.Decides.{nat_tests}
 use Rattle.std.proofs.lemmas.Option.{none-some, same_Some}
-use Rattle.std.proofs.lemmas.List.{length-drop, nil_from_length}
+use Rattle.std.proofs.lemmas.List.{length-drop}
 use Rattle.std.proofs.lemmas.List.Sums.{prefix_len-le-length}
 use Rattle.std.proofs.lemmas.Str.{IsUtf8-drop, IsCharBoundary-after_ascii, encode_ascii}
 use Rattle.std.specs.Str.{IsUtf8}
 use Rattle.std.specs.List.{prefix_len}
 use Rattle.std.specs.Char.{encode_utf8}
 use Rattle.graphql_spec.specs.Shown.{Text}
-use Rattle.graphql_spec.specs.Tokens.{Mode, characters, after_backslash, hex_digits, escaped, hex_value, is_surrogate, add_digit, read_byte, before, decode_from, decoded_string, is_source_byte, quote}
+use Rattle.graphql_spec.specs.Tokens.{Mode, characters, after_backslash, hex_digits, escaped, hex_value, is_surrogate, add_digit, read_byte, before, decode_from, is_source_byte, quote}
 use Rattle.juniper_language.specs.Strings.{backslash, is_plain, join, escape_from, escape, first_part}
 use Rattle.juniper_language.proofs.Bytes.{run_suc, run_zero}
 

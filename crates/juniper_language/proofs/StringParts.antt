@@ -1,5 +1,5 @@
 -- The parts of a string, as its readers take them.
-use Rattle.std.proofs.Common.{inl, inr, ◌≡◌, ◌≢◌, ℕ, ◌+◌, ◌<◌, ◌≤◌, true, false, List, [], ◌∷◌, ◌++◌, length, take, drop, get_or, Option, Some, None, refl, ap, sym, ◌∙◌, arith, append-nil, subst, ◌==◌}
+use Rattle.std.proofs.Common.{inl, inr, ◌≡◌, ◌≢◌, ℕ, ◌<◌, ◌≤◌, false, List, [], ◌∷◌, ◌++◌, length, take, drop, get_or, Option, Some, None, refl, ap, sym, ◌∙◌, arith, append-nil, subst, ◌==◌}
 use Rattle.std.proofs.lemmas.Bool.{cases_Bool, cases_eq, cases_lt, eqb-true, eq-eqb, ne_eqb}
 use Rattle.std.proofs.lemmas.Option.{none-some, same_Some}
 use Rattle.std.proofs.lemmas.Bool.Decides.{nat_tests}
@@ -8,7 +8,7 @@ use Rattle.std.proofs.lemmas.Str.{IsUtf8-drop, IsCharBoundary-before_ascii, IsCh
 use Rattle.std.specs.List.{prefix_len}
 use Rattle.std.specs.Str.{IsUtf8, IsCharBoundary}
 use Rattle.graphql_spec.specs.Shown.{Text}
-use Rattle.graphql_spec.specs.Tokens.{characters, after_backslash, before, decode_from, decoded_string, is_source_byte, quote}
+use Rattle.graphql_spec.specs.Tokens.{characters, after_backslash, before, decode_from, decoded_string, is_source_byte}
 use Rattle.juniper_language.specs.Strings.{backslash, is_plain, escape, first_part}
 use Rattle.juniper_language.proofs.Escapes.{decoded_behind, part_decoded, part_shorter, before_append, before_nil, behind_small, escape_from_utf8}
 

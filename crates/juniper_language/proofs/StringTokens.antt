@@ -1,13 +1,13 @@
 -- Where a string ends.
-use Rattle.std.proofs.Common.{inl, inr, ◌≡◌, ◌≢◌, ℕ, suc, ◌+◌, ◌-◌, ◌<◌, ◌≤◌, ◌==◌, nat_eq, Bool, true, false, not, ◌&&◌, ◌||◌, cond, IsTrue, IsSome, List, [], ◌∷◌, ◌++◌, length, take, drop, Option, Some, None, is_some, option_map, MatchOption, Bor, refl, ap, sym, ◌∙◌, arith, subst, length-append}
+use Rattle.std.proofs.Common.{inl, inr, ◌≡◌, ◌≢◌, ℕ, suc, ◌+◌, ◌-◌, ◌<◌, ◌≤◌, ◌==◌, nat_eq, Bool, true, false, IsSome, List, [], ◌∷◌, ◌++◌, length, drop, Option, Some, None, is_some, option_map, MatchOption, Bor, refl, ap, sym, ◌∙◌, arith, subst, length-append}
 use Rattle.std.proofs.lemmas.Bool.{cases_Bool, cases_eq, eqb-true, eq-eqb, ne_eqb, false≢true, not-true, and_parts, or_parts}
 use Rattle.std.proofs.lemmas.Option.{none-some, same_Some}
 use Rattle.std.specs.List.{prefix_len, starts_with}
 use Rattle.graphql_spec.specs.Shown.{Text}
-use Rattle.graphql_spec.specs.Tokens.{Mode, characters, after_backslash, hex_digits, read_byte, before, decode_from, decoded_string, is_source_byte, quote, is_nil, is_quote, ends_before}
-use Rattle.juniper_language.specs.Strings.{backslash, is_plain, join, escape_from, escape, first_part, three_quotes, behind_quote, closes, closing, closing_behind, len_to, string_len, without_last_quote, without_quotes}
+use Rattle.graphql_spec.specs.Tokens.{Mode, characters, after_backslash, hex_digits, read_byte, before, decode_from, is_source_byte, quote}
+use Rattle.juniper_language.specs.Strings.{backslash, is_plain, join, escape_from, escape, first_part, three_quotes, behind_quote, closes, closing, string_len, without_last_quote, without_quotes}
 use Rattle.juniper_language.proofs.Bytes.{run_suc, run_zero}
-use Rattle.juniper_language.proofs.Escapes.{IsInside, read_plain, read_other, read_backslash, not_plain, escape_stops, escape_goes, decode_goes, decode_stops}
+use Rattle.juniper_language.proofs.Escapes.{IsInside, read_plain, read_other, read_backslash, not_plain, escape_stops, escape_goes, decode_goes}
 
 pub closing_ends : (m : Mode) (b : ℕ) (bs : List ℕ) → closes m b ≡ true → closing m (b ∷ bs) ≡ Some (b ∷ bs)
 unfolding closing

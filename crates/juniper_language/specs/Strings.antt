@@ -1,5 +1,5 @@
 -- Reading a string's characters as functions, step by step (2.9.4). Only private clauses cite it.
-use Rattle.std.specs.Prelude.{ℕ, Bool, false, not, ◌+◌, ◌-◌, ◌&&◌, ◌||◌, ◌==◌, nat_eq, cond, take, drop, length, List, [], ◌∷◌, ◌++◌, Option, Some, None}
+use Rattle.std.specs.Prelude.{ℕ, Bool, false, not, ◌+◌, ◌-◌, ◌&&◌, ◌||◌, ◌==◌, nat_eq, cond, take, drop, length, [], ◌∷◌, ◌++◌, Option, Some, None}
 use Rattle.std.specs.List.{prefix_len, starts_with}
 use Rattle.graphql_spec.specs.Shown.{Text}
 use Rattle.graphql_spec.specs.Tokens.{Mode, characters, after_backslash, hex_digits, read_byte, is_source_byte, quote}

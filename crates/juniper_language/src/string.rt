@@ -15,7 +15,7 @@ use crate::token::Fault;
 use juniper_syntax::{LexerError, ParseError};
 use std::alloc::{AllocError, Global};
 
-/// A byte that stands for itself: any that may stand in a text but a quote and a backslash.
+/// A byte of a character that stands for itself: tab, and any from the space up but a quote and a backslash.
 #[tactic(auto, unfolding(crate::specs::Strings::is_plain))]
 fn is_plain(b: u8) -> bool
     ensures { result ≡ read.is_plain b }
@@ -23,7 +23,7 @@ fn is_plain(b: u8) -> bool
     is_source_byte(b) && b != b'"' && b != b'\\'
 }
 
-/// How many bytes at the front stand for themselves.
+/// How many bytes at the front are of characters that stand for themselves.
 fn plain_len(text: &[u8]) -> usize
     ensures length { result ≤ length text.now }
     ensures run { result ≡ prefix_len read.is_plain text.now }
@@ -40,7 +40,7 @@ fn hex_value(b: u8) -> Option<u32>
     char::from(b).to_digit(16)
 }
 
-/// What stands for itself, or for one of the control characters, behind a backslash.
+/// The character that a letter or a mark stands for behind a backslash; `u` is read by [`unicode`].
 #[tactic(auto, unfolding(graphql_spec::specs::Tokens::escaped))]
 fn escaped(letter: u8) -> Option<char>
     ensures { result ≡ tokens.escaped letter }
@@ -248,27 +248,27 @@ fn written_escape(alloc: Global, text: &str) -> Result<String, AllocError> {
 pub fn string_error(alloc: Global, text: &str) -> Result<LexerError, AllocError> {
     match text.as_bytes() {
         [] | [b'"' | b'\n' | b'\r', ..] => Ok(LexerError::UnterminatedString),
-        [b'\\', escape @ ..] => {
-            if is_cut_short(escape) {
-                Ok(LexerError::UnterminatedString)
-            } else {
-                Ok(LexerError::UnknownEscapeSequence(written_escape(
-                    alloc, text,
-                )?))
-            }
+        [b'\\', escape @ ..] if is_cut_short(escape) => Ok(LexerError::UnterminatedString),
+        [b'\\', ..] => {
+            let escape = written_escape(alloc, text)?;
+            Ok(LexerError::UnknownEscapeSequence(escape))
         }
         _ => Ok(LexerError::UnknownCharacter),
     }
 }
 
-/// The text that a string stands for, from what stands between its quotes (2.9.4): each escape is put for its character.
+/// The text that a string stands for (2.9.4), from what stands between its quotes: its characters, and for each escape the
+/// character that it stands for.
 ///
 /// # Errors
 /// Exactly where no string is written so, a [`ParseError::LexerError`] of the first fault:
-/// [`LexerError::UnknownEscapeSequence`] with the escape as it is written, where it is none of `\"`, `\\`, `\/`, `\b`,
-/// `\f`, `\n`, `\r`, `\t` and `\u` with four hex digits that name no surrogate; [`LexerError::UnterminatedString`]
-/// where a quote, LF or CR stands in the text, or an escape is cut short by its end; [`LexerError::UnknownCharacter`] where
-/// another control character but tab stands in it. Where memory is refused, [`ParseError::Memory`].
+/// - [`LexerError::UnknownEscapeSequence`] with the escape as it is written, where it is none of `\"`, `\\`, `\/`, `\b`,
+///   `\f`, `\n`, `\r`, `\t` and `\u` with four hex digits that name no surrogate: the backslash and the character behind
+///   it, and behind `\u` up to four more;
+/// - [`LexerError::UnterminatedString`] where a quote, LF or CR stands, or where the text ends in the middle of an escape;
+/// - [`LexerError::UnknownCharacter`] where another character below U+0020 stands than tab.
+///
+/// Where memory is refused, [`ParseError::Memory`].
 #[tactic(auto, using(crate::proofs::StringParts::decodes_start, crate::proofs::StringParts::decodes_none, crate::proofs::StringParts::decodes_end))]
 pub fn decode_string(alloc: Global, raw: &str) -> Result<String, ParseError>
     ensures { MatchResult result

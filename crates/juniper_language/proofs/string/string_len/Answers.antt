@@ -1,4 +1,4 @@
-use Rattle.std.proofs.Common.{◌≡◌, true, false, nat_eq, ap, ◌∙◌}
+use Rattle.std.proofs.Common.{nat_eq, ap, ◌∙◌}
 use Rattle.std.specs.List.{starts_with}
 use Rattle.juniper_language.specs.Strings.{three_quotes}
 use Rattle.juniper_language.proofs.StringTokens.{three_len, none_len, open_len, closed_len, closed_bounds}

@@ -1,6 +1,4 @@
-use Rattle.std.proofs.Common.{◌≡◌, ℕ, ◌<◌, length, option_map, drop, ap, ◌∙◌, arith}
-use Rattle.graphql_spec.specs.Shown.{Text}
-use Rattle.std.specs.Char.{encode_utf8}
+use Rattle.std.proofs.Common.{◌<◌, arith}
 use Rattle.juniper_language.proofs.Escapes.{code_of}
 use Rattle.juniper_language.proofs.UnicodeEscapes.{first_wrong, second_wrong, third_wrong, fourth_wrong, four_named, too_short}
 use Rattle.juniper_language.proofs.string.unicode.Goals as goal

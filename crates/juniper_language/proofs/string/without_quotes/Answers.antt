@@ -1,4 +1,4 @@
-use Rattle.std.proofs.Common.{◌≡◌, Some, None, ◌∙◌, arith}
+use Rattle.std.proofs.Common.{Some, None, ◌∙◌, arith}
 use Rattle.std.proofs.lemmas.Str.Pattern.{strip_suffix_char}
 use Rattle.juniper_language.proofs.StringTokens.{quotes_none, quotes_some, last_is}
 use Rattle.juniper_language.proofs.string.without_quotes.Goals as goal
