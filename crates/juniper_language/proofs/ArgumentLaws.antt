@@ -13,7 +13,6 @@ use Rattle.graphql_spec.specs.Documents.{Argument, Arguments, written}
 use Rattle.graphql_spec.specs.Grammar.{At, Takes, Mark, Keyword, Opt, Many, Between, IsValue, IsArgument, IsArguments, true_word, false_word, null_word, boolean_word}
 use Rattle.graphql_spec.specs.Served.{is_served_value}
 use Rattle.juniper_language.specs.Reading.{Reader, and_then, sees, next, expect, a_name, some_until, with_span, spanned, known, word_value, value_by, value, argument, arguments, given}
-use Rattle.juniper_language.proofs.LexLaws.{IsPlain}
 use Rattle.juniper_language.proofs.StepLaws.{bind_some, from_pure, chosen, next_takes, takes_next, fewer, mark_seen, other_seen, expect_sound, expect_read, name_sound, name_read, name_first, spanned_is, until_sound, until_read, IsSound, IsPart, Passing, many_map, many_pass, many_all, many_fewer}
 
 -- ---- values
@@ -63,7 +62,6 @@ pub record OneToken (v : Input) (s t : At) : Type 0 where
   pub place : Span
   pub takes : Takes lexeme place s t
   pub stands : value_by lexeme t ≡ Some (v, t)
-  pub is_plain : IsPlain lexeme
 
 boolean_stands : (b : Bool) (t : At) → value_by (name (boolean_word b)) t ≡ Some (scalar (boolean b), t)
 unfolding boolean_word
@@ -72,10 +70,10 @@ boolean_stands false t = refl
 
 pub one_token : (c : Bool) (n : ℕ) (v : Input) (s t : At) → Valued c n v s t → OneToken v s t
 unfolding is_served_value shown_text
-one_token c n null s t h = record { lexeme = name null_word; place = h.0.0; takes = h.0.1; stands = refl; is_plain = tt }
+one_token c n null s t h = record { lexeme = name null_word; place = h.0.0; takes = h.0.1; stands = refl }
 one_token c n (scalar (int_shown i)) s t h =
-    record { lexeme = int h.0.0; place = h.0.1; takes = h.0.2; stands = ap (λ o. known (option_map (λ j. scalar (int_shown j)) o) t) h.0.3; is_plain = tt }
-one_token c n (scalar (boolean b)) s t h = record { lexeme = name (boolean_word b); place = h.0.0; takes = h.0.1; stands = boolean_stands b t; is_plain = tt }
+    record { lexeme = int h.0.0; place = h.0.1; takes = h.0.2; stands = ap (λ o. known (option_map (λ j. scalar (int_shown j)) o) t) h.0.3 }
+one_token c n (scalar (boolean b)) s t h = record { lexeme = name (boolean_word b); place = h.0.0; takes = h.0.1; stands = boolean_stands b t }
 one_token c n (scalar (text x)) s t h = absurd (false≢true h.1)
 one_token c n (enumerated w) s t h = absurd (false≢true h.1)
 one_token c n (variable w) s t h = absurd (false≢true h.1)

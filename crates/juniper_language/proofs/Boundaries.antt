@@ -9,7 +9,8 @@ use Rattle.std.specs.Char.{is_ascii_digit}
 use Rattle.std.specs.Str.{IsUtf8, IsCharBoundary}
 use Rattle.graphql_spec.specs.Tokens.{is_blank, is_mark, is_source_byte, starts_name, continues_name}
 use Rattle.juniper_language.specs.Lexing.{order_mark, three_dots, ignored_len, number_len, lexeme_len}
-use Rattle.juniper_language.proofs.Fronts.{IsIgnored, blank, comment, byte_order, IsTaken, punctuator, letters, dotted, number, ignored_is, taken_is}
+use Rattle.juniper_language.proofs.Fronts.{IsIgnored, blank, comment, byte_order, IsTaken, punctuator, letters, dotted, quoted, number, ignored_is, taken_is}
+use Rattle.juniper_language.proofs.QuotedTokens.{quoted_boundary}
 
 blank_small : (b : ℕ) → is_blank b ≡ true → b < 128
 unfolding is_blank
@@ -96,6 +97,7 @@ taken_at : (bs : List ℕ) (n : ℕ) → IsUtf8 bs → IsTaken bs n → IsCharBo
 taken_at bs n u (punctuator b rest is one e) = front_boundary b rest bs n u is one (mark_small b e)
 taken_at bs n u (letters b rest is run e) = rw run (run_boundary continues_name name_small bs u)
 taken_at bs n u (dotted rest is three) = rw three (dots_boundary rest bs u is)
+taken_at bs n u (quoted raw rest is count decodes ends) = rw count (quoted_boundary raw rest bs u is)
 taken_at bs n u (number is whole ends) = rw is (number_boundary bs u)
 
 pub taken_boundary : (bs : List ℕ) → lexeme_len bs ≢ 0 → IsUtf8 bs → IsCharBoundary bs (lexeme_len bs)

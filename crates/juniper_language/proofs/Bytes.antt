@@ -55,6 +55,14 @@ pub int_no_dot : (b : ℕ) → starts_int b ≡ true → 46 == b ≡ false
 unfolding starts_int
 int_no_dot b e = grind (arith, nat_tests)
 
+pub int_no_quote : (b : ℕ) → starts_int b ≡ true → b == quote ≡ false
+unfolding starts_int
+int_no_quote b e = grind (arith, nat_tests)
+
+pub mark_no_quote : (b : ℕ) → is_mark b ≡ true → b == quote ≡ false
+unfolding is_mark
+mark_no_quote b e = grind (arith, nat_tests)
+
 pub starts_continues : (b : ℕ) → starts_name b ≡ true → continues_name b ≡ true
 unfolding continues_name
 starts_continues b e = rw e refl

@@ -2,16 +2,15 @@
 use Rattle.std.proofs.Common.{◌≡◌, ℕ, true, false, List, [], ◌∷◌, Some, None, refl, ap, sym, ◌∙◌}
 use Rattle.std.proofs.lemmas.Bool.{false≢true}
 use Rattle.std.proofs.lemmas.Option.{none-some, same_Some}
-use Rattle.graphql_spec.specs.Positions.{Position, beginning}
-use Rattle.graphql_spec.specs.Tokens.{Token, IsText}
+use Rattle.graphql_spec.specs.Positions.{Position}
+use Rattle.graphql_spec.specs.Tokens.{Token}
 use Rattle.graphql_spec.specs.Documents.{Operation, operation, Document}
 use Rattle.graphql_spec.specs.Grammar.{At, most_brackets}
 use Rattle.graphql_spec.specs.Served.{IsServed, SpellsServed, before_all}
 use Rattle.juniper_language.specs.Lexing.{Lexed, Ending, is_whole, whole, fault, lexed}
 use Rattle.juniper_language.specs.Reading as read
-use Rattle.juniper_language.proofs.LexLaws.{ArePlain, Complete, lexed_sound, lexed_complete}
+use Rattle.juniper_language.proofs.LexLaws.{Complete, lexed_sound, lexed_complete}
 use Rattle.juniper_language.proofs.SelectionLaws.{IsQuery, document_sound, document_read}
-use Rattle.juniper_language.proofs.Plain.{braces_plain}
 
 -- a query, and nothing after it, on these tokens
 pub record Derives (ts : List Token) (o : Operation) : Type 0 where
@@ -25,15 +24,8 @@ derives ts d (o, t, is, short, span, last, served) = (o, is, record { after = t;
 derived : (ts : List Token) (o : Operation) → Derives ts o → IsServed ts (operation o ∷ [])
 derived ts o h = (o, h.after, refl, h.is_query.short, h.is_query.span, h.last, h.is_query.served)
 
-derives_plain : (ts : List Token) (o : Operation) → Derives ts o → ArePlain ts
-derives_plain ts o h = let set = h.is_query.short.4 in braces_plain 255 o.selections (before_all ts) set.1 set.2 h.after set.3 set.4 set.5 h.is_query.served h.last
-
 derives_read : (ts : List Token) (o : Operation) (h : Derives ts o) → read.document (before_all ts) ≡ Some (o, h.after)
 derives_read ts o h = document_read most_brackets o (before_all ts) h.after h.is_query h.last
-
--- the tokens that are read are those of every text that is served
-served_tokens : (bytes : List ℕ) (ts : List Token) (o : Operation) → IsText beginning ts bytes → Derives ts o → Complete ts (lexed bytes)
-served_tokens bytes ts o text h = lexed_complete bytes ts text (derives_plain ts o h)
 
 -- what is read is spelled
 read_spelled : (bytes : List ℕ) (p : Position) (o : Operation) (t : At) → (lexed bytes).ending ≡ whole p → read.document (before_all (lexed bytes).tokens) ≡ Some (o, t)
@@ -47,7 +39,7 @@ spelled_read : (bytes : List ℕ) (d : Document) → SpellsServed bytes d
     → (o : Operation) × (t : At) × (p : Position) × (d ≡ operation o ∷ []) × ((lexed bytes).ending ≡ whole p) × (read.document (before_all (lexed bytes).tokens) ≡ Some (o, t))
 spelled_read bytes d (ts, text, served) =
     let h = derives ts d served in
-    let all = served_tokens bytes ts h.0 text h.2 in (
+    let all : Complete ts (lexed bytes) = lexed_complete bytes ts text in (
       h.0,
       h.2.after,
       all.0,

@@ -1,18 +1,21 @@
--- The tokens that are read are those of the text, and of names, Ints and punctuators a text has just those.
-use Rattle.std.proofs.Common.{inl, inr, ◌≡◌, ◌≢◌, ℕ, zero, suc, ◌≤◌, ◌==◌, nat_eq, ◌||◌, ◌⊎◌, true, false, IsTrue, List, [], ◌∷◌, ◌++◌, length, take, drop, refl, ap, ap₂, sym, ◌∙◌, arith, subst, append_assoc, append-nil}
+-- The tokens that are read are those of the text, and a text has just those.
+use Rattle.std.proofs.Common.{inl, inr, ◌≡◌, ◌≢◌, ℕ, zero, suc, ◌≤◌, ◌==◌, nat_eq, not, ◌||◌, ◌⊎◌, true, false, IsTrue, IsSome, List, [], ◌∷◌, ◌++◌, length, take, drop, refl, ap, ap₂, sym, ◌∙◌, arith, subst, append_assoc, append-nil}
 use Rattle.std.proofs.lemmas.Bool.{cases_Bool, cases_eq, eqb-true, eq-eqb, ne_eqb, false≢true, and_parts, and_from, or_cases}
 use Rattle.std.proofs.lemmas.List.{take-append-drop, nil_from_length, length-append}
 use Rattle.std.proofs.Math.Seq.{take-append_seam, drop-append_seam}
 use Rattle.std.specs.List.{prefix_len, list_all, starts_with}
 use Rattle.graphql_spec.specs.Positions.{Position, Spot, beginning, walk}
-use Rattle.graphql_spec.specs.Tokens.{Lexeme, mark, name, int, string, Token, IsToken, IsText, is_nil, is_mark, dots, mark_text, is_name, starts_name, continues_name, is_int, continues_int, ends_before, is_ignored, between}
+use Rattle.graphql_spec.specs.Tokens.{Lexeme, mark, name, int, string, Token, IsToken, IsText, is_nil, is_quote, quote, decoded_string, is_mark, dots, mark_text, is_name, starts_name, continues_name, is_int, continues_int, ends_before, is_ignored, between}
 use Rattle.juniper_language.specs.Lexing.{Front, Lexed, whole, fault, past, three_dots, ignored_len, int_len, starts_int, lexeme_len, lexeme_of, token_of, at_end, at_fault, with_token, lex_step, lex, lex_from, lexed}
 use Rattle.juniper_language.proofs.Rooms.{walk-append}
-use Rattle.juniper_language.proofs.Bytes.{at_token, token_begins, mark_no_name, mark_no_int, name_no_mark, mark_no_dot, int_no_mark, int_no_name, int_no_dot, starts_continues, run_suc, run_exact, run_all, run_ends}
-use Rattle.juniper_language.proofs.Fronts.{IsIgnored, IsTaken, punctuator, letters, dotted, number, ignored_is, taken_is, ignored_fits, taken_fits}
+use Rattle.juniper_language.proofs.Bytes.{at_token, token_begins, mark_no_name, mark_no_int, name_no_mark, mark_no_dot, int_no_mark, int_no_name, int_no_dot, int_no_quote, mark_no_quote, starts_continues, run_suc, run_exact, run_all, run_ends}
+use Rattle.juniper_language.proofs.Fronts.{IsIgnored, IsTaken, punctuator, letters, dotted, quoted, number, ignored_is, taken_is, ignored_fits, taken_fits}
 use Rattle.juniper_language.proofs.Numbers.{int_starts, int_exact}
 use Rattle.juniper_language.proofs.Gaps.{joins, splits, seen}
 use Rattle.juniper_language.proofs.LexSteps.{shorter}
+use Rattle.juniper_language.specs.Strings.{behind_quote, string_len, without_quotes}
+use Rattle.juniper_language.proofs.StringTokens.{last_off}
+use Rattle.juniper_language.proofs.QuotedTokens.{quoted_word, string_exact}
 
 -- ---- one step on a text
 
@@ -75,7 +78,7 @@ text_after at (t ∷ ts) bs n gap h =
 
 mark_is : (b : ℕ) (bs : List ℕ) → is_mark b ≡ true → lexeme_of (b ∷ bs) ≡ mark b
 unfolding lexeme_of
-mark_is b bs e = rw (mark_no_name b e, mark_no_int b e) refl
+mark_is b bs e = rw (mark_no_name b e, mark_no_int b e, mark_no_quote b e) refl
 
 name_is : (b : ℕ) (bs : List ℕ) → starts_name b ≡ true → lexeme_of (b ∷ bs) ≡ name (b ∷ bs)
 unfolding lexeme_of
@@ -85,6 +88,10 @@ int_is : (w : List ℕ) → is_int w ≡ true → lexeme_of w ≡ int w
 unfolding lexeme_of is_int
 int_is [] e = absurd (false≢true e)
 int_is (b ∷ bs) e = let starts = int_starts b bs e in rw (int_no_name b starts, starts) refl
+
+string_is : (raw : List ℕ) → lexeme_of (quoted_word raw) ≡ string raw
+unfolding lexeme_of starts_name starts_int without_quotes behind_quote
+string_is raw = ap string (last_off raw)
 
 dots_are : lexeme_of three_dots ≡ mark dots
 unfolding lexeme_of starts_name starts_int
@@ -114,18 +121,11 @@ taken_sound bs n (letters b rest is run e) =
     let back = drop (prefix_len continues_name rest) rest in
     rw (is, count) (subst (λ l. IsToken l (b ∷ front) back) (sym (name_is b front e)) (name_token b front back e (run_all continues_name rest) (run_ends continues_name rest)))
 taken_sound bs n (dotted rest is three) = rw (is, three) (subst (λ l. IsToken l three_dots rest) (sym dots_are) (dots_token rest))
+taken_sound bs n (quoted raw rest is count decodes ends) =
+    let front : take n bs ≡ quoted_word raw = ap₂ take count is ∙ take-append_seam (quoted_word raw) rest in
+    let back : drop n bs ≡ rest = ap₂ drop count is ∙ drop-append_seam (quoted_word raw) rest in
+    rw (front, back) (subst (λ l. IsToken l (quoted_word raw) rest) (sym (string_is raw)) (refl, decodes, ends))
 taken_sound bs n (number is proper ends) = subst (λ l. IsToken l (take n bs) (drop n bs)) (sym (int_is (take n bs) proper)) (refl, proper, ends)
-
--- a name, an Int or a punctuator
-abbrev pub IsPlain : Lexeme → Type 0
-IsPlain (mark m) = Unit {0}
-IsPlain (name w) = Unit {0}
-IsPlain (int w) = Unit {0}
-IsPlain (string raw) = ⊥
-
-abbrev pub ArePlain : List Token → Type 0
-ArePlain [] = Unit {0}
-ArePlain (t ∷ ts) = IsPlain t.lexeme × ArePlain ts
 
 -- a word is read to its end
 pub record IsRead (l : Lexeme) (word rest : List ℕ) : Type 0 where
@@ -170,7 +170,7 @@ no_dots b rest e = rw e refl
 
 number_read : (b : ℕ) (rest : List ℕ) → starts_int b ≡ true → lexeme_len (b ∷ rest) ≡ int_len (b ∷ rest)
 unfolding lexeme_len
-number_read b rest e = rw (int_no_mark b e, int_no_name b e, no_dots b rest (int_no_dot b e)) refl
+number_read b rest e = rw (int_no_mark b e, int_no_name b e, no_dots b rest (int_no_dot b e), int_no_quote b e) refl
 
 int_read : (w rest : List ℕ) → is_int w ≡ true → ends_before continues_int rest ≡ true → IsRead (int w) w rest
 unfolding is_int
@@ -178,11 +178,19 @@ int_read [] rest e ends = absurd (false≢true e)
 int_read (b ∷ bs) rest e ends =
     record { count = number_read b (bs ++ rest) (int_starts b bs e) ∙ int_exact (b ∷ bs) rest e ends; is = int_is (b ∷ bs) e; some = omega arith }
 
-plain_read : (l : Lexeme) (w rest : List ℕ) → IsPlain l → IsToken l w rest → IsRead l w rest
-plain_read (mark m) w rest plain h = rw h.0 (punctuator_read m rest (some_mark m h.1))
-plain_read (name x) w rest plain h = rw h.0 (word_read x rest h.1 h.2)
-plain_read (int x) w rest plain h = rw h.0 (int_read x rest h.1 h.2)
-plain_read (string x) w rest plain h = absurd plain
+quote_read : (bs : List ℕ) → lexeme_len (quote ∷ bs) ≡ string_len (quote ∷ bs)
+unfolding lexeme_len is_mark starts_name
+quote_read bs = refl
+
+string_read : (raw rest : List ℕ) → IsSome (decoded_string raw) → IsTrue (not (is_nil raw) || ends_before is_quote rest) → IsRead (string raw) (quoted_word raw) rest
+string_read raw rest decodes ends =
+    record { count = quote_read ((raw ++ quote ∷ []) ++ rest) ∙ string_exact raw rest decodes ends; is = string_is raw; some = omega arith }
+
+token_read : (l : Lexeme) (w rest : List ℕ) → IsToken l w rest → IsRead l w rest
+token_read (mark m) w rest h = rw h.0 (punctuator_read m rest (some_mark m h.1))
+token_read (name x) w rest h = rw h.0 (word_read x rest h.1 h.2)
+token_read (int x) w rest h = rw h.0 (int_read x rest h.1 h.2)
+token_read (string x) w rest h = rw h.0 (string_read x rest h.1 h.2)
 
 -- ---- a step of the lexer, by what stands there
 
@@ -251,10 +259,10 @@ no_gap_before bs [] tail is ign none = refl
 no_gap_before bs (c ∷ gap) tail is ign none = absurd (seen c gap tail ign (ap ignored_len (sym is) ∙ none))
 
 -- where nothing is left there is no token
-none_left : (at : Spot) (ts : List Token) (bs : List ℕ) → length bs ≡ 0 → IsText at ts bs → ArePlain ts → ts ≡ []
-none_left at [] bs e h plain = refl
-none_left at (t ∷ ts) bs e h plain =
-    let read = plain_read t.lexeme h.1 h.2 plain.0 h.5 in
+none_left : (at : Spot) (ts : List Token) (bs : List ℕ) → length bs ≡ 0 → IsText at ts bs → ts ≡ []
+none_left at [] bs e h = refl
+none_left at (t ∷ ts) bs e h =
+    let read = token_read t.lexeme h.1 h.2 h.5 in
     absurd (omega (arith, e, ap length h.3, length-append h.0 (h.1 ++ h.2), length-append h.1 h.2, read.some))
 
 not_nil_length : (bs : List ℕ) → is_nil bs ≡ false → length bs ≢ 0
@@ -271,12 +279,12 @@ nil_length (b ∷ bs) e = absurd (false≢true e)
 some_left : (at : Spot) (bs : List ℕ) → is_nil bs ≡ false → ignored_len bs ≡ 0 → IsText at [] bs → ⊥
 some_left at bs e none h = not_nil_length bs e (ap length (no_gap_before bs bs [] (sym (append-nil bs)) h none))
 
-token_complete : (f : Front → Lexed) (s : Front) (t : Token) (ts : List Token) → is_nil s.ahead ≡ false → ignored_len s.ahead ≡ 0 → IsPlain t.lexeme → IsText s.at (t ∷ ts) s.ahead
+token_complete : (f : Front → Lexed) (s : Front) (t : Token) (ts : List Token) → is_nil s.ahead ≡ false → ignored_len s.ahead ≡ 0 → IsText s.at (t ∷ ts) s.ahead
     → (lexeme_len s.ahead ≢ 0 → IsText (past (lexeme_len s.ahead) s).at ts (past (lexeme_len s.ahead) s).ahead → Complete ts (f (past (lexeme_len s.ahead) s))) → Complete (t ∷ ts) (lex_step f s)
-token_complete f s t ts e z plain h more =
+token_complete f s t ts e z h more =
     let w = h.1 in
     let rest = h.2 in
-    let read = plain_read t.lexeme w rest plain h.5 in
+    let read = token_read t.lexeme w rest h.5 in
     let no_gap = no_gap_before s.ahead h.0 (w ++ rest) h.3 h.4 z in
     let whole_is : s.ahead ≡ w ++ rest = h.3 ∙ ap (λ g. g ++ (w ++ rest)) no_gap in
     let here : walk s.at h.0 ≡ s.at = ap (walk s.at) no_gap ∙ walk_nil s.at in
@@ -294,30 +302,30 @@ token_complete f s t ts e z plain h more =
     let after = more some text in
     (after.0, step_token f s e z some ∙ ap₂ with_token token after.1)
 
-tokens_complete : (f : Front → Lexed) (s : Front) (ts : List Token) → is_nil s.ahead ≡ false → ignored_len s.ahead ≡ 0 → IsText s.at ts s.ahead → ArePlain ts
-    → ((us : List Token) → lexeme_len s.ahead ≢ 0 → IsText (past (lexeme_len s.ahead) s).at us (past (lexeme_len s.ahead) s).ahead → ArePlain us → Complete us (f (past (lexeme_len s.ahead) s)))
+tokens_complete : (f : Front → Lexed) (s : Front) (ts : List Token) → is_nil s.ahead ≡ false → ignored_len s.ahead ≡ 0 → IsText s.at ts s.ahead
+    → ((us : List Token) → lexeme_len s.ahead ≢ 0 → IsText (past (lexeme_len s.ahead) s).at us (past (lexeme_len s.ahead) s).ahead → Complete us (f (past (lexeme_len s.ahead) s)))
     → Complete ts (lex_step f s)
-tokens_complete f s [] e z text plain more = absurd (some_left s.at s.ahead e z text)
-tokens_complete f s (t ∷ ts) e z text plain more = token_complete f s t ts e z plain.0 text (λ some after. more ts some after plain.1)
+tokens_complete f s [] e z text more = absurd (some_left s.at s.ahead e z text)
+tokens_complete f s (t ∷ ts) e z text more = token_complete f s t ts e z text (λ some after. more ts some after)
 
-lex_complete : (k : ℕ) (s : Front) (ts : List Token) → length s.ahead ≤ k → IsText s.at ts s.ahead → ArePlain ts → Complete ts (lex k s)
+lex_complete : (k : ℕ) (s : Front) (ts : List Token) → length s.ahead ≤ k → IsText s.at ts s.ahead → Complete ts (lex k s)
 unfolding lex
-lex_complete zero s ts enough text plain =
-    let none = none_left s.at ts s.ahead (omega arith) text plain in
+lex_complete zero s ts enough text =
+    let none = none_left s.at ts s.ahead (omega arith) text in
     (s.at.position, ap (λ x. record { tokens = x; ending = whole s.at.position }) (sym none))
-lex_complete (suc k) s ts enough text plain = elim (cases_Bool (is_nil s.ahead)) [
+lex_complete (suc k) s ts enough text = elim (cases_Bool (is_nil s.ahead)) [
   | inl e ↦
-      let none = none_left s.at ts s.ahead (nil_length s.ahead e) text plain in
+      let none = none_left s.at ts s.ahead (nil_length s.ahead e) text in
       (s.at.position, step_nil (lex k) s e ∙ ap (λ x. record { tokens = x; ending = whole s.at.position }) (sym none))
   | inr e ↦ elim (cases_eq (ignored_len s.ahead) 0) [
     | inr gap ↦
         let n = ignored_len s.ahead in
         let less = shorter s.ahead n gap (ignored_fits s.ahead gap) in
-        let after = lex_complete k (past n s) ts (omega arith) (text_after s.at ts s.ahead n (ignored_is s.ahead gap) text) plain in
+        let after = lex_complete k (past n s) ts (omega arith) (text_after s.at ts s.ahead n (ignored_is s.ahead gap) text) in
         (after.0, step_gap (lex k) s e gap ∙ after.1)
     | inl z ↦
-        tokens_complete (lex k) s ts e z text plain (λ us some after are.
-        let less = shorter s.ahead (lexeme_len s.ahead) some (taken_fits s.ahead some) in lex_complete k (past (lexeme_len s.ahead) s) us (omega arith) after are)
+        tokens_complete (lex k) s ts e z text (λ us some after.
+        let less = shorter s.ahead (lexeme_len s.ahead) some (taken_fits s.ahead some) in lex_complete k (past (lexeme_len s.ahead) s) us (omega arith) after)
   ]
 ]
 
@@ -326,10 +334,10 @@ pub lexed_sound : (bytes : List ℕ) (p : Position) → (lexed bytes).ending ≡
 unfolding lex_from
 lexed_sound bytes p ends = lex_sound (length bytes) (record { at = beginning; ahead = bytes }) (omega arith) p ends
 
--- tokens of a text that are names, Ints and punctuators are read to its end
-pub lexed_complete : (bytes : List ℕ) (ts : List Token) → IsText beginning ts bytes → ArePlain ts → Complete ts (lexed bytes)
+-- the tokens of a text are read to its end
+pub lexed_complete : (bytes : List ℕ) (ts : List Token) → IsText beginning ts bytes → Complete ts (lexed bytes)
 unfolding lex_from
-lexed_complete bytes ts text plain = lex_complete (length bytes) (record { at = beginning; ahead = bytes }) ts (omega arith) text plain
+lexed_complete bytes ts text = lex_complete (length bytes) (record { at = beginning; ahead = bytes }) ts (omega arith) text
 
 pub law : true ≡ true
 law = refl

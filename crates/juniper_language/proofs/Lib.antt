@@ -5,6 +5,11 @@ pub mod Decoding
 pub mod LexSteps
 pub mod Boundaries
 pub mod Bytes
+pub mod Escapes
+pub mod UnicodeEscapes
+pub mod StringParts
+pub mod StringTokens
+pub mod QuotedTokens
 pub mod Gaps
 pub mod LexLaws
 pub mod Loops
@@ -19,5 +24,4 @@ pub mod FullDefinitions
 pub mod ArgumentLaws
 pub mod DirectiveLaws
 pub mod SelectionLaws
-pub mod Plain
 pub mod DocumentLaws

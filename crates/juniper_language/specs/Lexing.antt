@@ -1,9 +1,10 @@
--- Reading tokens as a function: names, Ints and punctuators, step by step. Only private clauses cite it.
+-- Reading tokens as a function, step by step. Only private clauses cite it.
 use Rattle.std.specs.Prelude.{ℕ, zero, suc, Bool, true, false, ◌+◌, ◌==◌, ◌&&◌, ◌||◌, cond, nat_eq, take, drop, length, List, [], ◌∷◌, ◌++◌}
 use Rattle.std.specs.List.{prefix_len, starts_with}
 use Rattle.std.specs.Char.{is_ascii_digit}
 use Rattle.graphql_spec.specs.Positions.{Position, Spot, Span, beginning, walk}
-use Rattle.graphql_spec.specs.Tokens.{Lexeme, mark, name, int, Token, is_mark, dots, starts_name, continues_name, is_int, continues_int, ends_before, is_source_byte, is_blank, is_nil}
+use Rattle.graphql_spec.specs.Tokens.{Lexeme, mark, name, int, string, Token, quote, is_mark, dots, starts_name, continues_name, is_int, continues_int, ends_before, is_source_byte, is_blank, is_nil}
+use Rattle.juniper_language.specs.Strings.{string_len, without_quotes}
 
 -- where a reader of bytes stands, and the bytes left
 pub record Front : Type 0 where
@@ -38,7 +39,7 @@ int_len bs = cond (is_int (take (number_len bs) bs) && ends_before continues_int
 -- how many bytes the token at the front has, and 0 where none stands there
 unfoldable pub lexeme_len : List ℕ → ℕ
 lexeme_len [] = 0
-lexeme_len (b ∷ bs) = cond (is_mark b) 1 (cond (starts_name b) (prefix_len continues_name (b ∷ bs)) (cond (starts_with nat_eq (b ∷ bs) three_dots) 3 (int_len (b ∷ bs))))
+lexeme_len (b ∷ bs) = cond (is_mark b) 1 (cond (starts_name b) (prefix_len continues_name (b ∷ bs)) (cond (starts_with nat_eq (b ∷ bs) three_dots) 3 (cond (b == quote) (string_len (b ∷ bs)) (int_len (b ∷ bs)))))
 
 -- `-` or a digit
 unfoldable pub starts_int : ℕ → Bool
@@ -47,7 +48,7 @@ starts_int b = (b == 45) || is_ascii_digit b
 -- the token that is written so
 unfoldable pub lexeme_of : List ℕ → Lexeme
 lexeme_of [] = name []
-lexeme_of (b ∷ bs) = cond (starts_name b) (name (b ∷ bs)) (cond (starts_int b) (int (b ∷ bs)) (mark b))
+lexeme_of (b ∷ bs) = cond (starts_name b) (name (b ∷ bs)) (cond (starts_int b) (int (b ∷ bs)) (cond (b == quote) (string (without_quotes (b ∷ bs))) (mark b)))
 
 -- how the tokens ended, and where: the text is read to its end, or there stands what is no token
 pub data Ending : Type 0 where

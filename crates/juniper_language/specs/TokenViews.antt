@@ -1,5 +1,7 @@
 -- How the code's tokens are seen.
 use Rattle.std.specs.Prelude.{map}
+use Rattle.std.specs.Char.{encode_utf8}
+use Rattle.graphql_spec.specs.Shown.{Text}
 use Rattle.graphql_spec.specs.Tokens as spec
 use Rattle.juniper_syntax.specs.Positions.{view_position, view_span}
 use Rattle.juniper_language.specs.Lexing as read
@@ -9,11 +11,14 @@ use Rattle.juniper_language.specs.declared.token.Token.{Token}
 use Rattle.juniper_language.specs.declared.token.Ending.{Ending}
 use Rattle.juniper_language.specs.declared.token.Ending.TheVariants as ending
 use Rattle.juniper_language.specs.declared.token.Lexed.{Lexed}
+use Rattle.juniper_language.specs.declared.string.Part.{Part}
+use Rattle.juniper_language.specs.declared.string.Part.TheVariants as part
 
 abbrev pub view_lexeme : Lexeme → spec.Lexeme
 view_lexeme (lexeme.Mark m) = spec.mark m
 view_lexeme (lexeme.Name s) = spec.name s.now
 view_lexeme (lexeme.Int s) = spec.int s.now
+view_lexeme (lexeme.String s) = spec.string s.now
 
 abbrev pub view_token : Token → spec.Token
 view_token t = record { lexeme = view_lexeme t.lexeme; span = view_span t.span }
@@ -24,3 +29,8 @@ view_ending (ending.Fault p f) = read.fault (view_position p)
 
 abbrev pub view_lexed : Lexed → read.Lexed
 view_lexed l = record { tokens = map view_token l.tokens.items; ending = view_ending l.ending }
+
+-- what the first characters of a string stand for
+abbrev pub view_part : Part → Text
+view_part (part.Plain s) = s.now
+view_part (part.Escape c) = encode_utf8 c

@@ -1,6 +1,6 @@
 //! Where a reader of tokens stands.
 
-ghost use Rattle.std.specs.Prelude.{◌≡◌, ◌≢◌, length, map};
+ghost use Rattle.std.specs.Prelude.{◌≡◌, ◌≢◌, length, map, IfOk};
 ghost use Rattle.graphql_spec.specs.Grammar.{begin_of};
 ghost use Rattle.graphql_spec.specs.Served.{before_all};
 ghost use Rattle.juniper_syntax.specs.Positions.{view_position, view_span};
@@ -12,6 +12,7 @@ ghost use Rattle.juniper_syntax.specs.declared.error.ParseError.TheVariants.{Mem
 
 use crate::token::{Ending, Lexeme, Token};
 use juniper_syntax::{ParseError, SourcePosition, Span, Spanning};
+use std::alloc::{AllocError, Global};
 use std::marker::Model;
 
 /// What a reader answers, or why it refuses and where.
@@ -22,7 +23,8 @@ pub type ParseResult<T> = Result<T, Spanning<ParseError, Span>>;
 pub struct Parser<'t, 'a> {
     tokens: &'t [Token<'a>],
     last: SourcePosition,
-    ending: Ending,
+    ending: Ending<'a>,
+    alloc: Global,
 }
 
 impl<'t, 'a> Model for Parser<'t, 'a> {
@@ -37,13 +39,14 @@ impl<'t, 'a> Model for Parser<'t, 'a> {
 
 impl<'t, 'a> Parser<'t, 'a> {
     /// Before all tokens.
-    pub fn new(tokens: &'t [Token<'a>], ending: Ending) -> Self
+    pub fn new(alloc: Global, tokens: &'t [Token<'a>], ending: Ending<'a>) -> Self
         ensures { result ≡ before_all (map view_token tokens.now) }
     {
         Parser {
             tokens,
             last: SourcePosition::new_origin(),
             ending,
+            alloc,
         }
     }
 
@@ -76,12 +79,12 @@ impl<'t, 'a> Parser<'t, 'a> {
     }
 
     /// The refusal of what comes next: a token, what is none, or the end of the text.
-    pub fn unexpected(&self) -> Spanning<ParseError, Span>
-        ensures { result.item ≢ Memory }
+    pub fn unexpected(&self) -> Result<Spanning<ParseError, Span>, AllocError>
+        ensures { IfOk result (λ e. e.item ≢ Memory) }
     {
         match self.tokens {
-            [first, ..] => Spanning::new(first.span, ParseError::UnexpectedToken),
-            [] => self.ending.refusal(),
+            [first, ..] => Ok(Spanning::new(first.span, ParseError::UnexpectedToken)),
+            [] => self.ending.refusal(self.alloc),
         }
     }
 
@@ -90,7 +93,7 @@ impl<'t, 'a> Parser<'t, 'a> {
         ensures { Gives view_token result self.new (read.next self.old) }
     {
         match self.tokens {
-            [] => Err(self.unexpected()),
+            [] => Err(self.unexpected()?),
             [first, rest @ ..] => {
                 let token = *first;
                 self.tokens = rest;
@@ -108,7 +111,7 @@ impl<'t, 'a> Parser<'t, 'a> {
             [] => false,
             [first, ..] => match first.lexeme {
                 Lexeme::Mark(found) => found == mark,
-                Lexeme::Name(_) | Lexeme::Int(_) => false,
+                Lexeme::Name(_) | Lexeme::Int(_) | Lexeme::String(_) => false,
             },
         }
     }
@@ -127,7 +130,7 @@ impl<'t, 'a> Parser<'t, 'a> {
                     Err(refused(token.span))
                 }
             }
-            Lexeme::Name(_) | Lexeme::Int(_) => Err(refused(token.span)),
+            Lexeme::Name(_) | Lexeme::Int(_) | Lexeme::String(_) => Err(refused(token.span)),
         }
     }
 
@@ -139,7 +142,7 @@ impl<'t, 'a> Parser<'t, 'a> {
         let token = self.next()?;
         match token.lexeme {
             Lexeme::Name(word) => Ok(Spanning::new(token.span, word)),
-            Lexeme::Mark(_) | Lexeme::Int(_) => Err(refused(token.span)),
+            Lexeme::Mark(_) | Lexeme::Int(_) | Lexeme::String(_) => Err(refused(token.span)),
         }
     }
 }

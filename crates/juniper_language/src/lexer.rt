@@ -12,6 +12,7 @@ ghost use Rattle.juniper_syntax.specs.Positions.{view_position};
 ghost use Rattle.juniper_language.specs.TokenViews.{view_lexeme, view_lexed, view_token};
 
 use crate::number::{int_len, number_fault, starts_int};
+use crate::string::{string_fault, string_len, without_quotes};
 use crate::token::{Ending, Fault, Lexed, Lexeme, Token};
 use juniper_syntax::{SourcePosition, Span};
 use std::alloc::{AllocError, Global};
@@ -27,7 +28,7 @@ fn is_blank(b: u8) -> bool
 
 /// What goes on in a comment: tab, and all that stands from the space up (2.1.4).
 #[tactic(auto, unfolding(graphql_spec::specs::Tokens::is_source_byte))]
-fn is_source_byte(b: u8) -> bool
+pub fn is_source_byte(b: u8) -> bool
     ensures { result ≡ tokens.is_source_byte b }
 {
     b == b'\t' || b >= b' '
@@ -144,20 +145,23 @@ impl Spot {
 
 /// How many bytes the token at the front has; 0 where the text begins with none.
 #[tactic(auto, unfolding(crate::specs::Lexing::lexeme_len))]
-fn lexeme_len(text: &[u8]) -> usize
+fn lexeme_len(text: &str) -> usize
     ensures { result ≡ read.lexeme_len text.now }
 {
-    match text {
+    let bytes = text.as_bytes();
+    match bytes {
         [] => 0,
         [first, ..] => {
             if is_mark(*first) {
                 1
             } else if starts_name(*first) {
-                name_len(text)
-            } else if text.starts_with(b"...") {
+                name_len(bytes)
+            } else if bytes.starts_with(b"...") {
                 3
+            } else if *first == b'"' {
+                string_len(text)
             } else {
-                int_len(text)
+                int_len(bytes)
             }
         }
     }
@@ -175,6 +179,8 @@ fn lexeme_of<'a>(word: &'a str) -> Lexeme<'a>
                 Lexeme::Name(word)
             } else if starts_int(*first) {
                 Lexeme::Int(word)
+            } else if *first == b'"' {
+                Lexeme::String(without_quotes(word))
             } else {
                 Lexeme::Mark(*first)
             }
@@ -183,12 +189,14 @@ fn lexeme_of<'a>(word: &'a str) -> Lexeme<'a>
 }
 
 /// Why no token stands at the front.
-fn fault(text: &[u8]) -> Fault {
-    match text {
+fn fault(text: &str) -> Fault<'_> {
+    match text.as_bytes() {
         [] => Fault::Character,
         [first, ..] => {
             if starts_int(*first) {
-                number_fault(text)
+                number_fault(text.as_bytes())
+            } else if *first == b'"' {
+                string_fault(text)
             } else {
                 Fault::Character
             }
@@ -262,7 +270,7 @@ impl<'a> Lexer<'a> {
             ((read.lexeme_len self.old.ahead ≡ 0) × (self.new ≡ self.old))
             (λ t. (read.lexeme_len self.old.ahead ≢ 0) × (view_token t ≡ read.token_of (read.lexeme_len self.old.ahead) self.old) × (self.new ≡ read.past (read.lexeme_len self.old.ahead) self.old)) }
     {
-        let length = lexeme_len(self.rest().as_bytes());
+        let length = lexeme_len(self.rest());
         if length == 0 {
             return None;
         }
@@ -293,7 +301,7 @@ pub fn lex<'a>(alloc: Global, text: &'a str) -> Result<Lexed<'a>, AllocError>
             continue;
         }
         let Some(token) = lexer.token() else {
-            let ending = Ending::Fault(lexer.position(), fault(lexer.rest().as_bytes()));
+            let ending = Ending::Fault(lexer.position(), fault(lexer.rest()));
             return Ok(Lexed { tokens, ending });
         };
         tokens.push(token)?;

@@ -5,6 +5,7 @@ mod cursor;
 mod lexer;
 mod number;
 pub mod parser;
+mod string;
 mod token;
 
 pub use juniper_syntax::{
@@ -16,3 +17,4 @@ pub use juniper_syntax::{
 };
 pub use number::decode_int;
 pub use parser::parse_document_source;
+pub use string::decode_string;

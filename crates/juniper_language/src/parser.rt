@@ -67,7 +67,7 @@ fn value<S: ScalarValue>(parser: &mut Parser<'_, '_>) -> ParseResult<InputValue<
     let found = match token.lexeme {
         Lexeme::Name(word) => word_value(word),
         Lexeme::Int(number) => number_value(number),
-        Lexeme::Mark(_) => None,
+        Lexeme::Mark(_) | Lexeme::String(_) => None,
     };
     match found {
         Some(value) => Ok(value),
@@ -97,7 +97,7 @@ fn some_arguments<'a, S: ScalarValue>(
     ensures { Gives (λ v. map (view_argument S.shown) v.items) result parser.new (read.some_until 41 read.argument parser.old) }
 {
     if parser.sees(b')') {
-        return Err(parser.unexpected());
+        return Err(parser.unexpected()?);
     }
     let mut found = Vec::new(alloc);
     for _turn in 0..parser.left() {
@@ -107,7 +107,7 @@ fn some_arguments<'a, S: ScalarValue>(
         }
         found.push(argument(parser)?)?;
     }
-    Err(parser.unexpected())
+    Err(parser.unexpected()?)
 }
 
 /// Arguments in their brackets (2.6).
@@ -302,7 +302,7 @@ fn selections<'a, S: ScalarValue>(
     ensures { Gives (λ v. view_selections S.shown v.items) result parser.new (read.selections parser.old) }
 {
     if parser.sees(b'}') {
-        return Err(parser.unexpected());
+        return Err(parser.unexpected()?);
     }
     let mut found = Vec::new(alloc);
     for _turn in 0..parser.left() {
@@ -312,7 +312,7 @@ fn selections<'a, S: ScalarValue>(
         }
         found.push(selection(alloc, parser)?)?;
     }
-    Err(parser.unexpected())
+    Err(parser.unexpected()?)
 }
 
 /// An operation that is its selection set alone (2.3).
@@ -347,29 +347,32 @@ fn whole_operation<'a, S: ScalarValue>(
 {
     let found = operation(alloc, parser)?;
     if parser.left() != 0 {
-        return Err(parser.unexpected());
+        return Err(parser.unexpected()?);
     }
     Ok(found)
 }
 
 /// That the tokens went on to the end of the text.
-fn whole_text(ending: Ending) -> ParseResult<()>
-    ensures { MatchResult result (λ _. read_tokens.is_whole (view_ending ending) ≡ true) (λ _. read_tokens.is_whole (view_ending ending) ≡ false) }
+fn whole_text(alloc: Global, ending: Ending<'_>) -> ParseResult<()>
+    ensures { MatchResult result (λ _. read_tokens.is_whole (view_ending ending.entry) ≡ true) (λ _. read_tokens.is_whole (view_ending ending.entry) ≡ false) }
 {
     match ending {
         Ending::Whole(_) => Ok(()),
-        Ending::Fault(_, _) => Err(ending.refusal()),
+        Ending::Fault(_, _) => Err(ending.refusal(alloc)?),
     }
 }
 
 /// The document that the text spells, in the part of the grammar that is served. Its names borrow the text.
 ///
 /// # Errors
-/// Exactly where the text spells no such document, the first fault in reading order: a token or a character that may not
-/// stand there is [`ParseError::UnexpectedToken`], and so is an Int that 32 bits do not hold; a number that is no Int is
-/// [`LexerError::InvalidNumber`](crate::LexerError::InvalidNumber), and a float [`ParseError::FloatLiteral`]; each at the
-/// place where it begins. A text that ends too early is [`ParseError::UnexpectedEndOfFile`], at its end. Where memory is
-/// refused, [`ParseError::Memory`].
+/// Exactly where the text spells no such document, the first fault in reading order, at the place where the token begins
+/// that is at fault: a token that may not stand there is [`ParseError::UnexpectedToken`], and so is an Int that 32 bits do
+/// not hold; a character that begins no token is [`LexerError::UnknownCharacter`](crate::LexerError::UnknownCharacter); a
+/// number that is no Int is [`LexerError::InvalidNumber`](crate::LexerError::InvalidNumber), and a float
+/// [`ParseError::FloatLiteral`]; a string with a fault is as [`decode_string`](crate::decode_string) says, or
+/// [`LexerError::UnterminatedString`](crate::LexerError::UnterminatedString) where no quote ends it on its line, and one in
+/// three quotes is [`ParseError::BlockString`]. A text that ends too early is [`ParseError::UnexpectedEndOfFile`], at its
+/// end. Where memory is refused, [`ParseError::Memory`].
 pub fn parse_document_source<'a, S: ScalarValue>(
     alloc: Global,
     text: &'a str,
@@ -379,9 +382,9 @@ pub fn parse_document_source<'a, S: ScalarValue>(
         (λ e. e.item ≢ ParseError.Memory → (d : spec.Document) → SpellsServed text.now d → ⊥) }
 {
     let lexed = lex(alloc, text)?;
-    let mut parser = Parser::new(&lexed.tokens, lexed.ending);
+    let mut parser = Parser::new(alloc, &lexed.tokens, lexed.ending);
     let operation = whole_operation(alloc, &mut parser)?;
-    whole_text(lexed.ending)?;
+    whole_text(alloc, lexed.ending)?;
     let document = only(alloc, Definition::Operation(operation))?;
     Ok(document)
 }

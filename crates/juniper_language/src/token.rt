@@ -1,9 +1,11 @@
 //! Tokens (section 2.1.6 of the Specification).
 
-ghost use Rattle.std.specs.Prelude.{◌≢◌};
+ghost use Rattle.std.specs.Prelude.{◌≢◌, IfOk};
 ghost use Rattle.juniper_syntax.specs.declared.error.ParseError.TheVariants.{Memory};
 
+use crate::string::string_error;
 use juniper_syntax::{LexerError, ParseError, SourcePosition, Span, Spanning};
+use std::alloc::{AllocError, Global};
 
 /// What a token is, without its place.
 #[derive(Clone, Copy)]
@@ -14,6 +16,8 @@ pub enum Lexeme<'a> {
     Name(&'a str),
     /// An Int, by its characters (2.9.1).
     Int(&'a str),
+    /// A string, by what stands between its quotes (2.9.4).
+    String(&'a str),
 }
 
 /// A token and its place.
@@ -25,49 +29,56 @@ pub struct Token<'a> {
 
 /// Why no token stands at a place.
 #[derive(Clone, Copy)]
-pub enum Fault {
+pub enum Fault<'a> {
     /// A character that begins no token.
     Character,
     /// A number without digits, with a zero too many, or with a letter or `_` right behind it (2.9.1).
     Number,
     /// A float (2.9.2).
     Float,
+    /// A string in three quotes (2.9.4).
+    BlockString,
+    /// A string that does not go on with this text (2.9.4).
+    String(&'a str),
 }
 
-impl Fault {
+impl<'a> Fault<'a> {
     /// How a text with this fault is refused.
-    fn error(self) -> ParseError
-        ensures { result ≢ Memory }
+    fn error(self, alloc: Global) -> Result<ParseError, AllocError>
+        ensures { IfOk result (λ e. e ≢ Memory) }
     {
         match self {
-            Fault::Character => ParseError::UnexpectedToken,
-            Fault::Number => ParseError::LexerError(LexerError::InvalidNumber),
-            Fault::Float => ParseError::FloatLiteral,
+            Fault::Character => Ok(ParseError::LexerError(LexerError::UnknownCharacter)),
+            Fault::Number => Ok(ParseError::LexerError(LexerError::InvalidNumber)),
+            Fault::Float => Ok(ParseError::FloatLiteral),
+            Fault::BlockString => Ok(ParseError::BlockString),
+            Fault::String(left) => Ok(ParseError::LexerError(string_error(alloc, left)?)),
         }
     }
 }
 
 /// How the tokens of a text ended, and where.
 #[derive(Clone, Copy)]
-pub enum Ending {
+pub enum Ending<'a> {
     /// At the end of the text.
     Whole(SourcePosition),
     /// Before what is no token.
-    Fault(SourcePosition, Fault),
+    Fault(SourcePosition, Fault<'a>),
 }
 
-impl Ending {
+impl<'a> Ending<'a> {
     /// The refusal of a text that has to go on here with another token.
-    pub fn refusal(self) -> Spanning<ParseError, Span>
-        ensures { result.item ≢ Memory }
+    pub fn refusal(self, alloc: Global) -> Result<Spanning<ParseError, Span>, AllocError>
+        ensures { IfOk result (λ e. e.item ≢ Memory) }
     {
         match self {
-            Ending::Whole(at) => Spanning::new(
+            Ending::Whole(at) => Ok(Spanning::new(
                 Span { start: at, end: at },
                 ParseError::UnexpectedEndOfFile,
-            ),
+            )),
             Ending::Fault(at, fault) => {
-                Spanning::new(Span { start: at, end: at }, fault.error())
+                let error = fault.error(alloc)?;
+                Ok(Spanning::new(Span { start: at, end: at }, error))
             }
         }
     }
@@ -77,5 +88,5 @@ impl Ending {
 #[derive(Drop)]
 pub struct Lexed<'a> {
     pub tokens: Vec<Token<'a>>,
-    pub ending: Ending,
+    pub ending: Ending<'a>,
 }

@@ -6,8 +6,8 @@ use Rattle.juniper_language.proofs.lexer.Lexer.token.Goals as goal
 
 pub take-word-requires : goal.take-word-requires
 take-word-requires c =
-    let same : c.as_bytes.result.now ≡ c.args.self.now.ahead = c.as_bytes.ensures.value ∙ c.rest.ensures in
+    let same : c.rest.result.now ≡ c.args.self.now.ahead = c.rest.ensures in
     let is : c.lexeme_len-length.result ≡ lexeme_len c.args.self.now.ahead = c.lexeme_len-length.ensures ∙ ap lexeme_len same in
-    let text : IsUtf8 c.args.self.now.ahead = subst (λ x. IsUtf8 x) same c.as_bytes.ensures.utf8 in
+    let text : IsUtf8 c.args.self.now.ahead = subst (λ x. IsUtf8 x) same c.rest.utf8 in
     let some : lexeme_len c.args.self.now.ahead ≢ 0 = λ none. c.if-length-eq0.false (is ∙ none) in
     rw is (taken_boundary c.args.self.now.ahead some text)
