@@ -1,14 +1,13 @@
 -- Definitions and documents that are read are spelled so, and those that are spelled so are read.
-use Rattle.std.proofs.Common.{inl, inr, ◌≡◌, ◌≢◌, ◌⊎◌, ℕ, zero, suc, ◌<◌, ◌≤◌, Bool, true, false, List, [], ◌∷◌, length, Option, Some, None, refl, ap, sym, ◌∙◌, subst, arith}
+use Rattle.std.proofs.Common.{inl, inr, ◌≡◌, ◌≢◌, ◌⊎◌, ℕ, zero, suc, ◌<◌, ◌≤◌, false, List, [], ◌∷◌, length, Option, Some, None, refl, ap, sym, ◌∙◌, subst, arith}
 use Rattle.std.proofs.lemmas.Option.{none-some, same_Some}
-use Rattle.std.proofs.lemmas.Bool.{false≢true}
 use Rattle.std.proofs.lemmas.Slice.Eq.{bytes_eq-Decides}
 use Rattle.std.specs.Str.{bytes_eq}
 use Rattle.graphql_spec.specs.Shown.{Name}
-use Rattle.graphql_spec.specs.Positions.{Span, Spanned}
-use Rattle.graphql_spec.specs.Tokens.{Token, mark, name}
-use Rattle.graphql_spec.specs.Documents.{Word, Directive, VariableDefinition, OperationType, query, mutation, subscription, Operation, Fragment, Definition, operation, fragment, Document}
-use Rattle.graphql_spec.specs.Grammar.{At, Mark, Keyword, IsWord, Opt, Many, span_of, AreDirectives, Set, AreSelections, AreVariables, TypeCondition, Shorthand, Longhand, IsOperation, IsFragment, IsDefinition, on_word, kind_word, most_brackets}
+use Rattle.graphql_spec.specs.Positions.{Spanned}
+use Rattle.graphql_spec.specs.Tokens.{Token, name}
+use Rattle.graphql_spec.specs.Documents.{Word, VariableDefinition, OperationType, query, mutation, subscription, Operation, Fragment, Definition, operation, fragment, Document}
+use Rattle.graphql_spec.specs.Grammar.{At, Mark, Keyword, IsWord, Opt, Many, span_of, AreVariables, TypeCondition, IsOperation, IsFragment, IsDefinition, on_word, kind_word, most_brackets}
 use Rattle.juniper_language.specs.Reading.{Outcome, and_then, pure, sees, a_name, optional}
 use Rattle.juniper_language.specs.FullReading.{in_brackets, directives, first_word, set_by, inside_of, variable_definition, name_by_word, name_if, longhand, shorthand, fragment_name, condition, fragment_by, fragment_word, kind_of, behind_word, by_word, definition, if_none_left, definitions, document}
 use Rattle.juniper_language.proofs.StepLaws.{bind_some, from_pure, chosen, picked, fewer, mark_seen, name_sound, name_read, name_first, IsSound}
@@ -16,7 +15,7 @@ use Rattle.juniper_language.proofs.FullValues.{differ, differs, picked_of}
 use Rattle.juniper_language.proofs.FullDirectives.{brackets_sound, brackets_read, brackets_fewer, opening, directives_sound, directives_read, directives_first, directives_fewer}
 use Rattle.juniper_language.proofs.FullSelections.{word_first, set_sound}
 use Rattle.juniper_language.proofs.FullForests.{set_spelled, set_less, set_begins, set_opens, mark_no_word, set_no_word, directives_no_word}
-use Rattle.juniper_language.proofs.FullVariables.{may_sound, may_read, may_first, may_fewer, variable_sound, variables_parts}
+use Rattle.juniper_language.proofs.FullVariables.{may_sound, may_read, may_fewer, variable_sound, variables_parts}
 use Rattle.graphql_spec.specs.Grammar.{IsVariable}
 
 -- ## Words

@@ -1,10 +1,10 @@
 -- Arguments and directives that are read are spelled so, and those that are spelled so are read.
-use Rattle.std.proofs.Common.{inl, inr, ◌≡◌, ℕ, zero, suc, ◌<◌, ◌≤◌, ◌==◌, Bool, true, false, List, [], ◌∷◌, length, Option, Some, None, refl, ap, sym, ◌∙◌, subst, arith}
+use Rattle.std.proofs.Common.{inl, inr, ◌≡◌, ℕ, zero, suc, ◌<◌, ◌≤◌, ◌==◌, Bool, true, false, List, [], ◌∷◌, length, Some, None, refl, ap, sym, ◌∙◌, arith}
 use Rattle.std.proofs.lemmas.Option.{none-some}
 use Rattle.std.proofs.lemmas.Bool.{false≢true}
-use Rattle.graphql_spec.specs.Positions.{Span, Spanned}
+use Rattle.graphql_spec.specs.Positions.{Spanned}
 use Rattle.graphql_spec.specs.Tokens.{mark, name}
-use Rattle.graphql_spec.specs.Documents.{Argument, Arguments, Directive}
+use Rattle.graphql_spec.specs.Documents.{Arguments, Directive}
 use Rattle.graphql_spec.specs.Grammar.{At, Mark, Opt, Many, Between, span_of, IsArgument, IsArguments, IsDirective, AreDirectives}
 use Rattle.juniper_language.specs.Reading.{Reader, and_then, sees, expect, a_name, some_until, with_span}
 use Rattle.juniper_language.specs.FullReading.{named, value, in_brackets, argument, arguments, given, directive, directives}

@@ -1,20 +1,18 @@
 -- Selections that are read are spelled so, and those that are spelled so are read.
-use Rattle.std.proofs.Common.{inl, inr, ◌≡◌, ◌≢◌, ℕ, zero, suc, ◌<◌, ◌≤◌, ◌==◌, Bool, true, false, List, [], ◌∷◌, length, Option, Some, None, is_some, refl, ap, sym, ◌∙◌, subst, arith}
+use Rattle.std.proofs.Common.{inl, inr, ◌≡◌, ◌≢◌, ℕ, zero, suc, false, List, [], ◌∷◌, length, Option, Some, None, is_some, refl, ap, sym, ◌∙◌, subst}
 use Rattle.std.proofs.lemmas.Option.{none-some, same_Some}
-use Rattle.std.proofs.lemmas.Bool.{false≢true, true≢false}
+use Rattle.std.proofs.lemmas.Bool.{false≢true}
 use Rattle.std.proofs.lemmas.Slice.Eq.{bytes_eq-Decides}
 use Rattle.std.specs.Str.{bytes_eq}
 use Rattle.graphql_spec.specs.Shown.{Name}
-use Rattle.graphql_spec.specs.Positions.{Span}
-use Rattle.graphql_spec.specs.Tokens.{mark, name}
-use Rattle.graphql_spec.specs.Documents.{Word, Arguments, Directive, Head, Spread, Inline, Selections, end, field, spread, inline}
-use Rattle.graphql_spec.specs.Grammar.{At, Mark, Keyword, IsWord, Opt, Many, span_of, AreDirectives, Set, OptSet, Alias, IsField, IsSpread, IsInline, TypeCondition, AreSelections, is_end, on_word}
+use Rattle.graphql_spec.specs.Documents.{Word, Selections}
+use Rattle.graphql_spec.specs.Grammar.{At, Mark, IsWord, Opt, Many, span_of, Set, OptSet, IsField, IsSpread, IsInline, TypeCondition, AreSelections, is_end, on_word}
 use Rattle.juniper_language.specs.Reading.{Reader, and_then, pure, refuse, sees, expect, a_name, some_until, optional, label}
 use Rattle.juniper_language.specs.FullReading.{given, directives, Node, field_node, spread_node, inline_node, selections_of, set_by, below_of, head_of, field_by, first_word, inline_by, spread_by, dotted, selection, selections, inside_of}
-use Rattle.juniper_language.proofs.StepLaws.{bind_some, from_pure, chosen, fewer, mark_seen, other_seen, expect_sound, expect_read, name_sound, name_read, until_sound, until_read, IsSound, IsPart}
-use Rattle.juniper_language.proofs.SelectionLaws.{label_sound, label_read, alias_first, alias_fewer}
-use Rattle.juniper_language.proofs.FullValues.{differ, differs}
-use Rattle.juniper_language.proofs.FullDirectives.{given_sound, given_read, given_first, given_fewer, directives_sound, directives_read, directives_first, directives_fewer}
+use Rattle.juniper_language.proofs.StepLaws.{bind_some, from_pure, chosen, mark_seen, expect_sound, name_sound, until_sound, IsSound}
+use Rattle.juniper_language.proofs.SelectionLaws.{label_sound}
+use Rattle.juniper_language.proofs.FullValues.{differ}
+use Rattle.juniper_language.proofs.FullDirectives.{given_sound, directives_sound}
 
 abbrev pub IsNode : ℕ → Node → At → At → Type 0
 IsNode n (field_node h below) s t = IsField h below (AreSelections below) n s t

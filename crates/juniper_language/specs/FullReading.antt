@@ -1,7 +1,7 @@
 -- Reading a document of the whole grammar as a function over its tokens; the parser will follow it, part by part.
 use Rattle.std.specs.Prelude.{ℕ, zero, suc, Bool, true, false, ◌==◌, cond, codes, List, [], ◌∷◌, length, Option, Some, None, option_map, is_some}
 use Rattle.std.specs.Str.{bytes_eq}
-use Rattle.graphql_spec.specs.Shown.{Text, Name, int, text, boolean}
+use Rattle.graphql_spec.specs.Shown.{Text, Name, text, boolean}
 use Rattle.graphql_spec.specs.Positions.{Span, Spanned}
 use Rattle.graphql_spec.specs.Tokens as token
 use Rattle.graphql_spec.specs.Tokens.{Lexeme, Token, decoded_int, decoded_string, dots}
@@ -10,7 +10,7 @@ use Rattle.graphql_spec.specs.Types.{TypeRef, list_of}
 use Rattle.graphql_spec.specs.Types as types
 use Rattle.graphql_spec.specs.Documents.{Word, Argument, Arguments, Directive, Head, Spread, Inline, Selections, end, field, spread, inline, VariableDefinition, OperationType, query, mutation, subscription, Operation, Fragment, Definition, operation, fragment, Document}
 use Rattle.graphql_spec.specs.Grammar.{At, span_of, true_word, false_word, null_word, on_word, kind_word, most_brackets}
-use Rattle.juniper_language.specs.Reading.{Reader, Outcome, and_then, ◌>>=◌, pure, refuse, next, sees, expect, a_name, name_by, is_mark_of, spanned, until, some_until, while_sees, optional, known, number_value, label}
+use Rattle.juniper_language.specs.Reading.{Reader, Outcome, ◌>>=◌, pure, refuse, next, sees, expect, a_name, spanned, until, some_until, while_sees, optional, known, number_value, label}
 
 -- ---- values
 

@@ -20,4 +20,6 @@ pub mod scalar;
 #[cfg(test)]
 mod shown;
 #[cfg(test)]
+mod strings;
+#[cfg(test)]
 mod values;

@@ -33,8 +33,8 @@ fn other_documents_are_refused(rt: HostRuntime) {
         ("} id {", (0, 0, 0)),
         ("{ id } x", (7, 0, 7)),
         ("{ id }\r\n{ id }", (8, 1, 0)),
-        ("{ id } ~", (7, 0, 7)),
         ("{ id } x ~", (7, 0, 7)),
+        ("{ id { ~", (5, 0, 5)),
     ];
     assert_eq!(rt;
         first_other(rt.alloc(), &ParseError::UnexpectedToken, rows.as_slice()),
@@ -77,6 +77,9 @@ fn broken_arguments_are_refused(rt: HostRuntime) {
         ("{ a(x: nul) }", (7, 0, 7)),
         ("{ a(x: $v) }", (7, 0, 7)),
         ("{ a(x: \"s\") }", (7, 0, 7)),
+        ("{ a(x: \"\") }", (7, 0, 7)),
+        ("{ a(x: \"\" \"\") }", (7, 0, 7)),
+        ("{ \"a\" }", (2, 0, 2)),
         ("{ a(x: [1]) }", (7, 0, 7)),
         ("{ a(x: {}) }", (7, 0, 7)),
         ("{ a: }", (5, 0, 5)),
@@ -113,24 +116,66 @@ fn broken_directives_are_refused(rt: HostRuntime) {
     );
 }
 
-// The first fault in reading order counts.
 #[test]
 fn characters_that_begin_no_token_are_refused(rt: HostRuntime) {
     let rows = [
+        ("{ id } ~", (7, 0, 7)),
         ("{ id \0 }", (5, 0, 5)),
         ("{ id ? }", (5, 0, 5)),
         ("{ .. }", (2, 0, 2)),
         ("{ \u{1F600}~ }", (2, 0, 2)),
         ("{ id\u{A0}~ { }", (4, 0, 4)),
-        ("{ id { ~", (5, 0, 5)),
         ("{\n id # a\u{1F600}b\u{1}c\n ~ }", (14, 1, 9)),
         ("\u{FEFE}{ id }", (0, 0, 0)),
         ("\u{FEFF}\u{FEFF}\u{7}", (6, 0, 2)),
+        // inside of a string, which is told where it begins
+        ("{ a(x: \"\0\") }", (7, 0, 7)),
+        ("{ a(x: \"s\u{1F}\") }", (7, 0, 7)),
+    ];
+    let kind = ParseError::LexerError(LexerError::UnknownCharacter);
+    assert_eq!(rt; first_other(rt.alloc(), &kind, rows.as_slice()), None);
+}
+
+#[test]
+fn strings_without_an_end_are_refused(rt: HostRuntime) {
+    let rows = [
+        ("\"", (0, 0, 0)),
+        ("{ a(x: \"s", (7, 0, 7)),
+        ("{ a(x: \"s\n\") }", (7, 0, 7)),
+        ("{ a(x: \"s\r\n\") }", (7, 0, 7)),
+        ("{ a(x: \"\\\") }", (7, 0, 7)),
+        ("{\n a(x: \"\\u12", (8, 1, 6)),
+    ];
+    let kind = ParseError::LexerError(LexerError::UnterminatedString);
+    assert_eq!(rt; first_other(rt.alloc(), &kind, rows.as_slice()), None);
+}
+
+#[test]
+fn strings_in_three_quotes_are_refused(rt: HostRuntime) {
+    let rows = [
+        ("{ a(x: \"\"\"b\"\"\") }", (7, 0, 7)),
+        ("\"\"\"", (0, 0, 0)),
+        ("{ \"\"\"\" }", (2, 0, 2)),
     ];
     assert_eq!(rt;
-        first_other(rt.alloc(), &ParseError::UnexpectedToken, rows.as_slice()),
+        first_other(rt.alloc(), &ParseError::BlockString, rows.as_slice()),
         None
     );
+}
+
+#[test]
+fn unknown_escapes_are_refused(rt: HostRuntime) -> Result<(), Fail> {
+    let rows = [
+        ("{ a(x: \"\\q\") }", "\\q"),
+        ("{ a(x: \"s\\u+123\") }", "\\u+123"),
+        ("{ a(x: \"\\uD800\") }", "\\uD800"),
+    ];
+    for (text, escape) in rows {
+        let written = String::from_str(rt.alloc(), escape)?;
+        let kind = ParseError::LexerError(LexerError::UnknownEscapeSequence(written));
+        assert!(rt; refuses(rt.alloc(), text, &kind, (7, 0, 7)), "{text}");
+    }
+    Ok(())
 }
 
 #[test]

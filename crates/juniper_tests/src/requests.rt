@@ -154,7 +154,7 @@ fn r1_rows(rt: HostRuntime) -> Result<(), Fail> {
         ("{ id } x", None, "Unexpected token@7"),
         ("{ id @skip }", None, "Unexpected token@11"),
         ("{ id @skip(if: 1) }", None, "Unexpected token@15"),
-        ("{ id \0 }", None, "Unexpected token@5"),
+        ("{ id \0 }", None, "Unknown character@5"),
     ];
     assert_eq!(rt;
         first_wrong::<DefaultScalarValue>(alloc, rows.as_slice())?.as_str(),
