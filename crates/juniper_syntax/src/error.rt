@@ -12,15 +12,14 @@ use std::fmt;
 /// What no token begins with, or goes on with (section 2.1 of the Specification).
 ///
 /// Shown as `Unknown escape sequence "\x" in string`, `Unterminated string literal`, `Unknown character` and
-/// `Invalid number literal`. Only [`InvalidNumber`](LexerError::InvalidNumber) is made yet: until strings are read, what
-/// the others are of is refused as [`ParseError::UnexpectedToken`].
+/// `Invalid number literal`.
 #[derive(Debug, Drop, Eq, PartialEq)]
 pub enum LexerError {
     /// A backslash in a string, and what follows it, which stand for no character (2.9.4).
     UnknownEscapeSequence(String),
     /// A string that no quote ends on its line (2.9.4).
     UnterminatedString,
-    /// A character that begins no token (2.1.6).
+    /// A character that begins no token (2.1.6), or a control character in a string (2.9.4).
     UnknownCharacter,
     /// A number without digits, with a zero too many, or with a letter or `_` right behind it (2.9.1).
     InvalidNumber,
@@ -65,19 +64,18 @@ impl Error for LexerError {}
 
 /// Why a text is no document that is served.
 ///
-/// [`BlockString`](ParseError::BlockString) and [`TooDeep`](ParseError::TooDeep) are not made yet: they come with strings
-/// and nested brackets.
+/// [`TooDeep`](ParseError::TooDeep) is not made yet: it comes with nested brackets.
 #[derive(Debug, Drop, Eq, PartialEq)]
 pub enum ParseError {
-    /// What stands there is no token: a number that is none. Shown as the text of the [`LexerError`].
+    /// What stands there is no token. Shown as the text of the [`LexerError`].
     LexerError(LexerError),
-    /// A token that may not stand there, or a character that begins none. Shown as `Unexpected token`.
+    /// A token that may not stand there. Shown as `Unexpected token`.
     UnexpectedToken,
     /// The text ends before the document does. Shown as `Unexpected end of input`.
     UnexpectedEndOfFile,
     /// An Int with `.`, `e` or `E` right behind it, as in a float (2.9.2). Shown as `Float literals are not supported`.
     FloatLiteral,
-    /// A string in three quotes (2.9.4). Shown as `Block strings are not supported`. Not made yet.
+    /// A string in three quotes (2.9.4). Shown as `Block strings are not supported`.
     BlockString,
     /// More than 256 open brackets. Shown as `Brackets are nested too deeply`. Not made yet.
     TooDeep,
