@@ -180,9 +180,13 @@ abbrev pub selections_of : List Node → Selections
 selections_of [] = end
 selections_of (x ∷ xs) = put x (selections_of xs)
 
+-- a name behind its alias, from the colon on
+abbrev pub behind_alias : Word → Reader (Option Word × Word)
+behind_alias x = next >>= (λ u. a_name >>= (λ y. pure (Some x, y)))
+
 -- a name, and the alias before it
 unfoldable pub label : Reader (Option Word × Word)
-label = a_name >>= (λ x s. cond (sees 58 s) ((next >>= (λ u. a_name >>= (λ y. pure (Some x, y)))) s) (pure (None, x) s))
+label = a_name >>= (λ x s. cond (sees 58 s) (behind_alias x s) (pure (None, x) s))
 
 abbrev pub head_of : Option Word × Word → Arguments → List Directive → Span → Head
 head_of l as' ds place = record { alias = l.0; name = l.1; arguments = as'; directives = ds; has_set = false; span = place }

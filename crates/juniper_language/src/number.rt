@@ -113,7 +113,7 @@ pub fn starts_int(b: u8) -> bool
 }
 
 /// What is wrong with the number at the front, which is no Int: after an Int `.`, `e` and `E` go on as a float (2.9.2).
-pub fn number_fault<'a>(text: &[u8]) -> Fault<'a> {
+pub fn number_fault(text: &[u8]) -> Fault<'_> {
     let (number, rest) = text.split_at(number_len(text));
     match rest {
         [b'.' | b'e' | b'E', ..] if is_int(number) => Fault::Float,

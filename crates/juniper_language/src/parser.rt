@@ -256,18 +256,29 @@ fn directives<'a, S: ScalarValue>(
     Ok(Some(found))
 }
 
+/// The name behind an alias and its colon (2.7).
+fn aliased<'a>(
+    alias: Word<'a>,
+    parser: &mut Parser<'_, 'a>,
+) -> ParseResult<(Option<Word<'a>>, Word<'a>)>
+    ensures { Gives view_label result parser.new (read.behind_alias (view_word alias.entry) parser.old) }
+{
+    parser.next()?;
+    let name = parser.name()?;
+    Ok((Some(alias), name))
+}
+
 /// A field's name, and its alias before it (2.7).
 #[tactic(auto, unfolding(crate::specs::Reading::label))]
 fn label<'a>(parser: &mut Parser<'_, 'a>) -> ParseResult<(Option<Word<'a>>, Word<'a>)>
     ensures { Gives view_label result parser.new (read.label parser.old) }
 {
     let first = parser.name()?;
-    if !parser.sees(b':') {
-        return Ok((None, first));
+    if parser.sees(b':') {
+        aliased(first, parser)
+    } else {
+        Ok((None, first))
     }
-    parser.next()?;
-    let second = parser.name()?;
-    Ok((Some(first), second))
 }
 
 /// A field (2.5).

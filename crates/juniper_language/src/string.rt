@@ -1,6 +1,7 @@
 //! Strings (section 2.9.4 of the Specification).
 
-ghost use Rattle.std.specs.Prelude.{◌≡◌, ◌≢◌, ◌++◌, ◌≤◌, ◌<◌, drop, length, IfSome, OnSome, OnOk, MatchOption, MatchResult, option_map, Some, None, true};
+ghost use Rattle.std.specs.Prelude.{◌≡◌, ◌≢◌, ◌++◌, ◌≤◌, ◌<◌, drop, length, IfSome, OnSome, OnOk, MatchResult, option_map, not, Some, None};
+ghost use Rattle.std.specs.Char as char;
 ghost use Rattle.std.specs.Char.{encode_utf8};
 ghost use Rattle.std.specs.List.{prefix_len};
 ghost use Rattle.std.specs.String.{string_bytes};
@@ -214,13 +215,17 @@ pub fn string_fault(text: &str) -> Fault<'_> {
 
 /// How many hex digits stand at the front.
 fn hex_digits_len(text: &[u8]) -> usize
-    ensures { result ≤ length text.now }
+    ensures length { result ≤ length text.now }
+    ensures run { result ≡ prefix_len char.is_ascii_hexdigit text.now }
 {
     text.iter().take_while(|b| b.is_ascii_hexdigit()).count()
 }
 
 /// Whether the text or its line ends here.
-fn ends_line(text: &[u8]) -> bool {
+#[tactic(auto, unfolding(graphql_spec::specs::Tokens::ends_before, graphql_spec::specs::Tokens::is_line_end))]
+fn ends_line(text: &[u8]) -> bool
+    ensures { result ≡ tokens.ends_before (λ b. not (tokens.is_line_end b)) text.now }
+{
     matches!(text, [] | [b'\n' | b'\r', ..])
 }
 
