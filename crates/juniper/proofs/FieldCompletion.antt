@@ -1,12 +1,11 @@
 -- A field that was resolved is completed.
-use Rattle.std.proofs.Common.{◌≡◌, Bool, false, Option, Some, bytes_eq, refl, sym, subst}
+use Rattle.std.proofs.Common.{◌≡◌, Bool, Option, Some, sym, subst}
 use Rattle.graphql_spec.specs.Shown.{Name}
 use Rattle.graphql_spec.specs.Values.{Value, null}
 use Rattle.graphql_spec.specs.Types.{named, required, innermost}
 use Rattle.graphql_spec.specs.Documents.{Head}
 use Rattle.graphql_spec.specs.Schema.{Schema}
-use Rattle.graphql_spec.specs.Fields.{entry_named, leaf_accepts, typename}
-use Rattle.graphql_spec.specs.Constants.{Members}
+use Rattle.graphql_spec.specs.Fields.{entry_named, leaf_accepts}
 use Rattle.graphql_spec.specs.Resolvers.{World, Tree, answered, failed, Error}
 use Rattle.graphql_spec.specs.Execution.{reply_to}
 use Rattle.juniper.specs.Walking.{IsLeaf, IsCompleted, type_at, reply_value, reply_fault, leaf_value, leaf_fault}
@@ -25,8 +24,3 @@ module _ {N : Type 0} (s : Schema) (W : World N) (m : N) (h : Head) (n : Name) (
   pub completed-error : (e : Error) (v : Value) (o : Option Error) (p : Bool) → reply_to W s.query m h ≡ failed e → v ≡ null → o ≡ Some e → p ≡ q → IsCompleted s W m h v o p
   unfolding reply_value reply_fault innermost required
   completed-error e v o p r a b same = record { value = rw r a; fault = rw r b; non_null = rw at same }
-
--- a field other than `__typename` is asked of the resolver
-pub asked : {N : Type 0} (W : World N) (T : Name) (m : N) (h : Head) (given : Members) → bytes_eq h.name.item typename ≡ false → W.arguments T h ≡ given → reply_to W T m h ≡ W.answer m h.name.item given
-unfolding reply_to
-asked W T m h given other same = rw (other, same) refl

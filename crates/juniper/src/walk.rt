@@ -6,6 +6,8 @@ ghost use Rattle.std.specs.List.{list_all};
 ghost use Rattle.graphql_spec.specs.Values.{is_null, null};
 ghost use Rattle.graphql_spec.specs.Fields.{entry_named, leaf_accepts};
 ghost use Rattle.graphql_spec.specs.Execution.{reply_to};
+ghost use Rattle.graphql_spec.specs.Resolvers.{answered, leaf};
+ghost use Rattle.graphql_spec.specs.Shown.{text};
 ghost use Rattle.graphql_spec.specs.Laws.{Agree};
 ghost use Rattle.juniper_syntax.specs.InputView.{view_variables};
 ghost use Rattle.juniper_syntax.specs.ValueView.{view_value, view_object};
@@ -96,7 +98,34 @@ fn failed<S: ScalarValue>(
     })
 }
 
-/// What a field of a node answers; `__typename` is answered by the name of the query type (ResolveFieldValue, 6.4.2).
+/// What `__typename` answers: the name of the query type (4.1).
+fn type_name<Q: GraphQLValue<S>, S: ScalarValue>(
+    walk: &Walk<'_, Q, S>,
+) -> Result<Resolved<Q::Node, S>, ResolveError<S>>
+    ensures { Answers S.shown result (answered (leaf (text (view_schema S.shown walk.now.schema.now).query))) }
+{
+    let name = String::from_str(walk.alloc, walk.schema.query_name())?;
+    Ok(Resolved::Scalar(S::from_text(name)?))
+}
+
+/// What the resolver answers to a field of a node (ResolveFieldValue, 6.4.2).
+fn ask<Q: GraphQLValue<S>, S: ScalarValue>(
+    walk: &Walk<'_, Q, S>,
+    node: &Q::Node,
+    field: &Spanning<Field<'_, S>, Span>,
+) -> Result<Resolved<Q::Node, S>, ResolveError<S>>
+    requires { IsTrue (is_served_head (view_schema S.shown walk.now.schema.now) (view_occurrence S.shown field.now).head) }
+    ensures { Answers S.shown result ((world_in Q.concrete Q.answer walk.now.resolver.now walk.now.info.now walk.now.context.now (view_schema S.shown walk.now.schema.now) (view_variables S.shown walk.now.variables.now)).answer node.now (view_occurrence S.shown field.now).head.name.item ((world_in Q.concrete Q.answer walk.now.resolver.now walk.now.info.now walk.now.context.now (view_schema S.shown walk.now.schema.now) (view_variables S.shown walk.now.variables.now)).arguments (view_schema S.shown walk.now.schema.now).query (view_occurrence S.shown field.now).head)) }
+{
+    let name = field.item.name.item;
+    let declared = walk.schema.declared_arguments(name);
+    let arguments = coerce_arguments(walk.alloc, declared, field, walk.variables)?;
+    let executor = Executor::at_field(walk.context, field);
+    walk.resolver
+        .resolve_field(walk.alloc, walk.info, node, name, &arguments, &executor)
+}
+
+/// What a field of a node answers (6.4.2).
 #[tactic(auto, unfolding(graphql_spec::specs::Execution::reply_to))]
 fn reply<Q: GraphQLValue<S>, S: ScalarValue>(
     walk: &Walk<'_, Q, S>,
@@ -106,16 +135,11 @@ fn reply<Q: GraphQLValue<S>, S: ScalarValue>(
     requires { IsTrue (is_served_head (view_schema S.shown walk.now.schema.now) (view_occurrence S.shown field.now).head) }
     ensures { Answers S.shown result (reply_to (world_in Q.concrete Q.answer walk.now.resolver.now walk.now.info.now walk.now.context.now (view_schema S.shown walk.now.schema.now) (view_variables S.shown walk.now.variables.now)) (view_schema S.shown walk.now.schema.now).query node.now (view_occurrence S.shown field.now).head) }
 {
-    let name = field.item.name.item;
-    if name == "__typename" {
-        let type_name = String::from_str(walk.alloc, walk.schema.query_name())?;
-        return Ok(Resolved::Scalar(S::from_text(type_name)?));
+    if field.item.name.item == "__typename" {
+        type_name(walk)
+    } else {
+        ask(walk, node, field)
     }
-    let declared = walk.schema.declared_arguments(name);
-    let arguments = coerce_arguments(walk.alloc, declared, field, walk.variables)?;
-    let executor = Executor::at_field(walk.context, field);
-    walk.resolver
-        .resolve_field(walk.alloc, walk.info, node, name, &arguments, &executor)
 }
 
 /// A field of a node, resolved and completed.
