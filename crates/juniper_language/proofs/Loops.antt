@@ -1,29 +1,11 @@
--- Steps of the parser's loops, and views of what they make.
-use Rattle.std.proofs.Common.{◌≡◌, ℕ, zero, suc, ◌+◌, ◌-◌, ◌<◌, ◌≤◌, Bool, true, false, ℤ, List, [], ◌∷◌, ◌++◌, map, Vec, Global, Bor, Option, Some, None, option_map, refl, ap, sym, ◌∙◌, arith, append_assoc, append-nil}
-use Rattle.graphql_spec.specs.Shown.{Shown, int, boolean}
-use Rattle.graphql_spec.specs.Inputs as spec
+-- Steps of the parser's loops.
+use Rattle.std.proofs.Common.{◌≡◌, ◌≢◌, ℕ, zero, suc, ◌+◌, ◌-◌, ◌<◌, ◌≤◌, Bool, true, false, List, [], ◌∷◌, ◌++◌, map, length, Option, Some, None, refl, ap, sym, ◌∙◌, arith, append_assoc, append-nil}
 use Rattle.graphql_spec.specs.Tokens.{Token}
-use Rattle.graphql_spec.specs.Documents.{Selections, end}
-use Rattle.graphql_spec.specs.Grammar.{At}
-use Rattle.juniper_syntax.specs.InputView.{view_input}
-use Rattle.juniper_syntax.specs.Positions.{view_span}
-use Rattle.juniper_syntax.specs.DocumentView.{put_selection, view_word, view_arguments, view_directives, chain}
-use Rattle.juniper_language.specs.Reading.{Reader, Outcome, and_then, pure, next, sees, while_sees, until, prepend, put_first, placed, ◌>>=◌, Node, field_node, put, selections_of, selection, head_of}
-use Rattle.juniper_syntax.specs.declared.input.InputValue.{Scalar}
-use Rattle.juniper_syntax.specs.declared.position.Spanning.{Spanning}
-use Rattle.juniper_syntax.specs.declared.position.Span.{Span}
-use Rattle.juniper_syntax.specs.declared.ast.Arguments.{Arguments}
-use Rattle.juniper_syntax.specs.declared.ast.Directive.{Directive}
-use Rattle.juniper_syntax.specs.declared.ast.Field.{roll-Field}
-use Rattle.juniper_syntax.specs.declared.ast.Selection.{Field}
-use Rattle.juniper_syntax.proofs.Inputs.{view-Scalar}
-use Rattle.juniper_syntax.proofs.Documents.{put-Field}
-
-pub view_truth : {S : Type 0} (shown : S → Shown) (x : S) (b : Bool) → shown x ≡ boolean b → view_input shown (Scalar x) ≡ spec.scalar (boolean b)
-view_truth shown x b e = view-Scalar shown x ∙ ap spec.scalar e
-
-pub view_int : {S : Type 0} (shown : S → Shown) (x : S) (i : ℤ) → shown x ≡ int i → view_input shown (Scalar x) ≡ spec.scalar (int i)
-view_int shown x i e = view-Scalar shown x ∙ ap spec.scalar e
+use Rattle.graphql_spec.specs.Documents.{Selections, end, Definition}
+use Rattle.graphql_spec.specs.Grammar.{At, most_brackets}
+use Rattle.juniper_syntax.specs.DocumentView.{chain}
+use Rattle.juniper_language.specs.Readers.{Reader, Outcome, and_then, pure, next, sees, while_sees, until, prepend, ◌>>=◌}
+use Rattle.juniper_language.specs.Reading.{put_first, placed, Node, put, selections_of, definition, definitions, if_none_left}
 
 pub prepend_nil : {A : Type 0} (o : Outcome (List A)) → prepend [] o ≡ o
 prepend_nil None = refl
@@ -44,21 +26,21 @@ prepend_cons : {A : Type 0} (front : List A) (x : A) (o : Outcome (List A)) → 
 prepend_cons front x None = refl
 prepend_cons front x (Some p) = ap (λ v. Some (v, p.1)) (sym (append_assoc front (x ∷ []) p.0))
 
+-- one more part, and what a reader reads behind it
+abbrev pub behind : {A : Type 0} → Reader (List A) → List A → Outcome A → Outcome (List A)
+behind r front (Some q) = prepend (front ++ q.0 ∷ []) (r q.1)
+behind r front None = None
+
+behind_from : {A : Type 0} (r : Reader (List A)) (front : List A) (o : Outcome A) → prepend front (and_then o (λ x. r >>= (λ xs. pure (x ∷ xs)))) ≡ behind r front o
+behind_from r front None = refl
+behind_from r front (Some q) = prepend_cons front q.0 (r q.1)
+
 -- ---- parts as long as a mark is seen
 
-abbrev pub behind_one : {A : Type 0} → ℕ → Reader A → ℕ → List A → Outcome A → Outcome (List A)
-behind_one m p k front (Some q) = prepend (front ++ q.0 ∷ []) (while_sees m p k q.1)
-behind_one m p k front None = None
-
-one_from : {A : Type 0} (m : ℕ) (p : Reader A) (k : ℕ) (front : List A) (o : Outcome A)
-    → prepend front (and_then o (λ x. while_sees m p k >>= (λ xs. pure (x ∷ xs)))) ≡ behind_one m p k front o
-one_from m p k front None = refl
-one_from m p k front (Some q) = prepend_cons front q.0 (while_sees m p k q.1)
-
 pub while_more : {A : Type 0} (m : ℕ) (p : Reader A) (e i : ℕ) (front : List A) (s : At) → i < e → sees m s ≡ true
-    → prepend front (while_sees m p (e - i) s) ≡ behind_one m p (e - (i + 1)) front (p s)
+    → prepend front (while_sees m p (e - i) s) ≡ behind (while_sees m p (e - (i + 1))) front (p s)
 unfolding while_sees
-while_more m p e i front s below seen = rw (left_suc e i below, seen) (one_from m p (e - (i + 1)) front (p s))
+while_more m p e i front s below seen = rw (left_suc e i below, seen) (behind_from (while_sees m p (e - (i + 1))) front (p s))
 
 pub while_done : {A : Type 0} (m : ℕ) (p : Reader A) (e i : ℕ) (front : List A) (s : At) → i < e → sees m s ≡ false
     → prepend front (while_sees m p (e - i) s) ≡ Some (front, s)
@@ -74,16 +56,13 @@ unfolding while_sees
 while_none m p zero s other = refl
 while_none m p (suc k) s other = rw other refl
 
+-- one more part that begins with the mark
+pub part_after : {A : Type 0} (m : ℕ) (p : Reader A) (e i : ℕ) (front more : List A) (x : A) (s t : At) (o : Outcome (List A)) → i < e → true ≡ sees m s → p s ≡ Some (x, t)
+    → more ≡ front ++ x ∷ [] → prepend front (while_sees m p (e - i) s) ≡ o → prepend more (while_sees m p (e - (i + 1)) t) ≡ o
+part_after m p e i front more x s t o below seen one is kept =
+    ap (λ xs. prepend xs (while_sees m p (e - (i + 1)) t)) is ∙ sym (while_more m p e i front s below (sym seen) ∙ ap (behind (while_sees m p (e - (i + 1))) front) one) ∙ kept
+
 -- ---- parts up to a closing mark
-
-abbrev pub behind_part : {A : Type 0} → ℕ → Reader A → ℕ → List A → Outcome A → Outcome (List A)
-behind_part m p k front (Some q) = prepend (front ++ q.0 ∷ []) (until m p k q.1)
-behind_part m p k front None = None
-
-part_from : {A : Type 0} (m : ℕ) (p : Reader A) (k : ℕ) (front : List A) (o : Outcome A)
-    → prepend front (and_then o (λ x. until m p k >>= (λ xs. pure (x ∷ xs)))) ≡ behind_part m p k front o
-part_from m p k front None = refl
-part_from m p k front (Some q) = prepend_cons front q.0 (until m p k q.1)
 
 abbrev pub at_close : {A : Type 0} → List A → Outcome Token → Outcome (List A)
 at_close front (Some q) = Some (front, q.1)
@@ -94,9 +73,9 @@ close_from front None = refl
 close_from front (Some q) = ap (λ v. Some (v, q.1)) (append-nil front)
 
 pub parts_more : {A : Type 0} (m : ℕ) (p : Reader A) (e i : ℕ) (front : List A) (s : At) → i < e → sees m s ≡ false
-    → prepend front (until m p (e - i) s) ≡ behind_part m p (e - (i + 1)) front (p s)
+    → prepend front (until m p (e - i) s) ≡ behind (until m p (e - (i + 1))) front (p s)
 unfolding until
-parts_more m p e i front s below other = rw (left_suc e i below, other) (part_from m p (e - (i + 1)) front (p s))
+parts_more m p e i front s below other = rw (left_suc e i below, other) (behind_from (until m p (e - (i + 1))) front (p s))
 
 pub parts_end : {A : Type 0} (m : ℕ) (p : Reader A) (e i : ℕ) (front : List A) (s : At) → i < e → sees m s ≡ true → prepend front (until m p (e - i) s) ≡ at_close front (next s)
 unfolding until
@@ -110,22 +89,48 @@ parts_none m p e i front s past = let z : e - i ≡ 0 = omega arith in rw z refl
 pub part_on : {A : Type 0} (m : ℕ) (p : Reader A) (e i : ℕ) (front more : List A) (x : A) (s t : At) (o : Outcome (List A)) → i < e → false ≡ sees m s → p s ≡ Some (x, t)
     → more ≡ front ++ x ∷ [] → prepend front (until m p (e - i) s) ≡ o → prepend more (until m p (e - (i + 1)) t) ≡ o
 part_on m p e i front more x s t o below other one is kept =
-    ap (λ xs. prepend xs (until m p (e - (i + 1)) t)) is ∙ sym (parts_more m p e i front s below (sym other) ∙ ap (behind_part m p (e - (i + 1)) front) one) ∙ kept
+    ap (λ xs. prepend xs (until m p (e - (i + 1)) t)) is ∙ sym (parts_more m p e i front s below (sym other) ∙ ap (behind (until m p (e - (i + 1))) front) one) ∙ kept
 
--- one more part that begins with the mark
-pub part_after : {A : Type 0} (m : ℕ) (p : Reader A) (e i : ℕ) (front more : List A) (x : A) (s t : At) (o : Outcome (List A)) → i < e → true ≡ sees m s → p s ≡ Some (x, t)
-    → more ≡ front ++ x ∷ [] → prepend front (while_sees m p (e - i) s) ≡ o → prepend more (while_sees m p (e - (i + 1)) t) ≡ o
-part_after m p e i front more x s t o below seen one is kept =
-    ap (λ xs. prepend xs (while_sees m p (e - (i + 1)) t)) is ∙ sym (while_more m p e i front s below (sym seen) ∙ ap (behind_one m p (e - (i + 1)) front) one) ∙ kept
+-- ---- definitions up to the last token
+
+pub none_ahead : {A : Type 0} (ts : List Token) (x y : Outcome A) → length ts ≡ 0 → if_none_left ts x y ≡ x
+none_ahead [] x y none = refl
+none_ahead (c ∷ ts) x y none = absurd (omega (arith, none))
+
+pub some_ahead : {A : Type 0} (ts : List Token) (x y : Outcome A) → length ts ≢ 0 → if_none_left ts x y ≡ y
+some_ahead [] x y some = absurd (some refl)
+some_ahead (c ∷ ts) x y some = refl
+
+pub definitions_more : (e i : ℕ) (front : List Definition) (s : At) → i < e → length s.ahead ≢ 0
+    → prepend front (definitions (e - i) s) ≡ behind (definitions (e - (i + 1))) front (definition most_brackets s)
+unfolding definitions
+definitions_more e i front s below some =
+    rw (left_suc e i below, some_ahead {A = List Definition} s.ahead (pure [] s) ((definition most_brackets >>= (λ x. definitions (e - (i + 1)) >>= (λ xs. pure (x ∷ xs)))) s) some)
+    (behind_from (definitions (e - (i + 1))) front (definition most_brackets s))
+
+pub definitions_done : (k : ℕ) (front : List Definition) (s : At) → length s.ahead ≡ 0 → prepend front (definitions k s) ≡ Some (front, s)
+unfolding definitions
+definitions_done zero front s none = ap (prepend front) (none_ahead {A = List Definition} s.ahead (pure [] s) None none) ∙ ap (λ v. Some (v, s)) (append-nil front)
+definitions_done (suc k) front s none = ap (prepend front) (none_ahead {A = List Definition} s.ahead (pure [] s) _ none) ∙ ap (λ v. Some (v, s)) (append-nil front)
+
+pub definitions_none : (front : List Definition) (s : At) → length s.ahead ≢ 0 → prepend front (definitions zero s) ≡ None
+unfolding definitions
+definitions_none front s some = ap (prepend front) (some_ahead {A = List Definition} s.ahead (pure [] s) None some)
+
+-- one more definition, behind those that are found
+pub definition_on : (e i : ℕ) (front more : List Definition) (x : Definition) (s t : At) (o : Outcome (List Definition)) → i < e → length s.ahead ≢ 0 → definition most_brackets s ≡ Some (x, t)
+    → more ≡ front ++ x ∷ [] → prepend front (definitions (e - i) s) ≡ o → prepend more (definitions (e - (i + 1)) t) ≡ o
+definition_on e i front more x s t o below some one is kept =
+    ap (λ xs. prepend xs (definitions (e - (i + 1)) t)) is ∙ sym (definitions_more e i front s below some ∙ ap (behind (definitions (e - (i + 1))) front) one) ∙ kept
 
 -- ---- selections up to the closing brace
 
 abbrev pub Putting : Type 0
 Putting = Selections → Selections
 
-abbrev pub behind_node : ℕ → ℕ → Putting → Outcome Putting → Outcome Selections
-behind_node m k front (Some q) = put_first (λ r. front (q.0 r)) (until m selection k q.1)
-behind_node m k front None = None
+abbrev pub behind_node : ℕ → Reader Node → ℕ → Putting → Outcome Putting → Outcome Selections
+behind_node m p k front (Some q) = put_first (λ r. front (q.0 r)) (until m p k q.1)
+behind_node m p k front None = None
 
 abbrev pub at_mark : Putting → Outcome Token → Outcome Selections
 at_mark front (Some q) = Some (front end, q.1)
@@ -135,27 +140,27 @@ put_cons : (front : Putting) (x : Node) (o : Outcome (List Node)) → put_first 
 put_cons front x None = refl
 put_cons front x (Some p) = refl
 
-node_from : (m k : ℕ) (front : Putting) (o : Outcome Node)
-    → put_first front (and_then o (λ x. until m selection k >>= (λ xs. pure (x ∷ xs)))) ≡ behind_node m k front (and_then o (λ x. pure (put x)))
-node_from m k front None = refl
-node_from m k front (Some q) = put_cons front q.0 (until m selection k q.1)
+node_from : (m : ℕ) (p : Reader Node) (k : ℕ) (front : Putting) (o : Outcome Node)
+    → put_first front (and_then o (λ x. until m p k >>= (λ xs. pure (x ∷ xs)))) ≡ behind_node m p k front (and_then o (λ x. pure (put x)))
+node_from m p k front None = refl
+node_from m p k front (Some q) = put_cons front q.0 (until m p k q.1)
 
 mark_from : (front : Putting) (o : Outcome Token) → put_first front (and_then o (λ t. pure [])) ≡ at_mark front o
 mark_from front None = refl
 mark_from front (Some q) = refl
 
-pub until_more : (m e i : ℕ) (front : Putting) (s : At) → i < e → sees m s ≡ false
-    → put_first front (until m selection (e - i) s) ≡ behind_node m (e - (i + 1)) front (placed s)
+pub until_more : (m : ℕ) (p : Reader Node) (e i : ℕ) (front : Putting) (s : At) → i < e → sees m s ≡ false
+    → put_first front (until m p (e - i) s) ≡ behind_node m p (e - (i + 1)) front (placed p s)
 unfolding until
-until_more m e i front s below other = rw (left_suc e i below, other) (node_from m (e - (i + 1)) front (selection s))
+until_more m p e i front s below other = rw (left_suc e i below, other) (node_from m p (e - (i + 1)) front (p s))
 
-pub until_end : (m e i : ℕ) (front : Putting) (s : At) → i < e → sees m s ≡ true → put_first front (until m selection (e - i) s) ≡ at_mark front (next s)
+pub until_end : (m : ℕ) (p : Reader Node) (e i : ℕ) (front : Putting) (s : At) → i < e → sees m s ≡ true → put_first front (until m p (e - i) s) ≡ at_mark front (next s)
 unfolding until
-until_end m e i front s below close = rw (left_suc e i below, close) (mark_from front (next s))
+until_end m p e i front s below close = rw (left_suc e i below, close) (mark_from front (next s))
 
-pub until_none : (m e i : ℕ) (front : Putting) (s : At) → e ≤ i → put_first front (until m selection (e - i) s) ≡ None
+pub until_none : (m : ℕ) (p : Reader Node) (e i : ℕ) (front : Putting) (s : At) → e ≤ i → put_first front (until m p (e - i) s) ≡ None
 unfolding until
-until_none m e i front s past = let z : e - i ≡ 0 = omega arith in rw z refl
+until_none m p e i front s past = let z : e - i ≡ 0 = omega arith in rw z refl
 
 pub put_none : (o : Outcome (List Node)) → put_first (chain []) o ≡ and_then o (λ xs. pure (selections_of xs))
 put_none None = refl
@@ -166,16 +171,8 @@ chain_push [] f = refl
 chain_push (g ∷ fs) f = ap {B = Putting} (λ (h : Putting). λ r. g (h r)) (chain_push fs f)
 
 -- one more selection, put behind those that are found
-pub turn_on : (m e i : ℕ) (fs gs : List Putting) (f : Putting) (s t : At) (o : Outcome Selections) → i < e → false ≡ sees m s → placed s ≡ Some (f, t) → gs ≡ fs ++ f ∷ []
-    → put_first (chain fs) (until m selection (e - i) s) ≡ o → put_first (chain gs) (until m selection (e - (i + 1)) t) ≡ o
-turn_on m e i fs gs f s t o below other one is kept =
+pub turn_on : (m : ℕ) (p : Reader Node) (e i : ℕ) (fs gs : List Putting) (f : Putting) (s t : At) (o : Outcome Selections) → i < e → false ≡ sees m s → placed p s ≡ Some (f, t) → gs ≡ fs ++ f ∷ []
+    → put_first (chain fs) (until m p (e - i) s) ≡ o → put_first (chain gs) (until m p (e - (i + 1)) t) ≡ o
+turn_on m p e i fs gs f s t o below other one is kept =
     let more : chain gs ≡ (λ r. chain fs (f r)) = ap chain is ∙ chain_push fs f in
-    ap (λ (g : Putting). put_first g (until m selection (e - (i + 1)) t)) more ∙ sym (until_more m e i (chain fs) s below (sym other) ∙ ap (behind_node m (e - (i + 1)) (chain fs)) one) ∙ kept
-
--- a field without selections
-pub view_of_field : {S : Type 0} (shown : S → Shown) (alias : Option (Spanning (Bor (List ℕ)) Span)) (name : Spanning (Bor (List ℕ)) Span)
-    (as' : Option (Spanning (Arguments S) Span)) (ds : Option (Vec (Spanning (Directive S) Span) Global)) (sp : Span)
-    → ◌≡◌ {A = Putting} (put_selection shown (Field (record { item = roll-Field S (record { alias = alias; name = name; arguments = as'; directives = ds; selection_set = None }); span = sp })))
-    (put (field_node (head_of (option_map view_word alias, view_word name) (view_arguments shown as') (view_directives shown ds) (view_span sp)) end))
-view_of_field {S} shown alias name as' ds sp = λ i r.
-    put-Field shown (record { item = roll-Field S (record { alias = alias; name = name; arguments = as'; directives = ds; selection_set = None }); span = sp }) r i
+    ap (λ (g : Putting). put_first g (until m p (e - (i + 1)) t)) more ∙ sym (until_more m p e i (chain fs) s below (sym other) ∙ ap (behind_node m p (e - (i + 1)) (chain fs)) one) ∙ kept

@@ -8,7 +8,8 @@ use Rattle.graphql_spec.specs.Positions.{Position, Span, Spanned}
 use Rattle.graphql_spec.specs.Tokens.{Lexeme, mark, name, int, string, Token}
 use Rattle.graphql_spec.specs.Documents.{Word}
 use Rattle.graphql_spec.specs.Grammar.{At, Takes, Mark, IsWord, span_of, Many}
-use Rattle.juniper_language.specs.Reading.{Outcome, Reader, and_then, pure, refuse, next, next_from, is_mark_of, first_is, sees, expect, name_by, a_name, a_name_of, with_span, while_sees, until}
+use Rattle.juniper_language.specs.Readers.{Outcome, Reader, and_then, pure, refuse, next, next_from, is_mark_of, first_is, sees, expect, name_by, a_name, with_span, while_sees, until}
+
 
 -- what a reader of two steps read
 pub bind_some : {A B : Type 0} (o : Outcome A) (f : A → Reader B) (y : B × At) → and_then o f ≡ Some y → (p : A × At) × (o ≡ Some p) × (f p.0 p.1 ≡ Some y)
@@ -104,22 +105,6 @@ name_read x s t h = rw (takes_next (name x.item) x.span s t h) refl
 pub name_first : (m : ℕ) (x : Word) (s t : At) → IsWord x s t → sees m s ≡ false
 name_first m x s t h = rw h.token refl
 
-pub name_of_sound : (test : Name → Bool) (s t : At) (x : Word) → a_name_of test s ≡ Some (x, t) → IsWord x s t × (test x.item ≡ true)
-unfolding a_name_of
-name_of_sound test s t x e =
-    let q = bind_some (a_name s) _ (x, t) e in
-    elim (picked (test q.0.0.item) (pure q.0.0) refuse q.0.1 (x, t) q.2) [
-      | inl here ↦
-          let same = pure_some q.0.0 x q.0.1 t here.1 in
-          let word : IsWord x s t = subst (λ y. IsWord y s t) same.0 (subst (λ u. IsWord q.0.0 s u) same.1 (name_sound s q.0.1 q.0.0 q.1)) in
-          (word, ap (λ (y : Word). test y.item) (sym same.0) ∙ here.0)
-      | inr other ↦ absurd (none-some (x, t) other.1)
-    ]
-
-pub name_of_read : (test : Name → Bool) (x : Word) (s t : At) → IsWord x s t → test x.item ≡ true → a_name_of test s ≡ Some (x, t)
-unfolding a_name_of
-name_of_read test x s t h e = rw (name_read x s t h, e) refl
-
 -- ---- places
 
 pub spanned_is : {A : Type 0} (s : At) (o : Outcome A) (p : Spanned A × At) → with_span s o ≡ Some p → (o ≡ Some (p.0.item, p.1)) × (p.0.span ≡ span_of s p.1)
@@ -196,18 +181,6 @@ until_read m p (x ∷ xs) (suc k) s b t h last enough =
 pub many_map : {A : Type 0} (R Q : A → At → At → Type 0) → ((x : A) (s t : At) → R x s t → Q x s t) → (xs : List A) (s t : At) → Many R xs s t → Many Q xs s t
 many_map R Q f [] s t h = h
 many_map R Q f (x ∷ xs) s t h = (h.0, f x s h.0 h.1, many_map R Q f xs h.0 t h.2)
-
--- parts that pass a test
-abbrev pub Passing : {A : Type 0} → (A → At → At → Type 0) → (A → Bool) → A → At → At → Type 0
-Passing R p x s t = R x s t × (p x ≡ true)
-
-pub many_pass : {A : Type 0} (R : A → At → At → Type 0) (p : A → Bool) (xs : List A) (s t : At) → Many R xs s t → list_all p xs ≡ true → Many (Passing R p) xs s t
-many_pass R p [] s t h e = h
-many_pass R p (x ∷ xs) s t h e = let parts = and_parts (p x) (list_all p xs) e in (h.0, (h.1, parts.0), many_pass R p xs h.0 t h.2 parts.1)
-
-pub many_all : {A : Type 0} (R : A → At → At → Type 0) (p : A → Bool) (xs : List A) (s t : At) → Many (Passing R p) xs s t → Many R xs s t × (list_all p xs ≡ true)
-many_all R p [] s t h = (h, refl)
-many_all R p (x ∷ xs) s t h = let rest = many_all R p xs h.0 t h.2 in ((h.0, h.1.0, rest.0), and_from (p x) _ h.1.1 rest.1)
 
 pub many_fewer : {A : Type 0} (m : ℕ) (b : Bool) (p : Reader A) (xs : List A) (s t : At) → Many (IsPart m b p) xs s t → length t.ahead ≤ length s.ahead
 many_fewer m b p [] s t h = omega (arith, ap (λ (u : At). length u.ahead) h)

@@ -1,19 +1,23 @@
 //! Where a reader of tokens stands.
 
-ghost use Rattle.std.specs.Prelude.{◌≡◌, ◌≢◌, length, map, IfOk};
+ghost use Rattle.std.specs.Prelude.{◌≡◌, ◌≢◌, length, map, option_map, IfOk};
 ghost use Rattle.graphql_spec.specs.Grammar.{begin_of};
 ghost use Rattle.graphql_spec.specs.Served.{before_all};
 ghost use Rattle.juniper_syntax.specs.Positions.{view_position, view_span};
 ghost use Rattle.juniper_syntax.specs.DocumentView.{view_word};
-ghost use Rattle.juniper_language.specs.Reading as read;
-ghost use Rattle.juniper_language.specs.Reading.{Gives};
+ghost use Rattle.juniper_language.specs.Readers as read;
+ghost use Rattle.juniper_language.specs.Readers.{Gives};
+ghost use Rattle.juniper_language.specs.Reading as rule;
 ghost use Rattle.juniper_language.specs.TokenViews.{view_token};
-ghost use Rattle.juniper_syntax.specs.declared.error.ParseError.TheVariants.{Memory, UnexpectedToken};
+ghost use Rattle.juniper_syntax.specs.declared.error.ParseError.TheVariants.{Memory, TooDeep, UnexpectedToken};
 
 use crate::token::{Ending, Lexeme, Token};
 use juniper_syntax::{ParseError, SourcePosition, Span, Spanning};
 use std::alloc::{AllocError, Global};
 use std::marker::Model;
+
+/// A name of the text, and its place.
+pub type Word<'a> = Spanning<&'a str, Span>;
 
 /// What a reader answers, or why it refuses and where.
 pub type ParseResult<T> = Result<T, Spanning<ParseError, Span>>;
@@ -116,6 +120,19 @@ impl<'t, 'a> Parser<'t, 'a> {
         }
     }
 
+    /// The name that comes next, if one does.
+    pub fn word(&self) -> Option<&'a str>
+        ensures { option_map (λ w. w.now) result ≡ rule.first_word self.now.ahead }
+    {
+        match self.tokens {
+            [] => None,
+            [first, ..] => match first.lexeme {
+                Lexeme::Name(word) => Some(word),
+                Lexeme::Mark(_) | Lexeme::Int(_) | Lexeme::String(_) => None,
+            },
+        }
+    }
+
     /// Takes this punctuator.
     #[tactic(auto, unfolding(crate::specs::Reading::expect))]
     pub fn expect(&mut self, mark: u8) -> ParseResult<()>
@@ -136,7 +153,7 @@ impl<'t, 'a> Parser<'t, 'a> {
 
     /// Takes a name.
     #[tactic(auto, unfolding(crate::specs::Reading::a_name))]
-    pub fn name(&mut self) -> ParseResult<Spanning<&'a str, Span>>
+    pub fn name(&mut self) -> ParseResult<Word<'a>>
         ensures { Gives view_word result self.new (read.a_name self.old) }
     {
         let token = self.next()?;
@@ -153,4 +170,12 @@ pub fn refused(place: Span) -> Spanning<ParseError, Span>
     ensures place { result.span ≡ place }
 {
     Spanning::new(place, ParseError::UnexpectedToken)
+}
+
+/// The refusal of the bracket at the place, which is one too many.
+pub fn too_deep(place: Span) -> Spanning<ParseError, Span>
+    ensures kind { result.item ≡ TooDeep }
+    ensures place { result.span ≡ place }
+{
+    Spanning::new(place, ParseError::TooDeep)
 }

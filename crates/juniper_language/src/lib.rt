@@ -2,11 +2,16 @@
 #![tactic(auto)]
 
 mod cursor;
+mod definitions;
+mod directives;
 mod lexer;
 mod number;
 pub mod parser;
+mod references;
+mod selections;
 mod string;
 mod token;
+mod values;
 
 pub use juniper_syntax::{
     DefaultScalarValue, Definition, Directive, Document, Field, Fragment, FragmentSpread,

@@ -40,6 +40,11 @@ abbrev pub items_or_none : {A B : Type 0} → (A → B) → Option (Vec A Global
 items_or_none f None = []
 items_or_none f (Some v) = map f v.items
 
+abbrev pub view_kind : OperationType → spec.OperationType
+view_kind kind.Query = spec.query
+view_kind kind.Mutation = spec.mutation
+view_kind kind.Subscription = spec.subscription
+
 module _ {S : Type 0} (shown : S → Shown) where
   abbrev pub view_argument : Spanning (Bor (List ℕ)) Span × Spanning (InputValue S) Span → spec.Argument
   view_argument p = record { name = view_word p.0; value = view_spanning (view_input shown) p.1 }
@@ -98,11 +103,6 @@ module _ {S : Type 0} (shown : S → Shown) where
   abbrev pub view_set : Option (Vec (Selection S) Global) → Selections
   view_set None = end
   view_set (Some v) = view_selections v.items
-
-  abbrev pub view_kind : OperationType → spec.OperationType
-  view_kind kind.Query = spec.query
-  view_kind kind.Mutation = spec.mutation
-  view_kind kind.Subscription = spec.subscription
 
   abbrev pub view_variable : Spanning (Bor (List ℕ)) Span × VariableDefinition S → spec.VariableDefinition
   view_variable v = record {

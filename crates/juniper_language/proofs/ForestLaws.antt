@@ -5,13 +5,14 @@ use Rattle.graphql_spec.specs.Positions.{Span}
 use Rattle.graphql_spec.specs.Tokens.{mark, name}
 use Rattle.graphql_spec.specs.Documents.{Word, Arguments, Directive, Head, Spread, Inline, Selections, end, field, spread, inline}
 use Rattle.graphql_spec.specs.Grammar.{At, Mark, Opt, Many, AreDirectives, Set, OptSet, IsField, IsSpread, IsInline, TypeCondition, AreSelections, is_end, on_word}
-use Rattle.juniper_language.specs.Reading.{and_then, pure, sees, some_until}
-use Rattle.juniper_language.specs.FullReading.{Node, field_node, spread_node, inline_node, selections_of, set_by, first_word, selection, selections, inside_of}
+use Rattle.juniper_language.specs.Readers.{and_then, pure, sees, some_until}
+use Rattle.juniper_language.specs.Reading.{Node, field_node, spread_node, inline_node, selections_of, set_by, first_word, selection, selections, inside_of}
+use Rattle.juniper_language.proofs.RuleSteps.{selections_is}
 use Rattle.juniper_language.proofs.StepLaws.{fewer, mark_seen, other_seen, expect_read, name_read, until_read, IsPart}
-use Rattle.juniper_language.proofs.SelectionLaws.{label_read, alias_first, alias_fewer}
-use Rattle.juniper_language.proofs.FullValues.{differs}
-use Rattle.juniper_language.proofs.FullDirectives.{given_read, given_first, given_fewer, directives_read, directives_first, directives_fewer}
-use Rattle.juniper_language.proofs.FullSelections.{IsNode, Braced, word_first}
+use Rattle.juniper_language.proofs.LabelLaws.{label_read, alias_first, alias_fewer}
+use Rattle.juniper_language.proofs.ValueLaws.{differs}
+use Rattle.juniper_language.proofs.DirectiveLaws.{given_read, given_first, given_fewer, directives_read, directives_first, directives_fewer}
+use Rattle.juniper_language.proofs.SelectionLaws.{IsNode, Braced, word_first}
 
 -- what follows a selection is none of its parts
 pub record Ends (t : At) : Type 0 where
@@ -105,14 +106,14 @@ field_read n alias x as' ds false place below s t reads ends (a, b, d, e, aliase
     (ap₂ (λ p y. Some (field_node (record { alias = alias; name = x; arguments = as'; directives = ds; has_set = false; span = p }) y, t)) (sym at) (sym none.0))
 
 spread_read : (n : ℕ) (x : Spread) (s t : At) → Ends t → IsSpread x n s t → selection n (inside_of n) s ≡ Some (spread_node x, t)
-unfolding selection
+unfolding selection span_of
 spread_read n x s t ends (a, b, dots, word, other, directed, place) =
     rw (mark_seen 46 s a dots, expect_read 46 s a dots, word_first x.name a b word, differs x.name.item on_word other, name_read x.name a b word, directives_read false n x.directives b t directed ends.no_bracket ends.no_directive)
     (ap (λ p. Some (spread_node (record { name = x.name; directives = x.directives; span = p }), t)) (sym place))
 
 inline_read : (n : ℕ) (o : Option Word) (ds : List Directive) (place : Span) (below : Selections) (s t : At) → ReadsSet below → IsInline (record { condition = o; directives = ds; span = place }) below (AreSelections below) n s t
     → selection n (inside_of n) s ≡ Some (inline_node (record { condition = o; directives = ds; span = place }) below, t)
-unfolding selection
+unfolding selection span_of
 inline_read n None ds place below s t reads (a, b, d, dots, same, directed, set, at) =
     let here : AreDirectives false n ds a d = subst (λ u. AreDirectives false n ds u d) (sym same) directed in
     let no_word = directives_no_word n ds a d here (set_no_word below n d t set) in
@@ -167,11 +168,6 @@ begins n (inline x below rest) s b h some = node_first 125 n (inline_node x belo
 
 abbrev Parts : Selections → Type 0
 Parts x = (n : ℕ) (s b : At) → AreSelections x n s b → Ends b → Many (IsPart 125 false (selection n (inside_of n))) (nodes x) s b
-
-selections_is : (n : ℕ) (s : At) → selections n s ≡ and_then (some_until 125 (selection n (inside_of n)) s) (λ xs. pure (selections_of xs))
-unfolding selections
-selections_is zero s = refl
-selections_is (suc n) s = refl
 
 braced_read : (x : Selections) → Parts x → (n : ℕ) (s t : At) → Braced x n s t → selections n s ≡ Some (x, t)
 unfolding some_until

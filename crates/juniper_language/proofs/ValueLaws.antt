@@ -10,8 +10,9 @@ use Rattle.graphql_spec.specs.Tokens.{Lexeme, mark, name, int, string, decoded_i
 use Rattle.graphql_spec.specs.Inputs.{Input, null, scalar, enumerated, variable, list, object, InputItems, no_items, item, InputFields, no_fields, input_field}
 use Rattle.graphql_spec.specs.Documents.{Argument}
 use Rattle.graphql_spec.specs.Grammar.{At, Takes, Mark, Keyword, IsWord, Many, span_of, IsValue, AreItems, AreFields, IsArgument, IsEnumName, true_word, false_word, null_word, boolean_word}
-use Rattle.juniper_language.specs.Reading.{Reader, and_then, pure, refuse, next, sees, expect, a_name, until, with_span, spanned, known}
-use Rattle.juniper_language.specs.FullReading.{word_value, items_of, fields_of, named, list_by, object_by, variable_if, value_by, value}
+use Rattle.juniper_language.specs.Readers.{Reader, and_then, pure, refuse, next, sees, expect, a_name, until, with_span, spanned, known}
+use Rattle.juniper_language.specs.Reading.{word_value, items_of, fields_of, named, list_by, object_by, variable_if, value_by, value, list_within, object_within}
+use Rattle.juniper_language.proofs.RuleSteps.{value_is}
 use Rattle.juniper_language.proofs.StepLaws.{bind_some, from_pure, chosen, next_takes, takes_next, fewer, other_seen, expect_sound, expect_read, name_sound, name_read, name_first, spanned_is, until_sound, until_read, IsSound, IsPart}
 
 -- ## Words
@@ -143,20 +144,6 @@ pub argument_sound : (c : Bool) (n : ℕ) → IsSound (named (value c n)) (IsArg
 argument_sound c n = argued_sound c n (value_sound c n)
 
 -- ## What is spelled so is read
-
--- which readers the brackets hold
-abbrev inner_list : Bool → ℕ → Reader Input
-inner_list c zero = refuse
-inner_list c (suc n) = list_by (value c n)
-
-abbrev inner_object : Bool → ℕ → Reader Input
-inner_object c zero = refuse
-inner_object c (suc n) = object_by (value c n)
-
-value_is : (c : Bool) (n : ℕ) (s : At) → value c n s ≡ and_then (next s) (λ t. value_by c (inner_list c n) (inner_object c n) t.lexeme)
-unfolding value
-value_is c zero s = refl
-value_is c (suc n) s = refl
 
 -- a value begins with none of the other punctuators
 pub value_first : (c : Bool) (v : Input) (n m : ℕ) (s t : At) → 36 == m ≡ false → 91 == m ≡ false → 123 == m ≡ false → IsValue c v n s t → sees m s ≡ false

@@ -8,14 +8,14 @@ use Rattle.graphql_spec.specs.Positions.{Spanned}
 use Rattle.graphql_spec.specs.Tokens.{Token, name}
 use Rattle.graphql_spec.specs.Documents.{Word, VariableDefinition, OperationType, query, mutation, subscription, Operation, Fragment, Definition, operation, fragment, Document}
 use Rattle.graphql_spec.specs.Grammar.{At, Mark, Keyword, IsWord, Opt, Many, span_of, AreVariables, TypeCondition, IsOperation, IsFragment, IsDefinition, on_word, kind_word, most_brackets}
-use Rattle.juniper_language.specs.Reading.{Outcome, and_then, pure, sees, a_name, optional}
-use Rattle.juniper_language.specs.FullReading.{in_brackets, directives, first_word, set_by, inside_of, variable_definition, name_by_word, name_if, longhand, shorthand, fragment_name, condition, fragment_by, fragment_word, kind_of, behind_word, by_word, definition, if_none_left, definitions, document}
+use Rattle.juniper_language.specs.Readers.{Outcome, and_then, pure, sees, a_name, optional}
+use Rattle.juniper_language.specs.Reading.{in_brackets, directives, first_word, start_of, set_by, inside_of, variable_definition, name_by_word, name_if, longhand, shorthand, fragment_name, condition, fragment_by, fragment_word, kind_of, behind_word, by_word, definition, if_none_left, definitions, document}
 use Rattle.juniper_language.proofs.StepLaws.{bind_some, from_pure, chosen, picked, fewer, mark_seen, name_sound, name_read, name_first, IsSound}
-use Rattle.juniper_language.proofs.FullValues.{differ, differs, picked_of}
-use Rattle.juniper_language.proofs.FullDirectives.{brackets_sound, brackets_read, brackets_fewer, opening, directives_sound, directives_read, directives_first, directives_fewer}
-use Rattle.juniper_language.proofs.FullSelections.{word_first, set_sound}
-use Rattle.juniper_language.proofs.FullForests.{set_spelled, set_less, set_begins, set_opens, mark_no_word, set_no_word, directives_no_word}
-use Rattle.juniper_language.proofs.FullVariables.{may_sound, may_read, may_fewer, variable_sound, variables_parts}
+use Rattle.juniper_language.proofs.ValueLaws.{differ, differs, picked_of}
+use Rattle.juniper_language.proofs.DirectiveLaws.{brackets_sound, brackets_read, brackets_fewer, opening, directives_sound, directives_read, directives_first, directives_fewer}
+use Rattle.juniper_language.proofs.SelectionLaws.{word_first, set_sound}
+use Rattle.juniper_language.proofs.ForestLaws.{set_spelled, set_less, set_begins, set_opens, mark_no_word, set_no_word, directives_no_word}
+use Rattle.juniper_language.proofs.VariableLaws.{may_sound, may_read, may_fewer, variable_sound, variables_parts}
 use Rattle.graphql_spec.specs.Grammar.{IsVariable}
 
 -- ## Words
@@ -51,7 +51,8 @@ fragment_no_kind = refl
 
 -- ## What is read is spelled so
 
-longhand_sound : (n : ℕ) (kind : OperationType) (s a t : At) (o : Operation) → Keyword (kind_word kind) s a → longhand n s kind a ≡ Some (o, t) → IsOperation o n s t
+longhand_sound : (n : ℕ) (kind : OperationType) (s a t : At) (o : Operation) → Keyword (kind_word kind) s a → longhand n (start_of s) kind a ≡ Some (o, t) → IsOperation o n s t
+unfolding span_of
 longhand_sound n kind s a t o word e =
     let x = bind_some (name_if a) _ (o, t) e in
     let vs = bind_some (optional 40 (in_brackets variable_definition n) x.0.1) _ (o, t) x.2 in
@@ -96,7 +97,8 @@ condition_sound s t x e =
       | inr off ↦ absurd (none-some (x, t) off.1)
     ]
 
-fragment_sound : (n : ℕ) (s a t : At) (f : Fragment) → Keyword fragment_word s a → fragment_by n s a ≡ Some (f, t) → IsFragment f n s t
+fragment_sound : (n : ℕ) (s a t : At) (f : Fragment) → Keyword fragment_word s a → fragment_by n (start_of s) a ≡ Some (f, t) → IsFragment f n s t
+unfolding span_of
 fragment_sound n s a t f word e =
     let x = bind_some (fragment_name a) _ (f, t) e in
     let y = bind_some (condition x.0.1) _ (f, t) x.2 in
@@ -106,13 +108,13 @@ fragment_sound n s a t f word e =
     from_pure (λ g u. IsFragment g n s u) (record { name = x.0.0; condition = y.0.0; directives = ds.0.0; selections = z.0.0; span = span_of s z.0.1 }) f z.0.1 t z.2
     (a, x.0.1, y.0.1, ds.0.1, word, called.0, called.1, condition_sound x.0.1 y.0.1 y.0.0 y.1, directives_sound false n y.0.1 ds.0.1 ds.0.0 ds.1, set_sound n ds.0.1 z.0.1 z.0.0 z.1, refl)
 
-behind_sound : (n : ℕ) (w : Name) (k : Option OperationType) (s a t : At) (x : Definition) → kind_of w ≡ k → Keyword w s a → behind_word n s w k a ≡ Some (x, t) → IsDefinition n x s t
+behind_sound : (n : ℕ) (w : Name) (k : Option OperationType) (s a t : At) (x : Definition) → kind_of w ≡ k → Keyword w s a → behind_word n (start_of s) w k a ≡ Some (x, t) → IsDefinition n x s t
 behind_sound n w (Some kind) s a t x is word e =
-    let o = bind_some (longhand n s kind a) _ (x, t) e in
+    let o = bind_some (longhand n (start_of s) kind a) _ (x, t) e in
     from_pure (λ y u. IsDefinition n y s u) (operation o.0.0) x o.0.1 t o.2 (longhand_sound n kind s a o.0.1 o.0.0 (subst (λ y. Keyword y s a) (kind_named w kind is) word) o.1)
 behind_sound n w None s a t x is word e = elim (chosen (bytes_eq w fragment_word) _ _ (x, t) e) [
   | inl here ↦
-      let f = bind_some (fragment_by n s a) _ (x, t) here.1 in
+      let f = bind_some (fragment_by n (start_of s) a) _ (x, t) here.1 in
       from_pure (λ y u. IsDefinition n y s u) (fragment f.0.0) x f.0.1 t f.2 (fragment_sound n s a f.0.1 f.0.0 (subst (λ y. Keyword y s a) ((bytes_eq-Decides w fragment_word).0 here.0) word) f.1)
   | inr other ↦ absurd (none-some (x, t) other.1)
 ]
@@ -139,7 +141,7 @@ variables_open : (n : ℕ) (vs : Spanned (List VariableDefinition)) (s t : At) �
 variables_open n vs s t h = opening variable_definition IsVariable vs.item n s t h.0
 
 operation_read : (n : ℕ) (o : Operation) (s t : At) → IsOperation o n s t → definition n s ≡ Some (operation o, t)
-unfolding definition
+unfolding definition span_of
 operation_read n o s t (inl (kind, called, variables, ds, set), place) =
     rw (set_opens o.selections n s t set, set_spelled o.selections n s t set)
     (ap (λ (y : Operation). Some (operation y, t)) (λ i. record { kind = sym kind i; name = sym called i; variables = sym variables i; directives = sym ds i; selections = o.selections; span = sym place i }))
@@ -165,7 +167,7 @@ operation_read n o s t (inr (a, b, d, e, word, called, variables, directed, set)
     no_word_before (Some vs) b d none h = let opens = variables_open n vs b d h in mark_no_word 40 b opens.0 opens.1
 
 fragment_read : (n : ℕ) (f : Fragment) (s t : At) → IsFragment f n s t → definition n s ≡ Some (fragment f, t)
-unfolding definition
+unfolding definition span_of
 fragment_read n f s t (a, b, d, e, word, called, other, (z, on, conditioned), directed, set, place) =
     rw (
       name_first 123 (record { item = fragment_word; span = word.0 }) s a word.1,

@@ -1,9 +1,0 @@
-use Rattle.std.proofs.Common.{◌≡◌, ◌-◌, map, length}
-use Rattle.juniper_language.specs.Reading as read
-use Rattle.juniper_syntax.specs.DocumentView.{view_directive}
-use Rattle.juniper_language.proofs.parser.directives.Given as goal
-
-abbrev pub invariant-loop-turn : goal.invariant-loop-turn
-invariant-loop-turn g l =
-    read.prepend (map (view_directive g.S.ScalarValue.shown) l.found.items) (read.while_sees 64 read.directive (l._turn-end - l._turn) l.parser)
-    ≡ read.while_sees 64 read.directive (length l.fn.parser.ahead) l.fn.parser
