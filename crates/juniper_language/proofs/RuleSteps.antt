@@ -1,12 +1,13 @@
 -- What the rules of reading say at each step of the parser.
-use Rattle.std.proofs.Common.{◌≡◌, ◌≢◌, ℕ, zero, suc, ◌-◌, true, false, List, [], ◌∷◌, length, Some, None, refl, ap, arith}
+use Rattle.std.proofs.Common.{◌≡◌, ◌≢◌, ℕ, zero, suc, ◌-◌, Bool, true, false, List, [], ◌∷◌, length, Some, None, refl, ap, arith}
 use Rattle.std.proofs.lemmas.Bool.{false≢true}
 use Rattle.graphql_spec.specs.Positions.{Position, Span, Spanned}
 use Rattle.graphql_spec.specs.Inputs as spec
+use Rattle.graphql_spec.specs.Inputs.{Input}
 use Rattle.graphql_spec.specs.Tokens.{Lexeme, mark, name, int, string, Token}
 use Rattle.graphql_spec.specs.Grammar.{At}
 use Rattle.juniper_language.specs.Readers.{Reader, and_then, pure, refuse, next, next_from, is_mark_of, first_is, sees, expect, until, some_until, spanned, name_by, a_name, ◌>>=◌}
-use Rattle.juniper_language.specs.Reading.{value, value_by, argument, items_of, fields_of, list_within, object_within, type_ref, list_type, named_type, bang, in_brackets, inside_of, selections, selection, selections_of, first_word, by_word, behind_word, kind_of, start_of}
+use Rattle.juniper_language.specs.Reading.{value, value_by, bracketed, argument, items_of, fields_of, list_within, object_within, type_ref, list_type, named_type, bang, in_brackets, inside_of, selections, selection, selections_of, first_word, by_word, behind_word, kind_of, start_of}
 
 -- ## Values
 
@@ -23,6 +24,11 @@ pub object_at : (c : Bool) (n : ℕ) (s : At) → n ≢ 0 → object_within c n 
 unfolding argument
 object_at c zero s some = absurd (some refl)
 object_at c (suc n) s some = let less : suc n - 1 ≡ n = omega arith in rw less refl
+
+-- a list whose values are read
+pub list_found : (c : Bool) (n m : ℕ) (s t : At) (vs : List (Spanned Input)) (v : Input) → m ≡ 91 → n ≢ 0 → until 93 (spanned (value c (n - 1))) (length s.ahead) s ≡ Some (vs, t) → v ≡ spec.list (items_of vs)
+    → bracketed c (list_within c n) (object_within c n) m s ≡ Some (v, t)
+list_found c n m s t vs v opens some found is = rw (opens, list_at c n s some, found, is) refl
 
 -- ## Types
 
@@ -82,6 +88,5 @@ unfolding a_name
 word_at n s = go s.last s.ahead
   where
     go : (last : Position) (ts : List Token) → by_word n (first_word ts) (record { last = last; ahead = ts }) ≡ and_then (a_name (record { last = last; ahead = ts })) (λ x. behind_word n (start_of (record { last = last; ahead = ts })) x.item (kind_of x.item))
-    unfolding a_name
     go last [] = refl
     go last (t ∷ ts) = word_from n last t.lexeme t.span ts last

@@ -134,7 +134,7 @@ impl<'t, 'a> Parser<'t, 'a> {
     }
 
     /// Takes this punctuator.
-    #[tactic(auto, unfolding(crate::specs::Reading::expect))]
+    #[tactic(auto, unfolding(crate::specs::Readers::expect))]
     pub fn expect(&mut self, mark: u8) -> ParseResult<()>
         ensures { Gives (λ _. tt) result self.new (read.expect mark self.old) }
     {
@@ -152,7 +152,7 @@ impl<'t, 'a> Parser<'t, 'a> {
     }
 
     /// Takes a name.
-    #[tactic(auto, unfolding(crate::specs::Reading::a_name))]
+    #[tactic(auto, unfolding(crate::specs::Readers::a_name))]
     pub fn name(&mut self) -> ParseResult<Word<'a>>
         ensures { Gives view_word result self.new (read.a_name self.old) }
     {

@@ -29,6 +29,7 @@ const MOST_BRACKETS: usize = 256;
 type Variable<'a, S> = (Word<'a>, VariableDefinition<'a, S>);
 
 /// A type and its place.
+#[tactic(auto, unfolding(graphql_spec::specs::Grammar::span_of))]
 fn placed_type<'a>(
     alloc: Global,
     parser: &mut Parser<'_, 'a>,
@@ -43,6 +44,7 @@ fn placed_type<'a>(
 }
 
 /// A variable's default, if it has one: `=` and a constant (2.10).
+#[tactic(auto, unfolding(crate::specs::Reading::default_value))]
 fn default_value<S: ScalarValue>(
     alloc: Global,
     parser: &mut Parser<'_, '_>,
@@ -59,6 +61,7 @@ fn default_value<S: ScalarValue>(
 }
 
 /// The definition of a variable (2.10).
+#[tactic(auto, unfolding(crate::specs::Reading::variable_definition, graphql_spec::specs::Grammar::span_of))]
 fn variable_definition<'a, S: ScalarValue>(
     alloc: Global,
     parser: &mut Parser<'_, 'a>,
@@ -83,6 +86,7 @@ fn variable_definition<'a, S: ScalarValue>(
 }
 
 /// One or more definitions of variables, and the bracket behind them.
+#[tactic(auto, unfolding(crate::specs::Readers::some_until), using(crate::proofs::Loops::parts_more, crate::proofs::Loops::parts_end, crate::proofs::Loops::parts_none, crate::proofs::Loops::prepend_nil))]
 fn some_variables<'a, S: ScalarValue>(
     alloc: Global,
     parser: &mut Parser<'_, 'a>,
@@ -105,6 +109,7 @@ fn some_variables<'a, S: ScalarValue>(
 }
 
 /// Definitions of variables in their brackets (2.10).
+#[tactic(auto, unfolding(graphql_spec::specs::Grammar::span_of), using(crate::proofs::RuleSteps::brackets_at))]
 fn variables<'a, S: ScalarValue>(
     alloc: Global,
     parser: &mut Parser<'_, 'a>,
@@ -142,6 +147,7 @@ fn optional_name<'a>(parser: &mut Parser<'_, 'a>) -> ParseResult<Option<Word<'a>
 }
 
 /// A query that is its selection set alone (2.3).
+#[tactic(auto, unfolding(graphql_spec::specs::Grammar::span_of))]
 fn shorthand<'a, S: ScalarValue>(
     alloc: Global,
     parser: &mut Parser<'_, 'a>,
@@ -285,7 +291,7 @@ fn definition<'a, S: ScalarValue>(
 }
 
 /// One definition or more, and no token after the last (2.2).
-#[tactic(auto, unfolding(crate::specs::Reading::document))]
+#[tactic(auto, unfolding(crate::specs::Reading::document), using(crate::proofs::Loops::definitions_more, crate::proofs::Loops::definitions_done, crate::proofs::Loops::definitions_none, crate::proofs::Loops::none_ahead, crate::proofs::Loops::some_ahead, crate::proofs::Loops::prepend_nil))]
 pub fn document<'a, S: ScalarValue>(
     alloc: Global,
     parser: &mut Parser<'_, 'a>,

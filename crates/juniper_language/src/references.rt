@@ -40,7 +40,7 @@ fn list_type<'a>(
     inner: Type<&'a str>,
     required: bool,
 ) -> Result<Type<&'a str>, AllocError>
-    ensures { IfOk result (λ t. view_type (λ s. s.now) t ≡ list_of required None (view_type (λ s. s.now) inner)) }
+    ensures { IfOk result (λ t. view_type (λ s. s.now) t ≡ list_of required None (view_type (λ s. s.now) inner.entry)) }
 {
     let inner = Box::new(alloc, inner)?;
     if required {
