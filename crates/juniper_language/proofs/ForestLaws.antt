@@ -4,7 +4,7 @@ use Rattle.std.proofs.lemmas.Bool.{true≢false}
 use Rattle.graphql_spec.specs.Positions.{Span}
 use Rattle.graphql_spec.specs.Tokens.{mark, name}
 use Rattle.graphql_spec.specs.Documents.{Word, Arguments, Directive, Head, Spread, Inline, Selections, end, field, spread, inline}
-use Rattle.graphql_spec.specs.Grammar.{At, Mark, Opt, Many, AreDirectives, Set, OptSet, IsField, IsSpread, IsInline, TypeCondition, AreSelections, is_end, on_word}
+use Rattle.graphql_spec.specs.Grammar.{At, Mark, span_of, Opt, Many, AreDirectives, Set, OptSet, IsField, IsSpread, IsInline, TypeCondition, AreSelections, is_end, on_word}
 use Rattle.juniper_language.specs.Readers.{and_then, pure, sees, some_until}
 use Rattle.juniper_language.specs.Reading.{Node, field_node, spread_node, inline_node, selections_of, set_by, first_word, selection, selections, inside_of}
 use Rattle.juniper_language.proofs.RuleSteps.{selections_is}

@@ -113,9 +113,9 @@ unfolding definitions
 definitions_done zero front s none = ap (prepend front) (none_ahead {A = List Definition} s.ahead (pure [] s) None none) ∙ ap (λ v. Some (v, s)) (append-nil front)
 definitions_done (suc k) front s none = ap (prepend front) (none_ahead {A = List Definition} s.ahead (pure [] s) _ none) ∙ ap (λ v. Some (v, s)) (append-nil front)
 
-pub definitions_none : (front : List Definition) (s : At) → length s.ahead ≢ 0 → prepend front (definitions zero s) ≡ None
+pub definitions_none : (e i : ℕ) (front : List Definition) (s : At) → e ≤ i → length s.ahead ≢ 0 → prepend front (definitions (e - i) s) ≡ None
 unfolding definitions
-definitions_none front s some = ap (prepend front) (some_ahead {A = List Definition} s.ahead (pure [] s) None some)
+definitions_none e i front s past some = let z : e - i ≡ 0 = omega arith in rw z (ap (prepend front) (some_ahead {A = List Definition} s.ahead (pure [] s) None some))
 
 -- one more definition, behind those that are found
 pub definition_on : (e i : ℕ) (front more : List Definition) (x : Definition) (s t : At) (o : Outcome (List Definition)) → i < e → length s.ahead ≢ 0 → definition most_brackets s ≡ Some (x, t)

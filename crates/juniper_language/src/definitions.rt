@@ -308,5 +308,8 @@ pub fn document<'a, S: ScalarValue>(
         }
         found.push(definition(alloc, parser)?)?;
     }
+    if parser.left() != 0 {
+        return Err(parser.unexpected()?);
+    }
     Ok(found)
 }

@@ -1,5 +1,6 @@
-use Rattle.std.proofs.Common.{map}
+use Rattle.std.proofs.Common.{length, map}
 use Rattle.juniper_syntax.specs.DocumentView.{view_variable}
+use Rattle.juniper_language.specs.Readers.{until}
 use Rattle.juniper_language.specs.Reading.{variable_definition}
 use Rattle.juniper_language.proofs.Loops.{part_on, map_pushed}
 use Rattle.juniper_language.proofs.definitions.some_variables.Goals as goal
@@ -9,5 +10,5 @@ loop-turn-preserved g c =
     let view = view_variable g.S.ScalarValue.shown in
     let x = c.in_ok-variable_definition.field-0 in
     let found = c.loop-turn.found.items in
-    part_on 41 (variable_definition c.args.depth) c.left-turn-end.result c.loop-turn._turn (map view found) (map view c.push.new.self.items) (view x) c.loop-turn.parser c.variable_definition.new.parser _
+    part_on 41 (variable_definition c.args.depth) c.left-turn-end.result c.loop-turn._turn (map view found) (map view c.push.new.self.items) (view x) c.loop-turn.parser c.variable_definition.new.parser (until 41 (variable_definition c.args.depth) (length c.args.parser.now.ahead) c.args.parser.now)
     c.loop-turn-test.true c.if-sees-2.ensures c.in_ok-variable_definition.ensures (map_pushed view found c.push.new.self.items x c.in_ok-push.ensures.items) c.loop-turn.invariant

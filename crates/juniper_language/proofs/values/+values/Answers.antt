@@ -1,9 +1,9 @@
-use Rattle.std.proofs.Common.{map, Some, ap, sym, ◌∙◌}
+use Rattle.std.proofs.Common.{length, map, Some, ap, sym, ◌∙◌}
 use Rattle.graphql_spec.specs.Documents.{Argument, Word}
 use Rattle.juniper_syntax.specs.InputView.{view_input}
 use Rattle.juniper_syntax.specs.Positions.{view_spanning}
 use Rattle.juniper_language.specs.ParserViews.{view_member, view_owned}
-use Rattle.juniper_language.specs.Readers.{spanned}
+use Rattle.juniper_language.specs.Readers.{spanned, until}
 use Rattle.juniper_language.specs.Reading.{value, argument}
 use Rattle.juniper_language.proofs.Loops.{part_on, map_pushed}
 use Rattle.juniper_language.proofs.RuleSteps.{list_found}
@@ -21,7 +21,7 @@ items-loop-turn-preserved g t c =
     let view = view_spanning (view_input g.S.ScalarValue.shown) in
     let x = c.in_ok-placed_value.field-0 in
     let found = c.loop-turn.found.items in
-    part_on 93 (spanned (value c.args.constant c.args.depth)) c.left-turn-end.result c.loop-turn._turn (map view found) (map view c.push.new.self.items) (view x) c.loop-turn.parser c.placed_value.new.parser _
+    part_on 93 (spanned (value c.args.constant c.args.depth)) c.left-turn-end.result c.loop-turn._turn (map view found) (map view c.push.new.self.items) (view x) c.loop-turn.parser c.placed_value.new.parser (until 93 (spanned (value c.args.constant c.args.depth)) (length c.args.parser.now.ahead) c.args.parser.now)
     c.loop-turn-test.true c.if-sees.ensures c.in_ok-placed_value.ensures (map_pushed view found c.push.new.self.items x c.in_ok-push.ensures.items) c.loop-turn.invariant
 
 pub fields-loop-turn-preserved : goal.fields-loop-turn-preserved
@@ -31,5 +31,5 @@ fields-loop-turn-preserved g t c =
     let value_seen = view_spanning (view_input g.S.ScalarValue.shown) c.in_ok-name.value in
     let seen : Argument = record { name = view_owned c.in_ok-owned.field-0; value = value_seen } in
     let one = c.in_ok-name.ensures ∙ ap (λ (n : Word). Some (record { name = n; value = value_seen }, c.argument.new.parser)) (sym c.in_ok-owned.ensures) in
-    part_on 125 (argument c.args.constant c.args.depth) c.left-turn-end.result c.loop-turn._turn (map view found) (map view c.push.new.self.items) seen c.loop-turn.parser c.argument.new.parser _
+    part_on 125 (argument c.args.constant c.args.depth) c.left-turn-end.result c.loop-turn._turn (map view found) (map view c.push.new.self.items) seen c.loop-turn.parser c.argument.new.parser (until 125 (argument c.args.constant c.args.depth) (length c.args.parser.now.ahead) c.args.parser.now)
     c.loop-turn-test.true c.if-sees.ensures one (map_pushed view found c.push.new.self.items _ c.in_ok-push.ensures.items) c.loop-turn.invariant
