@@ -1,11 +1,10 @@
 -- of plain queries on flat schemas the first rules find all that the rules find
-use Rattle.std.specs.Prelude.{◌≡◌, Bool, true, false, not, ◌&&◌, ◌||◌, codes, map, List, [], ◌∷◌, ◌++◌, Option, Some, None}
+use Rattle.std.specs.Prelude.{◌≡◌, Bool, true, false, ◌&&◌, ◌||◌, map, List, [], ◌∷◌, ◌++◌, Option, Some, None}
 use Rattle.std.specs.List.{list_any, flat_map, filter}
 use Rattle.std.specs.Option.{is_none}
-use Rattle.std.specs.Str.{bytes_eq}
 use Rattle.std.proofs.lemmas.Bool.{and_parts, or_parts, both_ways}
 use Rattle.std.proofs.Common.{refl, sym, ap, inl, inr, subst, is_some}
-use Rattle.graphql_spec.specs.Shown.{Name, Shown, boolean}
+use Rattle.graphql_spec.specs.Shown.{Name, boolean}
 use Rattle.graphql_spec.specs.Positions.{Span}
 use Rattle.graphql_spec.specs.Types.{TypeRef, required, innermost}
 use Rattle.graphql_spec.specs.Inputs.{scalar}
@@ -13,12 +12,12 @@ use Rattle.graphql_spec.specs.Documents.{Argument, Directive, OperationType, Hea
 use Rattle.graphql_spec.specs.Directives.{if_name}
 use Rattle.graphql_spec.specs.Schema.{InputDeclaration, FieldDeclaration, Schema, plain_input}
 use Rattle.graphql_spec.specs.BuiltIns.{must, condition_arguments, directives}
-use Rattle.graphql_spec.specs.Fields.{type_named, is_leaf, field_of, declaration_in}
+use Rattle.graphql_spec.specs.Fields.{type_named, field_of, declaration_in}
 use Rattle.graphql_spec.specs.Fits.{through, fits}
 use Rattle.graphql_spec.specs.Written.{heads, directives_in, selections_of, defined_variables, own_directives, all_directives, all_conditions, argument_lists, default_values, values_in, repeats, field_repeats}
 use Rattle.graphql_spec.specs.Placed.{Placed, Call, directive_in, directive_named, directive_calls, if_declared, placed, placed_directives, root_type, placed_in, directives_placed, field_calls, calls}
 use Rattle.graphql_spec.specs.VariableUses.{reached, as_definitions, parts, variables_in, names_used, all_defined, at_declared, uses_at, uses_in_call, uses, all_allowed}
-use Rattle.graphql_spec.specs.Rules.{repeats_operation, is_not_alone, repeats_fragment, spreads_unknown, spreads_itself, repeats_variable, repeats_argument, repeats_input_field, has_unknown_directive, variable_types, has_unknown_type, has_other_condition, has_other_variable, has_unknown_field, set_is_wrong, has_wrong_set, gives_unknown, has_unknown_argument, must_be_written, gives_too_few, lacks_argument, gives_wrong, has_wrong_argument, has_wrong_default, has_root, uses_undefined, misuses_variable, cannot_merge, is_introspection, can_look, looks_at_schema, reported, at_each, name_errors, type_errors, use_errors, first_found, rule_errors}
+use Rattle.graphql_spec.specs.Rules.{repeats_operation, is_not_alone, repeats_fragment, spreads_unknown, spreads_itself, repeats_variable, repeats_input_field, has_unknown_directive, variable_types, has_unknown_type, has_other_condition, has_other_variable, has_unknown_field, set_is_wrong, has_wrong_set, gives_unknown, has_unknown_argument, must_be_written, gives_too_few, lacks_argument, gives_wrong, has_wrong_argument, has_wrong_default, has_root, uses_undefined, misuses_variable, is_introspection, can_look, looks_at_schema, reported, at_each, name_errors, type_errors, use_errors, rule_errors}
 use Rattle.graphql_spec.specs.FirstRules.{lacks_field, is_asked, first_calls, first_name_errors, first_type_errors, merge_errors, first_rule_errors, is_plain_selections, is_query, is_empty, is_plain_operation, is_plain_document, is_flat_field, is_flat, FirstRulesFindAll}
 use Rattle.graphql_spec.proofs.PlainQueries.{Every, every_failing, none, nothing, every_as, every-append, every-map, every-flat_map, Plain, Literal, PlainField, row, plain_row, heads-row, conditions-row, spreads-row, directives-row}
 use Rattle.graphql_spec.proofs.FlatSchemas.{fields_as_leaf, Built, built, field_of-flat}
