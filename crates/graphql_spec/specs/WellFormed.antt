@@ -1,9 +1,9 @@
 -- What holds of everything that a text spells: names are Names (2.1.9), an enum's values are none of `true`, `false` and
--- `null` (2.9.6), and brackets nest only so deep.
+-- `null` (2.9.6), Ints are of 32 bits (3.5.1), and brackets nest only so deep.
 use Rattle.std.specs.Prelude.{ℕ, zero, suc, Bool, true, false, not, ◌&&◌, ◌||◌}
 use Rattle.std.specs.Str.{bytes_eq}
-use Rattle.graphql_spec.specs.Shown.{Name}
-use Rattle.graphql_spec.specs.Tokens.{is_name}
+use Rattle.graphql_spec.specs.Shown.{Name, int, text, boolean}
+use Rattle.graphql_spec.specs.Tokens.{is_name, fits_int}
 use Rattle.graphql_spec.specs.Grammar.{true_word, false_word, null_word}
 use Rattle.graphql_spec.specs.Inputs.{Input, null, scalar, enumerated, variable, list, object, InputItems, no_items, item, InputFields, no_fields, input_field}
 
@@ -48,3 +48,23 @@ unfoldable mutual
   pub fields_nest : ℕ → InputFields → Bool
   fields_nest n no_fields = true
   fields_nest n (input_field k k_at v v_at rest) = nests n v && fields_nest n rest
+
+unfoldable mutual
+  -- the Ints in a value are of 32 bits (3.5.1)
+  pub ints_fit : Input → Bool
+  ints_fit null = true
+  ints_fit (scalar (int z)) = fits_int z
+  ints_fit (scalar (text t)) = true
+  ints_fit (scalar (boolean b)) = true
+  ints_fit (enumerated w) = true
+  ints_fit (variable x) = true
+  ints_fit (list is) = ints_fit_items is
+  ints_fit (object fs) = ints_fit_fields fs
+
+  pub ints_fit_items : InputItems → Bool
+  ints_fit_items no_items = true
+  ints_fit_items (item v at rest) = ints_fit v && ints_fit_items rest
+
+  pub ints_fit_fields : InputFields → Bool
+  ints_fit_fields no_fields = true
+  ints_fit_fields (input_field k k_at v v_at rest) = ints_fit v && ints_fit_fields rest

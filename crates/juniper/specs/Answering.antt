@@ -7,7 +7,7 @@ use Rattle.graphql_spec.specs.Documents.{Document, Operation}
 use Rattle.graphql_spec.specs.Schema.{Schema}
 use Rattle.graphql_spec.specs.Errors.{Listed, keys_only}
 use Rattle.graphql_spec.specs.Resolvers.{World}
-use Rattle.graphql_spec.specs.Served.{SpellsServed}
+use Rattle.graphql_spec.specs.Grammar.{Spells}
 use Rattle.graphql_spec.specs.FirstRules.{served_rule_errors}
 use Rattle.graphql_spec.specs.Requests as spec
 use Rattle.graphql_spec.specs.Requests.{Refusal, Outcome, refused, runs, of_document_by, selected}
@@ -16,8 +16,8 @@ use Rattle.juniper.specs.RequestErrors.{RequestError, not_parsed, not_valid, no_
 
 -- what a text is read as: the one document that it spells, or none
 abbrev pub Reads : Text → Option Document → Type 0
-Reads text None = (d : Document) → SpellsServed text d → ⊥
-Reads text (Some d) = SpellsServed text d × ((e : Document) → SpellsServed text e → e ≡ d)
+Reads text None = (d : Document) → Spells text d → ⊥
+Reads text (Some d) = Spells text d × ((e : Document) → Spells text e → e ≡ d)
 
 -- what becomes of a request, by the rules that are served
 abbrev pub outcome : Schema → Option Name → Variables → Option Document → Outcome

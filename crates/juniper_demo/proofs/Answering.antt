@@ -31,7 +31,7 @@ module _ (t : Text) where
   -- how the outcome of a request comes about, on a schema, with variables, from a root
   abbrev pub IsOutcome : Schema → Variables → DemoNode → Outcome → Type 0
   IsOutcome s vars m o = MatchResult o
-      (λ p. IsAnswered t s None vars (λ values. world_of s values concrete_type (λ node field arguments. reply node field)) m (view_value default_shown p.0) (map (view_listed default_shown) p.1.items))
+      (λ p. IsAnswered t s None vars (λ values. world_of s values concrete_type reply) m (view_value default_shown p.0) (map (view_listed default_shown) p.1.items))
       (λ e. IsRefusedWith t s None vars (view_request_error e))
 
   abbrev pub IsShown : Outcome → Answer → Type 0

@@ -32,7 +32,7 @@ no_values = λ name. None
 
 -- what an execution on the demo asks, for the values of the variables (6.4.2)
 abbrev pub demo_world : Variables → World DemoNode
-demo_world vars = world_of demo_schema vars concrete_type (λ node field arguments. reply node field)
+demo_world vars = world_of demo_schema vars concrete_type reply
 
 -- the request of a text, without name and variables, on the demo: what its execution gives, or why it is refused (6.1)
 abbrev pub IsAnswerToText : Text → Answer → Type 0

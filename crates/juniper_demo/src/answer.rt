@@ -95,10 +95,27 @@ mod tests {
                 0,
                 r#"{"data":{"id":"q1","name":"demo","fail":null},"errors":[{"message":"failed","locations":[{"line":2,"column":8}],"path":["fail"]}]}"#,
             ),
+            (
+                "{ number a: number(plus: -41) b: number(plus: null) }",
+                0,
+                r#"{"data":{"number":42,"a":0,"b":null}}"#,
+            ),
+            (
+                "{ number(plus: 2147483607) }",
+                0,
+                r#"{"data":{"number":null},"errors":[{"message":"Too large","locations":[{"line":1,"column":3}],"path":["number"]}]}"#,
+            ),
             ("{ x }", 1, "refused: Unknown field"),
             ("{ __schema }", 1, "refused: Unknown field"),
             ("{ a: id a: name }", 1, "refused: Fields cannot be merged"),
-            ("{ id { a } }", 1, "refused: Unexpected token"),
+            (
+                "{ number(plus: true) }",
+                1,
+                "refused: Argument does not fit its type",
+            ),
+            ("{ id { a } }", 1, "refused: Not supported yet"),
+            ("query Q { id }", 1, "refused: Not supported yet"),
+            ("{ id } }", 1, "refused: Unexpected token"),
             ("", 1, "refused: Unexpected end of input"),
         ];
         for (text, status, line) in &rows {

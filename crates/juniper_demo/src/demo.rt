@@ -1,8 +1,12 @@
 //! The demo's resolver.
 
 ghost use Rattle.std.specs.Prelude.{◌≡◌, Some, codes, pos};
+ghost use Rattle.graphql_spec.specs.Constants.{find};
+ghost use Rattle.graphql_spec.specs.Resolvers.{failed};
+ghost use Rattle.juniper_values.specs.ArgumentView.{view_arguments};
+ghost use Rattle.juniper_values.specs.Conversions.{message_alone};
 ghost use Rattle.juniper_types.specs.ResolvedView.{Answers};
-ghost use Rattle.juniper_demo.specs.Demo.{concrete_type, query_reply, reply, root_of};
+ghost use Rattle.juniper_demo.specs.Demo.{concrete_type, number_reply, query_reply, reply, root_of, sum_reply};
 ghost use Rattle.juniper_demo.specs.declared.demo.DemoNode.TheVariants.{Query};
 
 use juniper::{Arguments, Executor, FieldError, GraphQLType, GraphQLValue, ResolveError, Resolved};
@@ -68,7 +72,7 @@ impl<S: ScalarValue> GraphQLValue<S> for Demo {
 
     ghost concrete = { λ _ _ _ node. concrete_type node };
 
-    ghost answer = { λ _ _ _ node field _. reply node field };
+    ghost answer = { λ _ _ _. reply };
 
     ghost root = { root_of };
 
@@ -97,11 +101,11 @@ impl<S: ScalarValue> GraphQLValue<S> for Demo {
         _info: &Self::TypeInfo,
         node: &Self::Node,
         field_name: &str,
-        _arguments: &Arguments<'_, S>,
+        arguments: &Arguments<'_, S>,
         _executor: &Executor<'_, '_, Self::Context, S>,
     ) -> Result<Resolved<Self::Node, S>, ResolveError<S>> {
         match node {
-            DemoNode::Query => of_query(alloc, field_name),
+            DemoNode::Query => of_query(alloc, field_name, arguments),
         }
     }
 }
@@ -110,13 +114,50 @@ impl<S: ScalarValue> GraphQLValue<S> for Demo {
 fn of_query<S: ScalarValue>(
     alloc: Global,
     field_name: &str,
+    arguments: &Arguments<'_, S>,
 ) -> Result<Resolved<DemoNode, S>, ResolveError<S>>
-    ensures { Answers S.shown result (query_reply field_name.now) }
+    ensures { Answers S.shown result (query_reply field_name.now (view_arguments S.shown arguments.now)) }
 {
     match field_name {
         "id" => Ok(Resolved::Scalar(S::from_text(String::from_str(alloc, "q1")?)?)),
         "name" => Ok(Resolved::Scalar(S::from_text(String::from_str(alloc, "demo")?)?)),
         "fail" => Err(ResolveError::Field(FieldError::new(alloc, "failed", Value::Null)?)),
+        "number" => number(alloc, arguments),
         _ => Ok(Resolved::Null),
     }
+}
+
+/// The answer to `number`: the sum of 41 and its argument `plus`, and null where that is null.
+fn number<S: ScalarValue>(
+    alloc: Global,
+    arguments: &Arguments<'_, S>,
+) -> Result<Resolved<DemoNode, S>, ResolveError<S>>
+    ensures { Answers S.shown result (number_reply (find (codes "plus") (view_arguments S.shown arguments.now))) }
+{
+    let plus: Option<Option<i32>> = arguments.get(alloc, "plus")?;
+    match plus {
+        None => Ok(Resolved::Null),
+        Some(None) => Ok(Resolved::Null),
+        Some(Some(plus)) => sum(alloc, plus),
+    }
+}
+
+/// The sum of 41 and a number; an error where 32 bits do not hold it.
+fn sum<S: ScalarValue>(
+    alloc: Global,
+    plus: i32,
+) -> Result<Resolved<DemoNode, S>, ResolveError<S>>
+    ensures { Answers S.shown result (sum_reply plus) }
+{
+    match plus.checked_add(41) {
+        Some(sum) => Ok(Resolved::Scalar(S::from_int(sum))),
+        None => too_large(alloc),
+    }
+}
+
+/// The error of a sum that 32 bits do not hold.
+fn too_large<S: ScalarValue>(alloc: Global) -> Result<Resolved<DemoNode, S>, ResolveError<S>>
+    ensures { Answers S.shown result (failed (message_alone (codes "Too large"))) }
+{
+    Err(ResolveError::Field(FieldError::new(alloc, "Too large", Value::Null)?))
 }

@@ -8,12 +8,12 @@ ghost use Rattle.juniper_syntax.specs.Scalars.{default_shown};
 ghost use Rattle.juniper_syntax.specs.TypeView.{view_type};
 ghost use Rattle.juniper_demo.specs.Demo.{root_of};
 ghost use Rattle.juniper_demo.specs.declared.demo.DemoNode.TheVariants.{Query};
-ghost use Rattle.juniper_demo.specs.DemoSchema.{demo_fields, demo_scalars, demo_schema};
+ghost use Rattle.juniper_demo.specs.DemoSchema.{demo_fields, demo_scalars, demo_schema, number_field};
 
 use crate::demo::{Demo, DemoContext, DemoNode};
-use juniper::meta::Field;
+use juniper::meta::{Argument, Field};
 use juniper::{EmptyMutation, EmptySubscription, RootNode, ScalarKinds, ScalarMeta, SchemaType};
-use juniper_language::{DefaultScalarValue, Type};
+use juniper_language::{DefaultScalarValue, InputValue, Type};
 use std::alloc::{AllocError, Global};
 
 /// The root of the demo's server.
@@ -70,6 +70,7 @@ fn query_fields(alloc: Global) -> Result<Vec<Field<DefaultScalarValue>>, AllocEr
             Type::Named(String::from_str(alloc, "String")?)
         )?,
         field(alloc, "fail", Type::Named(String::from_str(alloc, "Int")?))?,
+        number_field(alloc)?,
     ]?)
 }
 
@@ -82,6 +83,24 @@ fn field(
     ensures { IfOk result (λ f. view_field default_shown f ≡ plain_field name.now [] (view_type (λ n. string_bytes n) field_type)) }
 {
     Ok(Field::new(String::from_str(alloc, name)?, field_type))
+}
+
+/// `number(plus: Int = 1): Int`.
+#[tactic(auto, unfolding(graphql_spec::specs::Schema::plain_field, graphql_spec::specs::Schema::plain_input))]
+fn number_field(alloc: Global) -> Result<Field<DefaultScalarValue>, AllocError>
+    ensures { IfOk result (λ f. view_field default_shown f ≡ number_field) }
+{
+    let name = String::from_str(alloc, "plus")?;
+    let default = InputValue::Scalar(DefaultScalarValue::Int(1));
+    let plus = Argument::new(name, Type::Named(String::from_str(alloc, "Int")?)).default_value(
+        default,
+    );
+    let number = field(
+        alloc,
+        "number",
+        Type::Named(String::from_str(alloc, "Int")?),
+    )?;
+    Ok(number.argument(alloc, plus)?)
 }
 
 /// The scalar types, each with the kinds of scalars that it accepts (3.5).

@@ -5,8 +5,7 @@ use Rattle.std.proofs.lemmas.Option.{none-some, same_Some}
 use Rattle.graphql_spec.specs.Positions.{Position}
 use Rattle.graphql_spec.specs.Tokens.{Token}
 use Rattle.graphql_spec.specs.Documents.{Document}
-use Rattle.graphql_spec.specs.Grammar.{At, IsDerived, Spells}
-use Rattle.graphql_spec.specs.Served.{before_all}
+use Rattle.graphql_spec.specs.Grammar.{At, IsDerived, Spells, before_all}
 use Rattle.juniper_language.specs.Lexing.{Lexed, Ending, is_whole, whole, fault, lexed}
 use Rattle.juniper_language.specs.Reading as read
 use Rattle.juniper_language.proofs.LexLaws.{Complete, lexed_sound, lexed_complete}
@@ -55,3 +54,10 @@ pub fault_spells : (bytes : List ℕ) (l : Lexed) → l ≡ lexed bytes → is_w
 fault_spells bytes l is ends d h =
     let found = spelled_read bytes d h in
     false≢true (sym ends ∙ ap (λ (x : Lexed). is_whole x.ending) is ∙ ap is_whole found.2)
+
+-- a text spells at most one document
+pub spelled_once : (bytes : List ℕ) (d e : Document) → Spells bytes d → Spells bytes e → d ≡ e
+spelled_once bytes d e h k =
+    let one = spelled_read bytes d h in
+    let other = spelled_read bytes e k in
+    ap (λ (q : Document × At). q.0) (same_Some (d, one.0) (e, other.0) (sym one.3 ∙ other.3))

@@ -5,6 +5,8 @@ use Rattle.graphql_spec.specs.Shown.{Text}
 use Rattle.graphql_spec.specs.Tokens as spec
 use Rattle.juniper_syntax.specs.Positions.{view_position, view_span}
 use Rattle.juniper_language.specs.Lexing as read
+use Rattle.juniper_language.specs.declared.token.ScalarToken.{ScalarToken}
+use Rattle.juniper_language.specs.declared.token.ScalarToken.TheVariants as scalar
 use Rattle.juniper_language.specs.declared.token.Lexeme.{Lexeme}
 use Rattle.juniper_language.specs.declared.token.Lexeme.TheVariants as lexeme
 use Rattle.juniper_language.specs.declared.token.Token.{Token}
@@ -14,11 +16,14 @@ use Rattle.juniper_language.specs.declared.token.Lexed.{Lexed}
 use Rattle.juniper_language.specs.declared.string.Part.{Part}
 use Rattle.juniper_language.specs.declared.string.Part.TheVariants as part
 
+abbrev pub view_scalar_token : ScalarToken → spec.Lexeme
+view_scalar_token (scalar.String s) = spec.string s.now
+view_scalar_token (scalar.Int s) = spec.int s.now
+
 abbrev pub view_lexeme : Lexeme → spec.Lexeme
 view_lexeme (lexeme.Mark m) = spec.mark m
 view_lexeme (lexeme.Name s) = spec.name s.now
-view_lexeme (lexeme.Int s) = spec.int s.now
-view_lexeme (lexeme.String s) = spec.string s.now
+view_lexeme (lexeme.Scalar t) = view_scalar_token t
 
 abbrev pub view_token : Token → spec.Token
 view_token t = record { lexeme = view_lexeme t.lexeme; span = view_span t.span }

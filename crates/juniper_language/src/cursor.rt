@@ -1,8 +1,7 @@
 //! Where a reader of tokens stands.
 
 ghost use Rattle.std.specs.Prelude.{◌≡◌, ◌≢◌, length, map, option_map, IfOk};
-ghost use Rattle.graphql_spec.specs.Grammar.{begin_of};
-ghost use Rattle.graphql_spec.specs.Served.{before_all};
+ghost use Rattle.graphql_spec.specs.Grammar.{before_all, begin_of};
 ghost use Rattle.juniper_syntax.specs.Positions.{view_position, view_span};
 ghost use Rattle.juniper_syntax.specs.DocumentView.{view_word};
 ghost use Rattle.juniper_language.specs.Readers as read;
@@ -11,7 +10,7 @@ ghost use Rattle.juniper_language.specs.Reading as rule;
 ghost use Rattle.juniper_language.specs.TokenViews.{view_token};
 ghost use Rattle.juniper_syntax.specs.declared.error.ParseError.TheVariants.{Memory, TooDeep, UnexpectedToken};
 
-use crate::token::{Ending, Lexeme, Token};
+use crate::token::{Ending, Lexeme, ScalarToken, Token};
 use juniper_syntax::{ParseError, SourcePosition, Span, Spanning};
 use std::alloc::{AllocError, Global};
 use std::marker::Model;
@@ -115,7 +114,7 @@ impl<'t, 'a> Parser<'t, 'a> {
             [] => false,
             [first, ..] => match first.lexeme {
                 Lexeme::Mark(found) => found == mark,
-                Lexeme::Name(_) | Lexeme::Int(_) | Lexeme::String(_) => false,
+                Lexeme::Name(_) | Lexeme::Scalar(ScalarToken::Int(_) | ScalarToken::String(_)) => false,
             },
         }
     }
@@ -128,7 +127,7 @@ impl<'t, 'a> Parser<'t, 'a> {
             [] => None,
             [first, ..] => match first.lexeme {
                 Lexeme::Name(word) => Some(word),
-                Lexeme::Mark(_) | Lexeme::Int(_) | Lexeme::String(_) => None,
+                Lexeme::Mark(_) | Lexeme::Scalar(ScalarToken::Int(_) | ScalarToken::String(_)) => None,
             },
         }
     }
@@ -147,7 +146,7 @@ impl<'t, 'a> Parser<'t, 'a> {
                     Err(refused(token.span))
                 }
             }
-            Lexeme::Name(_) | Lexeme::Int(_) | Lexeme::String(_) => Err(refused(token.span)),
+            Lexeme::Name(_) | Lexeme::Scalar(ScalarToken::Int(_) | ScalarToken::String(_)) => Err(refused(token.span)),
         }
     }
 
@@ -159,7 +158,7 @@ impl<'t, 'a> Parser<'t, 'a> {
         let token = self.next()?;
         match token.lexeme {
             Lexeme::Name(word) => Ok(Spanning::new(token.span, word)),
-            Lexeme::Mark(_) | Lexeme::Int(_) | Lexeme::String(_) => Err(refused(token.span)),
+            Lexeme::Mark(_) | Lexeme::Scalar(ScalarToken::Int(_) | ScalarToken::String(_)) => Err(refused(token.span)),
         }
     }
 }

@@ -13,7 +13,7 @@ ghost use Rattle.juniper_language.specs.TokenViews.{view_lexeme, view_lexed, vie
 
 use crate::number::{int_len, number_fault, starts_int};
 use crate::string::{string_fault, string_len, without_quotes};
-use crate::token::{Ending, Fault, Lexed, Lexeme, Token};
+use crate::token::{Ending, Fault, Lexed, Lexeme, ScalarToken, Token};
 use juniper_syntax::{SourcePosition, Span};
 use std::alloc::{AllocError, Global};
 use std::marker::Model;
@@ -178,9 +178,9 @@ fn lexeme_of<'a>(word: &'a str) -> Lexeme<'a>
             if starts_name(*first) {
                 Lexeme::Name(word)
             } else if starts_int(*first) {
-                Lexeme::Int(word)
+                Lexeme::Scalar(ScalarToken::Int(word))
             } else if *first == b'"' {
-                Lexeme::String(without_quotes(word))
+                Lexeme::Scalar(ScalarToken::String(without_quotes(word)))
             } else {
                 Lexeme::Mark(*first)
             }

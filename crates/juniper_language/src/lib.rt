@@ -4,6 +4,7 @@
 mod cursor;
 mod definitions;
 mod directives;
+pub mod grammar;
 mod lexer;
 mod number;
 pub mod parser;
@@ -23,3 +24,4 @@ pub use juniper_syntax::{
 pub use number::decode_int;
 pub use parser::parse_document_source;
 pub use string::decode_string;
+pub use token::ScalarToken;

@@ -7,6 +7,15 @@ use crate::string::string_error;
 use juniper_syntax::{LexerError, ParseError, SourcePosition, Span, Spanning};
 use std::alloc::{AllocError, Global};
 
+/// What a scalar is written as.
+#[derive(Clone, Copy, Debug, PartialEq, Eq)]
+pub enum ScalarToken<'a> {
+    /// A string, by what stands between its quotes (2.9.4); [`decode_string`](crate::decode_string) says what it stands for.
+    String(&'a str),
+    /// An Int, by its characters (2.9.1); [`decode_int`](crate::decode_int) says what it stands for.
+    Int(&'a str),
+}
+
 /// What a token is, without its place.
 #[derive(Clone, Copy)]
 pub enum Lexeme<'a> {
@@ -14,10 +23,8 @@ pub enum Lexeme<'a> {
     Mark(u8),
     /// A name (2.1.9).
     Name(&'a str),
-    /// An Int, by its characters (2.9.1).
-    Int(&'a str),
-    /// A string, by what stands between its quotes (2.9.4).
-    String(&'a str),
+    /// An Int or a string.
+    Scalar(ScalarToken<'a>),
 }
 
 /// A token and its place.

@@ -13,7 +13,7 @@ ghost use Rattle.juniper_language.specs.Reading as rule;
 use crate::cursor::{ParseResult, Parser, Word, refused, too_deep};
 use crate::number::decode_int;
 use crate::string::decode_string;
-use crate::token::Lexeme;
+use crate::token::{Lexeme, ScalarToken};
 use juniper_syntax::{InputValue, ScalarValue, Span, Spanning};
 use std::alloc::{AllocError, Global};
 
@@ -108,8 +108,8 @@ pub fn value<S: ScalarValue>(
     match token.lexeme {
         Lexeme::Mark(mark) => bracketed(alloc, parser, constant, depth, mark, token.span),
         Lexeme::Name(word) => Ok(word_value(alloc, word)?),
-        Lexeme::Int(number) => int_value(number, token.span),
-        Lexeme::String(raw) => string_value(alloc, raw, token.span),
+        Lexeme::Scalar(ScalarToken::Int(number)) => int_value(number, token.span),
+        Lexeme::Scalar(ScalarToken::String(raw)) => string_value(alloc, raw, token.span),
     }
 }
 

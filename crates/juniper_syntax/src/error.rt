@@ -62,9 +62,7 @@ impl fmt::Display for LexerError {
 
 impl Error for LexerError {}
 
-/// Why a text is no document that is served.
-///
-/// [`TooDeep`](ParseError::TooDeep) is not made yet: it comes with nested brackets.
+/// Why a text is no document.
 #[derive(Debug, Drop, Eq, PartialEq)]
 pub enum ParseError {
     /// What stands there is no token. Shown as the text of the [`LexerError`].
@@ -77,7 +75,7 @@ pub enum ParseError {
     FloatLiteral,
     /// A string in three quotes (2.9.4). Shown as `Block strings are not supported`.
     BlockString,
-    /// More than 256 open brackets. Shown as `Brackets are nested too deeply`. Not made yet.
+    /// A bracket that opens while 256 are open. Shown as `Brackets are nested too deeply`.
     TooDeep,
     /// There was no memory. Shown as `Out of memory`.
     Memory,

@@ -1,7 +1,7 @@
 use Rattle.std.proofs.Common.{◌≡◌, map, Some, ap, sym, ◌∙◌}
 use Rattle.std.proofs.lemmas.Result.{err_from_is_err_and}
 use Rattle.graphql_spec.specs.Documents as spec
-use Rattle.graphql_spec.specs.Served.{before_all}
+use Rattle.graphql_spec.specs.Grammar.{before_all}
 use Rattle.juniper_language.specs.Lexing.{Lexed}
 use Rattle.juniper_language.specs.Reading as read
 use Rattle.juniper_language.specs.TokenViews.{view_lexed, view_token}
