@@ -5,7 +5,7 @@ use Rattle.graphql_spec.specs.Positions.{Span}
 use Rattle.graphql_spec.specs.Tokens.{mark, name}
 use Rattle.graphql_spec.specs.Documents.{Word, Arguments, Directive, Head, Spread, Inline, Selections, end, field, spread, inline}
 use Rattle.graphql_spec.specs.Grammar.{At, Mark, span_of, Opt, Many, AreDirectives, Set, OptSet, IsField, IsSpread, IsInline, TypeCondition, AreSelections, is_end, on_word}
-use Rattle.juniper_language.specs.Readers.{and_then, pure, sees, some_until}
+use Rattle.juniper_language.specs.Readers.{sees, some_until}
 use Rattle.juniper_language.specs.Reading.{Node, field_node, spread_node, inline_node, selections_of, set_by, first_word, selection, selections, inside_of}
 use Rattle.juniper_language.proofs.RuleSteps.{selections_is}
 use Rattle.juniper_language.proofs.StepLaws.{fewer, mark_seen, other_seen, expect_read, name_read, until_read, IsPart}

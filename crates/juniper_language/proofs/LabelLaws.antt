@@ -1,5 +1,5 @@
 -- A field's name and its alias that are read are spelled so, and those that are spelled so are read.
-use Rattle.std.proofs.Common.{inl, inr, ◌≡◌, ℕ, ◌≤◌, ◌==◌, Bool, true, false, length, Option, Some, None, refl, ap, sym, ◌∙◌, subst, arith}
+use Rattle.std.proofs.Common.{inl, inr, ◌≡◌, ℕ, ◌≤◌, false, length, Option, Some, None, refl, ap, sym, ◌∙◌, subst, arith}
 use Rattle.graphql_spec.specs.Tokens.{mark, name}
 use Rattle.graphql_spec.specs.Documents.{Word}
 use Rattle.graphql_spec.specs.Grammar.{At, IsWord, Opt, Alias}

@@ -1,13 +1,13 @@
 -- What the rules of reading say at each step of the parser.
-use Rattle.std.proofs.Common.{◌≡◌, ◌≢◌, ℕ, zero, suc, ◌-◌, Bool, true, false, List, [], ◌∷◌, length, Some, None, refl, ap, arith}
+use Rattle.std.proofs.Common.{◌≡◌, ◌≢◌, ℕ, zero, suc, ◌-◌, Bool, true, false, List, [], ◌∷◌, length, Some, None, refl, arith}
 use Rattle.std.proofs.lemmas.Bool.{false≢true}
 use Rattle.graphql_spec.specs.Positions.{Position, Span, Spanned}
 use Rattle.graphql_spec.specs.Inputs as spec
 use Rattle.graphql_spec.specs.Inputs.{Input}
 use Rattle.graphql_spec.specs.Tokens.{Lexeme, mark, name, int, string, Token}
 use Rattle.graphql_spec.specs.Grammar.{At}
-use Rattle.juniper_language.specs.Readers.{Reader, and_then, pure, refuse, next, next_from, is_mark_of, first_is, sees, expect, until, some_until, spanned, name_by, a_name, ◌>>=◌}
-use Rattle.juniper_language.specs.Reading.{value, value_by, bracketed, argument, items_of, fields_of, list_within, object_within, type_ref, list_type, named_type, bang, in_brackets, inside_of, selections, selection, selections_of, first_word, by_word, behind_word, kind_of, start_of}
+use Rattle.juniper_language.specs.Readers.{Reader, and_then, pure, next, next_from, is_mark_of, first_is, sees, expect, until, some_until, spanned, name_by, a_name, ◌>>=◌}
+use Rattle.juniper_language.specs.Reading.{value, value_by, bracketed, argument, items_of, fields_of, list_within, object_within, type_ref, list_type, named_type, in_brackets, inside_of, selections, selection, selections_of, first_word, by_word, behind_word, kind_of, start_of}
 
 -- ## Values
 

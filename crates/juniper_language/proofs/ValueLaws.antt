@@ -11,7 +11,7 @@ use Rattle.graphql_spec.specs.Inputs.{Input, null, scalar, enumerated, variable,
 use Rattle.graphql_spec.specs.Documents.{Argument}
 use Rattle.graphql_spec.specs.Grammar.{At, Takes, Mark, Keyword, IsWord, Many, span_of, IsValue, AreItems, AreFields, IsArgument, IsEnumName, true_word, false_word, null_word, boolean_word}
 use Rattle.juniper_language.specs.Readers.{Reader, and_then, pure, refuse, next, sees, expect, a_name, until, with_span, spanned, known}
-use Rattle.juniper_language.specs.Reading.{word_value, items_of, fields_of, named, list_by, object_by, variable_if, value_by, value, list_within, object_within}
+use Rattle.juniper_language.specs.Reading.{word_value, items_of, fields_of, named, list_by, object_by, variable_if, value_by, value}
 use Rattle.juniper_language.proofs.RuleSteps.{value_is}
 use Rattle.juniper_language.proofs.StepLaws.{bind_some, from_pure, chosen, next_takes, takes_next, fewer, other_seen, expect_sound, expect_read, name_sound, name_read, name_first, spanned_is, until_sound, until_read, IsSound, IsPart}
 

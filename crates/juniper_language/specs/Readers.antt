@@ -1,6 +1,5 @@
 -- Reading tokens: what every rule of the grammar is made of. Only private clauses cite it.
-use Rattle.std.specs.Prelude.{◌≡◌, ◌≢◌, ℕ, zero, suc, Bool, true, false, ◌==◌, cond, List, [], ◌∷◌, ◌++◌, length, Option, Some, None, Result, Ok, Err}
-use Rattle.graphql_spec.specs.Shown.{Name}
+use Rattle.std.specs.Prelude.{◌≡◌, ◌≢◌, ℕ, zero, suc, Bool, false, ◌==◌, cond, List, [], ◌∷◌, ◌++◌, length, Option, Some, None, Result, Ok, Err}
 use Rattle.graphql_spec.specs.Positions.{Position, Span, Spanned}
 use Rattle.graphql_spec.specs.Tokens as token
 use Rattle.graphql_spec.specs.Tokens.{Lexeme, Token}

@@ -114,7 +114,8 @@ impl<'t, 'a> Parser<'t, 'a> {
             [] => false,
             [first, ..] => match first.lexeme {
                 Lexeme::Mark(found) => found == mark,
-                Lexeme::Name(_) | Lexeme::Scalar(ScalarToken::Int(_) | ScalarToken::String(_)) => false,
+                Lexeme::Name(_) | Lexeme::Scalar(ScalarToken::Int(_) | ScalarToken::String(_)) =>
+                    false,
             },
         }
     }
@@ -127,7 +128,8 @@ impl<'t, 'a> Parser<'t, 'a> {
             [] => None,
             [first, ..] => match first.lexeme {
                 Lexeme::Name(word) => Some(word),
-                Lexeme::Mark(_) | Lexeme::Scalar(ScalarToken::Int(_) | ScalarToken::String(_)) => None,
+                Lexeme::Mark(_) | Lexeme::Scalar(ScalarToken::Int(_) | ScalarToken::String(_)) =>
+                    None,
             },
         }
     }
@@ -146,7 +148,9 @@ impl<'t, 'a> Parser<'t, 'a> {
                     Err(refused(token.span))
                 }
             }
-            Lexeme::Name(_) | Lexeme::Scalar(ScalarToken::Int(_) | ScalarToken::String(_)) => Err(refused(token.span)),
+            Lexeme::Name(_) | Lexeme::Scalar(ScalarToken::Int(_) | ScalarToken::String(_)) => Err(
+                refused(token.span),
+            ),
         }
     }
 
@@ -158,7 +162,9 @@ impl<'t, 'a> Parser<'t, 'a> {
         let token = self.next()?;
         match token.lexeme {
             Lexeme::Name(word) => Ok(Spanning::new(token.span, word)),
-            Lexeme::Mark(_) | Lexeme::Scalar(ScalarToken::Int(_) | ScalarToken::String(_)) => Err(refused(token.span)),
+            Lexeme::Mark(_) | Lexeme::Scalar(ScalarToken::Int(_) | ScalarToken::String(_)) => Err(
+                refused(token.span),
+            ),
         }
     }
 }
