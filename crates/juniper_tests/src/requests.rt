@@ -2,9 +2,9 @@
 //! types of scalars.
 
 use crate::root::{Requests, test_root};
-use crate::scalar::TestScalar;
 use juniper::{ExecutionError, GraphQLError, execute_sync};
 use juniper_language::{DefaultScalarValue, Object, ScalarValue, SourcePosition, Value, Variables};
+use juniper_language_tests::scalar::TestScalar;
 use std::alloc::{AllocError, Global};
 use std::test::Fail;
 
