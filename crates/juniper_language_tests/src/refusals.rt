@@ -29,12 +29,11 @@ fn first_other<'t>(alloc: Global, kind: &ParseError, rows: &[Row<'t>]) -> Option
 #[test]
 fn other_documents_are_refused(rt: HostRuntime) {
     let rows = [
-        ("query { id }", (0, 0, 0)),
+        ("queries { id }", (0, 0, 0)),
         ("} id {", (0, 0, 0)),
         ("{ id } x", (7, 0, 7)),
-        ("{ id }\r\n{ id }", (8, 1, 0)),
+        ("{ id }\r\n{ }", (10, 1, 2)),
         ("{ id } x ~", (7, 0, 7)),
-        ("{ id { ~", (5, 0, 5)),
     ];
     assert_eq!(rt;
         first_other(rt.alloc(), &ParseError::UnexpectedToken, rows.as_slice()),
@@ -47,8 +46,9 @@ fn broken_selections_are_refused(rt: HostRuntime) {
     let rows = [
         ("{}", (1, 0, 1)),
         ("{ }", (2, 0, 2)),
-        ("{ id { a } }", (5, 0, 5)),
-        ("{ ...F }", (2, 0, 2)),
+        ("{ id { } }", (7, 0, 7)),
+        ("{ ... }", (6, 0, 6)),
+        ("{ ...on }", (8, 0, 8)),
         ("{ 1 }", (2, 0, 2)),
     ];
     assert_eq!(rt;
@@ -73,15 +73,11 @@ fn broken_arguments_are_refused(rt: HostRuntime) {
         ("{ (x: 1) }", (2, 0, 2)),
         ("{ a(x: 2147483648) }", (7, 0, 7)),
         ("{ a(x: -2147483649) }", (7, 0, 7)),
-        ("{ a(x: RED) }", (7, 0, 7)),
-        ("{ a(x: nul) }", (7, 0, 7)),
-        ("{ a(x: $v) }", (7, 0, 7)),
-        ("{ a(x: \"s\") }", (7, 0, 7)),
-        ("{ a(x: \"\") }", (7, 0, 7)),
-        ("{ a(x: \"\" \"\") }", (7, 0, 7)),
+        ("{ a(x: \"\" \"\") }", (10, 0, 10)),
+        ("{ a(x: $) }", (8, 0, 8)),
+        ("{ a(x: [1) }", (9, 0, 9)),
+        ("{ a(x: {k}) }", (9, 0, 9)),
         ("{ \"a\" }", (2, 0, 2)),
-        ("{ a(x: [1]) }", (7, 0, 7)),
-        ("{ a(x: {}) }", (7, 0, 7)),
         ("{ a: }", (5, 0, 5)),
         ("{ a: b: c }", (6, 0, 6)),
         ("{ :a }", (2, 0, 2)),
@@ -96,18 +92,10 @@ fn broken_arguments_are_refused(rt: HostRuntime) {
 fn broken_directives_are_refused(rt: HostRuntime) {
     let rows = [
         ("{ @skip(if: true) }", (2, 0, 2)),
-        ("{ id @skip }", (11, 0, 11)),
-        ("{ id @skip(if: 1) }", (15, 0, 15)),
-        ("{ id @skip(if: null) }", (15, 0, 15)),
-        ("{ id @skip(if: yes) }", (15, 0, 15)),
-        ("{ id @skip(if: \"true\") }", (15, 0, 15)),
-        ("{ id @skip(if: $b) }", (15, 0, 15)),
+        ("{ id @skip @ }", (13, 0, 13)),
         ("{ id @skip(if true) }", (14, 0, 14)),
-        ("{ id @skip(unless: true) }", (11, 0, 11)),
-        ("{ id @skip(if: true, if: true) }", (21, 0, 21)),
         ("{ id @skip() }", (11, 0, 11)),
-        ("{ id @skips(if: true) }", (6, 0, 6)),
-        ("{ id @ski(if: true) }", (6, 0, 6)),
+        ("{ id @1 }", (6, 0, 6)),
         ("{ id @(if: true) }", (6, 0, 6)),
     ];
     assert_eq!(rt;
@@ -120,6 +108,7 @@ fn broken_directives_are_refused(rt: HostRuntime) {
 fn characters_that_begin_no_token_are_refused(rt: HostRuntime) {
     let rows = [
         ("{ id } ~", (7, 0, 7)),
+        ("{ id { ~", (7, 0, 7)),
         ("{ id \0 }", (5, 0, 5)),
         ("{ id ? }", (5, 0, 5)),
         ("{ .. }", (2, 0, 2)),
