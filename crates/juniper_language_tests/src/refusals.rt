@@ -2,11 +2,8 @@
 
 use crate::language::{Place, place};
 use juniper_language::{DefaultScalarValue, LexerError, ParseError, parse_document_source};
-use std::alloc::Global;
+use std::alloc::{AllocError, Global};
 use std::test::Fail;
-
-/// A text, and the place of its refusal.
-type Row<'t> = (&'t str, Place);
 
 /// Whether the text is refused so, at this place.
 fn refuses(alloc: Global, text: &str, kind: &ParseError, at: Place) -> bool {
@@ -16,140 +13,251 @@ fn refuses(alloc: Global, text: &str, kind: &ParseError, at: Place) -> bool {
     }
 }
 
-/// The first text that is not refused so, at its place.
-fn first_other<'t>(alloc: Global, kind: &ParseError, rows: &[Row<'t>]) -> Option<&'t str> {
-    for (text, at) in rows {
-        if !refuses(alloc, text, kind, *at) {
-            return Some(text);
+/// The first row that is not refused so. A row is a line: a text with a `^` that is not part of it, where it is refused.
+fn first_other<'r>(
+    alloc: Global,
+    kind: &ParseError,
+    rows: &'r str,
+) -> Result<Option<&'r str>, AllocError> {
+    for row in rows.lines() {
+        let Some((before, after)) = row.split_once('^') else {
+            return Ok(Some(row));
+        };
+        let mut text = String::from_str(alloc, before)?;
+        text.push_str(after)?;
+        let at = (before.len(), 0, before.chars().count());
+        if !refuses(alloc, text.as_str(), kind, at) {
+            return Ok(Some(row));
         }
     }
-    None
+    Ok(None)
 }
 
-#[test]
-fn other_documents_are_refused(rt: HostRuntime) {
-    let rows = [
-        ("queries { id }", (0, 0, 0)),
-        ("} id {", (0, 0, 0)),
-        ("{ id } x", (7, 0, 7)),
-        ("{ id }\r\n{ }", (10, 1, 2)),
-        ("{ id } x ~", (7, 0, 7)),
-    ];
-    assert_eq!(rt;
-        first_other(rt.alloc(), &ParseError::UnexpectedToken, rows.as_slice()),
-        None
-    );
-}
+/// What is no document.
+const DOCUMENTS: &str = "\
+^queries { id }
+^} id {
+{ id } ^x
+{ id } ^x ~";
 
 #[test]
-fn broken_selections_are_refused(rt: HostRuntime) {
-    let rows = [
-        ("{}", (1, 0, 1)),
-        ("{ }", (2, 0, 2)),
-        ("{ id { } }", (7, 0, 7)),
-        ("{ ... }", (6, 0, 6)),
-        ("{ ...on }", (8, 0, 8)),
-        ("{ 1 }", (2, 0, 2)),
-    ];
-    assert_eq!(rt;
-        first_other(rt.alloc(), &ParseError::UnexpectedToken, rows.as_slice()),
-        None
-    );
+fn other_documents_are_refused(rt: HostRuntime) -> Result<(), Fail> {
+    let kind = ParseError::UnexpectedToken;
+    assert_eq!(rt; first_other(rt.alloc(), &kind, DOCUMENTS)?, None);
+    Ok(())
 }
 
-#[test]
-fn broken_arguments_are_refused(rt: HostRuntime) {
-    let rows = [
-        ("{ a() }", (4, 0, 4)),
-        ("{ a(x) }", (5, 0, 5)),
-        ("{ a(x: ) }", (7, 0, 7)),
-        ("{ a(x: 1 }", (9, 0, 9)),
-        ("{ a(1: x) }", (4, 0, 4)),
-        ("{ a(: 1) }", (4, 0, 4)),
-        ("{ a(x: 1 2) }", (9, 0, 9)),
-        ("{ a(x: 1)(y: 2) }", (9, 0, 9)),
-        ("{ a(x: 1): b }", (9, 0, 9)),
-        ("{ a @skip(if: true) (x: 1) }", (20, 0, 20)),
-        ("{ (x: 1) }", (2, 0, 2)),
-        ("{ a(x: 2147483648) }", (7, 0, 7)),
-        ("{ a(x: -2147483649) }", (7, 0, 7)),
-        ("{ a(x: \"\" \"\") }", (10, 0, 10)),
-        ("{ a(x: $) }", (8, 0, 8)),
-        ("{ a(x: [1) }", (9, 0, 9)),
-        ("{ a(x: {k}) }", (9, 0, 9)),
-        ("{ \"a\" }", (2, 0, 2)),
-        ("{ a: }", (5, 0, 5)),
-        ("{ a: b: c }", (6, 0, 6)),
-        ("{ :a }", (2, 0, 2)),
-    ];
-    assert_eq!(rt;
-        first_other(rt.alloc(), &ParseError::UnexpectedToken, rows.as_slice()),
-        None
-    );
-}
+/// What is no selection.
+const SELECTIONS: &str = "\
+{^}
+{ ^}
+{ id { ^} }
+{ ... ^}
+{ ...on ^}
+{ ^1 }";
 
 #[test]
-fn broken_directives_are_refused(rt: HostRuntime) {
-    let rows = [
-        ("{ @skip(if: true) }", (2, 0, 2)),
-        ("{ id @skip @ }", (13, 0, 13)),
-        ("{ id @skip(if true) }", (14, 0, 14)),
-        ("{ id @skip() }", (11, 0, 11)),
-        ("{ id @1 }", (6, 0, 6)),
-        ("{ id @(if: true) }", (6, 0, 6)),
-    ];
-    assert_eq!(rt;
-        first_other(rt.alloc(), &ParseError::UnexpectedToken, rows.as_slice()),
-        None
-    );
+fn broken_selections_are_refused(rt: HostRuntime) -> Result<(), Fail> {
+    let kind = ParseError::UnexpectedToken;
+    assert_eq!(rt; first_other(rt.alloc(), &kind, SELECTIONS)?, None);
+    Ok(())
 }
 
+/// What is no argument.
+const ARGUMENTS: &str = "\
+{ a(^) }
+{ a(x^) }
+{ a(x: ^) }
+{ a(x: 1 ^}
+{ a(^1: x) }
+{ a(^: 1) }
+{ a(x: 1 ^2) }
+{ a(x: 1)^(y: 2) }
+{ a(x: 1)^: b }
+{ a @skip(if: true) ^(x: 1) }
+{ ^(x: 1) }
+{ a(x: ^2147483648) }
+{ a(x: ^-2147483649) }
+{ a(x: \"\" ^\"\") }
+{ a(x: $^) }
+{ a(x: [1^) }
+{ a(x: {k^}) }
+{ ^\"a\" }
+{ a: ^}
+{ a: b^: c }
+{ ^:a }";
+
 #[test]
-fn characters_that_begin_no_token_are_refused(rt: HostRuntime) {
-    let rows = [
-        ("{ id } ~", (7, 0, 7)),
-        ("{ id { ~", (7, 0, 7)),
-        ("{ id \0 }", (5, 0, 5)),
-        ("{ id ? }", (5, 0, 5)),
-        ("{ .. }", (2, 0, 2)),
-        ("{ \u{1F600}~ }", (2, 0, 2)),
-        ("{ id\u{A0}~ { }", (4, 0, 4)),
-        ("{\n id # a\u{1F600}b\u{1}c\n ~ }", (14, 1, 9)),
-        ("\u{FEFE}{ id }", (0, 0, 0)),
-        ("\u{FEFF}\u{FEFF}\u{7}", (6, 0, 2)),
-        // inside of a string, which is told where it begins
-        ("{ a(x: \"\0\") }", (7, 0, 7)),
-        ("{ a(x: \"s\u{1F}\") }", (7, 0, 7)),
-    ];
+fn broken_arguments_are_refused(rt: HostRuntime) -> Result<(), Fail> {
+    let kind = ParseError::UnexpectedToken;
+    assert_eq!(rt; first_other(rt.alloc(), &kind, ARGUMENTS)?, None);
+    Ok(())
+}
+
+/// What is no directive.
+const DIRECTIVES: &str = "\
+{ ^@skip(if: true) }
+{ id @skip @ ^}
+{ id @skip(if ^true) }
+{ id @skip(^) }
+{ id @^1 }
+{ id @^(if: true) }";
+
+#[test]
+fn broken_directives_are_refused(rt: HostRuntime) -> Result<(), Fail> {
+    let kind = ParseError::UnexpectedToken;
+    assert_eq!(rt; first_other(rt.alloc(), &kind, DIRECTIVES)?, None);
+    Ok(())
+}
+
+/// Characters that begin no token; inside of a string they are told where it begins.
+const CHARACTERS: &str = "\
+{ id } ^~
+{ id { ^~
+{ id ^\0 }
+{ id ^? }
+{ ^.. }
+{ ^\u{1F600}~ }
+{ id^\u{A0}~ { }
+^\u{FEFE}{ id }
+\u{FEFF}\u{FEFF}^\u{7}
+{ a(x: ^\"\0\") }
+{ a(x: ^\"s\u{1F}\") }";
+
+#[test]
+fn characters_that_begin_no_token_are_refused(rt: HostRuntime) -> Result<(), Fail> {
     let kind = ParseError::LexerError(LexerError::UnknownCharacter);
-    assert_eq!(rt; first_other(rt.alloc(), &kind, rows.as_slice()), None);
+    assert_eq!(rt; first_other(rt.alloc(), &kind, CHARACTERS)?, None);
+    Ok(())
 }
 
+/// Strings without an end.
+const STRINGS: &str = "\
+^\"
+{ a(x: ^\"s
+{ a(x: ^\"\\\") }";
+
 #[test]
-fn strings_without_an_end_are_refused(rt: HostRuntime) {
-    let rows = [
-        ("\"", (0, 0, 0)),
-        ("{ a(x: \"s", (7, 0, 7)),
-        ("{ a(x: \"s\n\") }", (7, 0, 7)),
-        ("{ a(x: \"s\r\n\") }", (7, 0, 7)),
-        ("{ a(x: \"\\\") }", (7, 0, 7)),
-        ("{\n a(x: \"\\u12", (8, 1, 6)),
-    ];
+fn strings_without_an_end_are_refused(rt: HostRuntime) -> Result<(), Fail> {
     let kind = ParseError::LexerError(LexerError::UnterminatedString);
-    assert_eq!(rt; first_other(rt.alloc(), &kind, rows.as_slice()), None);
+    assert_eq!(rt; first_other(rt.alloc(), &kind, STRINGS)?, None);
+    Ok(())
 }
 
+/// Strings in three quotes.
+const BLOCKS: &str = "\
+{ a(x: ^\"\"\"b\"\"\") }
+^\"\"\"
+{ ^\"\"\"\" }";
+
 #[test]
-fn strings_in_three_quotes_are_refused(rt: HostRuntime) {
+fn strings_in_three_quotes_are_refused(rt: HostRuntime) -> Result<(), Fail> {
+    let kind = ParseError::BlockString;
+    assert_eq!(rt; first_other(rt.alloc(), &kind, BLOCKS)?, None);
+    Ok(())
+}
+
+/// Numbers that are none; the first fault in reading order is told.
+const NUMBERS: &str = "\
+{ a(x: ^01) }
+{ a(x: ^00) }
+{ a(x: ^-01) }
+{ a(x: ^01.5) }
+{ a(x: ^1a) }
+{ a(x: ^1_) }
+{ a(x: ^-) }
+{ a(x: ^-a) }
+{ a(x: ^--1) }
+{ a(x: ^-.5) }
+{ a(x: 1 y: ^2b z: 1.5 ~";
+
+#[test]
+fn broken_numbers_are_refused(rt: HostRuntime) -> Result<(), Fail> {
+    let kind = ParseError::LexerError(LexerError::InvalidNumber);
+    assert_eq!(rt; first_other(rt.alloc(), &kind, NUMBERS)?, None);
+    Ok(())
+}
+
+/// Floats.
+const FLOATS: &str = "\
+{ a(x: ^1.5) }
+{ a(x: ^-0.0) }
+{ a(x: ^1e3) }
+{ a(x: ^1E3) }
+{ a(x: ^1.) }
+{ a(x: ^10...) }";
+
+#[test]
+fn floats_are_refused(rt: HostRuntime) -> Result<(), Fail> {
+    let kind = ParseError::FloatLiteral;
+    assert_eq!(rt; first_other(rt.alloc(), &kind, FLOATS)?, None);
+    Ok(())
+}
+
+/// Texts that end too early.
+const ENDLESS: &str = "\
+^
+ ,\u{FEFF}^
+# { id }^
+{^
+{ id^
+{ id # }^
+{ a:^
+{ a(^
+{ a(x^
+{ a(x:^
+{ a(x: -1^
+{ a(x: 1)^
+{ id @^
+{ id @skip^
+{ id @skip(^
+{ id @skip(if^
+{ id @skip(if:^
+{ id @skip(if: true^
+{ id @skip(if: true)^";
+
+#[test]
+fn texts_that_end_too_early_are_refused(rt: HostRuntime) -> Result<(), Fail> {
+    let kind = ParseError::UnexpectedEndOfFile;
+    assert_eq!(rt; first_other(rt.alloc(), &kind, ENDLESS)?, None);
+    Ok(())
+}
+
+/// LF, CR and CR LF end a line each.
+#[test]
+fn refusals_stand_on_their_lines(rt: HostRuntime) {
     let rows = [
-        ("{ a(x: \"\"\"b\"\"\") }", (7, 0, 7)),
-        ("\"\"\"", (0, 0, 0)),
-        ("{ \"\"\"\" }", (2, 0, 2)),
+        ("{ id }\r\n{ }", ParseError::UnexpectedToken, (10, 1, 2)),
+        (
+            "{\n id # a\u{1F600}b\u{1}c\n ~ }",
+            ParseError::LexerError(LexerError::UnknownCharacter),
+            (14, 1, 9),
+        ),
+        (
+            "{ a(x: \"s\n\") }",
+            ParseError::LexerError(LexerError::UnterminatedString),
+            (7, 0, 7),
+        ),
+        (
+            "{ a(x: \"s\r\n\") }",
+            ParseError::LexerError(LexerError::UnterminatedString),
+            (7, 0, 7),
+        ),
+        (
+            "{\n a(x: \"\\u12",
+            ParseError::LexerError(LexerError::UnterminatedString),
+            (8, 1, 6),
+        ),
+        (
+            "{ a }\n # 1.5\n 0x1",
+            ParseError::LexerError(LexerError::InvalidNumber),
+            (14, 2, 1),
+        ),
+        ("{\r\n", ParseError::UnexpectedEndOfFile, (3, 1, 0)),
     ];
-    assert_eq!(rt;
-        first_other(rt.alloc(), &ParseError::BlockString, rows.as_slice()),
-        None
-    );
+    for (text, kind, at) in &rows {
+        assert!(rt; refuses(rt.alloc(), text, kind, *at), "{text}");
+    }
 }
 
 #[test]
@@ -165,83 +273,6 @@ fn unknown_escapes_are_refused(rt: HostRuntime) -> Result<(), Fail> {
         assert!(rt; refuses(rt.alloc(), text, &kind, (7, 0, 7)), "{text}");
     }
     Ok(())
-}
-
-#[test]
-fn broken_numbers_are_refused(rt: HostRuntime) {
-    let rows = [
-        ("{ a(x: 01) }", (7, 0, 7)),
-        ("{ a(x: 00) }", (7, 0, 7)),
-        ("{ a(x: -01) }", (7, 0, 7)),
-        ("{ a(x: 01.5) }", (7, 0, 7)),
-        ("{ a(x: 1a) }", (7, 0, 7)),
-        ("{ a(x: 1_) }", (7, 0, 7)),
-        ("{ a(x: -) }", (7, 0, 7)),
-        ("{ a(x: -a) }", (7, 0, 7)),
-        ("{ a(x: --1) }", (7, 0, 7)),
-        ("{ a(x: -.5) }", (7, 0, 7)),
-        // the first fault in reading order
-        ("{ a(x: 1 y: 2b z: 1.5 ~", (12, 0, 12)),
-        ("{ a }\n # 1.5\n 0x1", (14, 2, 1)),
-    ];
-    assert_eq!(rt;
-        first_other(
-            rt.alloc(),
-            &ParseError::LexerError(LexerError::InvalidNumber),
-            rows.as_slice()
-        ),
-        None
-    );
-}
-
-#[test]
-fn floats_are_refused(rt: HostRuntime) {
-    let rows = [
-        ("{ a(x: 1.5) }", (7, 0, 7)),
-        ("{ a(x: -0.0) }", (7, 0, 7)),
-        ("{ a(x: 1e3) }", (7, 0, 7)),
-        ("{ a(x: 1E3) }", (7, 0, 7)),
-        ("{ a(x: 1.) }", (7, 0, 7)),
-        ("{ a(x: 10...) }", (7, 0, 7)),
-    ];
-    assert_eq!(rt;
-        first_other(rt.alloc(), &ParseError::FloatLiteral, rows.as_slice()),
-        None
-    );
-}
-
-#[test]
-fn texts_that_end_too_early_are_refused(rt: HostRuntime) {
-    let rows = [
-        ("", (0, 0, 0)),
-        (" ,\u{FEFF}", (5, 0, 3)),
-        ("# { id }", (8, 0, 8)),
-        ("{", (1, 0, 1)),
-        ("{\r\n", (3, 1, 0)),
-        ("{ id", (4, 0, 4)),
-        ("{ id # }", (8, 0, 8)),
-        ("{ a:", (4, 0, 4)),
-        ("{ a(", (4, 0, 4)),
-        ("{ a(x", (5, 0, 5)),
-        ("{ a(x:", (6, 0, 6)),
-        ("{ a(x: -1", (9, 0, 9)),
-        ("{ a(x: 1)", (9, 0, 9)),
-        ("{ id @", (6, 0, 6)),
-        ("{ id @skip", (10, 0, 10)),
-        ("{ id @skip(", (11, 0, 11)),
-        ("{ id @skip(if", (13, 0, 13)),
-        ("{ id @skip(if:", (14, 0, 14)),
-        ("{ id @skip(if: true", (19, 0, 19)),
-        ("{ id @skip(if: true)", (20, 0, 20)),
-    ];
-    assert_eq!(rt;
-        first_other(
-            rt.alloc(),
-            &ParseError::UnexpectedEndOfFile,
-            rows.as_slice()
-        ),
-        None
-    );
 }
 
 #[test]

@@ -54,7 +54,7 @@ fn so_many_brackets_may_be_open(rt: HostRuntime) -> Result<(), Fail> {
             refusal(alloc, text.as_str()).is_none(),
             "{before}{opening}"
         );
-        let high = tower(alloc, parts, most + 1)?;
+        let high = tower(alloc, parts, most.saturating_add(1))?;
         assert!(rt; is_too_deep(alloc, high.as_str(), at), "{before}{opening}");
     }
     Ok(())
@@ -206,7 +206,7 @@ fn brackets_of_all_kinds_count(rt: HostRuntime) -> Result<(), Fail> {
             refusal(alloc, text.as_str()).is_none(),
             "{before}{opening}{inside}"
         );
-        let high = tower(alloc, parts, most + 1)?;
+        let high = tower(alloc, parts, most.saturating_add(1))?;
         assert!(rt;
             is_too_deep(alloc, high.as_str(), at),
             "{before}{opening}{inside}"
