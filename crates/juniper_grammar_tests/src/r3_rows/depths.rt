@@ -1,6 +1,6 @@
 //! Brackets inside of one another: 256 of them may be open, and the 257th is refused where it stands.
 
-use super::rows::{refusal, refuses};
+use super::rows::refuses;
 use juniper_language::{
     DefaultScalarValue, Definition, Document, InputValue, ParseError, Selection, Type,
     parse_document_source,
@@ -26,38 +26,6 @@ fn tower(alloc: Global, parts: Tower<'_>, count: usize) -> Result<String, AllocE
 /// Whether the bracket at this index is refused as one too many.
 fn is_too_deep(alloc: Global, text: &str, at: usize) -> bool {
     refuses(alloc, text, &ParseError::TooDeep, (at, 0, at))
-}
-
-/// Towers with how many of their brackets may stand, and where the next one stands then.
-const TOWERS: [(Tower<'_>, usize, usize); 12] = [
-    (("", "{a", "", "}", ""), 256, 512),
-    (("", "{...", "{a}", "}", ""), 255, 1024),
-    (("", "{...on T", "{a}", "}", ""), 255, 2048),
-    (("fragment F on T", "{a", "", "}", ""), 256, 527),
-    (("{a(x:", "[", "", "]", ")}"), 254, 259),
-    (("{a(x:", "{k:", "1", "}", ")}"), 254, 767),
-    (("{a@d(x:", "[", "1", "]", ")}"), 254, 261),
-    (("query($v:T=", "[", "", "]", "){a}"), 255, 266),
-    (("query($v:T=", "{k:", "{}", "}", "){a}"), 254, 776),
-    (("query($v:T@d(x:", "[", "", "]", ")){a}"), 254, 269),
-    (("query($v:", "[", "T", "]", "){a}"), 255, 264),
-    (("query@d(x:", "[", "", "]", "){a}"), 255, 265),
-];
-
-#[test]
-fn so_many_brackets_may_be_open(rt: HostRuntime) -> Result<(), Fail> {
-    let alloc = rt.alloc();
-    for (parts, most, at) in TOWERS {
-        let (before, opening, _, _, _) = parts;
-        let text = tower(alloc, parts, most)?;
-        assert!(rt;
-            refusal(alloc, text.as_str()).is_none(),
-            "{before}{opening}"
-        );
-        let high = tower(alloc, parts, most.saturating_add(1))?;
-        assert!(rt; is_too_deep(alloc, high.as_str(), at), "{before}{opening}");
-    }
-    Ok(())
 }
 
 /// How many selection sets stand inside of one another, from the first definition on.
@@ -158,59 +126,57 @@ fn width(document: &Document<'_, DefaultScalarValue>) -> usize {
     }
 }
 
-#[test]
-fn each_bracket_is_a_level(rt: HostRuntime) -> Result<(), Fail> {
-    let alloc = rt.alloc();
-    let rows: [(Tower<'_>, usize, usize); 8] = [
-        (("", "{a", "", "}", ""), 256, 256),
-        (("", "{...", "{a}", "}", ""), 255, 256),
-        (("fragment F on T", "{...on T", "{a}", "}", ""), 255, 256),
-        (("{a(x:", "[", "", "]", ")}"), 254, 254),
-        (("{a(x:", "{k:", "1", "}", ")}"), 254, 254),
-        (("query($v:T=", "[", "", "]", "){a}"), 255, 255),
-        (("query($v:T=", "{k:", "{}", "}", "){a}"), 254, 255),
-        (("query($v:", "[", "T", "]", "){a}"), 255, 255),
-    ];
-    for (parts, count, wanted) in rows {
-        let (before, opening, _, _, _) = parts;
-        let text = tower(alloc, parts, count)?;
-        assert_eq!(rt;
-            measures(alloc, text.as_str()),
-            (wanted, 1),
-            "{before}{opening}"
-        );
-    }
-    Ok(())
+/// Towers, their parts between `~`; how many of the brackets may stand, at which index the next one stands then, and how
+/// many levels those have that may stand.
+const TOWERS: &str = "\
+~{a~~}~~256~512~256
+~{...~{a}~}~~255~1024~256
+~{...on T~{a}~}~~255~2048~256
+fragment F on T~{a~~}~~256~527~256
+{a(x:~[~~]~)}~254~259~254
+{a(x:~{k:~1~}~)}~254~767~254
+{a@d(x:~[~1~]~)}~254~261~1
+query($v:T=~[~~]~){a}~255~266~255
+query($v:T=~{k:~{}~}~){a}~254~776~255
+query($v:T@d(x:~[~~]~)){a}~254~269~0
+query($v:~[~T~]~){a}~255~264~255
+query@d(x:~[~~]~){a}~255~265~1
+~{a~(x:1)~}~~255~512~255
+~{a~@d(x:1)~}~~255~514~255
+~{a~(x:[])~}~~254~513~254
+~{a~(x:{k:[]})~}~~253~514~253
+~{a{b~(x:$v)@d(x:[[[]]])~}}~~126~520~252
+query($v:[[T]]=~[{k:~1~}]~@d(x:1)){a}~127~524~254";
+
+/// A row's tower and its numbers.
+fn row_of(row: &str) -> Option<(Tower<'_>, usize, usize, usize)> {
+    let mut parts = row.split('~');
+    let before = parts.next()?;
+    let opening = parts.next()?;
+    let inside = parts.next()?;
+    let closing = parts.next()?;
+    let behind = parts.next()?;
+    let most = parts.next()?.parse::<usize>().ok()?;
+    let at = parts.next()?.parse::<usize>().ok()?;
+    let levels = parts.next()?.parse::<usize>().ok()?;
+    Some(((before, opening, inside, closing, behind), most, at, levels))
 }
 
-/// Brackets of other kinds as the last ones that may stand, and as the first that may not.
+/// Whether so many brackets stand, and one more is refused where it stands.
+fn stands(alloc: Global, row: &str) -> Result<bool, AllocError> {
+    let Some((parts, most, at, levels)) = row_of(row) else {
+        return Ok(false);
+    };
+    let text = tower(alloc, parts, most)?;
+    let high = tower(alloc, parts, most.saturating_add(1))?;
+    let measured = measures(alloc, text.as_str());
+    Ok(measured == (levels, 1) && is_too_deep(alloc, high.as_str(), at))
+}
+
 #[test]
-fn brackets_of_all_kinds_count(rt: HostRuntime) -> Result<(), Fail> {
-    let alloc = rt.alloc();
-    let rows: [(Tower<'_>, usize, usize); 6] = [
-        (("", "{a", "(x:1)", "}", ""), 255, 512),
-        (("", "{a", "@d(x:1)", "}", ""), 255, 514),
-        (("", "{a", "(x:[])", "}", ""), 254, 513),
-        (("", "{a", "(x:{k:[]})", "}", ""), 253, 514),
-        (("", "{a{b", "(x:$v)@d(x:[[[]]])", "}}", ""), 126, 520),
-        (
-            ("query($v:[[T]]=", "[{k:", "1", "}]", "@d(x:1)){a}"),
-            127,
-            524,
-        ),
-    ];
-    for (parts, most, at) in rows {
-        let (before, opening, inside, _, _) = parts;
-        let text = tower(alloc, parts, most)?;
-        assert!(rt;
-            refusal(alloc, text.as_str()).is_none(),
-            "{before}{opening}{inside}"
-        );
-        let high = tower(alloc, parts, most.saturating_add(1))?;
-        assert!(rt;
-            is_too_deep(alloc, high.as_str(), at),
-            "{before}{opening}{inside}"
-        );
+fn so_many_brackets_may_be_open(rt: HostRuntime) -> Result<(), Fail> {
+    for row in TOWERS.lines() {
+        assert!(rt; stands(rt.alloc(), row)?, "{row}");
     }
     Ok(())
 }
