@@ -1,2 +1,1 @@
 pub mod TestRoot
-pub mod TestScalars

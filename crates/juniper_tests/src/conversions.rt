@@ -1,7 +1,7 @@
 //! Conversions between input values and the types of resolvers, with both types of scalars.
 
-use crate::scalar::TestScalar;
 use juniper_language::{DefaultScalarValue, InputValue, ScalarValue};
+use juniper_language_tests::scalar::TestScalar;
 use juniper_values::{FieldError, FromInputValue, ToInputValue};
 use std::alloc::{AllocError, Global};
 use std::fmt::Display;

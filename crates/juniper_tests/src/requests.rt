@@ -2,9 +2,9 @@
 //! types of scalars.
 
 use crate::root::{Requests, test_root};
-use crate::scalar::TestScalar;
 use juniper::{ExecutionError, GraphQLError, execute_sync};
 use juniper_language::{DefaultScalarValue, Object, ScalarValue, SourcePosition, Value, Variables};
+use juniper_language_tests::scalar::TestScalar;
 use std::alloc::{AllocError, Global};
 use std::test::Fail;
 
@@ -146,14 +146,14 @@ fn r1_rows(rt: HostRuntime) -> Result<(), Fail> {
         ("{ a: id a: name }", None, "Fields cannot be merged@0"),
         ("{ id }", Some("Q"), "Unknown operation name"),
         ("{ x }", Some("Q"), "Unknown field@0"),
-        ("{ id { a } }", None, "Unexpected token@5"),
+        ("{ id { a } }", None, "Not supported yet@0"),
         ("", None, "Unexpected end of input@0"),
         ("{", None, "Unexpected end of input@1"),
         ("}", None, "Unexpected token@0"),
         ("{}", None, "Unexpected token@1"),
         ("{ id } x", None, "Unexpected token@7"),
-        ("{ id @skip }", None, "Unexpected token@11"),
-        ("{ id @skip(if: 1) }", None, "Unexpected token@15"),
+        ("{ id @skip }", None, "Not supported yet@0"),
+        ("{ id @skip(if: 1) }", None, "Not supported yet@0"),
         ("{ id \0 }", None, "Unknown character@5"),
     ];
     assert_eq!(rt;
@@ -233,6 +233,47 @@ fn r2_rows(rt: HostRuntime) -> Result<(), Fail> {
             None,
             "{ number=42 }",
         ),
+    ];
+    assert_eq!(rt;
+        first_wrong::<DefaultScalarValue>(alloc, rows.as_slice())?.as_str(),
+        ""
+    );
+    assert_eq!(rt;
+        first_wrong::<TestScalar>(alloc, rows.as_slice())?.as_str(),
+        ""
+    );
+    Ok(())
+}
+
+/// What is read and not served is refused at the start of its first definition, before the rules and the name.
+#[test]
+fn r3_rows(rt: HostRuntime) -> Result<(), Fail> {
+    let alloc = rt.alloc();
+    let rows: [Row<'_>; 16] = [
+        ("query { id }", None, "{ id=q1 }"),
+        ("query { x }", None, "Unknown field@0"),
+        (" query Q { id }", Some("Q"), "Not supported yet@1"),
+        ("mutation { id }", None, "Not supported yet@0"),
+        ("subscription { id }", None, "Not supported yet@0"),
+        ("query @skip(if: true) { id }", None, "Not supported yet@0"),
+        ("query($v: Int) { id }", None, "Not supported yet@0"),
+        (
+            "# first\n{ id } fragment F on Query { id }",
+            None,
+            "Not supported yet@8",
+        ),
+        ("{ id } { id }", None, "Not supported yet@0"),
+        ("{ x ...F }", None, "Not supported yet@0"),
+        ("{ ... { x } }", Some("Q"), "Not supported yet@0"),
+        ("{ x { y } }", None, "Not supported yet@0"),
+        (
+            "{ number(plus: 1, plus: \"1\") }",
+            None,
+            "Not supported yet@0",
+        ),
+        ("{ number(plus: [1]) }", None, "Not supported yet@0"),
+        ("{ id @other(if: true) }", None, "Not supported yet@0"),
+        ("{ id @skip(if: $v) }", None, "Not supported yet@0"),
     ];
     assert_eq!(rt;
         first_wrong::<DefaultScalarValue>(alloc, rows.as_slice())?.as_str(),

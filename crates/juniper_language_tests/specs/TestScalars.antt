@@ -1,9 +1,9 @@
 -- What the scalars of the tests show (3.5).
 use Rattle.std.specs.Prelude.{◌≡◌, true, false, refl, string_bytes}
 use Rattle.graphql_spec.specs.Shown.{Shown, int, text, boolean, same_shown, same_bool}
-use Rattle.juniper_tests.specs.declared.scalar.TestScalar.{TestScalar}
-use Rattle.juniper_tests.specs.declared.scalar.TestScalar.TheVariants.{Flag, Number, Text}
-use Rattle.juniper_tests.specs.contracts.scalar.TestScalarPartialEq.TheImpl as equal
+use Rattle.juniper_language_tests.specs.declared.scalar.TestScalar.{TestScalar}
+use Rattle.juniper_language_tests.specs.declared.scalar.TestScalar.TheVariants.{Flag, Number, Text}
+use Rattle.juniper_language_tests.specs.contracts.scalar.TestScalarPartialEq.TheImpl as equal
 
 abbrev pub test_shown : TestScalar → Shown
 test_shown (Flag b) = boolean b

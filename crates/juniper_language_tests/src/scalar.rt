@@ -15,7 +15,7 @@ pub enum TestScalar {
 }
 
 impl ScalarValue for TestScalar {
-    ghost use Rattle.juniper_tests.specs.TestScalars.{test_shown, test_eq};
+    ghost use Rattle.juniper_language_tests.specs.TestScalars.{test_shown, test_eq};
 
     ghost shown = { test_shown };
 

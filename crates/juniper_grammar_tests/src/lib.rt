@@ -1,0 +1,5 @@
+//! Tests over the whole grammar: texts, and what they are read as, or how and where they are refused.
+#![tactic(auto)]
+
+#[cfg(test)]
+mod r3_rows;
