@@ -1,0 +1,37 @@
+-- What the program answers.
+use Rattle.std.specs.Prelude.{◌≡◌, ◌≢◌, ◌⊎◌, Some, ◌+◌, ℕ, length, ◌++◌, codes, decimal, string_bytes}
+use Rattle.graphql_spec.specs.Shown.{Text}
+use Rattle.graphql_spec.specs.Documents.{Document}
+use Rattle.graphql_spec.specs.Grammar.{Spells}
+use Rattle.graphql_spec.specs.Positions.{Position}
+use Rattle.juniper_syntax.specs.Refusals.{refusal_text, view_refusal}
+use Rattle.juniper_syntax.specs.declared.error.ParseError.{ParseError}
+use Rattle.juniper_syntax.specs.declared.error.ParseError.TheVariants.{Memory}
+use Rattle.serde_json.specs.Data.{Data}
+use Rattle.serde_json.specs.Read.{read}
+use Rattle.juniper_bench.specs.Counts.{capped, fields_of}
+use Rattle.juniper_bench.specs.declared.answers.Answer.{Answer}
+
+-- how numbers of definitions, fields and bytes are told
+abbrev pub counts_line : ℕ → ℕ → ℕ → Text
+counts_line ds fs bs = codes "definitions: " ++ (decimal ds ++ (codes ", fields: " ++ (decimal fs ++ (codes ", bytes: " ++ decimal bs))))
+
+-- how a refusal is told, with its place, counted from 1
+abbrev pub refusal_line : ParseError → Position → Text
+refusal_line e p = codes "refused: " ++ (refusal_text (view_refusal e) ++ (codes " at " ++ (decimal (capped (p.line + 1)) ++ (codes ":" ++ decimal (capped (p.column + 1))))))
+
+-- a text that spells a document: what it counts, with status 0
+abbrev pub IsCounted : Text → Answer → Type 0
+IsCounted t a = (d : Document) × Spells t d × (a.status ≡ 0) × (string_bytes a.line ≡ counts_line (length d) (capped (fields_of d)) (length t))
+
+-- a text that spells none, unless it is memory that lacks: why and where, with status 1
+abbrev pub IsRefused : Text → Answer → Type 0
+IsRefused t a = (e : ParseError) × (p : Position) × (e ≢ Memory → (d : Document) → Spells t d → ⊥) × (a.status ≡ 1) × (string_bytes a.line ≡ refusal_line e p)
+
+-- the answer to a text that is to be a document
+abbrev pub IsAnswerTo : Text → Answer → Type 0
+IsAnswerTo t a = IsCounted t a ⊎ IsRefused t a
+
+-- the answer to a text that is to be JSON: how many bytes it has, with status 0; else status 1
+abbrev pub IsScanOf : Text → Answer → Type 0
+IsScanOf t a = ((v : Data) × (read t ≡ Some v) × (a.status ≡ 0) × (string_bytes a.line ≡ codes "bytes: " ++ decimal (length t))) ⊎ (a.status ≡ 1)

@@ -1,0 +1,183 @@
+//! What the program answers.
+
+ghost use Rattle.std.specs.Prelude.{◌≡◌, IfOk, length, string_bytes};
+ghost use Rattle.juniper_syntax.specs.DocumentView.{view_document};
+ghost use Rattle.juniper_syntax.specs.Positions.{view_position};
+ghost use Rattle.juniper_syntax.specs.Scalars.{default_shown};
+ghost use Rattle.juniper_bench.specs.Answers.{IsAnswerTo, IsScanOf, counts_line, refusal_line};
+ghost use Rattle.juniper_bench.specs.Counts.{capped, fields_of};
+
+use crate::count::count_fields;
+use juniper_language::{
+    DefaultScalarValue, Document, ParseError, Span, Spanning, parse_document_source,
+};
+use serde_json::Value;
+use std::alloc::{AllocError, Global};
+
+/// What the program prints, and the status with which it ends: 0 where it did what it was asked for, 1 for a text that is
+/// refused, 2 for words that are not understood and for a file that cannot be read.
+#[derive(Debug, Drop)]
+pub struct Answer {
+    /// The status.
+    pub status: u8,
+    /// What is printed, without its last line feed.
+    pub line: String,
+}
+
+/// Parses the text so many times, and answers what its document counts, or why and where it is refused. An error where
+/// memory is refused.
+pub fn parse_answer(alloc: Global, text: &str, times: usize) -> Result<Answer, AllocError>
+    ensures { IfOk result (IsAnswerTo text.now) }
+{
+    for _turn in 1..times {
+        let _parsed = parse_document_source::<DefaultScalarValue>(alloc, text);
+    }
+    match parse_document_source::<DefaultScalarValue>(alloc, text) {
+        Ok(document) => counted(alloc, &document, text.len()),
+        Err(refusal) => refused(alloc, &refusal),
+    }
+}
+
+/// What a document of a text of so many bytes counts.
+fn counted(
+    alloc: Global,
+    document: &Document<'_, DefaultScalarValue>,
+    bytes: usize,
+) -> Result<Answer, AllocError>
+    ensures status { IfOk result (λ a. a.status ≡ 0) }
+    ensures line { IfOk result (λ a. string_bytes a.line ≡ counts_line (length (view_document default_shown document.now)) (capped (fields_of (view_document default_shown document.now))) bytes) }
+{
+    let definitions = document.len();
+    let fields = count_fields(document);
+    Ok(Answer {
+        status: 0,
+        line: format!(in alloc; "definitions: {definitions}, fields: {fields}, bytes: {bytes}")?,
+    })
+}
+
+/// Why a text is refused, and where.
+#[tactic(auto, unfolding(crate::specs::Counts::capped))]
+fn refused(alloc: Global, refusal: &Spanning<ParseError, Span>) -> Result<Answer, AllocError>
+    ensures status { IfOk result (λ a. a.status ≡ 1) }
+    ensures line { IfOk result (λ a. string_bytes a.line ≡ refusal_line refusal.now.item (view_position refusal.now.span.start)) }
+{
+    let error = &refusal.item;
+    let line = refusal.span.start.line().saturating_add(1);
+    let column = refusal.span.start.column().saturating_add(1);
+    Ok(Answer {
+        status: 1,
+        line: format!(in alloc; "refused: {error} at {line}:{column}")?,
+    })
+}
+
+/// Reads the text so many times as JSON, a yardstick for the parser, and answers how many bytes it has. An error where memory
+/// is refused.
+pub fn scan_answer(alloc: Global, text: &str, times: usize) -> Result<Answer, AllocError>
+    ensures { IfOk result (IsScanOf text.now) }
+{
+    for _turn in 1..times {
+        let _scanned = Value::from_str(alloc, text);
+    }
+    let bytes = text.len();
+    match Value::from_str(alloc, text) {
+        Ok(_) => Ok(Answer {
+            status: 0,
+            line: format!(in alloc; "bytes: {bytes}")?,
+        }),
+        Err(_) => Ok(Answer {
+            status: 1,
+            line: String::from_str(alloc, "refused: not JSON")?,
+        }),
+    }
+}
+
+#[cfg(test)]
+mod tests {
+    use super::*;
+    use crate::command::{Command, read_command};
+    use crate::make::made_text;
+    use std::test::Fail;
+
+    #[test]
+    fn texts_are_counted_or_refused(rt: HostRuntime) -> Result<(), Fail> {
+        let alloc = rt.alloc();
+        let rows = [
+            ("{ a }", 0, "definitions: 1, fields: 1, bytes: 5"),
+            (
+                "{ a b { c ... on T { d } ...F } } fragment F on T { e { f } }",
+                0,
+                "definitions: 2, fields: 6, bytes: 61",
+            ),
+            ("{ a", 1, "refused: Unexpected end of input at 1:4"),
+            ("{\n  é", 1, "refused: Unknown character at 2:3"),
+        ];
+        for (text, status, line) in &rows {
+            let answer = parse_answer(alloc, text, 2)?;
+            assert_eq!(rt; answer.line.as_str(), *line, "{text}");
+            assert_eq!(rt; answer.status, *status, "{text}");
+        }
+        Ok(())
+    }
+
+    #[test]
+    fn json_is_read_or_refused(rt: HostRuntime) -> Result<(), Fail> {
+        let alloc = rt.alloc();
+        let read = scan_answer(alloc, "[1, 2]", 2)?;
+        assert_eq!(rt; read.line.as_str(), "bytes: 6");
+        assert_eq!(rt; read.status, 0);
+        let refused = scan_answer(alloc, "[1", 1)?;
+        assert_eq!(rt; refused.line.as_str(), "refused: not JSON");
+        assert_eq!(rt; refused.status, 1);
+        Ok(())
+    }
+
+    #[test]
+    fn what_is_made_is_a_document(rt: HostRuntime) -> Result<(), Fail> {
+        let alloc = rt.alloc();
+        let rows = [("3", "1"), ("12", "3"), ("600", "250"), ("1000", "7")];
+        for (fields, depth) in &rows {
+            let words = vec![in alloc;
+                String::from_str(alloc, "make")?,
+                String::from_str(alloc, fields)?,
+                String::from_str(alloc, depth)?,
+            ]?;
+            let Some(Command::Make(size)) = read_command(words.as_slice()) else {
+                assert!(rt; false, "{fields} {depth}");
+                return Ok(());
+            };
+            let text = made_text(alloc, size)?;
+            let answer = parse_answer(alloc, text.as_str(), 1)?;
+            let bytes = text.len();
+            let line = format!(in alloc; "definitions: 3, fields: {fields}, bytes: {bytes}")?;
+            assert_eq!(rt; answer.line.as_str(), line.as_str());
+            assert_eq!(rt; answer.status, 0);
+        }
+        Ok(())
+    }
+
+    #[test]
+    fn other_words_ask_for_nothing(rt: HostRuntime) -> Result<(), Fail> {
+        let alloc = rt.alloc();
+        let rows = [
+            ("make", "2", "1"),
+            ("make", "3", "251"),
+            ("make", "x", "1"),
+            ("parse", "file", "0"),
+            ("scan", "file", "many"),
+            ("print", "file", "1"),
+        ];
+        for (word, first, second) in &rows {
+            let words = vec![in alloc;
+                String::from_str(alloc, word)?,
+                String::from_str(alloc, first)?,
+                String::from_str(alloc, second)?,
+            ]?;
+            assert!(rt; read_command(words.as_slice()).is_none(), "{word}");
+            assert!(rt;
+                read_command(words.as_slice().split_at(2).0).is_none(),
+                "{word}"
+            );
+        }
+        Ok(())
+    }
+}

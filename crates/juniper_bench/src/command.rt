@@ -1,0 +1,62 @@
+//! What the program is asked to do.
+
+ghost use Rattle.std.specs.Prelude.{◌<◌, ◌≤◌, IfSome};
+
+/// How large a text is to be made.
+#[derive(Clone, Copy)]
+pub struct Size {
+    /// How many fields it has: at least three, since each of its three definitions selects one.
+    pub fields: usize,
+    /// How deep the selection sets of its operation are nested: at most 250, so that no more than 256 brackets are open.
+    pub depth: usize,
+    ghost three_fields: { 3 ≤ fields },
+    ghost a_set: { 1 ≤ depth },
+    ghost few_sets: { depth ≤ 250 },
+}
+
+/// What the words ask for.
+#[derive(Clone, Copy)]
+pub enum Command<'a> {
+    /// To read a file as a document, so many times.
+    Parse(&'a str, usize),
+    /// To read a file as JSON, so many times.
+    Scan(&'a str, usize),
+    /// To make a text.
+    Make(Size),
+}
+
+/// What the words ask for; nothing where they are none of `parse FILE TIMES`, `scan FILE TIMES` and `make FIELDS DEPTH`, or
+/// a number is not in its bounds.
+pub fn read_command(words: &[String]) -> Option<Command<'_>> {
+    let [word, first, second] = words else {
+        return None;
+    };
+    let last = number(second.as_str())?;
+    match word.as_str() {
+        "parse" => Some(Command::Parse(first.as_str(), last)),
+        "scan" => Some(Command::Scan(first.as_str(), last)),
+        "make" => {
+            let size = bounded_size(number(first.as_str())?, last)?;
+            Some(Command::Make(size))
+        }
+        _ => None,
+    }
+}
+
+/// A size within its bounds.
+fn bounded_size(fields: usize, depth: usize) -> Option<Size> {
+    if fields < 3 || depth < 1 || depth > 250 {
+        return None;
+    }
+    Some(Size { fields, depth })
+}
+
+/// A decimal number above 0.
+fn number(word: &str) -> Option<usize>
+    ensures { IfSome result (λ n. 0 < n) }
+{
+    match word.parse::<usize>() {
+        Ok(0) | Err(_) => None,
+        Ok(number) => Some(number),
+    }
+}

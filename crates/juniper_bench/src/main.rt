@@ -1,0 +1,72 @@
+//! Measures the parser: `juniper_bench parse FILE TIMES` parses a file so many times and prints what its document counts,
+//! `juniper_bench scan FILE TIMES` reads a file of JSON so many times, and `juniper_bench make FIELDS DEPTH` prints a text to
+//! be parsed. The program takes no time itself: the one who runs it does.
+#![tactic(auto)]
+
+mod answers;
+mod command;
+mod count;
+mod make;
+
+use answers::{Answer, parse_answer, scan_answer};
+use command::{Command, read_command};
+use make::made_text;
+use std::alloc::{AllocError, Global};
+use std::process::ExitCode;
+use std::rt::Files;
+use std::{env, fs};
+
+/// What the program answers to its words. An error where memory is refused.
+fn answer<R: Files + AllocGlobal>(rt: &R, words: &[String]) -> Result<Answer, AllocError> {
+    let alloc = rt.alloc();
+    match read_command(words) {
+        None => Ok(Answer {
+            status: 2,
+            line: String::from_str(
+                alloc,
+                "usage: juniper_bench parse FILE TIMES | scan FILE TIMES | make FIELDS DEPTH",
+            )?,
+        }),
+        Some(Command::Parse(file, times)) => match fs::read_to_string(rt, file) {
+            Ok(text) => parse_answer(alloc, text.as_str(), times),
+            Err(_) => unread(alloc, file),
+        },
+        Some(Command::Scan(file, times)) => match fs::read_to_string(rt, file) {
+            Ok(text) => scan_answer(alloc, text.as_str(), times),
+            Err(_) => unread(alloc, file),
+        },
+        Some(Command::Make(size)) => Ok(Answer {
+            status: 0,
+            line: made_text(alloc, size)?,
+        }),
+    }
+}
+
+/// The answer for a file that cannot be read.
+fn unread(alloc: Global, file: &str) -> Result<Answer, AllocError> {
+    Ok(Answer {
+        status: 2,
+        line: format!(in alloc; "{file} cannot be read")?,
+    })
+}
+
+fn main(rt: HostRuntime) -> ExitCode {
+    let Ok(arguments) = env::args(&rt) else {
+        return ExitCode::from(1);
+    };
+    let answered = match arguments.skip(1).collect::<Vec<String>>(rt.alloc()) {
+        Ok(words) => answer(&rt, words.as_slice()),
+        Err(refused) => Err(refused.into()),
+    };
+    let (status, written) = match answered {
+        Ok(answer) => {
+            let line = answer.line;
+            (answer.status, println!(rt; "{line}"))
+        }
+        Err(_) => (1, println!(rt; "refused: Out of memory")),
+    };
+    match written {
+        Ok(()) => ExitCode::from(status),
+        Err(_) => ExitCode::from(1),
+    }
+}
