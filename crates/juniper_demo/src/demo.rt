@@ -143,10 +143,7 @@ fn number<S: ScalarValue>(
 }
 
 /// The sum of 41 and a number; an error where 32 bits do not hold it.
-fn sum<S: ScalarValue>(
-    alloc: Global,
-    plus: i32,
-) -> Result<Resolved<DemoNode, S>, ResolveError<S>>
+fn sum<S: ScalarValue>(alloc: Global, plus: i32) -> Result<Resolved<DemoNode, S>, ResolveError<S>>
     ensures { Answers S.shown result (sum_reply plus) }
 {
     match plus.checked_add(41) {
