@@ -1,4 +1,4 @@
-//! Which documents are served: one query, written as its selection set alone, of fields without selection sets, whose
+//! Which documents are served: one query without name, variables and directives, of fields without selection sets, whose
 //! arguments are Ints, `true`, `false` or `null` and whose directives are `@skip` and `@include` with a literal condition.
 
 ghost use Rattle.std.specs.Prelude.{◌≡◌, MatchOption, map, true, false, [], ◌∷◌, ◌&&◌};
