@@ -61,14 +61,16 @@ module _ {S : Type 0} (shown : S → Shown) (x : Selection S) (before result : �
   unfolding fields_in
   counts-leaf s is none e = λ rest. sum-leaf result before (fields_in rest) _ e (at-field s None rest is none)
 
-  pub counts-set : (s : Spanning (FieldType S) Span) (v : Vec (Selection S) Global) (within : List (Selection S)) (m : ℕ) → x ≡ Field s → (out-Field S s.item).selection_set ≡ Some v → within ≡ v.items →
-      m ≡ capped (before + 1) → result ≡ capped (m + fields_in (view_selections shown within)) → IsCountWith
+  pub counts-set : (s : Spanning (FieldType S) Span) (v : Vec (Selection S) Global) (within : List (Selection S)) (m : ℕ) → x ≡ Field s →
+      (out-Field S s.item).selection_set ≡ Some v → within ≡ v.items → m ≡ capped (before + 1) → result ≡ capped (m + fields_in (view_selections shown within)) → IsCountWith
   counts-set s v within m is some same first e = λ rest.
-      sum-set result before m (fields_in (view_selections shown v.items)) (fields_in rest) _ first (e ∙ ap (λ l. capped (m + fields_in (view_selections shown l))) same) (at-field s (Some v) rest is some)
+      sum-set result before m (fields_in (view_selections shown v.items)) (fields_in rest) _ first (e ∙ ap (λ l. capped (m + fields_in (view_selections shown l))) same)
+      (at-field s (Some v) rest is some)
 
   pub counts-spread : (s : Spanning (SpreadType S) Span) → x ≡ FragmentSpread s → result ≡ before → IsCountWith
   unfolding fields_in
-  counts-spread s is e = λ rest. ap (λ n. capped (n + fields_in rest)) e ∙ ap (λ n. capped (before + n)) (sym (ap (λ y. fields_in (put_selection shown y rest)) is ∙ ap fields_in (put-FragmentSpread shown s rest)))
+  counts-spread s is e = λ rest.
+      ap (λ n. capped (n + fields_in rest)) e ∙ ap (λ n. capped (before + n)) (sym (ap (λ y. fields_in (put_selection shown y rest)) is ∙ ap fields_in (put-FragmentSpread shown s rest)))
 
   pub counts-inline : (s : Spanning (InlineType S) Span) (within : List (Selection S)) → x ≡ InlineFragment s → within ≡ (out-InlineFragment S s.item).selection_set.items →
       result ≡ capped (before + fields_in (view_selections shown within)) → IsCountWith
