@@ -6,8 +6,8 @@ use Rattle.graphql_spec.specs.Directives.{admits}
 use Rattle.graphql_spec.specs.Shown.{Shown}
 use Rattle.graphql_spec.specs.Selections.{Occurrence}
 use Rattle.juniper_syntax.specs.DocumentView.{view_directives, view_selections, put_selection}
-use Rattle.juniper_syntax.specs.declared.position.Spanning.{Spanning}
-use Rattle.juniper_syntax.specs.declared.position.Span.{Span}
+use Rattle.juniper_position.specs.declared.position.Spanning.{Spanning}
+use Rattle.juniper_position.specs.declared.position.Span.{Span}
 use Rattle.juniper_syntax.specs.declared.ast.Field.{Field as FieldType, out-Field}
 use Rattle.juniper_syntax.specs.declared.ast.InlineFragment.{InlineFragment as InlineType}
 use Rattle.juniper_syntax.specs.declared.ast.FragmentSpread.{FragmentSpread as SpreadType}

@@ -14,12 +14,12 @@ use Rattle.graphql_spec.specs.Errors.{Listed, keys_only}
 use Rattle.graphql_spec.specs.Resolvers.{World}
 use Rattle.graphql_spec.specs.Walk.{IsAnswerFor}
 use Rattle.graphql_spec.specs.Requests.{selected, not_parsed, Outcome, refused, runs, not_valid, unknown_operation, of_document_by, if_valid, of_choice, of_operation, of_kind, if_constant, choose, choose_only, choose_named, is_named, coerced_variables, variable_errors, first_not_constant}
-use Rattle.juniper_syntax.specs.Positions.{view_spanning}
-use Rattle.juniper_syntax.specs.Refusals.{Refusal, view_refusal}
-use Rattle.juniper_syntax.specs.declared.error.ParseError.{ParseError}
-use Rattle.juniper_syntax.specs.declared.error.ParseError.TheVariants as parser
-use Rattle.juniper_syntax.specs.declared.position.Span.{Span}
-use Rattle.juniper_syntax.specs.declared.position.Spanning.{Spanning}
+use Rattle.juniper_position.specs.Positions.{view_spanning}
+use Rattle.juniper_position.specs.Refusals.{Refusal, view_refusal}
+use Rattle.juniper_position.specs.declared.error.ParseError.{ParseError}
+use Rattle.juniper_position.specs.declared.error.ParseError.TheVariants as parser
+use Rattle.juniper_position.specs.declared.position.Span.{Span}
+use Rattle.juniper_position.specs.declared.position.Spanning.{Spanning}
 use Rattle.juniper.specs.Answering.{outcome, Reads, IsAnswered, IsAnsweredDocument, IsRefusedWith, IsRefusedDocument}
 use Rattle.juniper.specs.RequestErrors as request
 use Rattle.juniper.specs.RequestErrors.{RequestError, view_request_error, of_parse_error}

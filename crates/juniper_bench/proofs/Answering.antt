@@ -5,8 +5,8 @@ use Rattle.graphql_spec.specs.Shown.{Text}
 use Rattle.graphql_spec.specs.Documents.{Document}
 use Rattle.graphql_spec.specs.Grammar.{Spells}
 use Rattle.graphql_spec.specs.Positions.{Position}
-use Rattle.juniper_syntax.specs.declared.error.ParseError.{ParseError}
-use Rattle.juniper_syntax.specs.declared.error.ParseError.TheVariants.{Memory}
+use Rattle.juniper_position.specs.declared.error.ParseError.{ParseError}
+use Rattle.juniper_position.specs.declared.error.ParseError.TheVariants.{Memory}
 use Rattle.juniper_bench.specs.Answers.{IsAnswerTo, refusal_line}
 use Rattle.juniper_bench.specs.declared.answers.Answer.{Answer}
 

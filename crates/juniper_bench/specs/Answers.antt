@@ -4,9 +4,9 @@ use Rattle.graphql_spec.specs.Shown.{Text}
 use Rattle.graphql_spec.specs.Documents.{Document}
 use Rattle.graphql_spec.specs.Grammar.{Spells}
 use Rattle.graphql_spec.specs.Positions.{Position}
-use Rattle.juniper_syntax.specs.Refusals.{refusal_text, view_refusal}
-use Rattle.juniper_syntax.specs.declared.error.ParseError.{ParseError}
-use Rattle.juniper_syntax.specs.declared.error.ParseError.TheVariants.{Memory}
+use Rattle.juniper_position.specs.Refusals.{refusal_text, view_refusal}
+use Rattle.juniper_position.specs.declared.error.ParseError.{ParseError}
+use Rattle.juniper_position.specs.declared.error.ParseError.TheVariants.{Memory}
 use Rattle.serde_json.specs.Data.{Data}
 use Rattle.serde_json.specs.Read.{read}
 use Rattle.juniper_bench.specs.Counts.{capped, fields_of}

@@ -2,7 +2,7 @@
 
 ghost use Rattle.std.specs.Prelude.{◌≡◌, IfOk, length, string_bytes};
 ghost use Rattle.juniper_syntax.specs.DocumentView.{view_document};
-ghost use Rattle.juniper_syntax.specs.Positions.{view_position};
+ghost use Rattle.juniper_position.specs.Positions.{view_position};
 ghost use Rattle.juniper_syntax.specs.Scalars.{default_shown};
 ghost use Rattle.juniper_bench.specs.Answers.{IsAnswerTo, IsScanOf, counts_line, refusal_line};
 ghost use Rattle.juniper_bench.specs.Counts.{capped, fields_of};

@@ -1,7 +1,7 @@
 -- What the fields of the lexer and of the parser show. Only private clauses cite it.
 use Rattle.std.specs.Prelude.{ℕ, ◌+◌, ◌≤◌, ◌<◌, ◌^◌, map}
 use Rattle.graphql_spec.specs.Positions as spec
-use Rattle.juniper_syntax.specs.Positions.{view_position}
+use Rattle.juniper_position.specs.Positions.{view_position}
 use Rattle.juniper_language.specs.Lexing.{Front}
 use Rattle.juniper_language.specs.declared.lexer.Spot.{Spot}
 use Rattle.juniper_language.specs.declared.lexer.Lexer.TheInside.{Inside}

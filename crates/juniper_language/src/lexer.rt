@@ -8,7 +8,7 @@ ghost use Rattle.graphql_spec.specs.Positions.{beginning};
 ghost use Rattle.graphql_spec.specs.Tokens as tokens;
 ghost use Rattle.juniper_language.specs.Cursors.{HasRoom, view_spot};
 ghost use Rattle.juniper_language.specs.Lexing as read;
-ghost use Rattle.juniper_syntax.specs.Positions.{view_position};
+ghost use Rattle.juniper_position.specs.Positions.{view_position};
 ghost use Rattle.juniper_language.specs.TokenViews.{view_lexeme, view_lexed, view_token};
 
 use crate::number::{int_len, number_fault, starts_int};

@@ -9,7 +9,7 @@ ghost use Rattle.graphql_spec.specs.Tokens as tokens;
 ghost use Rattle.graphql_spec.specs.Tokens.{after_backslash, characters, decoded_string, hex_digits};
 ghost use Rattle.juniper_language.specs.Strings as read;
 ghost use Rattle.juniper_language.specs.TokenViews.{view_part};
-ghost use Rattle.juniper_syntax.specs.declared.error.ParseError.TheVariants.{Memory};
+ghost use Rattle.juniper_position.specs.declared.error.ParseError.TheVariants.{Memory};
 
 use crate::lexer::is_source_byte;
 use crate::token::Fault;

@@ -4,8 +4,8 @@ use Rattle.std.proofs.lemmas.List.{drop_all}
 use Rattle.graphql_spec.specs.Shown.{Shown}
 use Rattle.graphql_spec.specs.Documents.{Head, Selections}
 use Rattle.juniper_syntax.specs.DocumentView.{view_selections, put_selection}
-use Rattle.juniper_syntax.specs.declared.position.Spanning.{Spanning}
-use Rattle.juniper_syntax.specs.declared.position.Span.{Span}
+use Rattle.juniper_position.specs.declared.position.Spanning.{Spanning}
+use Rattle.juniper_position.specs.declared.position.Span.{Span}
 use Rattle.juniper_syntax.specs.declared.ast.Field.{Field as FieldType}
 use Rattle.juniper_syntax.specs.declared.ast.InlineFragment.{InlineFragment as InlineType}
 use Rattle.juniper_syntax.specs.declared.ast.FragmentSpread.{FragmentSpread as SpreadType}

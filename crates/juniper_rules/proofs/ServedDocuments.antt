@@ -9,9 +9,9 @@ use Rattle.graphql_spec.specs.Schema.{Schema}
 use Rattle.graphql_spec.specs.Served.{is_condition, is_served_field, is_served_value}
 use Rattle.graphql_spec.specs.FirstRules.{is_plain_document, is_plain_operation, is_plain_selections, first_rule_errors, unsupported, served_rule_errors}
 use Rattle.juniper_syntax.specs.DocumentView.{view_head, view_selections, put_selection, view_set}
-use Rattle.juniper_syntax.specs.Positions.{view_span}
-use Rattle.juniper_syntax.specs.declared.position.Spanning.{Spanning}
-use Rattle.juniper_syntax.specs.declared.position.Span.{Span}
+use Rattle.juniper_position.specs.Positions.{view_span}
+use Rattle.juniper_position.specs.declared.position.Spanning.{Spanning}
+use Rattle.juniper_position.specs.declared.position.Span.{Span}
 use Rattle.juniper_syntax.specs.declared.ast.Field.{Field as FieldType, out-Field}
 use Rattle.juniper_syntax.specs.declared.ast.InlineFragment.{InlineFragment as InlineType}
 use Rattle.juniper_syntax.specs.declared.ast.FragmentSpread.{FragmentSpread as SpreadType}

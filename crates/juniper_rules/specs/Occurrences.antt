@@ -5,10 +5,10 @@ use Rattle.graphql_spec.specs.Documents.{Directive, Selections, end, field, spre
 use Rattle.graphql_spec.specs.Directives.{admits}
 use Rattle.graphql_spec.specs.Selections as forest
 use Rattle.graphql_spec.specs.Selections.{Occurrence}
-use Rattle.juniper_syntax.specs.Positions.{view_span}
+use Rattle.juniper_position.specs.Positions.{view_span}
 use Rattle.juniper_syntax.specs.DocumentView.{view_head}
-use Rattle.juniper_syntax.specs.declared.position.Spanning.{Spanning}
-use Rattle.juniper_syntax.specs.declared.position.Span.{Span}
+use Rattle.juniper_position.specs.declared.position.Spanning.{Spanning}
+use Rattle.juniper_position.specs.declared.position.Span.{Span}
 use Rattle.juniper_syntax.specs.declared.ast.Field.{Field, out-Field}
 
 -- a field without a selection set

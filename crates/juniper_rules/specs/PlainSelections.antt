@@ -15,8 +15,8 @@ use Rattle.graphql_spec.specs.Fits.{through}
 use Rattle.graphql_spec.specs.Placed.{Call}
 use Rattle.graphql_spec.specs.Rules.{RuleError, gives_unknown, gives_too_few}
 use Rattle.juniper_syntax.specs.DocumentView.{view_argument as view_given}
-use Rattle.juniper_syntax.specs.declared.position.Spanning.{Spanning}
-use Rattle.juniper_syntax.specs.declared.position.Span.{Span}
+use Rattle.juniper_position.specs.declared.position.Spanning.{Spanning}
+use Rattle.juniper_position.specs.declared.position.Span.{Span}
 use Rattle.juniper_syntax.specs.declared.ast.Field.{Field}
 use Rattle.juniper_rules.specs.declared.calls.Call.{Call as CodeCall}
 use Rattle.juniper_rules.specs.Occurrences.{view_occurrence}

@@ -1,7 +1,7 @@
 -- How an error of validation is seen (5, 7.1.2).
 use Rattle.std.specs.Prelude.{string_bytes}
 use Rattle.graphql_spec.specs.Rules as rules
-use Rattle.juniper_syntax.specs.Positions.{view_position}
+use Rattle.juniper_position.specs.Positions.{view_position}
 use Rattle.juniper_rules.specs.declared.error.RuleError.{RuleError}
 
 abbrev pub view_rule_error : RuleError → rules.RuleError

@@ -1,7 +1,7 @@
 //! Errors of validation (section 5 of the Specification).
 
 ghost use Rattle.std.specs.Prelude.{◌≡◌, IfOk, map, [], ◌∷◌};
-ghost use Rattle.juniper_syntax.specs.Positions.{view_position};
+ghost use Rattle.juniper_position.specs.Positions.{view_position};
 ghost use Rattle.juniper_rules.specs.RuleView.{view_rule_error};
 
 use juniper_syntax::SourcePosition;

@@ -4,7 +4,7 @@ ghost use Rattle.std.specs.Prelude.{◌≡◌, IfOk, OnOk, IsTrue, map, [], ◌�
 ghost use Rattle.graphql_spec.specs.Documents as documents;
 ghost use Rattle.graphql_spec.specs.Executable.{is_executable};
 ghost use Rattle.graphql_spec.specs.FirstRules.{first_rule_errors, is_plain_operation, served_rule_errors, unsupported};
-ghost use Rattle.juniper_syntax.specs.Positions.{view_position};
+ghost use Rattle.juniper_position.specs.Positions.{view_position};
 ghost use Rattle.juniper_syntax.specs.DocumentView.{view_definition, view_document, view_operation};
 ghost use Rattle.juniper_rules.specs.RuleView.{view_rule_error};
 ghost use Rattle.juniper_rules.specs.PlainSelections.{head_seen, reported_at, type_errors_of};

@@ -1,5 +1,3 @@
-pub mod Refusals
-pub mod Positions
 pub mod Scalars
 pub mod InputView
 pub mod Escapes

@@ -1,8 +1,8 @@
 //! Documents as they are written (sections 2.2 to 2.12 of the Specification). Names borrow the text.
 
 use crate::input::InputValue;
-use crate::position::{Span, Spanning};
 use crate::types::Type;
+use juniper_position::{Span, Spanning};
 use std::collections::HashMap;
 
 /// The arguments of a field or a directive, in the order in which they are written (2.6).

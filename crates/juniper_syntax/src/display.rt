@@ -8,8 +8,8 @@ ghost use Rattle.juniper_syntax.specs.InputView.{view_input, view_items, view_fi
 ghost use Rattle.juniper_syntax.specs.Escapes.{is_escaped};
 
 use crate::input::{InputField, InputValue, value_of};
-use crate::position::{Span, Spanning};
 use crate::scalar::ScalarValue;
+use juniper_position::{Span, Spanning};
 use std::fmt;
 
 /// As it is written: `{name: "Han", friends: [$first, null], episode: JEDI}`. A text is written between quotes, with

@@ -4,8 +4,8 @@ ghost use Rattle.std.specs.Prelude.{◌≡◌, IfOk, option_map, unwrap_or};
 ghost use Rattle.graphql_spec.specs.Inputs.{null, is_const, items_are_const, fields_are_const, const, const_items, const_fields};
 ghost use Rattle.juniper_syntax.specs.InputView.{view_input, view_items, view_fields, view_variables};
 
-use crate::position::{Span, Spanning};
 use crate::scalar::ScalarValue;
+use juniper_position::{Span, Spanning};
 use std::alloc::{AllocError, Global};
 use std::collections::HashMap;
 

@@ -1,13 +1,11 @@
-//! What a document says: places, scalars, values, input values, types, the selections of an operation, and the
-//! refusals of a text that says nothing. Only data stands here; `juniper_language` reads it from a text.
+//! What a document says: scalars, values, input values, types, and the selections of an operation; beside them the places
+//! and refusals of `juniper_position`. Only data stands here; `juniper_language` reads it from a text.
 #![tactic(auto)]
 
 pub mod ast;
 mod display;
-pub mod error;
 pub mod input;
 pub mod laws;
-pub mod position;
 pub mod scalar;
 pub mod types;
 pub mod value;
@@ -16,9 +14,10 @@ pub use ast::{
     Definition, Directive, Document, Field, Fragment, FragmentSpread, Fragments, InlineFragment,
     Operation, OperationType, Selection, VariableDefinition, VariableDefinitions,
 };
-pub use error::{LexerError, ParseError};
 pub use input::{InputValue, Variables};
-pub use position::{SourcePosition, Span, Spanning};
+pub use juniper_position::{
+    LexerError, ParseError, SourcePosition, Span, Spanning, error, position,
+};
 pub use scalar::{DefaultScalarValue, ScalarValue};
 pub use types::Type;
 pub use value::{Object, Value};

@@ -1,6 +1,6 @@
 -- What an executor shows (6.4.2).
 use Rattle.graphql_spec.specs.Positions.{Position}
-use Rattle.juniper_syntax.specs.Positions.{view_position}
+use Rattle.juniper_position.specs.Positions.{view_position}
 use Rattle.juniper_types.specs.declared.executor.Executor.{Executor}
 
 -- the context of the request, and the start of the field now resolved

@@ -1,7 +1,7 @@
 //! Where a field is resolved.
 
 ghost use Rattle.std.specs.Prelude.{◌≡◌};
-ghost use Rattle.juniper_syntax.specs.Positions.{view_position};
+ghost use Rattle.juniper_position.specs.Positions.{view_position};
 ghost use Rattle.juniper_types.specs.ExecutorView.{context_of, start_of};
 
 use juniper_syntax::{Field, SourcePosition, Span, Spanning};

@@ -3,7 +3,7 @@ use Rattle.std.specs.Prelude.{map, string_bytes}
 use Rattle.graphql_spec.specs.Shown.{Shown}
 use Rattle.graphql_spec.specs.Resolvers.{Error}
 use Rattle.graphql_spec.specs.Errors.{Listed, key}
-use Rattle.juniper_syntax.specs.Positions.{view_position}
+use Rattle.juniper_position.specs.Positions.{view_position}
 use Rattle.juniper_syntax.specs.ValueView.{view_value}
 use Rattle.juniper_values.specs.declared.field_error.FieldError.{FieldError}
 use Rattle.juniper_values.specs.declared.execution_error.ExecutionError.{ExecutionError}

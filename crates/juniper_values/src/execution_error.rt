@@ -3,7 +3,7 @@
 ghost use Rattle.std.specs.Prelude.{◌≡◌, IfOk, map, [], string_bytes};
 ghost use Rattle.graphql_spec.specs.Errors.{key, compare};
 ghost use Rattle.graphql_spec.specs.Positions.{origin};
-ghost use Rattle.juniper_syntax.specs.Positions.{view_position};
+ghost use Rattle.juniper_position.specs.Positions.{view_position};
 ghost use Rattle.juniper_values.specs.ErrorView.{view_error, view_listed};
 
 use crate::field_error::FieldError;

@@ -1,4 +1,4 @@
-use Rattle.juniper_syntax.specs.Positions.{view_position}
+use Rattle.juniper_position.specs.Positions.{view_position}
 use Rattle.juniper_bench.proofs.Answering.{answers-refusal}
 use Rattle.juniper_bench.proofs.answers.parse_answer.Goals as goal
 

@@ -1,4 +1,4 @@
-use Rattle.juniper_syntax.specs.Positions.{view_position}
+use Rattle.juniper_position.specs.Positions.{view_position}
 use Rattle.juniper_rules.specs.PlainSelections.{head_seen}
 use Rattle.juniper_schema.specs.SchemaView.{view_schema}
 use Rattle.juniper_rules.proofs.Validating.{types-listed}

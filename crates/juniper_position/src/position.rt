@@ -3,7 +3,7 @@
 ghost use Rattle.std.specs.Prelude.{◌≡◌};
 ghost use Rattle.graphql_spec.specs.Positions as spec;
 ghost use Rattle.graphql_spec.specs.Positions.{origin};
-ghost use Rattle.juniper_syntax.specs.Positions.{view_position};
+ghost use Rattle.juniper_position.specs.Positions.{view_position};
 
 /// A place between two characters of a text: how many bytes, lines and characters of its line stand before it. All three
 /// count from 0; LF, CR and CR LF each end a line once.

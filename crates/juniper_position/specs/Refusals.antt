@@ -1,10 +1,10 @@
 -- What an error of the parser says.
 use Rattle.std.specs.Prelude.{codes, ◌++◌, string_bytes}
 use Rattle.graphql_spec.specs.Shown.{Text}
-use Rattle.juniper_syntax.specs.declared.error.LexerError.{LexerError}
-use Rattle.juniper_syntax.specs.declared.error.LexerError.TheVariants as lexer
-use Rattle.juniper_syntax.specs.declared.error.ParseError.{ParseError}
-use Rattle.juniper_syntax.specs.declared.error.ParseError.TheVariants as parser
+use Rattle.juniper_position.specs.declared.error.LexerError.{LexerError}
+use Rattle.juniper_position.specs.declared.error.LexerError.TheVariants as lexer
+use Rattle.juniper_position.specs.declared.error.ParseError.{ParseError}
+use Rattle.juniper_position.specs.declared.error.ParseError.TheVariants as parser
 
 -- what no token begins with or goes on with
 pub data Fault : Type 0 where

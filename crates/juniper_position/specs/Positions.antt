@@ -1,8 +1,8 @@
 -- How the code's places are seen (2.1.3).
 use Rattle.graphql_spec.specs.Positions as spec
-use Rattle.juniper_syntax.specs.declared.position.SourcePosition.{SourcePosition}
-use Rattle.juniper_syntax.specs.declared.position.Span.{Span}
-use Rattle.juniper_syntax.specs.declared.position.Spanning.{Spanning}
+use Rattle.juniper_position.specs.declared.position.SourcePosition.{SourcePosition}
+use Rattle.juniper_position.specs.declared.position.Span.{Span}
+use Rattle.juniper_position.specs.declared.position.Spanning.{Spanning}
 
 abbrev pub view_position : SourcePosition → spec.Position
 view_position p = record { index = p.index; line = p.line; column = p.column }

@@ -1,8 +1,8 @@
 //! Why a text is refused.
 
 ghost use Rattle.std.specs.Prelude.{◌≡◌, Some, IfOk};
-ghost use Rattle.juniper_syntax.specs.Refusals.{fault_text, refusal_text, view_fault, view_refusal};
-ghost use Rattle.juniper_syntax.specs.declared.error.ParseError.TheVariants.{Memory};
+ghost use Rattle.juniper_position.specs.Refusals.{fault_text, refusal_text, view_fault, view_refusal};
+ghost use Rattle.juniper_position.specs.declared.error.ParseError.TheVariants.{Memory};
 
 use crate::position::{Span, Spanning};
 use std::alloc::{AllocError, AllocFailed, Global};
