@@ -5,7 +5,7 @@ use Rattle.std.proofs.lemmas.Int.{to_z-of_z}
 use Rattle.graphql_spec.specs.Shown.{Shown, int}
 use Rattle.graphql_spec.specs.Tokens.{fits_int}
 use Rattle.graphql_spec.specs.Resolvers.{answered, failed, leaf}
-use Rattle.juniper_language.proofs.Decoding.{fits_is, fits_from}
+use Rattle.juniper_tokens.proofs.Decoding.{fits_is, fits_from}
 use Rattle.juniper_values.specs.Conversions.{message_alone}
 use Rattle.juniper_demo.specs.Demo.{sum_reply}
 

@@ -6,9 +6,9 @@ use Rattle.graphql_spec.specs.Positions.{Position}
 use Rattle.graphql_spec.specs.Tokens.{Token}
 use Rattle.graphql_spec.specs.Documents.{Document}
 use Rattle.graphql_spec.specs.Grammar.{At, IsDerived, Spells, before_all}
-use Rattle.juniper_language.specs.Lexing.{Lexed, Ending, is_whole, whole, fault, lexed}
+use Rattle.juniper_tokens.specs.Lexing.{Lexed, Ending, is_whole, whole, fault, lexed}
 use Rattle.juniper_language.specs.Reading as read
-use Rattle.juniper_language.proofs.LexLaws.{Complete, lexed_sound, lexed_complete}
+use Rattle.juniper_tokens.proofs.LexLaws.{Complete, lexed_sound, lexed_complete}
 use Rattle.juniper_language.proofs.DefinitionLaws.{document_sound, document_read}
 
 -- what is read is derived, and what is derived is read

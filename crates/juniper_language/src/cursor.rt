@@ -7,11 +7,11 @@ ghost use Rattle.juniper_syntax.specs.DocumentView.{view_word};
 ghost use Rattle.juniper_language.specs.Readers as read;
 ghost use Rattle.juniper_language.specs.Readers.{Gives};
 ghost use Rattle.juniper_language.specs.Reading as rule;
-ghost use Rattle.juniper_language.specs.TokenViews.{view_token};
+ghost use Rattle.juniper_tokens.specs.TokenViews.{view_token};
 ghost use Rattle.juniper_position.specs.declared.error.ParseError.TheVariants.{Memory, TooDeep, UnexpectedToken};
 
-use crate::token::{Ending, Lexeme, ScalarToken, Token};
 use juniper_syntax::{ParseError, SourcePosition, Span, Spanning};
+use juniper_tokens::{Ending, Lexeme, ScalarToken, Token};
 use std::alloc::{AllocError, Global};
 use std::marker::Model;
 

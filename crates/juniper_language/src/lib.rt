@@ -5,13 +5,9 @@ mod cursor;
 mod definitions;
 mod directives;
 pub mod grammar;
-mod lexer;
-mod number;
 pub mod parser;
 mod references;
 mod selections;
-mod string;
-mod token;
 mod values;
 
 pub use juniper_syntax::{
@@ -21,7 +17,5 @@ pub use juniper_syntax::{
     VariableDefinition, VariableDefinitions, Variables, ast, error, input, laws, position, scalar,
     types, value,
 };
-pub use number::decode_int;
+pub use juniper_tokens::{ScalarToken, decode_int, decode_string};
 pub use parser::parse_document_source;
-pub use string::decode_string;
-pub use token::ScalarToken;

@@ -4,14 +4,13 @@ ghost use Rattle.std.specs.Prelude.{◌≡◌, ◌≢◌, MatchResult, true, fal
 ghost use Rattle.graphql_spec.specs.Documents as spec;
 ghost use Rattle.graphql_spec.specs.Grammar.{Spells};
 ghost use Rattle.juniper_syntax.specs.DocumentView.{view_document};
-ghost use Rattle.juniper_language.specs.Lexing as read_tokens;
-ghost use Rattle.juniper_language.specs.TokenViews.{view_ending};
+ghost use Rattle.juniper_tokens.specs.Lexing as read_tokens;
+ghost use Rattle.juniper_tokens.specs.TokenViews.{view_ending};
 
 use crate::cursor::{ParseResult, Parser};
 use crate::definitions::document;
-use crate::lexer::lex;
-use crate::token::Ending;
 use juniper_syntax::{Document, ParseError, ScalarValue, Span, Spanning};
+use juniper_tokens::{Ending, lex};
 use std::alloc::Global;
 
 /// That the tokens went on to the end of the text.

@@ -11,10 +11,8 @@ ghost use Rattle.juniper_language.specs.Readers.{Gives};
 ghost use Rattle.juniper_language.specs.Reading as rule;
 
 use crate::cursor::{ParseResult, Parser, Word, refused, too_deep};
-use crate::number::decode_int;
-use crate::string::decode_string;
-use crate::token::{Lexeme, ScalarToken};
 use juniper_syntax::{InputValue, ScalarValue, Span, Spanning};
+use juniper_tokens::{Lexeme, ScalarToken, decode_int, decode_string};
 use std::alloc::{AllocError, Global};
 
 /// A value and its place.

@@ -2,9 +2,9 @@ use Rattle.std.proofs.Common.{◌≡◌, map, Some, ap, sym, ◌∙◌}
 use Rattle.std.proofs.lemmas.Result.{err_from_is_err_and}
 use Rattle.graphql_spec.specs.Documents as spec
 use Rattle.graphql_spec.specs.Grammar.{before_all}
-use Rattle.juniper_language.specs.Lexing.{Lexed}
+use Rattle.juniper_tokens.specs.Lexing.{Lexed}
 use Rattle.juniper_language.specs.Reading as read
-use Rattle.juniper_language.specs.TokenViews.{view_lexed, view_token}
+use Rattle.juniper_tokens.specs.TokenViews.{view_lexed, view_token}
 use Rattle.juniper_syntax.specs.DocumentView.{view_document}
 use Rattle.juniper_language.proofs.DocumentLaws.{spells_alone, nothing_read, fault_spells}
 use Rattle.juniper_language.proofs.parser.parse_document_source.Goals as goal

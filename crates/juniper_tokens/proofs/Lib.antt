@@ -1,0 +1,14 @@
+pub mod Rooms
+pub mod Fronts
+pub mod Numbers
+pub mod Decoding
+pub mod LexSteps
+pub mod Boundaries
+pub mod Bytes
+pub mod Escapes
+pub mod UnicodeEscapes
+pub mod StringParts
+pub mod StringTokens
+pub mod QuotedTokens
+pub mod Gaps
+pub mod LexLaws

@@ -1,0 +1,4 @@
+pub mod Strings
+pub mod Lexing
+pub mod TokenViews
+pub mod Spots
