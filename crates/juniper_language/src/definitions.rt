@@ -97,7 +97,7 @@ fn some_variables<'a, S: ScalarValue>(
     if parser.sees(b')') {
         return Err(parser.unexpected()?);
     }
-    let mut found = Vec::new(alloc);
+    let mut found = Vec::with_capacity(alloc, 1)?;
     for _turn in 0..parser.left() {
         if parser.sees(b')') {
             parser.next()?;

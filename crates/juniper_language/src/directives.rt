@@ -29,7 +29,7 @@ fn some_arguments<'a, S: ScalarValue>(
     if parser.sees(b')') {
         return Err(parser.unexpected()?);
     }
-    let mut found = Vec::new(alloc);
+    let mut found = Vec::with_capacity(alloc, 1)?;
     for _turn in 0..parser.left() {
         if parser.sees(b')') {
             parser.next()?;
@@ -107,7 +107,7 @@ pub fn directives<'a, S: ScalarValue>(
     if !parser.sees(b'@') {
         return Ok(None);
     }
-    let mut found = Vec::new(alloc);
+    let mut found = Vec::with_capacity(alloc, 1)?;
     for _turn in 0..parser.left() {
         if !parser.sees(b'@') {
             break;

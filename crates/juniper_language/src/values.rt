@@ -187,7 +187,7 @@ fn items<S: ScalarValue>(
 ) -> ParseResult<Vec<PlacedValue<S>>>
     ensures { Gives (λ v. map (view_spanning (view_input S.shown)) v.items) result parser.new (read.until 93 (read.spanned (rule.value constant depth)) (length parser.old.ahead) parser.old) }
 {
-    let mut found = Vec::new(alloc);
+    let mut found = Vec::with_capacity(alloc, 1)?;
     for _turn in 0..parser.left() {
         if parser.sees(b']') {
             parser.next()?;
@@ -209,7 +209,7 @@ fn fields<S: ScalarValue>(
 ) -> ParseResult<Vec<Member<S>>>
     ensures { Gives (λ v. map (view_member S.shown) v.items) result parser.new (read.until 125 (rule.argument constant depth) (length parser.old.ahead) parser.old) }
 {
-    let mut found = Vec::new(alloc);
+    let mut found = Vec::with_capacity(alloc, 1)?;
     for _turn in 0..parser.left() {
         if parser.sees(b'}') {
             parser.next()?;
