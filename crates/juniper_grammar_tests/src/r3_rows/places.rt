@@ -142,14 +142,23 @@ fn put_definition(
     Ok(())
 }
 
-fn parts(alloc: Global, text: &str) -> Result<String, AllocError> {
+fn parts_of(
+    alloc: Global,
+    text: &str,
+    document: &Document<'_, DefaultScalarValue>,
+) -> Result<String, AllocError> {
     let mut line = String::new(alloc);
-    if let Ok(document) = parse_document_source::<DefaultScalarValue>(alloc, text) {
-        for definition in &document {
-            put_definition(&mut line, text, definition)?;
-        }
+    for definition in document {
+        put_definition(&mut line, text, definition)?;
     }
     Ok(line)
+}
+
+fn parts(alloc: Global, text: &str) -> Result<String, AllocError> {
+    match parse_document_source::<DefaultScalarValue>(alloc, text) {
+        Ok(document) => parts_of(alloc, text, &document),
+        Err(_) => Ok(String::new(alloc)),
+    }
 }
 
 #[test]
