@@ -1,5 +1,5 @@
 -- The text of a reference to a type, level by level.
-use Rattle.std.proofs.Common.{◌≡◌, ℕ, true, false, List, [], ◌∷◌, ◌++◌, Option, Box, Global, codes, ap, ◌∙◌, append_assoc, rules}
+use Rattle.std.proofs.Common.{◌≡◌, ℕ, true, false, [], ◌∷◌, ◌++◌, Option, Box, Global, codes, ap, ◌∙◌, append_assoc, rules}
 use Rattle.graphql_spec.specs.Shown.{Name}
 use Rattle.graphql_spec.specs.Types.{named, list_of, type_text, with_mark}
 use Rattle.juniper_syntax.specs.TypeView.{view_type}

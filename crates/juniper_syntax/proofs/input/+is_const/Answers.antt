@@ -1,7 +1,7 @@
-use Rattle.std.proofs.Common.{◌+◌, sym, ap, refl, ◌∙◌}
+use Rattle.std.proofs.Common.{sym, ap, refl, ◌∙◌}
 use Rattle.graphql_spec.specs.Inputs.{is_const, items_are_const, fields_are_const}
 use Rattle.juniper_syntax.specs.InputView.{view_input, view_items, view_fields}
-use Rattle.juniper_syntax.proofs.Inputs.{view-Null, view-Scalar, view-Enum, view-Variable, view-List, view-Object}
+use Rattle.juniper_syntax.proofs.Inputs.{view-Variable, view-List, view-Object}
 use Rattle.juniper_syntax.proofs.Constants.{items_pass, items_stop, items_done, fields_pass, fields_stop, fields_done}
 use Rattle.juniper_syntax.proofs.input.+is_const.Goals as goal
 
