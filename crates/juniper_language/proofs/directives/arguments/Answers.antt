@@ -1,4 +1,4 @@
-use Rattle.std.proofs.Common.{map, sym, ap, ◌∙◌}
+use Rattle.std.proofs.Common.{map, ap, ◌∙◌}
 use Rattle.juniper_syntax.specs.DocumentView.{view_argument}
 use Rattle.juniper_syntax.specs.Positions.{view_position, view_span}
 use Rattle.juniper_language.specs.ParserViews.{view_given}

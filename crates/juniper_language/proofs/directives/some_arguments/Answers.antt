@@ -1,6 +1,6 @@
 use Rattle.std.proofs.Common.{◌∙◌, length, map}
 use Rattle.juniper_syntax.specs.DocumentView.{view_argument}
-use Rattle.juniper_language.specs.Readers.{some_until, until}
+use Rattle.juniper_language.specs.Readers.{until}
 use Rattle.juniper_language.specs.Reading.{argument}
 use Rattle.juniper_language.proofs.Loops.{part_on, map_pushed, some_refused, some_begun, until_begun, until_closed, until_open}
 use Rattle.juniper_language.proofs.directives.some_arguments.Goals as goal
