@@ -4,8 +4,9 @@ use Rattle.graphql_spec.specs.Tokens.{Token}
 use Rattle.graphql_spec.specs.Documents.{Selections, end, Definition}
 use Rattle.graphql_spec.specs.Grammar.{At, most_brackets}
 use Rattle.juniper_syntax.specs.DocumentView.{chain}
-use Rattle.juniper_language.specs.Readers.{Reader, Outcome, and_then, pure, next, sees, while_sees, until, prepend, ◌>>=◌}
-use Rattle.juniper_language.specs.Reading.{put_first, placed, Node, put, selections_of, definition, definitions, if_none_left}
+use Rattle.juniper_language.specs.Readers.{Reader, Outcome, and_then, pure, next, sees, while_sees, until, some_until, prepend, ◌>>=◌}
+use Rattle.juniper_language.specs.Reading.{put_first, placed, Node, put, selection, selections, selections_of, inside_of, definition, definitions, if_none_left}
+use Rattle.juniper_language.proofs.RuleSteps.{selections_is}
 
 pub prepend_nil : {A : Type 0} (o : Outcome (List A)) → prepend [] o ≡ o
 prepend_nil None = refl
@@ -176,3 +177,51 @@ pub turn_on : (m : ℕ) (p : Reader Node) (e i : ℕ) (fs gs : List Putting) (f 
 turn_on m p e i fs gs f s t o below other one is kept =
     let more : chain gs ≡ (λ r. chain fs (f r)) = ap chain is ∙ chain_push fs f in
     ap (λ (g : Putting). put_first g (until m p (e - (i + 1)) t)) more ∙ sym (until_more m p e i (chain fs) s below (sym other) ∙ ap (behind_node m p (e - (i + 1)) (chain fs)) one) ∙ kept
+
+-- ---- one or more parts up to a closing mark: before the loop, and where it ends
+
+pub some_refused : {A : Type 0} (m : ℕ) (p : Reader A) (s : At) → true ≡ sees m s → some_until m p s ≡ None
+unfolding some_until
+some_refused m p s close = rw (sym close) refl
+
+pub some_begun : {A : Type 0} (m : ℕ) (p : Reader A) (s : At) → false ≡ sees m s → some_until m p s ≡ until m p (length s.ahead) s
+unfolding some_until
+some_begun m p s other = rw (sym other) refl
+
+pub until_begun : {A B : Type 0} (m : ℕ) (p : Reader A) (view : B → A) (xs : List B) (e : ℕ) (s : At) → xs ≡ [] → e ≡ length s.ahead
+    → prepend (map view xs) (until m p (e - 0) s) ≡ until m p (length s.ahead) s
+until_begun m p view xs e s none all = let same : e - 0 ≡ length s.ahead = omega (arith, all) in rw (none, same) (prepend_nil (until m p (length s.ahead) s))
+
+-- the closing mark, behind the parts that are found
+pub until_closed : {A : Type 0} (m : ℕ) (p : Reader A) (e i : ℕ) (front : List A) (s t : At) (x : Token) (o : Outcome (List A)) → i < e → true ≡ sees m s → next s ≡ Some (x, t)
+    → prepend front (until m p (e - i) s) ≡ o → o ≡ Some (front, t)
+until_closed m p e i front s t x o below close one kept = sym kept ∙ (parts_end m p e i front s below (sym close) ∙ ap (at_close front) one)
+
+-- no part, where one should stand
+pub until_refused : {A : Type 0} (m : ℕ) (p : Reader A) (e i : ℕ) (front : List A) (s : At) (o : Outcome (List A)) → i < e → false ≡ sees m s → p s ≡ None
+    → prepend front (until m p (e - i) s) ≡ o → o ≡ None
+until_refused m p e i front s o below other none kept = sym kept ∙ (parts_more m p e i front s below (sym other) ∙ ap (behind (until m p (e - (i + 1))) front) none)
+
+-- no closing mark
+pub until_open : {A : Type 0} (m : ℕ) (p : Reader A) (e i : ℕ) (front : List A) (s : At) (o : Outcome (List A)) → e ≤ i → prepend front (until m p (e - i) s) ≡ o → o ≡ None
+until_open m p e i front s o past kept = sym kept ∙ parts_none m p e i front s past
+
+-- ---- selections up to the closing brace: before the loop, and where it ends
+
+pub selections_refused : (n : ℕ) (s : At) → true ≡ sees 125 s → selections n s ≡ None
+selections_refused n s close = selections_is n s ∙ ap (λ o. and_then o (λ xs. pure (selections_of xs))) (some_refused 125 (selection n (inside_of n)) s close)
+
+pub selections_begun : (n : ℕ) (s : At) → false ≡ sees 125 s
+    → selections n s ≡ and_then (until 125 (selection n (inside_of n)) (length s.ahead) s) (λ xs. pure (selections_of xs))
+selections_begun n s other = selections_is n s ∙ ap (λ o. and_then o (λ xs. pure (selections_of xs))) (some_begun 125 (selection n (inside_of n)) s other)
+
+pub put_begun : {B : Type 0} (m : ℕ) (p : Reader Node) (view : B → Putting) (xs : List B) (e : ℕ) (s : At) → xs ≡ [] → e ≡ length s.ahead
+    → put_first (chain (map view xs)) (until m p (e - 0) s) ≡ and_then (until m p (length s.ahead) s) (λ xs. pure (selections_of xs))
+put_begun m p view xs e s none all = let same : e - 0 ≡ length s.ahead = omega (arith, all) in rw (none, same) (put_none (until m p (length s.ahead) s))
+
+pub put_closed : (m : ℕ) (p : Reader Node) (e i : ℕ) (front : Putting) (s t : At) (x : Token) (o : Outcome Selections) → i < e → true ≡ sees m s → next s ≡ Some (x, t)
+    → put_first front (until m p (e - i) s) ≡ o → o ≡ Some (front end, t)
+put_closed m p e i front s t x o below close one kept = sym kept ∙ (until_end m p e i front s below (sym close) ∙ ap (at_mark front) one)
+
+pub put_open : (m : ℕ) (p : Reader Node) (e i : ℕ) (front : Putting) (s : At) (o : Outcome Selections) → e ≤ i → put_first front (until m p (e - i) s) ≡ o → o ≡ None
+put_open m p e i front s o past kept = sym kept ∙ until_none m p e i front s past

@@ -1,11 +1,11 @@
 -- What the rules of reading say at each step of the parser.
-use Rattle.std.proofs.Common.{◌≡◌, ◌≢◌, ℕ, zero, suc, ◌-◌, Bool, true, false, List, [], ◌∷◌, length, Some, None, refl, arith}
+use Rattle.std.proofs.Common.{◌≡◌, ◌≢◌, ℕ, zero, suc, ◌-◌, Bool, true, false, List, [], ◌∷◌, length, Some, None, refl, sym, ap, ap₂, ◌∙◌, arith}
 use Rattle.std.proofs.lemmas.Bool.{false≢true}
 use Rattle.graphql_spec.specs.Positions.{Position, Span, Spanned}
 use Rattle.graphql_spec.specs.Inputs as spec
 use Rattle.graphql_spec.specs.Inputs.{Input}
 use Rattle.graphql_spec.specs.Tokens.{Lexeme, mark, name, int, string, Token}
-use Rattle.graphql_spec.specs.Grammar.{At}
+use Rattle.graphql_spec.specs.Grammar.{At, begin_of, span_of}
 use Rattle.juniper_language.specs.Readers.{Reader, and_then, pure, next, next_from, is_mark_of, first_is, sees, expect, until, some_until, spanned, name_by, a_name, ◌>>=◌}
 use Rattle.juniper_language.specs.Reading.{value, value_by, bracketed, argument, items_of, fields_of, list_within, object_within, type_ref, list_type, named_type, in_brackets, inside_of, selections, selection, selections_of, first_word, by_word, behind_word, kind_of, start_of}
 
@@ -90,3 +90,14 @@ word_at n s = go s.last s.ahead
     go : (last : Position) (ts : List Token) → by_word n (first_word ts) (record { last = last; ahead = ts }) ≡ and_then (a_name (record { last = last; ahead = ts })) (λ x. behind_word n (start_of (record { last = last; ahead = ts })) x.item (kind_of x.item))
     go last [] = refl
     go last (t ∷ ts) = word_from n last t.lexeme t.span ts last
+
+-- parts in brackets that are read
+pub brackets_found : {A : Type 0} (p : ℕ → Reader A) (n : ℕ) (s a t : At) (u : Unit {0}) (xs : List A) (v : Spanned (List A)) (start : Position) → n ≢ 0 → expect 40 s ≡ Some (u, a) → some_until 41 (p (n - 1)) a ≡ Some (xs, t)
+    → v.item ≡ xs → v.span ≡ record { start = start; end = t.last } → start ≡ begin_of s.last s.ahead → in_brackets p n s ≡ Some (v, t)
+unfolding span_of
+brackets_found p n s a t u xs v start some begun read items place first =
+    brackets_at p n s some ∙ rw (begun, read) (ap₂ (λ is sp. Some (record { item = is; span = sp }, t)) (sym items) (sym (place ∙ ap (λ b. record { start = b; end = t.last }) first)))
+
+-- no bracket may be opened
+pub brackets_deep : {A : Type 0} (p : ℕ → Reader A) (n : ℕ) (s : At) → n ≡ 0 → in_brackets p n s ≡ None
+brackets_deep p n s deep = rw deep refl

@@ -35,44 +35,72 @@ fn with_a(alloc: Global) -> Result<Variables<DefaultScalarValue>, AllocError> {
     Ok(variables)
 }
 
+/// Whether a value becomes that one where `a` is 1, and `None` where it has none.
+fn becomes(alloc: Global, given: &Input, wanted: &Option<Input>) -> Result<bool, AllocError> {
+    let variables = with_a(alloc)?;
+    let made = given.into_const(alloc, &variables)?;
+    Ok(made == *wanted)
+}
+
+fn two_variables(alloc: Global) -> Result<Input, AllocError> {
+    let known = variable(alloc, "a")?;
+    list(alloc, known, variable(alloc, "b")?)
+}
+
+/// Whether a value becomes a list of 1 and null.
+fn item_becomes_null(alloc: Global, given: &Input) -> Result<bool, AllocError> {
+    let wanted = list(alloc, int(1), InputValue::Null)?;
+    becomes(alloc, given, &Some(wanted))
+}
+
+/// Whether an object with one field, which is the variable, becomes that one.
+fn object_becomes(alloc: Global, name: &str, wanted: Input) -> Result<bool, AllocError> {
+    let given = object(alloc, "x", variable(alloc, name)?)?;
+    becomes(alloc, &given, &Some(wanted))
+}
+
+fn is_copied(alloc: Global, given: &Input) -> Result<bool, AllocError> {
+    let made = given.try_clone(alloc)?;
+    Ok(given.is_const() && made == *given)
+}
+
+fn constant(alloc: Global) -> Result<Input, AllocError> {
+    let text = String::from_str(alloc, "q1")?;
+    let first = object(
+        alloc,
+        "x",
+        InputValue::Scalar(DefaultScalarValue::String(text)),
+    )?;
+    let name = String::from_str(alloc, "EMPIRE")?;
+    list(alloc, first, InputValue::Enum(name))
+}
+
 #[test]
 fn an_item_without_value_is_null(rt: HostRuntime) -> Result<(), Fail> {
     let alloc = rt.alloc();
-    let variables = with_a(alloc)?;
-    let given = list(alloc, variable(alloc, "a")?, variable(alloc, "b")?)?;
-    assert!(rt; !given.is_const());
-    let made = given.into_const(alloc, &variables)?;
-    assert!(rt; made == Some(list(alloc, int(1), InputValue::Null)?));
+    assert!(rt; !two_variables(alloc)?.is_const());
+    assert!(rt; item_becomes_null(alloc, &two_variables(alloc)?)?);
     Ok(())
 }
 
 #[test]
 fn a_field_without_value_is_absent(rt: HostRuntime) -> Result<(), Fail> {
     let alloc = rt.alloc();
-    let variables = with_a(alloc)?;
-    let known = object(alloc, "x", variable(alloc, "a")?)?.into_const(alloc, &variables)?;
-    assert!(rt; known == Some(object(alloc, "x", int(1))?));
-    let unknown = object(alloc, "x", variable(alloc, "b")?)?.into_const(alloc, &variables)?;
-    assert!(rt; unknown == Some(InputValue::Object(Vec::new(alloc))));
+    assert!(rt; object_becomes(alloc, "a", object(alloc, "x", int(1))?)?);
+    assert!(rt; object_becomes(alloc, "b", InputValue::Object(Vec::new(alloc)))?);
     Ok(())
 }
 
 #[test]
 fn a_variable_without_value_is_absent(rt: HostRuntime) -> Result<(), Fail> {
     let alloc = rt.alloc();
-    let absent = variable(alloc, "b")?.into_const(alloc, &with_a(alloc)?)?;
-    assert!(rt; absent.is_none());
+    assert!(rt; becomes(alloc, &variable(alloc, "b")?, &None)?);
     Ok(())
 }
 
 #[test]
 fn a_copy_is_written_the_same(rt: HostRuntime) -> Result<(), Fail> {
     let alloc = rt.alloc();
-    let text = String::from_str(alloc, "q1")?;
-    let scalar = InputValue::Scalar(DefaultScalarValue::String(text));
-    let name = InputValue::Enum(String::from_str(alloc, "EMPIRE")?);
-    let given = list(alloc, object(alloc, "x", scalar)?, name)?;
-    assert!(rt; given.is_const());
-    assert!(rt; given.try_clone(alloc)? == given);
+    assert!(rt; is_copied(alloc, &constant(alloc)?)?);
     Ok(())
 }

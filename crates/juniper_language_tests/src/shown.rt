@@ -3,6 +3,7 @@
 use crate::scalar::TestScalar;
 use juniper_language::{DefaultScalarValue, InputValue, ScalarValue, Spanning, Type};
 use std::alloc::{AllocError, Global};
+use std::convert::AsStr;
 use std::test::Fail;
 
 /// Whether a text is written so between quotes.
@@ -52,21 +53,44 @@ fn writes<S: ScalarValue>(
     Ok(value.to_string(alloc)?.as_str() == written)
 }
 
-fn leaves_are_written<S: ScalarValue>(alloc: Global) -> Result<bool, AllocError> {
-    let name = InputValue::<S>::Enum(String::from_str(alloc, "EMPIRE")?);
-    let variable = InputValue::<S>::Variable(String::from_str(alloc, "episode")?);
+/// The same of a value that is let go.
+fn writes_own<S: ScalarValue>(
+    alloc: Global,
+    value: InputValue<S>,
+    written: &str,
+) -> Result<bool, AllocError> {
+    writes(alloc, &value, written)
+}
+
+fn scalars_are_written<S: ScalarValue>(alloc: Global) -> Result<bool, AllocError> {
     Ok(
-        writes(alloc, &InputValue::<S>::Null, "null")?
-            && writes(alloc, &InputValue::Scalar(S::from_int(-7)), "-7")?
-            && writes(
+        writes_own(alloc, InputValue::<S>::Null, "null")?
+            && writes_own(alloc, InputValue::Scalar(S::from_int(-7)), "-7")?
+            && writes_own(
                 alloc,
-                &InputValue::Scalar(S::from_int(i32::MIN)),
+                InputValue::Scalar(S::from_int(i32::MIN)),
                 "-2147483648",
             )?
-            && writes(alloc, &InputValue::Scalar(S::from_bool(true)), "true")?
-            && writes(alloc, &InputValue::Scalar(S::from_bool(false)), "false")?
-            && writes(alloc, &name, "EMPIRE")?
-            && writes(alloc, &variable, "$episode")?,
+            && writes_own(alloc, InputValue::Scalar(S::from_bool(true)), "true")?
+            && writes_own(alloc, InputValue::Scalar(S::from_bool(false)), "false")?,
+    )
+}
+
+fn enum_is_written<S: ScalarValue>(alloc: Global) -> Result<bool, AllocError> {
+    let name = String::from_str(alloc, "EMPIRE")?;
+    writes_own(alloc, InputValue::<S>::Enum(name), "EMPIRE")
+}
+
+fn variable_is_written<S: ScalarValue>(alloc: Global) -> Result<bool, AllocError> {
+    let name = String::from_str(alloc, "episode")?;
+    writes_own(alloc, InputValue::<S>::Variable(name), "$episode")
+}
+
+fn leaves_are_written<S: ScalarValue>(alloc: Global) -> Result<bool, AllocError> {
+    Ok(
+        scalars_are_written::<S>(alloc)?
+            && enum_is_written::<S>(alloc)?
+            && variable_is_written::<S>(alloc)?,
     )
 }
 
@@ -99,31 +123,57 @@ fn int(value: i32) -> Input {
     InputValue::Scalar(DefaultScalarValue::Int(value))
 }
 
+fn nested_lists(alloc: Global) -> Result<Input, AllocError> {
+    let inner = list(alloc, InputValue::Null, int(2))?;
+    list(alloc, int(1), inner)
+}
+
+fn nested_objects(alloc: Global) -> Result<Input, AllocError> {
+    let inner = object(alloc, int(-7), int(0))?;
+    object(alloc, inner, nested_lists(alloc)?)
+}
+
 #[test]
 fn lists_and_objects_are_written_item_by_item(rt: HostRuntime) -> Result<(), Fail> {
     let alloc = rt.alloc();
-    assert!(rt; writes(alloc, &Input::List(Vec::new(alloc)), "[]")?);
-    assert!(rt; writes(alloc, &Input::Object(Vec::new(alloc)), "{}")?);
-    let inner = list(alloc, InputValue::Null, int(2))?;
-    let both = list(alloc, int(1), inner)?;
-    assert!(rt; writes(alloc, &both, "[1, [null, 2]]")?);
-    let outer = object(alloc, object(alloc, int(-7), int(0))?, both)?;
-    assert!(rt; writes(alloc, &outer, "{k: {k: -7, l: 0}, l: [1, [null, 2]]}")?);
+    assert!(rt; writes_own(alloc, Input::List(Vec::new(alloc)), "[]")?);
+    assert!(rt; writes_own(alloc, Input::Object(Vec::new(alloc)), "{}")?);
+    assert!(rt; writes_own(alloc, nested_lists(alloc)?, "[1, [null, 2]]")?);
+    assert!(rt;
+        writes_own(
+            alloc,
+            nested_objects(alloc)?,
+            "{k: {k: -7, l: 0}, l: [1, [null, 2]]}"
+        )?
+    );
     Ok(())
+}
+
+/// Whether a type is written so.
+fn type_is_written<N: AsStr + Drop>(
+    alloc: Global,
+    given: Type<N>,
+    written: &str,
+) -> Result<bool, AllocError> {
+    Ok(given.to_string(alloc)?.as_str() == written)
+}
+
+fn episodes(alloc: Global) -> Result<Type<&'static str>, AllocError> {
+    Type::NonNullNamed("Episode").wrap_list(alloc, Some(3))
+}
+
+fn lists_of_episodes(alloc: Global) -> Result<Type<&'static str>, AllocError> {
+    episodes(alloc)?.wrap_non_null().wrap_list(alloc, None)
 }
 
 #[test]
 fn types_are_written(rt: HostRuntime) -> Result<(), Fail> {
     let alloc = rt.alloc();
-    let named = Type::Named("Episode");
-    assert_eq!(rt; named.to_string(alloc)?.as_str(), "Episode");
-    let list = Type::NonNullNamed("Episode").wrap_list(alloc, Some(3))?;
-    assert_eq!(rt; list.to_string(alloc)?.as_str(), "[Episode!]");
-    let required = list.wrap_non_null();
-    assert_eq!(rt; required.to_string(alloc)?.as_str(), "[Episode!]!");
-    let nested = required.wrap_list(alloc, None)?;
-    assert_eq!(rt; nested.to_string(alloc)?.as_str(), "[[Episode!]!]");
+    assert!(rt; type_is_written(alloc, Type::Named("Episode"), "Episode")?);
+    assert!(rt; type_is_written(alloc, episodes(alloc)?, "[Episode!]")?);
+    assert!(rt; type_is_written(alloc, episodes(alloc)?.wrap_non_null(), "[Episode!]!")?);
+    assert!(rt; type_is_written(alloc, lists_of_episodes(alloc)?, "[[Episode!]!]")?);
     let owned = Type::NonNullNamed(String::from_str(alloc, "Int")?);
-    assert_eq!(rt; owned.to_string(alloc)?.as_str(), "Int!");
+    assert!(rt; type_is_written(alloc, owned, "Int!")?);
     Ok(())
 }

@@ -2,8 +2,10 @@ pub mod Lists
 pub mod Documents
 pub mod Inputs
 pub mod InputLists
+pub mod Constants
 pub mod Displays
 pub mod Escapes
 pub mod Values
 pub mod ValueLists
 pub mod ValueEquality
+pub mod TypeTexts

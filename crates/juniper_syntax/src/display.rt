@@ -24,7 +24,6 @@ impl<S: ScalarValue> fmt::Display for InputValue<S> {
 
 /// Writes a value.
 #[cycle(write_input)]
-#[tactic(auto, unfolding(graphql_spec::specs::Display::display))]
 fn write_input<S: ScalarValue, W: fmt::Write>(
     value: &InputValue<S>,
     f: &mut fmt::Formatter<W>,

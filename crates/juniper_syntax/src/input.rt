@@ -100,7 +100,6 @@ impl<S: ScalarValue> InputValue<S> {
 }
 
 #[cycle(is_const)]
-#[tactic(auto, unfolding(graphql_spec::specs::Inputs::is_const))]
 fn items_are_const<S: ScalarValue>(items: &[Spanning<InputValue<S>, Span>]) -> bool
     ensures { result ≡ items_are_const (view_items S.shown items.now) }
 {
@@ -113,7 +112,6 @@ fn items_are_const<S: ScalarValue>(items: &[Spanning<InputValue<S>, Span>]) -> b
 }
 
 #[cycle(is_const)]
-#[tactic(auto, unfolding(graphql_spec::specs::Inputs::is_const))]
 fn fields_are_const<S: ScalarValue>(fields: &[InputField<S>]) -> bool
     ensures { result ≡ fields_are_const (view_fields S.shown fields.now) }
 {

@@ -93,7 +93,6 @@ impl<N: AsStr + Drop> Type<N> {
 impl<N: AsStr + Drop> Display for Type<N> {
     ghost output = { λ t. Some (type_text (view_type N.text t)) };
 
-    #[tactic(auto, unfolding(graphql_spec::specs::Types::type_text, graphql_spec::specs::Types::with_mark))]
     fn fmt<W: fmt::Write>(&self, f: &mut fmt::Formatter<W>) -> fmt::Result {
         match self {
             Type::Named(name) => f.write_str(name.as_str()),

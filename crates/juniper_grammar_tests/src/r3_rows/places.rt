@@ -5,7 +5,7 @@ use super::rows::place;
 use juniper_language::ast::Arguments;
 use juniper_language::{
     DefaultScalarValue, Definition, Directive, Document, InputValue, Selection, Span, Spanning,
-    parse_document_source,
+    VariableDefinitions, parse_document_source,
 };
 use std::alloc::{AllocError, Global};
 use std::test::Fail;
@@ -102,6 +102,26 @@ fn put_selection(
     }
 }
 
+fn put_variables(
+    line: &mut String,
+    text: &str,
+    variables: &Option<Spanning<VariableDefinitions<'_, DefaultScalarValue>, Span>>,
+) -> Result<(), AllocError> {
+    let Some(variables) = variables else {
+        return Ok(());
+    };
+    put_part(line, text, &variables.span)?;
+    for (name, variable) in &variables.item.items {
+        put_part(line, text, &name.span)?;
+        put_part(line, text, &variable.var_type.span)?;
+        if let Some(value) = &variable.default_value {
+            put_value(line, text, value)?;
+        }
+        put_directives(line, text, &variable.directives)?;
+    }
+    Ok(())
+}
+
 /// The parts of the definition, and of its selections without what stands below them.
 fn put_definition(
     line: &mut String,
@@ -114,17 +134,7 @@ fn put_definition(
             if let Some(name) = &operation.item.name {
                 put_part(line, text, &name.span)?;
             }
-            if let Some(variables) = &operation.item.variable_definitions {
-                put_part(line, text, &variables.span)?;
-                for (name, variable) in &variables.item.items {
-                    put_part(line, text, &name.span)?;
-                    put_part(line, text, &variable.var_type.span)?;
-                    if let Some(value) = &variable.default_value {
-                        put_value(line, text, value)?;
-                    }
-                    put_directives(line, text, &variable.directives)?;
-                }
-            }
+            put_variables(line, text, &operation.item.variable_definitions)?;
             put_directives(line, text, &operation.item.directives)?;
             operation.item.selection_set.as_slice()
         }

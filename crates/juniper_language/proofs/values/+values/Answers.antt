@@ -5,7 +5,7 @@ use Rattle.juniper_position.specs.Positions.{view_spanning}
 use Rattle.juniper_language.specs.ParserViews.{view_member, view_owned}
 use Rattle.juniper_language.specs.Readers.{spanned, until}
 use Rattle.juniper_language.specs.Reading.{value, argument}
-use Rattle.juniper_language.proofs.Loops.{part_on, map_pushed}
+use Rattle.juniper_language.proofs.Loops.{part_on, map_pushed, until_begun, until_closed, until_open}
 use Rattle.juniper_language.proofs.RuleSteps.{list_found}
 use Rattle.juniper_language.proofs.PartViews.{view_list}
 use Rattle.juniper_language.proofs.values.+values.Goals as goal
@@ -33,3 +33,29 @@ fields-loop-turn-preserved g t c =
     let one = c.in_ok-name.ensures ∙ ap (λ (n : Word). Some (record { name = n; value = value_seen }, c.argument.new.parser)) (sym c.in_ok-owned.ensures) in
     part_on 125 (argument c.args.constant c.args.depth) c.left-turn-end.result c.loop-turn._turn (map view found) (map view c.push.new.self.items) seen c.loop-turn.parser c.argument.new.parser (until 125 (argument c.args.constant c.args.depth) (length c.args.parser.now.ahead) c.args.parser.now)
     c.loop-turn-test.true c.if-sees.ensures one (map_pushed view found c.push.new.self.items _ c.in_ok-push.ensures.items) c.loop-turn.invariant
+
+pub items-loop-turn-init : goal.items-loop-turn-init
+items-loop-turn-init g t c =
+    until_begun 93 (spanned (value c.args.constant c.args.depth)) (view_spanning (view_input g.S.ScalarValue.shown)) c.new-found.result.items c.left-turn-end.result c.args.parser.now c.new-found.ensures.items c.left-turn-end.ensures
+
+pub items-returns-then-sees : goal.items-returns-then-sees
+items-returns-then-sees g t c =
+    until_closed 93 (spanned (value c.args.constant c.args.depth)) c.left-turn-end.result c.loop-turn._turn (map (view_spanning (view_input g.S.ScalarValue.shown)) c.loop-turn.found.items) c.loop-turn.parser c.next.new.self _ _
+    c.loop-turn-test.true c.if-sees.ensures c.in_ok-next.ensures c.loop-turn.invariant
+
+pub items-returns : goal.items-returns
+items-returns g t c known =
+    until_open 93 (spanned (value c.args.constant c.args.depth)) c.left-turn-end.result c.loop-turn._turn (map (view_spanning (view_input g.S.ScalarValue.shown)) c.loop-turn.found.items) c.loop-turn.parser _ c.loop-turn-test.false c.loop-turn.invariant
+
+pub fields-loop-turn-init : goal.fields-loop-turn-init
+fields-loop-turn-init g t c =
+    until_begun 125 (argument c.args.constant c.args.depth) (view_member g.S.ScalarValue.shown) c.new-found.result.items c.left-turn-end.result c.args.parser.now c.new-found.ensures.items c.left-turn-end.ensures
+
+pub fields-returns-then-sees : goal.fields-returns-then-sees
+fields-returns-then-sees g t c =
+    until_closed 125 (argument c.args.constant c.args.depth) c.left-turn-end.result c.loop-turn._turn (map (view_member g.S.ScalarValue.shown) c.loop-turn.found.items) c.loop-turn.parser c.next.new.self _ _
+    c.loop-turn-test.true c.if-sees.ensures c.in_ok-next.ensures c.loop-turn.invariant
+
+pub fields-returns : goal.fields-returns
+fields-returns g t c known =
+    until_open 125 (argument c.args.constant c.args.depth) c.left-turn-end.result c.loop-turn._turn (map (view_member g.S.ScalarValue.shown) c.loop-turn.found.items) c.loop-turn.parser _ c.loop-turn-test.false c.loop-turn.invariant

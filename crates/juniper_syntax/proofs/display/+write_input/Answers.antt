@@ -2,7 +2,7 @@ use Rattle.std.proofs.Common.{[], ◌++◌, sym, ap, refl, ◌∙◌, rules, ari
 use Rattle.std.proofs.Output.{has_written_append, has_written_of_eq}
 use Rattle.graphql_spec.specs.Display.{display}
 use Rattle.juniper_syntax.specs.InputView.{view_input}
-use Rattle.juniper_syntax.proofs.Inputs.{view-List, view-Object}
+use Rattle.juniper_syntax.proofs.Inputs.{view-Null, view-Scalar, view-Enum, view-Variable, view-List, view-Object}
 use Rattle.juniper_syntax.proofs.Displays.{comma-IsUtf8, first_items, items_written, items_all, first_fields, fields_written, fields_all}
 use Rattle.juniper_syntax.proofs.display.+write_input.Goals as goal
 
@@ -77,3 +77,34 @@ write_input-returns-in_ok-write_fields-in-Object g t c plain ok =
     let inside = rw c.as_slice-in-Object.ensures.value at c.write_fields.ensures opened.plain (search rules) in
     let closed = c.write_str-in-Object-2.ensures.writes inside.plain ok in
     has_written_of_eq _ _ _ _ _ (sym (ap display seen)) (has_written_append _ _ _ _ _ _ opened (has_written_append _ _ _ _ _ _ inside closed))
+
+pub write_input-returns-in-Null : goal.write_input-returns-in-Null
+unfolding display
+write_input-returns-in-Null g t c plain ok =
+    let shown = g.S.ScalarValue.shown in
+    let seen = ap (view_input shown) c.in-Null.is ∙ view-Null shown in
+    has_written_of_eq _ _ _ _ _ (sym (ap display seen)) (c.write_str.ensures.writes plain ok)
+
+pub write_input-returns-in-Scalar : goal.write_input-returns-in-Scalar
+unfolding display
+write_input-returns-in-Scalar g t c plain ok =
+    let shown = g.S.ScalarValue.shown in
+    let seen = ap (view_input shown) c.in-Scalar.is ∙ view-Scalar shown c.in-Scalar.scalar in
+    has_written_of_eq _ _ _ _ _ (sym (ap display seen)) (c.write_scalar.ensures plain ok)
+
+pub write_input-returns-in-Enum : goal.write_input-returns-in-Enum
+unfolding display
+write_input-returns-in-Enum g t c plain ok =
+    let shown = g.S.ScalarValue.shown in
+    let seen = ap (view_input shown) c.in-Enum.is ∙ view-Enum shown c.in-Enum.name in
+    let wrote = rw c.as_str.ensures.value at c.write_str-in-Enum.ensures.writes plain ok in
+    has_written_of_eq _ _ _ _ _ (sym (ap display seen)) wrote
+
+pub write_input-returns-in_ok-write_str-in-Variable : goal.write_input-returns-in_ok-write_str-in-Variable
+unfolding display
+write_input-returns-in_ok-write_str-in-Variable g t c plain ok =
+    let shown = g.S.ScalarValue.shown in
+    let seen = ap (view_input shown) c.in-Variable.is ∙ view-Variable shown c.in-Variable.name in
+    let sign = c.write_str-in-Variable.ensures.writes plain (search rules) in
+    let name = rw c.as_str-in-Variable.ensures.value at c.write_str-in-Variable-2.ensures.writes sign.plain ok in
+    has_written_of_eq _ _ _ _ _ (sym (ap display seen)) (has_written_append _ _ _ _ _ _ sign name)
