@@ -164,12 +164,13 @@ impl<S: ScalarValue> Field<S> {
     pub fn deprecated(self, reason: Option<String>) -> Self
         ensures { view_field S.shown result ≡ deprecated_field (view_field S.shown self) (view_text reason) }
     {
+        let deprecation_status = DeprecationStatus::Deprecated(reason);
         Field {
             name: self.name,
             description: self.description,
             arguments: self.arguments,
             field_type: self.field_type,
-            deprecation_status: DeprecationStatus::Deprecated(reason),
+            deprecation_status,
         }
     }
 

@@ -22,7 +22,7 @@ pub struct ScalarMeta {
     pub name: String,
     /// Its description, where it has one.
     pub description: Option<String>,
-    /// Where it is specified, as a URL, where that is said (3.5.5).
+    /// Where it is specified, as a URL, where that is said (3.13.4).
     pub specified_by_url: Option<String>,
     /// The kinds of scalars that it accepts.
     pub kinds: ScalarKinds,
@@ -53,7 +53,7 @@ impl ScalarMeta {
         }
     }
 
-    /// The same scalar, specified at this URL, in place of any that it had (3.5.5).
+    /// The same scalar, specified at this URL, in place of any that it had (3.13.4).
     pub fn specified_by_url(self, url: String) -> Self
         ensures { view_scalar result ≡ with_url (view_scalar self) (string_bytes url) }
     {
@@ -581,7 +581,7 @@ impl<S: ScalarValue> MetaType<S> {
         }
     }
 
-    /// Where a scalar is specified, as a URL, where that is said; `None` for other types (3.5.5).
+    /// Where a scalar is specified, as a URL, where that is said; `None` for other types (3.13.4).
     #[tactic(auto, unfolding(crate::specs::MetaView::view_meta, crate::specs::MetaView::url_of))]
     pub fn specified_by_url(&self) -> Option<&str>
         ensures { option_map (λ t. t.now) result ≡ url_of (view_meta S.shown self.now).shape }
