@@ -1,0 +1,14 @@
+use Rattle.graphql_spec.specs.BuiltIns.{field_type}
+use Rattle.juniper_builtins.proofs.introspection.field_type.Goals as goal
+
+pub returns : goal.returns
+unfolding field_type
+returns g c = rw (
+  c.in_ok-fields.ensures,
+  c.in_ok-must-3.ensures,
+  c.in_ok-must-2.ensures,
+  c.in_ok-must_all.ensures,
+  c.in_ok-maybe.ensures,
+  c.in_ok-must.ensures,
+  c.new.ensures,
+) at c.object_of.ensures

@@ -1,0 +1,2 @@
+pub mod BuiltInScalars
+pub mod Lists
