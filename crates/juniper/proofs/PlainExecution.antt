@@ -32,7 +32,7 @@ use Rattle.graphql_spec.proofs.Coercion.{same_arguments_seen}
 use Rattle.graphql_spec.proofs.PlainQueries.{Every, Literal, plain_field_parts}
 use Rattle.juniper_rules.specs.Occurrences.{admitted_fields}
 use Rattle.juniper_rules.specs.PlainSelections.{plain_heads, repeats_name, is_unserved, same_at_names, is_same_call, may_share}
-use Rattle.juniper_schema.specs.Served.{is_served_head, served_field}
+use Rattle.graphql_spec.specs.ServedFields.{is_served_head, served_field}
 use Rattle.juniper.specs.Walking.{IsWalked}
 use Rattle.juniper_rules.proofs.ArgumentMaps.{same-arguments-are, same_members-true, none-repeats}
 use Rattle.juniper_rules.proofs.PlainErrors.{IsValid}

@@ -16,7 +16,7 @@ use Rattle.graphql_spec.specs.Constants.{Members}
 use Rattle.graphql_spec.specs.Rules.{is_introspection}
 use Rattle.graphql_spec.proofs.Lists.{same_true}
 use Rattle.juniper_schema.specs.SchemaView.{schema_of, query_entry, scalar_entry}
-use Rattle.juniper_schema.specs.Served.{served_field, has_scalar_fields, is_scalar, is_scalar_type, is_served_schema, is_served_head}
+use Rattle.graphql_spec.specs.ServedFields.{served_field, has_scalar_fields, is_scalar, is_scalar_type, is_served_schema, is_served_head}
 use Rattle.graphql_spec.specs.Resolvers.{Reply, world_of}
 use Rattle.juniper.specs.Walking.{world_in}
 use Rattle.juniper.proofs.Steps.{IsServedWorld}

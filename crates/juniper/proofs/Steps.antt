@@ -12,7 +12,7 @@ use Rattle.graphql_spec.specs.Resolvers.{World, Error}
 use Rattle.graphql_spec.specs.Execution.{type_of, reply_of, reply_to}
 use Rattle.graphql_spec.specs.Laws.{Agree}
 use Rattle.graphql_spec.proofs.Walk.{Walked, one_entry}
-use Rattle.juniper_schema.specs.Served.{is_served_head}
+use Rattle.graphql_spec.specs.ServedFields.{is_served_head}
 use Rattle.juniper.specs.Walking.{IsCompleted, IsWalked, type_at, taken_at, settled, listed_of, reply_fault, is_leaf_value}
 use Rattle.juniper_syntax.proofs.Lists.{left-is, seen-last}
 use Rattle.juniper.proofs.Completing.{listed_at}

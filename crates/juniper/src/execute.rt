@@ -15,7 +15,7 @@ ghost use Rattle.juniper_values.specs.ErrorView.{view_listed};
 ghost use Rattle.juniper.specs.RequestErrors.{view_request_error};
 ghost use Rattle.juniper.specs.RootView.{schema_of, resolver_of, info_of};
 ghost use Rattle.juniper_schema.specs.SchemaView.{view_schema};
-ghost use Rattle.juniper_schema.specs.Served.{is_served_schema};
+ghost use Rattle.graphql_spec.specs.ServedFields.{is_served_schema};
 ghost use Rattle.juniper.specs.Walking.{world_in};
 
 use crate::collect::collect;

@@ -2,7 +2,7 @@
 
 ghost use Rattle.std.specs.Prelude.{◌≡◌, IsTrue};
 ghost use Rattle.juniper_schema.specs.SchemaView.{view_schema};
-ghost use Rattle.juniper_schema.specs.Served.{is_served_schema};
+ghost use Rattle.graphql_spec.specs.ServedFields.{is_served_schema};
 
 use juniper_language::ScalarValue;
 use juniper_schema::SchemaType;

@@ -8,7 +8,7 @@ use Rattle.graphql_spec.specs.Tokens.{is_name, starts_name, continues_name}
 use Rattle.graphql_spec.specs.Shown.{same_bool}
 use Rattle.graphql_spec.specs.Fields.{accepts_kind, entry_in, or_else, shape_of, entry_named, type_named, is_object, is_interface, is_composite, is_leaf, is_input, interfaces_of, members_of, fields_of}
 use Rattle.graphql_spec.specs.Executable.{values_of, input_fields_of, shape_fields, names_differ, is_filled, is_reserved, no_declarations, is_typename_field, input_is_free, field_is_free, is_own_name, entry_is_named, entries_are_named, mutation_is_apart, roots_are_objects, ends_in_output, ends_in_input, field_is_known, types_are_known, input_names_differ, is_value_name, entry_names_differ, all_names_differ, implements, interfaces_are_met, default_is_right, defaults_fit, accepts_just, scalar_if_there, built_ins_are_right, is_executable}
-use Rattle.juniper_schema.specs.Served.{is_scalar, is_scalar_type, has_scalar_fields, is_served_schema}
+use Rattle.graphql_spec.specs.ServedFields.{is_scalar, is_scalar_type, has_scalar_fields, is_served_schema}
 use Rattle.juniper_demo.specs.DemoSchema.{demo_schema}
 
 is_served : is_served_schema demo_schema ≡ true

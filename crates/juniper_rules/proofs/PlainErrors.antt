@@ -15,7 +15,7 @@ use Rattle.graphql_spec.specs.FirstRules.{first_name_errors, first_type_errors, 
 use Rattle.graphql_spec.proofs.PlainQueries.{Every, Literal, plain_field_parts}
 use Rattle.graphql_spec.proofs.FlatSchemas.{Built}
 use Rattle.graphql_spec.proofs.FirstRules.{conditions_known, conditions_complete, conditions_fit}
-use Rattle.juniper_schema.specs.Served.{served_field}
+use Rattle.graphql_spec.specs.ServedFields.{served_field}
 use Rattle.juniper_rules.specs.PlainSelections.{plain_heads, repeats_name, is_unserved, call_of, breaks, call_breaks, literal_fits, misfits, gives_unfit, may_share, reported_at, type_errors_of}
 use Rattle.juniper_rules.proofs.PlainRules.{with_words, parts, not-plain, not-plain-inline, IsPlainQuery, repeats-argument-is, lacks-is, calls-break, cannot-merge-is}
 

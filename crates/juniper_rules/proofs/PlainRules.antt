@@ -24,7 +24,7 @@ use Rattle.graphql_spec.specs.FirstRules.{lacks_field, is_asked, first_calls, is
 use Rattle.graphql_spec.specs.Served.{is_served_field}
 use Rattle.graphql_spec.proofs.Lists.{same_refl, same_true}
 use Rattle.graphql_spec.proofs.PlainQueries.{Every, every-append, none, Plain, Literal, plain_field_parts}
-use Rattle.juniper_schema.specs.Served.{served_field}
+use Rattle.graphql_spec.specs.ServedFields.{served_field}
 use Rattle.juniper_rules.specs.PlainSelections.{plain_heads, repeats_in, repeats_name, is_unserved, call_of, breaks, call_breaks, is_same_call, may_share}
 use Rattle.juniper_rules.proofs.ArgumentMaps.{same-arguments-are}
 

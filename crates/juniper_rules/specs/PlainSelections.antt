@@ -21,7 +21,7 @@ use Rattle.juniper_syntax.specs.declared.ast.Field.{Field}
 use Rattle.juniper_rules.specs.declared.calls.Call.{Call as CodeCall}
 use Rattle.juniper_rules.specs.Occurrences.{view_occurrence}
 use Rattle.juniper_schema.specs.SchemaView.{view_argument}
-use Rattle.juniper_schema.specs.Served.{served_field}
+use Rattle.graphql_spec.specs.ServedFields.{served_field}
 
 -- the words of a field, and the arguments of one beside those that are declared
 unfoldable pub head_seen : {S : Type 0} → (S → Shown) → Spanning (Field S) Span → Head

@@ -10,7 +10,7 @@ use Rattle.graphql_spec.specs.Fields.{entry_in, shape_of, or_else, entry_named, 
 use Rattle.graphql_spec.specs.Rules.{is_introspection}
 use Rattle.graphql_spec.proofs.Lists.{same_refl}
 use Rattle.juniper_schema.specs.SchemaView.{schema_of, scalar_entry}
-use Rattle.juniper_schema.specs.Served.{served_field, has_scalar_fields, is_scalar_type, as_named}
+use Rattle.graphql_spec.specs.ServedFields.{served_field, has_scalar_fields, is_scalar_type, as_named}
 
 -- the query type's entry is found
 pub query-found : (q : Name) (fs : List FieldDeclaration) (rest : List Entry) → type_named (schema_of q fs rest) q ≡ Some (object_type fs [])

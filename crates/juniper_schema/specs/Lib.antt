@@ -1,2 +1,1 @@
 pub mod SchemaView
-pub mod Served

@@ -4,7 +4,7 @@ ghost use Rattle.std.specs.Prelude.{◌≡◌, string_bytes, map, option_map, Is
 ghost use Rattle.graphql_spec.specs.Schema.{Schema};
 ghost use Rattle.graphql_spec.specs.Fields.{accepts_kind, leaf_accepts, entry_named, entry_in, field_in, typename, typename_field};
 ghost use Rattle.juniper_schema.specs.SchemaView.{view_argument, view_field, view_scalar, view_kinds, view_schema, scalar_entry, query_entry};
-ghost use Rattle.juniper_schema.specs.Served.{served_field, has_scalar_fields, as_named};
+ghost use Rattle.graphql_spec.specs.ServedFields.{served_field, has_scalar_fields, as_named};
 ghost use Rattle.juniper_syntax.specs.TypeView.{view_type};
 ghost use Rattle.graphql_spec.specs.Rules.{is_introspection};
 ghost use Rattle.std.specs.Str.{bytes_eq};
@@ -192,7 +192,7 @@ fn no_arguments<S: ScalarValue>(field: &Field<S>) -> &[Argument<S>]
 }
 
 /// A type that is no list.
-#[tactic(auto, unfolding(crate::specs::Served::as_named))]
+#[tactic(auto, unfolding(graphql_spec::specs::ServedFields::as_named))]
 fn leaf_of(field_type: &Type<String>) -> Option<LeafType<'_>>
     ensures { option_map view_leaf_type result ≡ as_named (view_type (λ n. string_bytes n) field_type.now) }
 {

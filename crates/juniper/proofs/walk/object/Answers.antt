@@ -7,7 +7,7 @@ use Rattle.juniper_syntax.proofs.Values.{view-Null, view-Object}
 use Rattle.juniper_values.specs.ErrorView.{view_error, view_listed}
 use Rattle.juniper_rules.specs.Occurrences.{view_occurrence}
 use Rattle.juniper_schema.specs.SchemaView.{view_schema, view_field, view_scalar, view_kinds}
-use Rattle.juniper_schema.specs.Served.{is_served_head}
+use Rattle.graphql_spec.specs.ServedFields.{is_served_head}
 use Rattle.juniper.specs.Walking.{world_in}
 use Rattle.juniper_syntax.proofs.Lists.{all-at}
 use Rattle.juniper.proofs.Settling.{settled-differs}

@@ -18,7 +18,7 @@ returns-then-sees g c known = some_refused 41 (argument c.args.constant c.args.d
 
 pub loop-turn-init : goal.loop-turn-init
 loop-turn-init g c =
-    until_begun 41 (argument c.args.constant c.args.depth) (view_argument g.S.ScalarValue.shown) c.new-found.result.items c.left-turn-end.result c.args.parser.now c.new-found.ensures.items c.left-turn-end.ensures
+    until_begun 41 (argument c.args.constant c.args.depth) (view_argument g.S.ScalarValue.shown) c.in_ok-found.found.items c.left-turn-end.result c.args.parser.now c.in_ok-found.ensures.items c.left-turn-end.ensures
 
 pub returns-then-sees-2 : goal.returns-then-sees-2
 returns-then-sees-2 g c =

@@ -18,7 +18,7 @@ selections-returns-then-sees g t c known = selections_refused c.args.depth c.arg
 
 pub selections-loop-turn-init : goal.selections-loop-turn-init
 selections-loop-turn-init g t c =
-    put_begun 125 (selection c.args.depth (inside_of c.args.depth)) (put_selection g.S.ScalarValue.shown) c.new-found.result.items c.left-turn-end.result c.args.parser.now c.new-found.ensures.items c.left-turn-end.ensures
+    put_begun 125 (selection c.args.depth (inside_of c.args.depth)) (put_selection g.S.ScalarValue.shown) c.in_ok-found.found.items c.left-turn-end.result c.args.parser.now c.in_ok-found.ensures.items c.left-turn-end.ensures
 
 pub selections-returns-then-sees-2 : goal.selections-returns-then-sees-2
 selections-returns-then-sees-2 g t c =

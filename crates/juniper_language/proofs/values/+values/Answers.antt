@@ -36,7 +36,7 @@ fields-loop-turn-preserved g t c =
 
 pub items-loop-turn-init : goal.items-loop-turn-init
 items-loop-turn-init g t c =
-    until_begun 93 (spanned (value c.args.constant c.args.depth)) (view_spanning (view_input g.S.ScalarValue.shown)) c.new-found.result.items c.left-turn-end.result c.args.parser.now c.new-found.ensures.items c.left-turn-end.ensures
+    until_begun 93 (spanned (value c.args.constant c.args.depth)) (view_spanning (view_input g.S.ScalarValue.shown)) c.in_ok-found.found.items c.left-turn-end.result c.args.parser.now c.in_ok-found.ensures.items c.left-turn-end.ensures
 
 pub items-returns-then-sees : goal.items-returns-then-sees
 items-returns-then-sees g t c =
@@ -49,7 +49,7 @@ items-returns g t c known =
 
 pub fields-loop-turn-init : goal.fields-loop-turn-init
 fields-loop-turn-init g t c =
-    until_begun 125 (argument c.args.constant c.args.depth) (view_member g.S.ScalarValue.shown) c.new-found.result.items c.left-turn-end.result c.args.parser.now c.new-found.ensures.items c.left-turn-end.ensures
+    until_begun 125 (argument c.args.constant c.args.depth) (view_member g.S.ScalarValue.shown) c.in_ok-found.found.items c.left-turn-end.result c.args.parser.now c.in_ok-found.ensures.items c.left-turn-end.ensures
 
 pub fields-returns-then-sees : goal.fields-returns-then-sees
 fields-returns-then-sees g t c =

@@ -1,4 +1,4 @@
--- What is served now: fields of scalar types, and no introspection.
+-- The schemas and fields that are served: a query type whose fields are scalars (3.5, 3.12), and no introspection.
 use Rattle.std.specs.Prelude.{Bool, true, false, ◌&&◌, cond, Option, Some, None, is_some}
 use Rattle.std.specs.List.{list_all}
 use Rattle.graphql_spec.specs.Shown.{Name}
@@ -9,10 +9,12 @@ use Rattle.graphql_spec.specs.Rules.{is_introspection}
 use Rattle.graphql_spec.specs.Executable.{is_executable}
 use Rattle.graphql_spec.specs.Documents.{Head}
 
+-- a scalar type (3.5)
 unfoldable pub is_scalar : Option Shape → Bool
 is_scalar (Some (scalar_type k u)) = true
 is_scalar _ = false
 
+-- the name of a scalar type, which is no list
 unfoldable pub is_scalar_type : Schema → TypeRef → Bool
 is_scalar_type s (named r n) = is_scalar (entry_named s n)
 is_scalar_type s (list_of r size t) = false
