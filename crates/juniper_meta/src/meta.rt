@@ -767,9 +767,9 @@ fn enum_accepts<S: ScalarValue>(values: &[EnumValue], scalar: &S) -> bool
     }
 }
 
-/// Whether one of the values has this name.
+/// Whether one of the values has this name (3.9).
 #[tactic(auto, unfolding(graphql_spec::specs::Fields::declares_value))]
-fn declares_value(values: &[EnumValue], name: &str) -> bool
+pub fn declares_value(values: &[EnumValue], name: &str) -> bool
     ensures { result ≡ declares_value (map view_enum_value values.now) name.now }
 {
     for value in values {

@@ -1,0 +1,5 @@
+pub mod Lookups
+pub mod Fitting
+pub mod BuiltIns
+pub mod ServedFields
+pub mod TypeLevels

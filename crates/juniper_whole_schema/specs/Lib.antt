@@ -1,0 +1,4 @@
+pub mod SchemaView
+pub mod MadeTypes
+pub mod ServedView
+pub mod Fitting

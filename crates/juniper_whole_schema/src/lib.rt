@@ -1,0 +1,18 @@
+//! Schemas (section 3 of the Specification): types by name, and what is asked of them.
+#![tactic(auto)]
+
+mod built_ins;
+mod fits;
+mod names;
+mod schema;
+mod served;
+mod type_type;
+
+pub use juniper_meta::{
+    DeprecationStatus, DirectiveLocation, DirectiveType, EnumMeta, EnumValue, InputObjectMeta,
+    InterfaceMeta, ListMeta, MetaType, NullableMeta, ObjectMeta, PlaceholderMeta, ScalarKinds,
+    ScalarMeta, UnionMeta, meta,
+};
+pub use schema::SchemaType;
+pub use served::LeafType;
+pub use type_type::TypeType;

@@ -1,0 +1,188 @@
+//! Schemas (section 3.3 of the Specification): types by name, and the root types.
+
+ghost use Rattle.std.specs.List.{list_any};
+ghost use Rattle.std.specs.Option.{option_and_then};
+ghost use Rattle.std.specs.Prelude.{◌≡◌, IfOk, IfSome, IsSome, MatchOption, None, map, option_map, string_bytes};
+ghost use Rattle.std.specs.Str.{bytes_eq};
+ghost use Rattle.graphql_spec.specs.BuiltIns as built;
+ghost use Rattle.graphql_spec.specs.Fields as fields;
+ghost use Rattle.graphql_spec.proofs.Sets.{directives-set, entries-set};
+ghost use Rattle.graphql_spec.specs.Types.{innermost};
+ghost use Rattle.juniper_meta.specs.MetaView.{shape_of, view_directive, view_meta};
+ghost use Rattle.juniper_syntax.specs.TypeView.{view_type};
+ghost use Rattle.juniper_meta.specs.MetaView.{own_entry};
+
+use crate::built_ins::with_built_ins;
+use crate::names::{contains, entry, find_meta};
+use crate::type_type::{TypeType, list_of, non_null};
+use juniper_builtins::{directives, introspection_types};
+use juniper_meta::{DirectiveType, MetaType};
+use juniper_syntax::{ScalarValue, Type};
+use std::alloc::{AllocError, Global};
+use std::collections::HashMap;
+use std::convert::AsStr;
+
+/// A schema: its types by name, the types of introspection apart, its directives, and the names of its root types (3.3).
+#[derive(Debug, Drop)]
+pub struct SchemaType<S: ScalarValue> {
+    pub(crate) types: HashMap<String, MetaType<S>>,
+    introspection: Vec<MetaType<S>>,
+    directives: Vec<DirectiveType<S>>,
+    pub(crate) query_name: String,
+    mutation_name: Option<String>,
+    ghost introspected: { map (own_entry S.shown) introspection.items ≡ built.introspection_types } by { entries-set _ _ },
+    ghost directed: { map (view_directive S.shown) directives.items ≡ built.directives } by { directives-set _ _ },
+}
+
+impl<S: ScalarValue> SchemaType<S> {
+    ghost use Rattle.juniper_whole_schema.specs.SchemaView.{AreCompleted, entry_meta, meta_named, view_entries, view_schema};
+    ghost use Rattle.juniper_whole_schema.specs.MadeTypes.{around, concrete, view_made};
+
+    /// The schema of these types by name, with these names of the root types. `String` and `Boolean` are added where they
+    /// are absent or placeholders, `Int` and `ID` where they are placeholders (3.5); the types of introspection are kept
+    /// apart (4.2). An error where memory is refused.
+    pub fn new(
+        alloc: Global,
+        types: HashMap<String, MetaType<S>>,
+        query_name: String,
+        mutation_name: Option<String>,
+    ) -> Result<Self, AllocError>
+        ensures entries { IfOk result (λ s. AreCompleted (view_entries S.shown types) (view_schema S.shown s).entries) }
+        ensures query { IfOk result (λ s. (view_schema S.shown s).query ≡ string_bytes query_name) }
+        ensures mutation { IfOk result (λ s. (view_schema S.shown s).mutation ≡ option_map (λ n. string_bytes n) mutation_name) }
+    {
+        let types = with_built_ins(alloc, types)?;
+        let introspection = introspection_types(alloc)?;
+        let directives = directives(alloc)?;
+        Ok(SchemaType {
+            types,
+            introspection,
+            directives,
+            query_name,
+            mutation_name,
+        })
+    }
+
+    /// What is declared at this name: the entry, or the type of introspection; `None` where there is neither.
+    pub fn concrete_type_by_name(&self, name: &str) -> Option<&MetaType<S>>
+        ensures meta { option_map (λ m. view_meta S.shown m.now) result ≡ meta_named (view_schema S.shown self.now) name.now }
+        ensures shape { MatchOption result (fields.type_named (view_schema S.shown self.now) name.now ≡ None) (λ m. fields.type_named (view_schema S.shown self.now) name.now ≡ shape_of S.shown m.now) }
+    {
+        match entry(&self.types, name) {
+            Some(meta) => Some(meta),
+            None => find_meta(&self.introspection, name),
+        }
+    }
+
+    /// What is declared as the entry of this name.
+    #[tactic(auto, unfolding(graphql_spec::specs::Fields::entry_named))]
+    pub(crate) fn entry(&self, name: &str) -> Option<&MetaType<S>>
+        ensures meta { option_map (λ m. view_meta S.shown m.now) result ≡ entry_meta (view_schema S.shown self.now) name.now }
+        ensures shape { MatchOption result (fields.entry_named (view_schema S.shown self.now) name.now ≡ None) (λ m. fields.entry_named (view_schema S.shown self.now) name.now ≡ shape_of S.shown m.now) }
+    {
+        entry(&self.types, name)
+    }
+
+    /// The type of this name, nullable: the entry, or the type of introspection; `None` where there is neither.
+    pub fn type_by_name(&self, name: &str) -> Option<TypeType<'_, S>>
+        ensures { option_map (view_made S.shown) result ≡ option_map concrete (meta_named (view_schema S.shown self.now) name.now) }
+    {
+        match self.concrete_type_by_name(name) {
+            Some(meta) => Some(TypeType::Concrete(meta)),
+            None => None,
+        }
+    }
+
+    /// What is declared as the query type; `None` where nothing is (3.3.1).
+    pub fn query_type(&self) -> Option<TypeType<'_, S>>
+        ensures { option_map (view_made S.shown) result ≡ option_map concrete (entry_meta (view_schema S.shown self.now) (view_schema S.shown self.now).query) }
+    {
+        self.entry_type(self.query_name.as_str())
+    }
+
+    /// What is declared as the mutation type; `None` where the schema has none, or nothing is declared (3.3.1).
+    pub fn mutation_type(&self) -> Option<TypeType<'_, S>>
+        ensures { option_map (view_made S.shown) result ≡ option_map concrete (option_and_then (entry_meta (view_schema S.shown self.now)) (view_schema S.shown self.now).mutation) }
+    {
+        match &self.mutation_name {
+            Some(name) => self.entry_type(name.as_str()),
+            None => None,
+        }
+    }
+
+    /// The name of the query type.
+    pub fn query_name(&self) -> &str
+        ensures { result.now ≡ (view_schema S.shown self.now).query }
+    {
+        self.query_name.as_str()
+    }
+
+    /// Whether the first name is a subtype of the second: it is the same, or lists it as an interface, or is a member of it
+    /// (3.6, 3.7, 3.8).
+    #[tactic(auto, unfolding(graphql_spec::specs::Fields::is_named_subtype))]
+    pub fn is_named_subtype(&self, sub_name: &str, super_name: &str) -> bool
+        ensures { result ≡ fields.is_named_subtype (view_schema S.shown self.now) sub_name.now super_name.now }
+    {
+        sub_name == super_name
+            || self.lists_interface(sub_name, super_name)
+            || self.has_member(super_name, sub_name)
+    }
+
+    /// The type of a reference: what its innermost name is declared as, in its lists and non-nulls (3.4.1). An error where
+    /// memory is refused.
+    #[tactic(auto, unfolding(graphql_spec::specs::Types::innermost, crate::specs::MadeTypes::around))]
+    pub fn make_type<N: AsStr + Drop>(&self, alloc: Global, reference: &Type<N>) -> Result<TypeType<'_, S>, AllocError>
+        requires { IsSome (meta_named (view_schema S.shown self.now) (innermost (view_type N.text reference.now))) }
+        ensures { IfOk result (λ made. IfSome (meta_named (view_schema S.shown self.now) (innermost (view_type N.text reference.now))) (λ m. view_made S.shown made ≡ around m (view_type N.text reference.now))) }
+    {
+        match reference {
+            Type::Named(name) => Ok(self.known(name.as_str())),
+            Type::NonNullNamed(name) => non_null(alloc, self.known(name.as_str())),
+            Type::List(inner, size) => list_of(alloc, self.make_type(alloc, &**inner)?, *size),
+            Type::NonNullList(inner, size) => {
+                let inner = self.make_type(alloc, &**inner)?;
+                non_null(alloc, list_of(alloc, inner, *size)?)
+            }
+        }
+    }
+
+    /// What is declared as the entry of this name, nullable.
+    fn entry_type(&self, name: &str) -> Option<TypeType<'_, S>>
+        ensures { option_map (view_made S.shown) result ≡ option_map concrete (entry_meta (view_schema S.shown self.now) name.now) }
+    {
+        match self.entry(name) {
+            Some(meta) => Some(TypeType::Concrete(meta)),
+            None => None,
+        }
+    }
+
+    /// Whether the type of the first name lists the second as an interface.
+    #[tactic(auto, unfolding(graphql_spec::specs::Fields::interfaces_of))]
+    fn lists_interface(&self, name: &str, interface: &str) -> bool
+        ensures { result ≡ list_any (bytes_eq interface.now) (fields.interfaces_of (fields.type_named (view_schema S.shown self.now) name.now)) }
+    {
+        match self.concrete_type_by_name(name) {
+            Some(meta) => contains(meta.interface_names(), interface),
+            None => false,
+        }
+    }
+
+    /// Whether the type of the first name has the second as a member.
+    #[tactic(auto, unfolding(graphql_spec::specs::Fields::members_of))]
+    fn has_member(&self, name: &str, member: &str) -> bool
+        ensures { result ≡ list_any (bytes_eq member.now) (fields.members_of (fields.type_named (view_schema S.shown self.now) name.now)) }
+    {
+        match self.concrete_type_by_name(name) {
+            Some(meta) => contains(meta.of_type_names(), member),
+            None => false,
+        }
+    }
+
+    /// What is declared at a name that is known.
+    fn known(&self, name: &str) -> TypeType<'_, S>
+        requires { IsSome (meta_named (view_schema S.shown self.now) name.now) }
+        ensures { IfSome (meta_named (view_schema S.shown self.now) name.now) (λ m. view_made S.shown result ≡ concrete m) }
+    {
+        TypeType::Concrete(self.concrete_type_by_name(name).unwrap())
+    }
+}
