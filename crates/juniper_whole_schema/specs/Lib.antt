@@ -2,3 +2,4 @@ pub mod SchemaView
 pub mod MadeTypes
 pub mod ServedView
 pub mod Fitting
+pub mod EntryTests

@@ -2,12 +2,15 @@
 #![tactic(auto)]
 
 mod built_ins;
+mod executable;
 mod fits;
 mod names;
 mod schema;
 mod served;
+mod subtypes;
 mod type_type;
 
+pub use executable::schema_is_executable;
 pub use juniper_meta::{
     DeprecationStatus, DirectiveLocation, DirectiveType, EnumMeta, EnumValue, InputObjectMeta,
     InterfaceMeta, ListMeta, MetaType, NullableMeta, ObjectMeta, PlaceholderMeta, ScalarKinds,

@@ -29,7 +29,7 @@ pub struct SchemaType<S: ScalarValue> {
     introspection: Vec<MetaType<S>>,
     directives: Vec<DirectiveType<S>>,
     pub(crate) query_name: String,
-    mutation_name: Option<String>,
+    pub(crate) mutation_name: Option<String>,
     ghost introspected: { map (own_entry S.shown) introspection.items ≡ built.introspection_types } by { entries-set _ _ },
     ghost directed: { map (view_directive S.shown) directives.items ≡ built.directives } by { directives-set _ _ },
 }
