@@ -1,5 +1,5 @@
 -- What the program answers.
-use Rattle.std.specs.Prelude.{◌≡◌, ◌≢◌, ◌⊎◌, Some, ◌+◌, ℕ, length, ◌++◌, codes, decimal, string_bytes}
+use Rattle.std.specs.Prelude.{◌≡◌, ◌≢◌, ◌⊎◌, MatchOption, ◌+◌, ℕ, length, ◌++◌, codes, decimal, string_bytes}
 use Rattle.graphql_spec.specs.Shown.{Text}
 use Rattle.graphql_spec.specs.Documents.{Document}
 use Rattle.graphql_spec.specs.Grammar.{Spells}
@@ -7,7 +7,6 @@ use Rattle.graphql_spec.specs.Positions.{Position}
 use Rattle.juniper_position.specs.Refusals.{refusal_text, view_refusal}
 use Rattle.juniper_position.specs.declared.error.ParseError.{ParseError}
 use Rattle.juniper_position.specs.declared.error.ParseError.TheVariants.{Memory}
-use Rattle.serde_json.specs.Data.{Data}
 use Rattle.serde_json.specs.Read.{read}
 use Rattle.juniper_bench.specs.Counts.{capped, fields_of}
 use Rattle.juniper_bench.specs.declared.answers.Answer.{Answer}
@@ -32,6 +31,8 @@ IsRefused t a = (e : ParseError) × (p : Position) × (e ≢ Memory → (d : Doc
 abbrev pub IsAnswerTo : Text → Answer → Type 0
 IsAnswerTo t a = IsCounted t a ⊎ IsRefused t a
 
--- the answer to a text that is to be JSON: how many bytes it has, with status 0; else status 1
+-- the answer to a text that is to be JSON: how many bytes it has, with status 0; to one that is none that it is none, with status 1
 abbrev pub IsScanOf : Text → Answer → Type 0
-IsScanOf t a = ((v : Data) × (read t ≡ Some v) × (a.status ≡ 0) × (string_bytes a.line ≡ codes "bytes: " ++ decimal (length t))) ⊎ (a.status ≡ 1)
+IsScanOf t a = MatchOption (read t)
+    ((a.status ≡ 1) × (string_bytes a.line ≡ codes "refused: not JSON"))
+    (λ v. (a.status ≡ 0) × (string_bytes a.line ≡ codes "bytes: " ++ decimal (length t)))

@@ -84,10 +84,15 @@ pub fn scan_answer(alloc: Global, text: &str, times: usize) -> Result<Answer, Al
             status: 0,
             line: format!(in alloc; "bytes: {bytes}")?,
         }),
-        Err(_) => Ok(Answer {
-            status: 1,
-            line: String::from_str(alloc, "refused: not JSON")?,
-        }),
+        Err(error) => {
+            if error.is_memory() {
+                return Err(AllocError);
+            }
+            Ok(Answer {
+                status: 1,
+                line: String::from_str(alloc, "refused: not JSON")?,
+            })
+        }
     }
 }
 

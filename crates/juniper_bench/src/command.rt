@@ -1,6 +1,7 @@
 //! What the program is asked to do.
 
-ghost use Rattle.std.specs.Prelude.{◌<◌, ◌≤◌, IfSome};
+ghost use Rattle.std.specs.Prelude.{◌≡◌, ◌<◌, ◌≤◌, MatchOption};
+ghost use Rattle.juniper_bench.specs.Commands.{IsNumber, IsSize, written};
 
 /// How large a text is to be made.
 #[derive(Clone, Copy)]
@@ -44,7 +45,9 @@ pub fn read_command(words: &[String]) -> Option<Command<'_>> {
 }
 
 /// A size within its bounds.
-fn bounded_size(fields: usize, depth: usize) -> Option<Size> {
+fn bounded_size(fields: usize, depth: usize) -> Option<Size>
+    ensures { MatchOption result (¬ IsSize fields depth) (λ s. (s.fields ≡ fields) × (s.depth ≡ depth)) }
+{
     if fields < 3 || depth < 1 || depth > 250 {
         return None;
     }
@@ -53,7 +56,7 @@ fn bounded_size(fields: usize, depth: usize) -> Option<Size> {
 
 /// A decimal number above 0.
 fn number(word: &str) -> Option<usize>
-    ensures { IfSome result (λ n. 0 < n) }
+    ensures { MatchOption result (¬ IsNumber word.now) (λ n. IsNumber word.now × (written word.now ≡ n)) }
 {
     match word.parse::<usize>() {
         Ok(0) | Err(_) => None,

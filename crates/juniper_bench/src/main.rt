@@ -3,6 +3,8 @@
 //! be parsed. The program takes no time itself: the one who runs it does.
 #![tactic(auto)]
 
+ghost use Rattle.std.specs.Prelude.{◌≡◌, ◌++◌, IfOk, codes, string_bytes};
+
 mod answers;
 mod command;
 mod count;
@@ -43,7 +45,10 @@ fn answer<R: Files + AllocGlobal>(rt: &R, words: &[String]) -> Result<Answer, Al
 }
 
 /// The answer for a file that cannot be read.
-fn unread(alloc: Global, file: &str) -> Result<Answer, AllocError> {
+fn unread(alloc: Global, file: &str) -> Result<Answer, AllocError>
+    ensures status { IfOk result (λ a. a.status ≡ 2) }
+    ensures line { IfOk result (λ a. string_bytes a.line ≡ file.now ++ codes " cannot be read") }
+{
     Ok(Answer {
         status: 2,
         line: format!(in alloc; "{file} cannot be read")?,

@@ -1,5 +1,5 @@
 -- Reading a document as a function over its tokens, rule by rule; the parser follows it. Only private clauses cite it.
-use Rattle.std.specs.Prelude.{ℕ, zero, suc, Bool, true, false, ◌==◌, cond, codes, List, [], ◌∷◌, length, Option, Some, None, option_map, is_some}
+use Rattle.std.specs.Prelude.{ℕ, zero, suc, Bool, true, false, not, ◌||◌, ◌==◌, cond, codes, List, [], ◌∷◌, length, Option, Some, None, option_map, is_some}
 use Rattle.std.specs.Str.{bytes_eq}
 use Rattle.graphql_spec.specs.Shown.{Text, Name, int, text, boolean}
 use Rattle.graphql_spec.specs.Positions.{Position, Span, Spanned}
@@ -54,6 +54,10 @@ variable_if false = a_name >>= (λ x. pure (variable x.item))
 -- behind a punctuator: a variable, a list or an object
 abbrev pub bracketed : Bool → Reader Input → Reader Input → ℕ → Reader Input
 bracketed c items fields m = λ s. cond (m == 36) (variable_if c s) (cond (m == 91) (items s) (cond (m == 123) (fields s) (refuse s)))
+
+-- whether the punctuator may begin a value: a variable where it need not be a constant, and a bracket where one may be opened
+unfoldable pub may_begin : Bool → ℕ → ℕ → Bool
+may_begin c depth m = cond (m == 36) (not c) (cond ((m == 91) || (m == 123)) (not (depth == 0)) false)
 
 -- behind the first token; brackets hold what the two readers read
 abbrev pub value_by : Bool → Reader Input → Reader Input → Lexeme → Reader Input

@@ -1,6 +1,6 @@
 //! Values (section 2.9 of the Specification), and an argument, which is a name with its value (2.6).
 
-ghost use Rattle.std.specs.Prelude.{◌≡◌, ◌≢◌, Some, None, length, map, IfOk, MatchResult};
+ghost use Rattle.std.specs.Prelude.{◌≡◌, ◌≢◌, Some, None, length, map, IfOk, IfErr, IsFalse, IsTrue, MatchResult};
 ghost use Rattle.juniper_syntax.specs.DocumentView.{view_argument, view_word};
 ghost use Rattle.juniper_syntax.specs.InputView.{view_input};
 ghost use Rattle.juniper_position.specs.Positions.{view_spanning};
@@ -43,9 +43,10 @@ fn word_value<S: ScalarValue>(alloc: Global, word: &str) -> Result<InputValue<S>
 /// The Int at the place; refused where 32 bits do not hold it (2.9.1, 3.5.1).
 #[tactic(auto, using(crate::proofs::PartViews::view_int))]
 fn int_value<S: ScalarValue>(number: &str, place: Span) -> ParseResult<InputValue<S>>
-    ensures { MatchResult result
+    ensures value { MatchResult result
         (λ v. rule.number_value number.now ≡ Some (view_input S.shown v))
         (λ e. rule.number_value number.now ≡ None) }
+    ensures place { IfErr result (λ e. e.span ≡ place) }
 {
     match decode_int(number) {
         Ok(value) => Ok(InputValue::Scalar(S::from_int(value))),
@@ -56,9 +57,10 @@ fn int_value<S: ScalarValue>(number: &str, place: Span) -> ParseResult<InputValu
 /// The String at the place, from what stands between its quotes (2.9.4).
 #[tactic(auto, using(crate::proofs::PartViews::view_text))]
 fn string_value<S: ScalarValue>(alloc: Global, raw: &str, place: Span) -> ParseResult<InputValue<S>>
-    ensures { MatchResult result
+    ensures value { MatchResult result
         (λ v. rule.string_value raw.now ≡ Some (view_input S.shown v))
         (λ e. e.item ≢ Memory → rule.string_value raw.now ≡ None) }
+    ensures place { IfErr result (λ e. e.item ≢ Memory → e.span ≡ place) }
 {
     match decode_string(alloc, raw) {
         Ok(text) => Ok(InputValue::Scalar(S::from_text(text)?)),
@@ -74,7 +76,8 @@ fn variable<S: ScalarValue>(
     constant: bool,
     place: Span,
 ) -> ParseResult<InputValue<S>>
-    ensures { Gives (view_input S.shown) result parser.new (rule.variable_if constant parser.old) }
+    ensures value { Gives (view_input S.shown) result parser.new (rule.variable_if constant parser.old) }
+    ensures place { IsTrue constant → IfErr result (λ e. e.span ≡ place) }
 {
     if constant {
         return Err(refused(place));
@@ -113,7 +116,7 @@ pub fn value<S: ScalarValue>(
 
 /// What begins with the punctuator at the place: a variable, a list or an object (2.9.7, 2.9.8, 2.10).
 #[cycle(values)]
-#[tactic(auto, using(crate::proofs::RuleSteps::list_at, crate::proofs::RuleSteps::object_at, crate::proofs::PartViews::view_list, crate::proofs::PartViews::view_object))]
+#[tactic(auto, using(crate::proofs::RuleSteps::list_at, crate::proofs::RuleSteps::object_at, crate::proofs::PartViews::view_list, crate::proofs::PartViews::view_object), unfolding(crate::specs::Reading::may_begin))]
 fn bracketed<S: ScalarValue>(
     alloc: Global,
     parser: &mut Parser<'_, '_>,
@@ -122,7 +125,8 @@ fn bracketed<S: ScalarValue>(
     mark: u8,
     place: Span,
 ) -> ParseResult<InputValue<S>>
-    ensures { Gives (view_input S.shown) result parser.new (rule.bracketed constant (rule.list_within constant depth) (rule.object_within constant depth) mark parser.old) }
+    ensures value { Gives (view_input S.shown) result parser.new (rule.bracketed constant (rule.list_within constant depth) (rule.object_within constant depth) mark parser.old) }
+    ensures place { IsFalse (rule.may_begin constant depth mark) → IfErr result (λ e. e.span ≡ place) }
 {
     if mark == b'$' {
         return variable(alloc, parser, constant, place);

@@ -10,8 +10,8 @@ use Rattle.juniper_language.proofs.RuleSteps.{list_found}
 use Rattle.juniper_language.proofs.PartViews.{view_list}
 use Rattle.juniper_language.proofs.values.+values.Goals as goal
 
-pub bracketed-returns-in_ok-items : goal.bracketed-returns-in_ok-items
-bracketed-returns-in_ok-items g t c =
+pub bracketed-returns-in_ok-items-clause-value : goal.bracketed-returns-in_ok-items-clause-value
+bracketed-returns-in_ok-items-clause-value g t c =
     let shown = g.S.ScalarValue.shown in
     let found = c.in_ok-items.items in
     list_found c.args.constant c.args.depth c.args.mark c.args.parser.now c.items.new.parser (map (view_spanning (view_input shown)) found.items) _ c.if-mark-eq91.true c.if-depth-eq0.false c.in_ok-items.ensures (view_list shown found)
