@@ -1,5 +1,5 @@
 -- Putting declarations into a map, and the built-in scalars that are put.
-use Rattle.std.proofs.Common.{◌≡◌, Bool, true, false, ◌&&◌, ◌||◌, not, cond, codes, List, [], ◌∷◌, map, Option, Some, None, option_map, bytes_eq, refl, sym, ap, subst, ◌∙◌, inl, inr}
+use Rattle.std.proofs.Common.{◌≡◌, Bool, true, false, ◌&&◌, cond, codes, List, [], ◌∷◌, map, Option, Some, option_map, bytes_eq, refl, sym, ap, subst, ◌∙◌, inl, inr}
 use Rattle.std.specs.List.{list_any, IsDistinct, AllByRecursion}
 use Rattle.std.specs.Map.{lookup, update}
 use Rattle.std.proofs.lemmas.Bool.{cases_Bool}
@@ -7,7 +7,7 @@ use Rattle.graphql_spec.specs.Shown.{Name}
 use Rattle.graphql_spec.specs.Schema.{Entry}
 use Rattle.graphql_spec.specs.Fields.{entry_in}
 use Rattle.graphql_spec.specs.Executable.{names_differ}
-use Rattle.graphql_spec.proofs.Lists.{same_true, same_refl, same_sym}
+use Rattle.graphql_spec.proofs.Lists.{same_true, same_sym}
 use Rattle.juniper_meta.specs.MetaView.{Meta, entry_at}
 use Rattle.juniper_whole_schema.specs.SchemaView.{awaits, built_in, lacks, with_built_ins}
 

@@ -1,5 +1,5 @@
 -- Names in a list of declarations, and what is found there.
-use Rattle.std.proofs.Common.{◌≡◌, Bool, true, false, ◌||◌, cond, List, [], ◌∷◌, map, Option, Some, None, is_some, bytes_eq, refl, ap}
+use Rattle.std.proofs.Common.{◌≡◌, Bool, true, false, ◌||◌, cond, List, [], ◌∷◌, map, Option, Some, is_some, bytes_eq, refl, ap}
 use Rattle.std.specs.List.{list_any}
 use Rattle.graphql_spec.specs.Shown.{Name}
 use Rattle.graphql_spec.specs.Schema.{EnumValue, FieldDeclaration, InputDeclaration}

@@ -1,9 +1,9 @@
 -- Looking up by name: a map's answer and that of its entries.
-use Rattle.std.proofs.Common.{◌≡◌, ◌+◌, Bool, true, false, ◌||◌, cond, List, [], ◌∷◌, map, Option, Some, None, option_map, is_some, MatchOption, String, string_bytes, bytes_eq, refl, sym, ap, ◌∙◌}
+use Rattle.std.proofs.Common.{◌≡◌, Bool, true, false, cond, List, [], ◌∷◌, map, Option, Some, None, option_map, MatchOption, bytes_eq, refl, sym, ap, ◌∙◌}
 use Rattle.std.specs.Option.{option_copied}
 use Rattle.std.specs.Map.{lookup}
 use Rattle.graphql_spec.specs.Shown.{Name}
-use Rattle.graphql_spec.specs.Schema.{Entry, Shape}
+use Rattle.graphql_spec.specs.Schema.{Entry}
 use Rattle.graphql_spec.specs.Fields.{entry_in, shape_of, or_else}
 use Rattle.juniper_meta.specs.MetaView.{Meta, entry_at}
 use Rattle.juniper_whole_schema.specs.SchemaView.{meta_of}

@@ -1,8 +1,6 @@
 -- The fields of the query type that are served.
-use Rattle.std.proofs.Common.{◌≡◌, Bool, true, false, ◌&&◌, ◌||◌, cond, codes, Option, Some, None, is_some, option_map, IsTrue, bytes_eq, refl, sym, ap, ◌∙◌, inl, inr}
-use Rattle.std.proofs.lemmas.Bool.{cases_Bool}
+use Rattle.std.proofs.Common.{◌≡◌, Bool, true, false, ◌&&◌, ◌||◌, cond, codes, Option, Some, None, is_some, option_map, IsTrue, bytes_eq, refl, ap}
 use Rattle.graphql_spec.specs.Shown.{Name}
-use Rattle.graphql_spec.specs.Types.{TypeRef}
 use Rattle.graphql_spec.specs.Schema.{Schema, Shape, FieldDeclaration, scalar_type, enum_type, object_type, interface_type, union_type, input_object_type, list_type, nullable_type, placeholder, plain_field}
 use Rattle.graphql_spec.specs.Fields.{type_named, is_composite, fields_of, field_in, field_of, meta_fields, or_else, root_fields, typename, typename_field}
 use Rattle.graphql_spec.specs.Rules.{is_introspection}

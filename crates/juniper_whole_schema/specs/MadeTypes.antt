@@ -1,5 +1,5 @@
 -- References to types with what they lead to (3.4.1).
-use Rattle.std.specs.Prelude.{◌≡◌, ℕ, Bool, cond, Option, Some, None}
+use Rattle.std.specs.Prelude.{ℕ, Bool, cond, Option}
 use Rattle.graphql_spec.specs.Shown.{Shown}
 use Rattle.graphql_spec.specs.Types.{TypeRef, named, list_of}
 use Rattle.juniper_meta.specs.MetaView.{Meta, view_meta}

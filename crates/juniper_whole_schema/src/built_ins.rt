@@ -15,14 +15,29 @@ use std::alloc::{AllocError, Global};
 
 /// The types, with `String` and `Boolean` where they are absent or placeholders, and with `Int` and `ID` where they are
 /// placeholders.
-pub fn with_built_ins<S: ScalarValue>(alloc: Global, types: Types<S>) -> Result<Types<S>, AllocError>
+pub fn with_built_ins<S: ScalarValue>(
+    alloc: Global,
+    types: Types<S>,
+) -> Result<Types<S>, AllocError>
     ensures { IfOk result (λ made. AreCompleted (view_entries S.shown types) (view_entries S.shown made)) }
 {
     let mut types = types;
     let is_wanted = lacks(&types, "String");
-    put_if(alloc, &mut types, "String", string_scalar(alloc)?, is_wanted)?;
+    put_if(
+        alloc,
+        &mut types,
+        "String",
+        string_scalar(alloc)?,
+        is_wanted,
+    )?;
     let is_wanted = lacks(&types, "Boolean");
-    put_if(alloc, &mut types, "Boolean", boolean_scalar(alloc)?, is_wanted)?;
+    put_if(
+        alloc,
+        &mut types,
+        "Boolean",
+        boolean_scalar(alloc)?,
+        is_wanted,
+    )?;
     let is_wanted = awaits(&types, "Int");
     put_if(alloc, &mut types, "Int", int_scalar(alloc)?, is_wanted)?;
     let is_wanted = awaits(&types, "ID");

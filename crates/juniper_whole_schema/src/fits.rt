@@ -61,7 +61,12 @@ impl<S: ScalarValue> SchemaType<S> {
     /// Whether each item fits the type.
     #[cycle(fits)]
     #[tactic(auto, unfolding(graphql_spec::specs::Fits::fits))]
-    fn all_fit(&self, items: &[Spanning<InputValue<S>, Span>], reference: &Type<String>, given: bool) -> bool
+    fn all_fit(
+        &self,
+        items: &[Spanning<InputValue<S>, Span>],
+        reference: &Type<String>,
+        given: bool,
+    ) -> bool
         ensures { result ≡ fit.all_fit (view_schema S.shown self.now) given (view_items S.shown items.now) (view_type (λ n. string_bytes n) reference.now) }
     {
         for item in items {

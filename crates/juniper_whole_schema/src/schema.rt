@@ -131,7 +131,11 @@ impl<S: ScalarValue> SchemaType<S> {
     /// The type of a reference: what its innermost name is declared as, in its lists and non-nulls (3.4.1). An error where
     /// memory is refused.
     #[tactic(auto, unfolding(graphql_spec::specs::Types::innermost, crate::specs::MadeTypes::around))]
-    pub fn make_type<N: AsStr + Drop>(&self, alloc: Global, reference: &Type<N>) -> Result<TypeType<'_, S>, AllocError>
+    pub fn make_type<N: AsStr + Drop>(
+        &self,
+        alloc: Global,
+        reference: &Type<N>,
+    ) -> Result<TypeType<'_, S>, AllocError>
         requires { IsSome (meta_named (view_schema S.shown self.now) (innermost (view_type N.text reference.now))) }
         ensures { IfOk result (λ made. IfSome (meta_named (view_schema S.shown self.now) (innermost (view_type N.text reference.now))) (λ m. view_made S.shown made ≡ around m (view_type N.text reference.now))) }
     {

@@ -1,8 +1,8 @@
-use Rattle.std.proofs.Common.{◌≡◌, ◌&&◌, codes, cond, List, Option, Some, bytes_eq, string_bytes, ap, subst, sym, ◌∙◌}
+use Rattle.std.proofs.Common.{codes, Option, string_bytes, ap}
 use Rattle.graphql_spec.specs.Shown.{Name}
 use Rattle.graphql_spec.specs.Schema.{Entry}
 use Rattle.graphql_spec.specs.Fields.{entry_in}
-use Rattle.juniper_meta.specs.MetaView.{Meta, entry_at, view_meta}
+use Rattle.juniper_meta.specs.MetaView.{entry_at, view_meta}
 use Rattle.juniper_whole_schema.specs.SchemaView.{view_entries}
 use Rattle.juniper_whole_schema.proofs.BuiltIns.{all_put, keys_differ, put_as, String', Boolean', Int', ID'}
 use Rattle.juniper_whole_schema.proofs.built_ins.with_built_ins.Goals as goal

@@ -1,4 +1,4 @@
-use Rattle.std.proofs.Common.{◌≡◌, Option, map, string_bytes, option_map, ap, sym, ◌∙◌}
+use Rattle.std.proofs.Common.{Option, map, option_map, ap, sym, ◌∙◌}
 use Rattle.graphql_spec.specs.Schema.{Entry}
 use Rattle.graphql_spec.specs.BuiltIns.{introspection_types}
 use Rattle.graphql_spec.specs.Fields.{entry_in, or_else, type_named}
