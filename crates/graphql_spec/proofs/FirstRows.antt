@@ -24,7 +24,8 @@ use Rattle.graphql_spec.specs.Selections.{Forest}
 use Rattle.graphql_spec.specs.Rules.{looks_at_schema}
 use Rattle.graphql_spec.specs.Executable.{built_ins_are_right, is_executable}
 use Rattle.graphql_spec.specs.Requests.{Outcome, refused, runs, not_parsed, not_valid, unknown_operation, of_document_by}
-use Rattle.graphql_spec.specs.FirstRules.{lacks_field, is_asked, first_calls, first_name_errors, first_type_errors, merge_errors, first_rule_errors, served_rule_errors, unsupported, is_plain_selections, is_query, is_empty, is_plain_operation, is_plain_document, is_flat_field, is_flat}
+use Rattle.graphql_spec.specs.FirstRules.{lacks_field, is_asked, first_calls, first_name_errors, first_type_errors, merge_errors, first_rule_errors, is_served, served_rule_errors, unsupported, is_plain_selections, is_query, is_empty, is_plain_operation, is_plain_document, is_flat_field, is_flat}
+use Rattle.graphql_spec.specs.ServedFields.{has_scalar_fields, is_scalar_type, is_scalar}
 use Rattle.graphql_spec.proofs.Demo.{at, span, word, here, leaf_field, as_field, may, must, entry_of, kinds, typename_last, bad, case, first_case, Node, root}
 use Rattle.graphql_spec.proofs.Rows.{outcome}
 
@@ -113,7 +114,7 @@ rising = (refl, refl, refl)
 -- ## The two rules, and the choice
 
 unfoldable becomes : Option Name → Option Document → Outcome
-unfolding outcome small lacks_field is_asked first_calls first_name_errors first_type_errors merge_errors first_rule_errors Rattle.graphql_spec.specs.Rules.gives_unknown Rattle.graphql_spec.specs.Rules.gives_too_few Rattle.graphql_spec.specs.Rules.gives_wrong Rattle.graphql_spec.specs.Served.is_truth Rattle.graphql_spec.specs.Served.is_condition Rattle.graphql_spec.specs.Served.is_served_directive Rattle.graphql_spec.specs.Served.is_served_value Rattle.graphql_spec.specs.Served.is_served_field is_plain_selections is_query is_empty is_plain_operation is_plain_document is_flat_field is_flat Rattle.graphql_spec.specs.Tokens.is_name Rattle.graphql_spec.specs.Tokens.starts_name Rattle.graphql_spec.specs.Tokens.continues_name Rattle.graphql_spec.specs.Grammar.is_end served_rule_errors unsupported
+unfolding outcome small lacks_field is_asked first_calls first_name_errors first_type_errors merge_errors first_rule_errors Rattle.graphql_spec.specs.Rules.gives_unknown Rattle.graphql_spec.specs.Rules.gives_too_few Rattle.graphql_spec.specs.Rules.gives_wrong Rattle.graphql_spec.specs.Served.is_truth Rattle.graphql_spec.specs.Served.is_condition Rattle.graphql_spec.specs.Served.is_served_directive Rattle.graphql_spec.specs.Served.is_served_value Rattle.graphql_spec.specs.Served.is_served_field is_plain_selections is_query is_empty is_plain_operation is_plain_document is_flat_field is_flat Rattle.graphql_spec.specs.Tokens.is_name Rattle.graphql_spec.specs.Tokens.starts_name Rattle.graphql_spec.specs.Tokens.continues_name Rattle.graphql_spec.specs.Grammar.is_end served_rule_errors is_served has_scalar_fields is_scalar_type is_scalar unsupported
 becomes n d = of_document_by (served_rule_errors small) small n none d
 
 abbrev invalid : Text → Outcome

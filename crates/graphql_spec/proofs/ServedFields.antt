@@ -17,12 +17,13 @@ use Rattle.graphql_spec.proofs.Keeping.{options, lists_interface}
 
 -- ## The clauses that are needed
 
-record Served (s : Schema) : Type 0 where
+-- those of an executable schema
+pub record Served (s : Schema) : Type 0 where
   pub has_roots : roots_are_objects s ≡ true
   pub met : interfaces_are_met s ≡ true
   pub built : built_ins_are_right s ≡ true
 
-served : (s : Schema) → is_executable s ≡ true → Served s
+pub served : (s : Schema) → is_executable s ≡ true → Served s
 unfolding is_executable
 served s e =
     let a = and_parts (entries_are_named s) _ e in

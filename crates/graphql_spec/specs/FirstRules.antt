@@ -7,6 +7,7 @@ use Rattle.std.specs.Option.{is_none}
 use Rattle.graphql_spec.specs.Types.{innermost}
 use Rattle.graphql_spec.specs.Documents.{Selections, end, field, OperationType, query, Operation, Definition, operation, Document, span_of_definition}
 use Rattle.graphql_spec.specs.Served.{is_served_field}
+use Rattle.graphql_spec.specs.ServedFields.{has_scalar_fields}
 use Rattle.graphql_spec.specs.Grammar.{is_end}
 use Rattle.graphql_spec.specs.Schema.{FieldDeclaration, Schema}
 use Rattle.graphql_spec.specs.Fields.{type_named, is_leaf, fields_of}
@@ -78,9 +79,13 @@ unfoldable pub unsupported : Document → List RuleError
 unsupported [] = []
 unsupported (x ∷ d) = record { message = codes "Not supported yet"; start = (span_of_definition x).start } ∷ []
 
+-- such a query on a query type whose fields are scalars
+unfoldable pub is_served : Schema → Document → Bool
+is_served s d = has_scalar_fields s && is_plain_document d
+
 -- what validation finds: the first rules' errors of a document that is served, else that it is not
 unfoldable pub served_rule_errors : Schema → Document → List RuleError
-served_rule_errors s d = cond (is_plain_document d) (first_rule_errors s d) (unsupported d)
+served_rule_errors s d = cond (is_served s d) (first_rule_errors s d) (unsupported d)
 
 -- a field whose type ends in a scalar or an enum
 unfoldable pub is_flat_field : Schema → FieldDeclaration → Bool

@@ -8,7 +8,7 @@ use Rattle.juniper_schema.specs.declared.schema.SchemaType.{SchemaType}
 
 module _ {Q M Sub S I J K : Type 0} {query : Types Q S I} {mutation : Types M S J} {subscription : Types Sub S K} {scalar : Scalars S} {equality : Equality S} {shows : Shows S} where
   -- the schema, the query's resolver, and what it is told about its type
-  abbrev pub schema_of : RootNode Q M Sub S I J K query mutation subscription scalar equality shows → SchemaType S
+  abbrev pub schema_of : RootNode Q M Sub S I J K query mutation subscription scalar equality shows → SchemaType S scalar equality shows
   schema_of r = r.schema
 
   abbrev pub resolver_of : RootNode Q M Sub S I J K query mutation subscription scalar equality shows → Q

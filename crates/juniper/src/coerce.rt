@@ -12,7 +12,7 @@ ghost use Rattle.juniper_rules.specs.Occurrences.{view_occurrence};
 
 use indexmap::IndexMap;
 use juniper_language::{Field, InputValue, ScalarValue, Span, Spanning, Variables};
-use juniper_schema::meta::Argument;
+use juniper_meta::meta::Argument;
 use juniper_values::Arguments;
 use std::alloc::{AllocError, Global};
 

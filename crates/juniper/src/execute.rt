@@ -15,7 +15,7 @@ ghost use Rattle.juniper_values.specs.ErrorView.{view_listed};
 ghost use Rattle.juniper.specs.RequestErrors.{view_request_error};
 ghost use Rattle.juniper.specs.RootView.{schema_of, resolver_of, info_of};
 ghost use Rattle.juniper_schema.specs.SchemaView.{view_schema};
-ghost use Rattle.graphql_spec.specs.ServedFields.{is_served_schema};
+ghost use Rattle.graphql_spec.specs.ServedFields.{has_scalar_fields, is_served_schema};
 ghost use Rattle.juniper.specs.Walking.{world_in};
 
 use crate::collect::collect;
@@ -68,6 +68,7 @@ fn execute_query<'r, Q: GraphQLValue<S>, M: GraphQLType<S>, Sub: GraphQLType<S>,
     variables: &'r Variables<S>,
     context: &'r Q::Context,
 ) -> Result<(Value<S>, Vec<ExecutionError<S>>), AllocError>
+    requires served { IsTrue (has_scalar_fields (view_schema S.shown (schema_of root_node.now))) }
     requires plain { IsTrue (is_plain_operation (view_operation S.shown operation.now)) }
     requires valid { first_rule_errors (view_schema S.shown (schema_of root_node.now)) (documents.operation (view_operation S.shown operation.now) ∷ []) ≡ [] }
     ensures { IfOk result (λ p. IsAnswerFor keys_only (world_in Q.concrete Q.answer (resolver_of root_node.now) (info_of root_node.now) context.now (view_schema S.shown (schema_of root_node.now)) (view_variables S.shown variables.now)) (view_schema S.shown (schema_of root_node.now)).query (Q.root (resolver_of root_node.now)) (selected (documents.operation (view_operation S.shown operation.now) ∷ []) (view_operation S.shown operation.now) (view_variables S.shown variables.now)) (view_value S.shown p.0) (map (view_listed S.shown) p.1.items)) }

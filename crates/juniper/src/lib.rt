@@ -19,7 +19,11 @@ pub use juniper_language::{
 };
 pub use juniper_lookahead::admits;
 pub use juniper_rules::RuleError;
-pub use juniper_schema::{ScalarKinds, ScalarMeta, SchemaType, meta};
+pub use juniper_schema::{
+    DeprecationStatus, DirectiveLocation, DirectiveType, EnumMeta, EnumValue, InputObjectMeta,
+    InterfaceMeta, ListMeta, MetaType, NullableMeta, ObjectMeta, PlaceholderMeta, ScalarKinds,
+    ScalarMeta, SchemaType, TypeType, UnionMeta, meta, schema_is_executable,
+};
 pub use juniper_types::{
     EmptyMutation, EmptySubscription, Executor, GraphQLType, GraphQLValue, Resolved,
 };

@@ -2,7 +2,7 @@
 
 ghost use Rattle.std.specs.Prelude.{◌≡◌, IsTrue};
 ghost use Rattle.juniper_schema.specs.SchemaView.{view_schema};
-ghost use Rattle.graphql_spec.specs.ServedFields.{is_served_schema};
+ghost use Rattle.graphql_spec.specs.Executable.{is_executable};
 
 use juniper_language::ScalarValue;
 use juniper_schema::SchemaType;
@@ -19,7 +19,7 @@ pub struct RootNode<Q: GraphQLType<S>, M: GraphQLType<S>, Sub: GraphQLType<S>, S
     pub(crate) query_info: Q::TypeInfo,
     pub(crate) mutation_info: M::TypeInfo,
     pub(crate) subscription_info: Sub::TypeInfo,
-    ghost served: { IsTrue (is_served_schema (view_schema S.shown schema)) },
+    ghost executable: { IsTrue (is_executable (view_schema S.shown schema)) },
 }
 
 impl<Q: GraphQLType<S>, M: GraphQLType<S>, Sub: GraphQLType<S>, S: ScalarValue> RootNode<
@@ -30,7 +30,8 @@ impl<Q: GraphQLType<S>, M: GraphQLType<S>, Sub: GraphQLType<S>, S: ScalarValue> 
 > {
     ghost use Rattle.juniper.specs.RootView.{schema_of, resolver_of, info_of};
 
-    /// The root of these resolvers over a schema that is executable and whose query type has fields of scalar types alone.
+    /// The root of these resolvers over an executable schema; [`juniper_schema::schema_is_executable`] tells whether it is.
+    /// Requests are served where the query type's fields are scalars.
     pub fn of_parts(
         query: Q,
         mutation: M,
@@ -40,7 +41,7 @@ impl<Q: GraphQLType<S>, M: GraphQLType<S>, Sub: GraphQLType<S>, S: ScalarValue> 
         mutation_info: M::TypeInfo,
         subscription_info: Sub::TypeInfo,
     ) -> Self
-        requires { IsTrue (is_served_schema (view_schema S.shown schema)) }
+        requires { IsTrue (is_executable (view_schema S.shown schema)) }
         ensures schema { schema_of result ≡ schema }
         ensures resolver { resolver_of result ≡ query }
         ensures info { info_of result ≡ query_info }

@@ -4,6 +4,7 @@ use Rattle.std.specs.Prelude.{MatchResult, IfOk}
 use Rattle.graphql_spec.specs.Shown.{Text}
 use Rattle.graphql_spec.specs.Inputs.{Variables}
 use Rattle.graphql_spec.specs.Schema.{Schema}
+use Rattle.graphql_spec.specs.Executable.{IsSameSchema}
 use Rattle.graphql_spec.specs.Resolvers.{world_of}
 use Rattle.juniper.specs.Answering.{IsAnswered, IsRefusedWith}
 use Rattle.juniper_values.specs.ErrorView.{view_listed}
@@ -37,13 +38,13 @@ module _ (t : Text) where
   abbrev pub IsShown : Outcome → Answer → Type 0
   IsShown o a = MatchResult o (λ p. ShowsData (view_value default_shown p.0) (map (view_listed default_shown) p.1.items) a) (λ e. ShowsRefusal (view_request_error e) a)
 
-  shown : (o : Outcome) (a : Answer) → IsOutcome demo_schema no_values Query o → IsShown o a → IsAnswerToText t a
-  shown (Ok p) a comes shows = inl (_, _, comes, shows)
-  shown (Err e) a comes shows = inr (_, comes, shows)
+  shown : (s : Schema) → IsSameSchema demo_schema s → (o : Outcome) (a : Answer) → IsOutcome s no_values Query o → IsShown o a → IsAnswerToText t a
+  shown s same (Ok p) a comes shows = (s, same, inl (_, _, comes, shows))
+  shown s same (Err e) a comes shows = (s, same, inr (_, comes, shows))
 
-  pub text_answered : (s : Schema) (vars : Variables) (m : DemoNode) (o : Outcome) (a : Answer) → s ≡ demo_schema → vars ≡ no_values → m ≡ Query → IsOutcome s vars m o → IsShown o a → IsAnswerToText t a
-  text_answered s vars m o a is_schema is_vars is_root comes shows =
-      shown o a (subst (λ x. IsOutcome x no_values Query o) is_schema (subst (λ x. IsOutcome s x Query o) is_vars (subst (λ x. IsOutcome s vars x o) is_root comes))) shows
+  pub text_answered : (s : Schema) (vars : Variables) (m : DemoNode) (o : Outcome) (a : Answer) → IsSameSchema demo_schema s → vars ≡ no_values → m ≡ Query → IsOutcome s vars m o → IsShown o a → IsAnswerToText t a
+  text_answered s vars m o a same is_vars is_root comes shows =
+      shown s same o a (subst (λ x. IsOutcome s x Query o) is_vars (subst (λ x. IsOutcome s vars x o) is_root comes)) shows
 
 -- the words are one word
 pub one_answered : {E : Type 0} (words : List (String Global)) (word : String Global) (t : Text) (r : Result Answer E) → 1 ≤ length words → length words < 2 → word ≡ get_or words 0 word → t ≡ string_bytes word →

@@ -4,6 +4,8 @@ use Rattle.graphql_spec.specs.Shown.{Text}
 use Rattle.graphql_spec.specs.Values.{Value}
 use Rattle.graphql_spec.specs.Inputs.{Variables}
 use Rattle.graphql_spec.specs.Errors.{Listed}
+use Rattle.graphql_spec.specs.Schema.{Schema}
+use Rattle.graphql_spec.specs.Executable.{IsSameSchema}
 use Rattle.graphql_spec.specs.Resolvers.{World, world_of}
 use Rattle.juniper.specs.Answering.{IsAnswered, IsRefusedWith}
 use Rattle.juniper.specs.RequestErrors.{RequestError, request_error_text}
@@ -31,14 +33,18 @@ abbrev pub no_values : Variables
 no_values = λ name. None
 
 -- what an execution on the demo asks, for the values of the variables (6.4.2)
-abbrev pub demo_world : Variables → World DemoNode
-demo_world vars = world_of demo_schema vars concrete_type reply
+abbrev pub demo_world : Schema → Variables → World DemoNode
+demo_world s vars = world_of s vars concrete_type reply
 
--- the request of a text, without name and variables, on the demo: what its execution gives, or why it is refused (6.1)
+-- the request of a text, without name and variables, on a schema: what its execution gives, or why it is refused (6.1)
+abbrev pub IsAnswerOn : Schema → Text → Answer → Type 0
+IsAnswerOn s t a =
+    ((v : Value) × (es : List Listed) × IsAnswered t s None no_values (demo_world s) Query v es × ShowsData v es a)
+    ⊎ ((e : RequestError) × IsRefusedWith t s None no_values e × ShowsRefusal e a)
+
+-- the same on the demo's schema, in whatever order it has its types
 abbrev pub IsAnswerToText : Text → Answer → Type 0
-IsAnswerToText t a =
-    ((v : Value) × (es : List Listed) × IsAnswered t demo_schema None no_values demo_world Query v es × ShowsData v es a)
-    ⊎ ((e : RequestError) × IsRefusedWith t demo_schema None no_values e × ShowsRefusal e a)
+IsAnswerToText t a = (s : Schema) × IsSameSchema demo_schema s × IsAnswerOn s t a
 
 -- one word is the text of a request, and any other number of them gets the usage
 abbrev pub IsAnswerTo : List Text → Answer → Type 0

@@ -3,8 +3,9 @@ use Rattle.std.specs.Prelude.{pos, codes, true, false, [], ◌∷◌, List, Some
 use Rattle.graphql_spec.specs.Shown.{int}
 use Rattle.graphql_spec.specs.Inputs.{scalar}
 use Rattle.graphql_spec.specs.Types.{named}
-use Rattle.graphql_spec.specs.Schema.{Schema, Entry, FieldDeclaration, plain_field}
-use Rattle.juniper_schema.specs.SchemaView.{schema_of, scalar_entry}
+use Rattle.graphql_spec.specs.Schema.{Schema, Entry, FieldDeclaration, object_type, plain_field}
+use Rattle.juniper_meta.specs.MetaView.{Meta, entry_at, named_meta}
+use Rattle.juniper_schema.specs.SchemaView.{built_in}
 
 -- `number(plus: Int = 1): Int`
 abbrev pub number_field : FieldDeclaration
@@ -20,14 +21,14 @@ demo_fields =
     ∷ number_field
     ∷ []
 
--- the scalar types, each with what it accepts (3.5)
-abbrev pub demo_scalars : List Entry
-demo_scalars =
-    scalar_entry (codes "ID") (record { int = true; text = true; boolean = false })
-    ∷ scalar_entry (codes "String") (record { int = false; text = true; boolean = false })
-    ∷ scalar_entry (codes "Int") (record { int = true; text = false; boolean = false })
-    ∷ scalar_entry (codes "Boolean") (record { int = false; text = false; boolean = true })
-    ∷ []
+-- the query type
+abbrev pub query_meta : Meta
+query_meta = named_meta (codes "Query") (object_type demo_fields [])
 
+-- the types that the demo declares: the query type, and two of the built-in scalars (3.5)
+abbrev pub demo_types : List Entry
+demo_types = built_in (codes "Int") true false false ∷ built_in (codes "ID") true true false ∷ entry_at (codes "Query") query_meta ∷ []
+
+-- with those that every schema has
 abbrev pub demo_schema : Schema
-demo_schema = schema_of (codes "Query") demo_fields demo_scalars
+demo_schema = record { entries = built_in (codes "String") false true false ∷ built_in (codes "Boolean") false false true ∷ demo_types; query = codes "Query"; mutation = None }

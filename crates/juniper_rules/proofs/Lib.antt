@@ -4,5 +4,4 @@ pub mod PlainErrors
 pub mod PlainRules
 pub mod SelectionLists
 pub mod ServedDocuments
-pub mod ServedScalars
 pub mod Validating

@@ -16,7 +16,7 @@ use Rattle.graphql_spec.proofs.PlainQueries.{Every, Literal, plain_field_parts}
 use Rattle.graphql_spec.proofs.FlatSchemas.{Built}
 use Rattle.graphql_spec.proofs.FirstRules.{conditions_known, conditions_complete, conditions_fit}
 use Rattle.graphql_spec.specs.ServedFields.{served_field}
-use Rattle.juniper_rules.specs.PlainSelections.{plain_heads, repeats_name, is_unserved, call_of, breaks, call_breaks, literal_fits, misfits, gives_unfit, may_share, reported_at, type_errors_of}
+use Rattle.juniper_rules.specs.PlainSelections.{plain_heads, repeats_name, is_unserved, call_of, breaks, call_breaks, may_share, reported_at, type_errors_of}
 use Rattle.juniper_rules.proofs.PlainRules.{with_words, parts, not-plain, not-plain-inline, IsPlainQuery, repeats-argument-is, lacks-is, calls-break, cannot-merge-is}
 
 -- ## Plain operations
@@ -57,46 +57,6 @@ plain-variables o e = (plain-parts o e).variables
 pub plain-fields : (o : Operation) → is_plain_operation o ≡ true → is_plain_selections o.selections ≡ true
 plain-fields o e = (plain-parts o e).selections
 
--- ## Literals that fit
-
--- a scalar fits a type of no other kind than scalars where the type accepts it
-abbrev pub TakesAsEntry : Schema → Type 0
-TakesAsEntry s = (n : Name) (x : Shown) → scalar_fits false x (type_named s n) ≡ leaf_accepts (entry_named s n) x
-
-literal-fits-is : (s : Schema) → TakesAsEntry s → (a : Argument) → Literal a → (t : TypeRef) → literal_fits s a.value.item t ≡ fits s false a.value.item t
-unfolding literal_fits fits
-literal-fits-is s k a l t = elim l.is_literal [
-  | inl e ↦ rw e refl
-  | inr (x, e) ↦ rw e (ap (λ f. through f t) (λ i n. sym (k n x) i))
-]
-
-misfits-is : (s : Schema) → TakesAsEntry s → (a : Argument) → Literal a → (o : Option InputDeclaration) → misfits s o a.value.item ≡ (elim o [ None ↦ false | Some d ↦ not (fits s false a.value.item d.of_type) ])
-unfolding misfits
-misfits-is s k a l None = refl
-misfits-is s k a l (Some d) = ap not (literal-fits-is s k a l d.of_type)
-
-unfit-is : (s : Schema) → TakesAsEntry s → (ds : List InputDeclaration) (as' : List Argument) → Every Literal as' → gives_unfit s (record { declared = ds; given = as' }) ≡ gives_wrong s (record { declared = ds; given = as' })
-unfolding gives_unfit gives_wrong
-unfit-is s k ds [] l = refl
-unfit-is s k ds (a ∷ rest) l = ap₂ (λ x y. x || y) (misfits-is s k a l.0 (declaration_in ds a.name.item)) (unfit-is s k ds rest l.1)
-
-call-unfit-is : (s : Schema) → TakesAsEntry s → (h : Head) → Every Literal (written h.arguments) → (o : Option FieldDeclaration) → breaks (gives_unfit s) (option_map (with_words h) o) ≡ breaks (gives_wrong s) (option_map (with_words h) o)
-unfolding breaks
-call-unfit-is s k h l None = refl
-call-unfit-is s k h l (Some d) = unfit-is s k d.arguments (written h.arguments) l
-
-head-unfit-is : (s : Schema) → TakesAsEntry s → (h : Head) → Every Literal (written h.arguments) → call_breaks (gives_unfit s) s h ≡ call_breaks (gives_wrong s) s h
-unfolding call_breaks breaks call_of
-head-unfit-is s k h l = call-unfit-is s k h l (served_field s h.name.item)
-
-fields-unfit-are : (s : Schema) → TakesAsEntry s → (x : Selections) → is_plain_selections x ≡ true → list_any (call_breaks (gives_unfit s) s) (plain_heads x) ≡ list_any (call_breaks (gives_wrong s) s) (plain_heads x)
-unfolding plain_heads
-fields-unfit-are s k end e = refl
-fields-unfit-are s k (field h below rest) e =
-    let p = parts h below rest e in ap₂ (λ x y. x || y) (head-unfit-is s k h (plain_field_parts h p.head).literals) (fields-unfit-are s k rest p.after)
-fields-unfit-are s k (spread x rest) e = not-plain x rest e
-fields-unfit-are s k (inline x below rest) e = not-plain-inline x below rest e
-
 -- ## What is found
 
 append-nothing : (es : List RuleError) → es ++ [] ≡ es
@@ -115,7 +75,7 @@ type_errors_in s o = type_errors_of s o.span.start (heads_of o)
 abbrev merge_error : Operation → List RuleError
 merge_error o = reported_at (not (each_two may_share (heads_of o))) (codes "Fields cannot be merged") o.span.start
 
-module _ (s : Schema) (b : Built s) (k : TakesAsEntry s) (o : Operation) (q : IsPlainQuery o) where
+module _ (s : Schema) (b : Built s) (o : Operation) (q : IsPlainQuery o) where
   types-are : first_type_errors s [] (operation o) ≡ type_errors_in s o
   unfolding first_type_errors reported span_of_definition type_errors_of reported_at
   types-are = rw (
@@ -123,7 +83,6 @@ module _ (s : Schema) (b : Built s) (k : TakesAsEntry s) (o : Operation) (q : Is
     calls-break gives_unknown s o q conditions_known,
     calls-break gives_too_few s o q conditions_complete,
     calls-break (gives_wrong s) s o q (conditions_fit s b),
-    fields-unfit-are s k o.selections q.selections,
   ) refl
 
   names-are : first_name_errors [] (operation o) ≡ name_error o
@@ -181,10 +140,10 @@ not-true : (t : Bool) → not t ≡ false → t ≡ true
 not-true true e = refl
 not-true false e = cc
 
-pub found-nothing : (s : Schema) → Built s → TakesAsEntry s → (o : Operation) → IsPlainQuery o → first_rule_errors s (operation o ∷ []) ≡ [] → IsValid s (heads_of o)
+pub found-nothing : (s : Schema) → Built s → (o : Operation) → IsPlainQuery o → first_rule_errors s (operation o ∷ []) ≡ [] → IsValid s (heads_of o)
 unfolding type_errors_of
-found-nothing s b k o q e =
-    let one = none-of (name_error o) (first_found (type_errors_in s o) (merge_error o)) (sym (first-rules-are s b k o q) ∙ e) in
+found-nothing s b o q e =
+    let one = none-of (name_error o) (first_found (type_errors_in s o) (merge_error o)) (sym (first-rules-are s b o q) ∙ e) in
     let two = none-of (type_errors_in s o) (merge_error o) one.1 in
     record {
       names_differ = not-reported (list_any repeats_name (heads_of o)) (codes "Argument name is not unique") o.span.start one.0;

@@ -1,5 +1,5 @@
 -- Whether a document is served, selection by selection.
-use Rattle.std.proofs.Common.{◌≡◌, ℕ, ◌+◌, ◌<◌, ◌≤◌, codes, Vec, Global, Bool, true, false, ◌&&◌, List, length, get_or, drop, map, [], ◌∷◌, arith, Option, Some, None, is_some, refl, sym, ap, ◌∙◌}
+use Rattle.std.proofs.Common.{◌≡◌, ℕ, ◌+◌, ◌<◌, ◌≤◌, codes, Vec, Global, Bool, true, false, ◌&&◌, List, length, get_or, drop, map, [], ◌∷◌, arith, Option, Some, None, is_some, is_none, option_map, refl, sym, ap, ◌∙◌}
 use Rattle.std.proofs.lemmas.List.{drop_all}
 use Rattle.std.specs.List.{list_all}
 use Rattle.graphql_spec.specs.Shown.{Shown}
@@ -7,7 +7,8 @@ use Rattle.graphql_spec.specs.Documents.{Argument, Head, Selections, Operation, 
 use Rattle.graphql_spec.specs.Grammar.{is_end}
 use Rattle.graphql_spec.specs.Schema.{Schema}
 use Rattle.graphql_spec.specs.Served.{is_condition, is_served_field, is_served_value}
-use Rattle.graphql_spec.specs.FirstRules.{is_plain_document, is_plain_operation, is_plain_selections, first_rule_errors, unsupported, served_rule_errors}
+use Rattle.graphql_spec.specs.ServedFields.{has_scalar_fields}
+use Rattle.graphql_spec.specs.FirstRules.{is_plain_document, is_plain_operation, is_plain_selections, is_served, first_rule_errors, unsupported, served_rule_errors}
 use Rattle.juniper_syntax.specs.DocumentView.{view_head, view_selections, put_selection, view_set}
 use Rattle.juniper_position.specs.Positions.{view_span}
 use Rattle.juniper_position.specs.declared.position.Spanning.{Spanning}
@@ -86,13 +87,42 @@ two-no-condition view (x ∷ y ∷ xs) two = refl
 
 -- ## What validation finds
 
-pub served-errors : (s : Schema) (d : Document) (o : Operation) → is_plain_document d ≡ true → d ≡ operation o ∷ [] → first_rule_errors s (operation o ∷ []) ≡ served_rule_errors s d
+is-served : (s : Schema) (d : Document) → has_scalar_fields s ≡ true → is_plain_document d ≡ true → is_served s d ≡ true
+unfolding is_served
+is-served s d h plain = rw h plain
+
+and-false : (b : Bool) → (b && false) ≡ false
+and-false true = refl
+and-false false = refl
+
+unserved-schema : (s : Schema) (d : Document) → has_scalar_fields s ≡ false → is_served s d ≡ false
+unfolding is_served
+unserved-schema s d h = rw h refl
+
+unserved-document : (s : Schema) (d : Document) → is_plain_document d ≡ false → is_served s d ≡ false
+unfolding is_served
+unserved-document s d plain = rw plain (and-false (has_scalar_fields s))
+
+pub served-errors : (s : Schema) (d : Document) (o : Operation) → has_scalar_fields s ≡ true → is_plain_document d ≡ true → d ≡ operation o ∷ [] → first_rule_errors s (operation o ∷ []) ≡ served_rule_errors s d
 unfolding served_rule_errors
-served-errors s d o plain is = rw plain (ap (first_rule_errors s) (sym is))
+served-errors s d o h plain is = rw (is-served s d h plain) (ap (first_rule_errors s) (sym is))
+
+not-served-errors : (s : Schema) (d : Document) → is_served s d ≡ false → unsupported d ≡ served_rule_errors s d
+unfolding served_rule_errors
+not-served-errors s d e = rw e refl
 
 pub unserved-errors : (s : Schema) (d : Document) → is_plain_document d ≡ false → unsupported d ≡ served_rule_errors s d
-unfolding served_rule_errors
-unserved-errors s d plain = rw plain refl
+unserved-errors s d plain = not-served-errors s d (unserved-document s d plain)
+
+pub other-schema-errors : (s : Schema) (d : Document) → has_scalar_fields s ≡ false → unsupported d ≡ served_rule_errors s d
+other-schema-errors s d h = not-served-errors s d (unserved-schema s d h)
+
+-- a field is not served where no type of it is found
+pub none_served : {A B C : Type 0} (f : A → C) (h : B → C) (o : Option A) (p : Option B) → option_map f o ≡ option_map h p → is_none o ≡ is_none p
+none_served f h None None e = refl
+none_served f h None (Some y) e = cc
+none_served f h (Some x) None e = cc
+none_served f h (Some x) (Some y) e = refl
 
 pub only-is-plain : (d : Document) (o : Operation) → is_plain_document d ≡ true → d ≡ operation o ∷ [] → is_plain_operation o ≡ true
 unfolding is_plain_document

@@ -5,22 +5,20 @@ use Rattle.std.specs.List.{list_any, list_all}
 use Rattle.std.specs.Option.{is_none}
 use Rattle.graphql_spec.specs.Shown.{Text, Shown, same_shown}
 use Rattle.graphql_spec.specs.Positions.{Position}
-use Rattle.graphql_spec.specs.Types.{TypeRef, required}
-use Rattle.graphql_spec.specs.Inputs.{Input, null, scalar, variable}
+use Rattle.graphql_spec.specs.Inputs.{Input, null, scalar}
 use Rattle.graphql_spec.specs.Documents.{Argument, Head, Selections, end, field, spread, inline, response_key, written}
 use Rattle.graphql_spec.specs.Directives.{argument_named}
 use Rattle.graphql_spec.specs.Schema.{Schema, InputDeclaration}
-use Rattle.graphql_spec.specs.Fields.{declaration_in, entry_named, leaf_accepts}
-use Rattle.graphql_spec.specs.Fits.{through}
+use Rattle.graphql_spec.specs.Fits.{fits}
 use Rattle.graphql_spec.specs.Placed.{Call}
-use Rattle.graphql_spec.specs.Rules.{RuleError, gives_unknown, gives_too_few}
+use Rattle.graphql_spec.specs.Rules.{RuleError, gives_unknown, gives_too_few, gives_wrong}
 use Rattle.juniper_syntax.specs.DocumentView.{view_argument as view_given}
 use Rattle.juniper_position.specs.declared.position.Spanning.{Spanning}
 use Rattle.juniper_position.specs.declared.position.Span.{Span}
 use Rattle.juniper_syntax.specs.declared.ast.Field.{Field}
 use Rattle.juniper_rules.specs.declared.calls.Call.{Call as CodeCall}
 use Rattle.juniper_rules.specs.Occurrences.{view_occurrence}
-use Rattle.juniper_schema.specs.SchemaView.{view_argument}
+use Rattle.juniper_meta.specs.MetaView.{view_argument}
 use Rattle.graphql_spec.specs.ServedFields.{served_field}
 
 -- the words of a field, and the arguments of one beside those that are declared
@@ -63,21 +61,9 @@ breaks rule (Some c) = rule c
 unfoldable pub call_breaks : (Call → Bool) → Schema → Head → Bool
 call_breaks rule s h = breaks rule (call_of s h)
 
--- a literal fits: null where it may stand, a scalar of an accepted kind; a variable fits every type (5.6.1)
-unfoldable pub literal_fits : Schema → Input → TypeRef → Bool
-literal_fits s null t = not (required t)
-literal_fits s (scalar x) t = through (λ n. leaf_accepts (entry_named s n) x) t
-literal_fits s (variable x) t = true
-literal_fits s _ t = false
-
--- a literal that does not fit its declared argument (5.6.1)
-unfoldable pub misfits : Schema → Option InputDeclaration → Input → Bool
-misfits s None v = false
-misfits s (Some d) v = not (literal_fits s v d.of_type)
-
--- one of the arguments' literals does not fit
-unfoldable pub gives_unfit : Schema → Call → Bool
-gives_unfit s c = list_any (λ a. misfits s (declaration_in c.declared a.name.item) a.value.item) c.given
+-- a value that does not fit its declared argument (5.6.1)
+abbrev pub misfits : Schema → Option InputDeclaration → Input → Bool
+misfits s o v = elim o [ None ↦ false | Some d ↦ not (fits s false v d.of_type) ]
 
 -- two literals are equal (5.3.2)
 unfoldable pub same_literal : Input → Input → Bool
@@ -113,4 +99,4 @@ unfoldable pub type_errors_of : Schema → Position → List Head → List RuleE
 type_errors_of s p hs = reported_at (list_any (is_unserved s) hs) (codes "Unknown field") p
     ++ reported_at (list_any (call_breaks gives_unknown s) hs) (codes "Unknown argument") p
     ++ reported_at (list_any (call_breaks gives_too_few s) hs) (codes "Argument is missing") p
-    ++ reported_at (list_any (call_breaks (gives_unfit s) s) hs) (codes "Argument does not fit its type") p
+    ++ reported_at (list_any (call_breaks (gives_wrong s) s) hs) (codes "Argument does not fit its type") p

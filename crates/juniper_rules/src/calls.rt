@@ -5,11 +5,12 @@ ghost use Rattle.graphql_spec.specs.Documents.{written};
 ghost use Rattle.graphql_spec.specs.Fields.{declaration_in};
 ghost use Rattle.juniper_syntax.specs.DocumentView.{view_argument as view_given, view_arguments, view_selections};
 ghost use Rattle.juniper_rules.specs.PlainSelections.{call_of, head_seen, plain_heads, view_call};
-ghost use Rattle.juniper_schema.specs.SchemaView.{view_argument, view_schema};
+ghost use Rattle.juniper_meta.specs.MetaView.{view_argument};
+ghost use Rattle.juniper_schema.specs.SchemaView.{view_schema};
 
 use crate::occurrences::Occurrences;
 use juniper_schema::SchemaType;
-use juniper_schema::meta::Argument;
+use juniper_meta::meta::Argument;
 use juniper_syntax::ast::Arguments;
 use juniper_syntax::{Field, InputValue, ScalarValue, Selection, Span, Spanning};
 use std::alloc::{AllocError, Global};

@@ -24,7 +24,7 @@ pub(crate) fn has_unknown_field<S: ScalarValue>(
     false
 }
 
-#[tactic(auto, using(juniper_schema::proofs::Schemas::none_served), unfolding(crate::specs::PlainSelections::is_unserved, crate::specs::PlainSelections::head_seen))]
+#[tactic(auto, using(crate::proofs::ServedDocuments::none_served), unfolding(crate::specs::PlainSelections::is_unserved, crate::specs::PlainSelections::head_seen))]
 fn is_unserved<S: ScalarValue>(schema: &SchemaType<S>, field: &Spanning<Field<'_, S>, Span>) -> bool
     ensures { result ≡ is_unserved (view_schema S.shown schema.now) (head_seen S.shown field.now) }
 {

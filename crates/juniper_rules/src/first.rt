@@ -26,8 +26,9 @@ use juniper_syntax::{
 };
 use std::alloc::{AllocError, Global};
 
-/// The errors of a document (section 5): those of the rules that are served, and of a document that is not served one error
-/// alone, `Not supported yet`, at the start of its first definition. An error where memory is refused.
+/// The errors of a document (section 5): those of the rules that are served, and of a document that is not served, or on a
+/// query type with fields of other types than scalars, one error alone, `Not supported yet`, at the start of its first
+/// definition. An error where memory is refused.
 pub fn validate<S: ScalarValue>(
     alloc: Global,
     document: &Document<'_, S>,
@@ -36,6 +37,9 @@ pub fn validate<S: ScalarValue>(
     requires { IsTrue (is_executable (view_schema S.shown schema.now)) }
     ensures { IfOk result (λ es. map view_rule_error es.items ≡ served_rule_errors (view_schema S.shown schema.now) (view_document S.shown document.now)) }
 {
+    if !schema.has_scalar_fields() {
+        return Ok(unsupported(alloc, document)?);
+    }
     match served_operation(document) {
         Some(operation) => query_errors(alloc, operation, schema),
         None => unsupported(alloc, document),

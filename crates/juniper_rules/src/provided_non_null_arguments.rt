@@ -4,13 +4,14 @@ ghost use Rattle.std.specs.Prelude.{◌≡◌};
 ghost use Rattle.std.specs.List.{list_any};
 ghost use Rattle.graphql_spec.specs.Rules.{gives_too_few, must_be_written};
 ghost use Rattle.juniper_rules.specs.PlainSelections.{call_breaks, head_seen, view_call};
-ghost use Rattle.juniper_schema.specs.SchemaView.{view_argument, view_schema};
+ghost use Rattle.juniper_meta.specs.MetaView.{view_argument};
+ghost use Rattle.juniper_schema.specs.SchemaView.{view_schema};
 
 use crate::calls::{Call, call_of};
 use crate::occurrences::Occurrences;
 use crate::unique_argument_names::names;
 use juniper_schema::SchemaType;
-use juniper_schema::meta::Argument;
+use juniper_meta::meta::Argument;
 use juniper_syntax::{Field, ScalarValue, Span, Spanning};
 
 /// Whether a field lacks an argument that it asks for.

@@ -1,2 +1,6 @@
-pub mod AcceptedKinds
-pub mod Schemas
+pub mod Lookups
+pub mod Fitting
+pub mod BuiltIns
+pub mod ServedFields
+pub mod Executables
+pub mod TypeLevels

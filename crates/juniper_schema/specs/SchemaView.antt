@@ -1,52 +1,62 @@
 -- How the code's schemas are seen (3).
-use Rattle.std.specs.Prelude.{List, [], ◌∷◌, ◌++◌, map, Some, None, option_map, string_bytes}
+use Rattle.std.specs.Prelude.{◌≡◌, ◌&&◌, Bool, true, false, cond, List, map, Option, Some, None, option_map, String, string_bytes, codes}
+use Rattle.std.specs.declared.alloc.Global.{Global}
+use Rattle.std.specs.declared.cmp.PartialEq.{Ghosts as Equality}
+use Rattle.std.specs.declared.fmt.Debug.{Ghosts as Shows}
+use Rattle.std.specs.HashMap.{HashMap}
+use Rattle.std.specs.Str.{bytes_eq}
 use Rattle.graphql_spec.specs.Shown.{Name, Shown}
-use Rattle.graphql_spec.specs.Inputs.{Input}
-use Rattle.graphql_spec.specs.Types.{TypeRef, named}
-use Rattle.graphql_spec.specs.Schema as spec
-use Rattle.graphql_spec.specs.Schema.{Schema, Entry, FieldDeclaration, InputDeclaration, object_type, scalar_type, plain_field}
-use Rattle.juniper_syntax.specs.DocumentView.{items_or_none}
-use Rattle.juniper_syntax.specs.InputView.{view_input}
-use Rattle.juniper_syntax.specs.TypeView.{view_type}
-use Rattle.juniper_schema.specs.declared.meta.Argument.{Argument}
-use Rattle.juniper_schema.specs.declared.meta.Field.{Field}
-use Rattle.juniper_schema.specs.declared.schema.ScalarKinds.{ScalarKinds}
-use Rattle.juniper_schema.specs.declared.schema.ScalarMeta.{ScalarMeta}
+use Rattle.graphql_spec.specs.Schema.{Schema, Entry, scalar_type}
+use Rattle.graphql_spec.specs.BuiltIns.{introspection_types}
+use Rattle.graphql_spec.specs.Fields.{entry_in, or_else}
+use Rattle.graphql_spec.specs.Executable.{names_differ}
+use Rattle.juniper_syntax.specs.declared.scalar.ScalarValue.{Ghosts as Scalars}
+use Rattle.juniper_meta.specs.declared.meta.MetaType.{MetaType}
+use Rattle.juniper_meta.specs.MetaView.{Meta, entry_at, is_placeholder, view_meta}
 use Rattle.juniper_schema.specs.declared.schema.SchemaType.{SchemaType}
-use Rattle.juniper_schema.specs.declared.schema.LeafType.{LeafType}
 
--- the entry of an object type, and that of a scalar type, without descriptions
-abbrev pub query_entry : Name → List FieldDeclaration → Entry
-query_entry n fs = record { key = n; name = Some n; description = None; shape = object_type fs [] }
+-- the entries of types by name
+abbrev pub view_entries : {S H : Type 0} → (S → Shown) → HashMap (String Global) (MetaType S) H → List Entry
+view_entries shown types = map (λ e. entry_at (string_bytes e.0) (view_meta shown e.1)) types.entries
 
-abbrev pub scalar_entry : Name → spec.ScalarKinds → Entry
-scalar_entry n k = record { key = n; name = Some n; description = None; shape = scalar_type k None }
+module _ {S : Type 0} {scalar : Scalars S} {equality : Equality S} {shows : Shows S} where
+  abbrev pub view_schema : (S → Shown) → SchemaType S scalar equality shows → Schema
+  view_schema shown s = record { entries = view_entries shown s.types; query = string_bytes s.query_name; mutation = option_map (λ n. string_bytes n) s.mutation_name }
 
--- a query type with its fields, and further entries
-abbrev pub schema_of : Name → List FieldDeclaration → List Entry → Schema
-schema_of q fs rest = record { entries = query_entry q fs ∷ rest; query = q; mutation = None }
+-- what an entry says, apart from its key
+abbrev pub meta_of : Entry → Meta
+meta_of e = record { name = e.name; description = e.description; shape = e.shape }
 
-abbrev pub view_kinds : ScalarKinds → spec.ScalarKinds
-view_kinds k = record { int = k.int; text = k.text; boolean = k.boolean }
+-- what the entry of a name says
+abbrev pub entry_meta : Schema → Name → Option Meta
+entry_meta s n = option_map meta_of (entry_in s.entries n)
 
--- an argument with a default value, and a field with one more argument (3.6.1)
-abbrev pub with_default : InputDeclaration → Input → InputDeclaration
-with_default a v = record { name = a.name; description = a.description; of_type = a.of_type; default = Some v }
+-- what the entry or the introspection type of a name says
+abbrev pub meta_named : Schema → Name → Option Meta
+meta_named s n = option_map meta_of (or_else (entry_in s.entries n) (entry_in introspection_types n))
 
-abbrev pub with_argument : FieldDeclaration → InputDeclaration → FieldDeclaration
-with_argument f a = record { name = f.name; description = f.description; arguments = f.arguments ++ a ∷ []; of_type = f.of_type; deprecation = f.deprecation }
+-- ## The built-in scalars of a schema that is made (3.5)
 
-abbrev pub view_argument : {S : Type 0} → (S → Shown) → Argument S → InputDeclaration
-view_argument shown a = record { name = string_bytes a.name; description = None; of_type = view_type (λ n. string_bytes n) a.arg_type; default = option_map (view_input shown) a.default_value }
+-- a built-in scalar, which has no description
+abbrev pub built_in : Name → Bool → Bool → Bool → Entry
+built_in n int text boolean = record { key = n; name = Some n; description = None; shape = scalar_type (record { int = int; text = text; boolean = boolean }) None }
 
-abbrev pub view_field : {S : Type 0} → (S → Shown) → Field S → FieldDeclaration
-view_field shown f = plain_field (string_bytes f.name) (items_or_none (view_argument shown) f.arguments) (view_type (λ n. string_bytes n) f.field_type)
+-- a placeholder stands there
+abbrev pub awaits : Option Entry → Bool
+awaits None = false
+awaits (Some e) = is_placeholder e.shape
 
-abbrev pub view_scalar : ScalarMeta → Entry
-view_scalar m = scalar_entry (string_bytes m.name) (view_kinds m.kinds)
+-- nothing is declared there: nothing stands there, or a placeholder
+abbrev pub lacks : Option Entry → Bool
+lacks None = true
+lacks (Some e) = is_placeholder e.shape
 
-abbrev pub view_schema : {S : Type 0} → (S → Shown) → SchemaType S → Schema
-view_schema shown s = schema_of (string_bytes s.query_name) (map (view_field shown) s.fields.items) (map view_scalar s.scalars.items)
+-- what stands at a name, where this stood: `String` and `Boolean` are declared, `Int` and `ID` where they were asked for
+abbrev pub with_built_ins : Name → Option Entry → Option Entry
+with_built_ins n old = cond (bytes_eq n (codes "String") && lacks old) (Some (built_in (codes "String") false true false)) (cond (bytes_eq n (codes "Boolean") && lacks old) (Some (built_in (codes "Boolean") false false true))
+    (cond (bytes_eq n (codes "Int") && awaits old) (Some (built_in (codes "Int") true false false)) (cond (bytes_eq n (codes "ID") && awaits old) (Some (built_in (codes "ID") true true false)) old)))
 
-abbrev pub view_leaf_type : LeafType → TypeRef
-view_leaf_type t = named t.is_non_null t.name.now
+-- the entries of a schema that is made of these
+pub record AreCompleted (old new : List Entry) : Type 0 where
+  pub held : (n : Name) → entry_in new n ≡ with_built_ins n (entry_in old n)
+  pub distinct : names_differ (map (λ e. e.key) new) ≡ true

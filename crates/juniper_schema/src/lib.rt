@@ -1,7 +1,21 @@
-//! Schemas (section 3 of the Specification).
+//! Schemas (section 3 of the Specification): types by name, and what is asked of them.
 #![tactic(auto)]
 
-pub mod meta;
+mod built_ins;
+mod executable;
+mod fits;
+mod names;
 mod schema;
+mod served;
+mod subtypes;
+mod type_type;
 
-pub use schema::{LeafType, ScalarKinds, ScalarMeta, SchemaType};
+pub use executable::schema_is_executable;
+pub use juniper_meta::{
+    DeprecationStatus, DirectiveLocation, DirectiveType, EnumMeta, EnumValue, InputObjectMeta,
+    InterfaceMeta, ListMeta, MetaType, NullableMeta, ObjectMeta, PlaceholderMeta, ScalarKinds,
+    ScalarMeta, UnionMeta, meta,
+};
+pub use schema::SchemaType;
+pub use served::LeafType;
+pub use type_type::TypeType;

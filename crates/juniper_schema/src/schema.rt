@@ -1,87 +1,112 @@
-//! Schemas (section 3 of the Specification): one object type and its scalars.
+//! Schemas (section 3.3 of the Specification): types by name, and the root types.
 
-ghost use Rattle.std.specs.Prelude.{◌≡◌, string_bytes, map, option_map, IsTrue, Some, None, [], ◌∷◌, if◌then◌else◌};
-ghost use Rattle.graphql_spec.specs.Schema.{Schema};
-ghost use Rattle.graphql_spec.specs.Fields.{accepts_kind, leaf_accepts, entry_named, entry_in, field_in, typename, typename_field};
-ghost use Rattle.juniper_schema.specs.SchemaView.{view_argument, view_field, view_scalar, view_kinds, view_schema, scalar_entry, query_entry};
-ghost use Rattle.graphql_spec.specs.ServedFields.{served_field, has_scalar_fields, as_named};
-ghost use Rattle.juniper_syntax.specs.TypeView.{view_type};
-ghost use Rattle.graphql_spec.specs.Rules.{is_introspection};
+ghost use Rattle.std.specs.List.{list_any};
+ghost use Rattle.std.specs.Option.{option_and_then};
+ghost use Rattle.std.specs.Prelude.{◌≡◌, IfOk, IfSome, IsSome, MatchOption, None, map, option_map, string_bytes};
 ghost use Rattle.std.specs.Str.{bytes_eq};
-ghost use Rattle.juniper_schema.specs.SchemaView.{view_leaf_type};
+ghost use Rattle.graphql_spec.specs.BuiltIns as built;
+ghost use Rattle.graphql_spec.specs.Fields as fields;
+ghost use Rattle.graphql_spec.proofs.Sets.{directives-set, entries-set};
+ghost use Rattle.graphql_spec.specs.Types.{innermost};
+ghost use Rattle.juniper_meta.specs.MetaView.{shape_of, view_directive, view_meta};
+ghost use Rattle.juniper_syntax.specs.TypeView.{view_type};
+ghost use Rattle.juniper_meta.specs.MetaView.{own_entry};
 
-use crate::meta::{Argument, Field};
+use crate::built_ins::with_built_ins;
+use crate::names::{contains, entry, find_meta};
+use crate::type_type::{TypeType, list_of, non_null};
+use juniper_builtins::{directives, introspection_types};
+use juniper_meta::{DirectiveType, MetaType};
 use juniper_syntax::{ScalarValue, Type};
+use std::alloc::{AllocError, Global};
+use std::collections::HashMap;
+use std::convert::AsStr;
 
-/// The kinds of scalars that a scalar type accepts (3.5).
-#[derive(Clone, Copy, Debug, PartialEq, Eq)]
-pub struct ScalarKinds {
-    /// Whether it accepts an Int.
-    pub int: bool,
-    /// Whether it accepts a text.
-    pub text: bool,
-    /// Whether it accepts a boolean.
-    pub boolean: bool,
-}
-
-impl ScalarKinds {
-    /// Whether the scalar is of a kind that is accepted.
-    #[tactic(auto, using(crate::proofs::AcceptedKinds::kind_is_one), unfolding(graphql_spec::specs::Shown::shown_int, graphql_spec::specs::Shown::shown_text, graphql_spec::specs::Shown::shown_boolean))]
-    fn accept<S: ScalarValue>(self, scalar: &S) -> bool
-        ensures { result ≡ accepts_kind (view_kinds self) (S.shown scalar.now) }
-    {
-        if scalar.try_to_int().is_some() {
-            self.int
-        } else if scalar.try_to_bool().is_some() {
-            self.boolean
-        } else {
-            self.text
-        }
-    }
-}
-
-/// A scalar type: its name, and the kinds of scalars that it accepts (3.5).
+/// A schema: its types by name, the types of introspection apart, its directives, and the names of its root types (3.3).
 #[derive(Debug, Drop)]
-pub struct ScalarMeta {
-    name: String,
-    kinds: ScalarKinds,
-}
-
-impl ScalarMeta {
-    /// The scalar type of this name that accepts these kinds, without description.
-    pub fn new(name: String, kinds: ScalarKinds) -> Self
-        ensures { view_scalar result ≡ scalar_entry (string_bytes name) (view_kinds kinds) }
-    {
-        ScalarMeta { name, kinds }
-    }
-}
-
-/// A schema: one object type, which is the query type, and its scalars (3.3).
-#[derive(Debug, Drop)]
-pub struct SchemaType<S> {
-    query_name: String,
-    fields: Vec<Field<S>>,
-    scalars: Vec<ScalarMeta>,
-}
-
-/// A named type at a field, and whether it is non-null.
-#[derive(Clone, Copy, Debug)]
-pub struct LeafType<'s> {
-    /// Its name.
-    pub name: &'s str,
-    /// Whether it is non-null.
-    pub is_non_null: bool,
+pub struct SchemaType<S: ScalarValue> {
+    pub(crate) types: HashMap<String, MetaType<S>>,
+    introspection: Vec<MetaType<S>>,
+    directives: Vec<DirectiveType<S>>,
+    pub(crate) query_name: String,
+    pub(crate) mutation_name: Option<String>,
+    ghost introspected: { map (own_entry S.shown) introspection.items ≡ built.introspection_types } by { entries-set _ _ },
+    ghost directed: { map (view_directive S.shown) directives.items ≡ built.directives } by { directives-set _ _ },
 }
 
 impl<S: ScalarValue> SchemaType<S> {
-    /// The schema of the object type of this name with these fields, and of these scalars.
-    pub fn of_object(query_name: String, fields: Vec<Field<S>>, scalars: Vec<ScalarMeta>) -> Self
-        ensures { view_schema S.shown result ≡ record { entries = query_entry (string_bytes query_name) (map (view_field S.shown) fields.items) ∷ map view_scalar scalars.items; query = string_bytes query_name; mutation = None } }
+    ghost use Rattle.juniper_schema.specs.SchemaView.{AreCompleted, entry_meta, meta_named, view_entries, view_schema};
+    ghost use Rattle.juniper_schema.specs.MadeTypes.{around, concrete, view_made};
+
+    /// The schema of these types by name, with these names of the root types. `String` and `Boolean` are added where they
+    /// are absent or placeholders, `Int` and `ID` where they are placeholders (3.5); the types of introspection are kept
+    /// apart (4.2). An error where memory is refused.
+    pub fn new(
+        alloc: Global,
+        types: HashMap<String, MetaType<S>>,
+        query_name: String,
+        mutation_name: Option<String>,
+    ) -> Result<Self, AllocError>
+        ensures entries { IfOk result (λ s. AreCompleted (view_entries S.shown types) (view_schema S.shown s).entries) }
+        ensures query { IfOk result (λ s. (view_schema S.shown s).query ≡ string_bytes query_name) }
+        ensures mutation { IfOk result (λ s. (view_schema S.shown s).mutation ≡ option_map (λ n. string_bytes n) mutation_name) }
     {
-        SchemaType {
+        let types = with_built_ins(alloc, types)?;
+        let introspection = introspection_types(alloc)?;
+        let directives = directives(alloc)?;
+        Ok(SchemaType {
+            types,
+            introspection,
+            directives,
             query_name,
-            fields,
-            scalars,
+            mutation_name,
+        })
+    }
+
+    /// What is declared at this name: the entry, or the type of introspection; `None` where there is neither.
+    pub fn concrete_type_by_name(&self, name: &str) -> Option<&MetaType<S>>
+        ensures meta { option_map (λ m. view_meta S.shown m.now) result ≡ meta_named (view_schema S.shown self.now) name.now }
+        ensures shape { MatchOption result (fields.type_named (view_schema S.shown self.now) name.now ≡ None) (λ m. fields.type_named (view_schema S.shown self.now) name.now ≡ shape_of S.shown m.now) }
+    {
+        match entry(&self.types, name) {
+            Some(meta) => Some(meta),
+            None => find_meta(&self.introspection, name),
+        }
+    }
+
+    /// What is declared as the entry of this name.
+    #[tactic(auto, unfolding(graphql_spec::specs::Fields::entry_named))]
+    pub(crate) fn entry(&self, name: &str) -> Option<&MetaType<S>>
+        ensures meta { option_map (λ m. view_meta S.shown m.now) result ≡ entry_meta (view_schema S.shown self.now) name.now }
+        ensures shape { MatchOption result (fields.entry_named (view_schema S.shown self.now) name.now ≡ None) (λ m. fields.entry_named (view_schema S.shown self.now) name.now ≡ shape_of S.shown m.now) }
+    {
+        entry(&self.types, name)
+    }
+
+    /// The type of this name, nullable: the entry, or the type of introspection; `None` where there is neither.
+    pub fn type_by_name(&self, name: &str) -> Option<TypeType<'_, S>>
+        ensures { option_map (view_made S.shown) result ≡ option_map concrete (meta_named (view_schema S.shown self.now) name.now) }
+    {
+        match self.concrete_type_by_name(name) {
+            Some(meta) => Some(TypeType::Concrete(meta)),
+            None => None,
+        }
+    }
+
+    /// What is declared as the query type; `None` where nothing is (3.3.1).
+    pub fn query_type(&self) -> Option<TypeType<'_, S>>
+        ensures { option_map (view_made S.shown) result ≡ option_map concrete (entry_meta (view_schema S.shown self.now) (view_schema S.shown self.now).query) }
+    {
+        self.entry_type(self.query_name.as_str())
+    }
+
+    /// What is declared as the mutation type; `None` where the schema has none, or nothing is declared (3.3.1).
+    pub fn mutation_type(&self) -> Option<TypeType<'_, S>>
+        ensures { option_map (view_made S.shown) result ≡ option_map concrete (option_and_then (entry_meta (view_schema S.shown self.now)) (view_schema S.shown self.now).mutation) }
+    {
+        match &self.mutation_name {
+            Some(name) => self.entry_type(name.as_str()),
+            None => None,
         }
     }
 
@@ -92,144 +117,76 @@ impl<S: ScalarValue> SchemaType<S> {
         self.query_name.as_str()
     }
 
-    /// The type of a field of the query type that is served: a declared one or `__typename`.
-    pub fn field_type(&self, field_name: &str) -> Option<LeafType<'_>>
-        requires { IsTrue (has_scalar_fields (view_schema S.shown self.now)) }
-        ensures { option_map view_leaf_type result ≡ option_map (λ d. d.of_type) (served_field (view_schema S.shown self.now) field_name.now) }
+    /// Whether the first name is a subtype of the second: it is the same, or lists it as an interface, or is a member of it
+    /// (3.6, 3.7, 3.8).
+    #[tactic(auto, unfolding(graphql_spec::specs::Fields::is_named_subtype))]
+    pub fn is_named_subtype(&self, sub_name: &str, super_name: &str) -> bool
+        ensures { result ≡ fields.is_named_subtype (view_schema S.shown self.now) sub_name.now super_name.now }
     {
-        if is_introspection(field_name) {
-            return None;
-        }
-        match find_field(self.fields.as_slice(), field_name) {
-            Some(field) => leaf_of(&field.field_type),
-            None => typename_type(field_name),
+        sub_name == super_name
+            || self.lists_interface(sub_name, super_name)
+            || self.has_member(super_name, sub_name)
+    }
+
+    /// The type of a reference: what its innermost name is declared as, in its lists and non-nulls (3.4.1). An error where
+    /// memory is refused.
+    #[tactic(auto, unfolding(graphql_spec::specs::Types::innermost, crate::specs::MadeTypes::around))]
+    pub fn make_type<N: AsStr + Drop>(
+        &self,
+        alloc: Global,
+        reference: &Type<N>,
+    ) -> Result<TypeType<'_, S>, AllocError>
+        requires { IsSome (meta_named (view_schema S.shown self.now) (innermost (view_type N.text reference.now))) }
+        ensures { IfOk result (λ made. IfSome (meta_named (view_schema S.shown self.now) (innermost (view_type N.text reference.now))) (λ m. view_made S.shown made ≡ around m (view_type N.text reference.now))) }
+    {
+        match reference {
+            Type::Named(name) => Ok(self.known(name.as_str())),
+            Type::NonNullNamed(name) => non_null(alloc, self.known(name.as_str())),
+            Type::List(inner, size) => list_of(alloc, self.make_type(alloc, &**inner)?, *size),
+            Type::NonNullList(inner, size) => {
+                let inner = self.make_type(alloc, &**inner)?;
+                non_null(alloc, list_of(alloc, inner, *size)?)
+            }
         }
     }
 
-    /// The arguments that a field of the query type declares, which is a declared one or `__typename`; `None` where there is
-    /// no such field.
-    pub fn declared_arguments(&self, field_name: &str) -> Option<&[Argument<S>]>
-        ensures { option_map (λ as'. map (view_argument S.shown) as'.now) result ≡ option_map (λ d. d.arguments) (served_field (view_schema S.shown self.now) field_name.now) }
+    /// What is declared as the entry of this name, nullable.
+    fn entry_type(&self, name: &str) -> Option<TypeType<'_, S>>
+        ensures { option_map (view_made S.shown) result ≡ option_map concrete (entry_meta (view_schema S.shown self.now) name.now) }
     {
-        if is_introspection(field_name) {
-            return None;
-        }
-        match find_field(self.fields.as_slice(), field_name) {
-            Some(field) => Some(arguments_of(field)),
-            None => typename_arguments(self.fields.as_slice(), field_name),
+        match self.entry(name) {
+            Some(meta) => Some(TypeType::Concrete(meta)),
+            None => None,
         }
     }
 
-    /// Whether the scalar type of this name accepts the scalar.
-    #[tactic(auto, unfolding(graphql_spec::specs::Fields::leaf_accepts))]
-    pub fn accepts(&self, type_name: &str, scalar: &S) -> bool
-        ensures { result ≡ leaf_accepts (entry_named (view_schema S.shown self.now) type_name.now) (S.shown scalar.now) }
+    /// Whether the type of the first name lists the second as an interface.
+    #[tactic(auto, unfolding(graphql_spec::specs::Fields::interfaces_of))]
+    fn lists_interface(&self, name: &str, interface: &str) -> bool
+        ensures { result ≡ list_any (bytes_eq interface.now) (fields.interfaces_of (fields.type_named (view_schema S.shown self.now) name.now)) }
     {
-        if type_name == self.query_name.as_str() {
-            return false;
-        }
-        match find_scalar(self.scalars.as_slice(), type_name) {
-            Some(found) => found.kinds.accept(scalar),
+        match self.concrete_type_by_name(name) {
+            Some(meta) => contains(meta.interface_names(), interface),
             None => false,
         }
     }
-}
 
-/// Whether the name is that of a field of introspection.
-#[tactic(auto, unfolding(graphql_spec::specs::Rules::is_introspection))]
-fn is_introspection(field_name: &str) -> bool
-    ensures { result ≡ is_introspection field_name.now }
-{
-    field_name == "__schema" || field_name == "__type"
-}
-
-/// The type of `__typename` (4.1).
-#[tactic(auto, unfolding(graphql_spec::specs::Fields::typename_field, graphql_spec::specs::Schema::plain_field))]
-fn typename_type(field_name: &str) -> Option<LeafType<'static>>
-    ensures { option_map view_leaf_type result ≡ option_map (λ d. d.of_type) (if bytes_eq field_name.now typename then Some typename_field else None) }
-{
-    if field_name == "__typename" {
-        Some(LeafType {
-            name: "String",
-            is_non_null: true,
-        })
-    } else {
-        None
-    }
-}
-
-/// The arguments of `__typename`, of which there are none (4.1).
-#[tactic(auto, unfolding(graphql_spec::specs::Fields::typename_field, graphql_spec::specs::Schema::plain_field))]
-fn typename_arguments<'b, S: ScalarValue>(
-    fields: &'b [Field<S>],
-    field_name: &str,
-) -> Option<&'b [Argument<S>]>
-    ensures { option_map (λ as'. map (view_argument S.shown) as'.now) result ≡ option_map (λ d. d.arguments) (if bytes_eq field_name.now typename then Some typename_field else None) }
-{
-    if field_name == "__typename" {
-        Some(&[])
-    } else {
-        None
-    }
-}
-
-/// The arguments of a declared field.
-#[tactic(auto, unfolding(graphql_spec::specs::Schema::plain_field))]
-fn arguments_of<S: ScalarValue>(field: &Field<S>) -> &[Argument<S>]
-    ensures { map (view_argument S.shown) result.now ≡ (view_field S.shown field.now).arguments }
-{
-    match &field.arguments {
-        Some(arguments) => arguments.as_slice(),
-        None => no_arguments(field),
-    }
-}
-
-/// No arguments.
-fn no_arguments<S: ScalarValue>(field: &Field<S>) -> &[Argument<S>]
-    ensures { result.now ≡ [] }
-{
-    &[]
-}
-
-/// A type that is no list.
-#[tactic(auto, unfolding(graphql_spec::specs::ServedFields::as_named))]
-fn leaf_of(field_type: &Type<String>) -> Option<LeafType<'_>>
-    ensures { option_map view_leaf_type result ≡ as_named (view_type (λ n. string_bytes n) field_type.now) }
-{
-    match field_type {
-        Type::Named(name) => Some(LeafType {
-            name: name.as_str(),
-            is_non_null: false,
-        }),
-        Type::NonNullNamed(name) => Some(LeafType {
-            name: name.as_str(),
-            is_non_null: true,
-        }),
-        Type::List(_, _) => None,
-        Type::NonNullList(_, _) => None,
-    }
-}
-
-#[tactic(auto, unfolding(graphql_spec::specs::Fields::field_in, graphql_spec::specs::Schema::plain_field))]
-fn find_field<'a, S: ScalarValue>(fields: &'a [Field<S>], name: &str) -> Option<&'a Field<S>>
-    ensures { option_map (λ f. view_field S.shown f.now) result ≡ field_in (map (view_field S.shown) fields.now) name.now }
-{
-    for field in fields {
-        if name == field.name.as_str() {
-            return Some(field);
+    /// Whether the type of the first name has the second as a member.
+    #[tactic(auto, unfolding(graphql_spec::specs::Fields::members_of))]
+    fn has_member(&self, name: &str, member: &str) -> bool
+        ensures { result ≡ list_any (bytes_eq member.now) (fields.members_of (fields.type_named (view_schema S.shown self.now) name.now)) }
+    {
+        match self.concrete_type_by_name(name) {
+            Some(meta) => contains(meta.of_type_names(), member),
+            None => false,
         }
     }
-    None
-}
 
-#[tactic(auto, unfolding(graphql_spec::specs::Fields::entry_in))]
-fn find_scalar<'a>(scalars: &'a [ScalarMeta], name: &str) -> Option<&'a ScalarMeta>
-    ensures { option_map (λ m. view_scalar m.now) result ≡ entry_in (map view_scalar scalars.now) name.now }
-{
-    for scalar in scalars {
-        if name == scalar.name.as_str() {
-            return Some(scalar);
-        }
+    /// What is declared at a name that is known.
+    fn known(&self, name: &str) -> TypeType<'_, S>
+        requires { IsSome (meta_named (view_schema S.shown self.now) name.now) }
+        ensures { IfSome (meta_named (view_schema S.shown self.now) name.now) (λ m. view_made S.shown result ≡ concrete m) }
+    {
+        TypeType::Concrete(self.concrete_type_by_name(name).unwrap())
     }
-    None
 }

@@ -1,15 +1,11 @@
--- The root of the tests: what its resolver replies, and its schema.
-use Rattle.std.specs.Prelude.{ℤ, pos, ◌+ℤ◌, codes, cond, true, false, [], ◌∷◌, List, Option, Some, None}
+-- The root of the tests: what its resolver replies.
+use Rattle.std.specs.Prelude.{ℤ, pos, ◌+ℤ◌, codes, cond, Option, Some, None}
 use Rattle.std.specs.Str.{bytes_eq}
 use Rattle.graphql_spec.specs.Constants.{Constant, Members, find}
-use Rattle.graphql_spec.specs.Inputs.{scalar}
 use Rattle.graphql_spec.specs.Shown.{Name, text, int}
 use Rattle.graphql_spec.specs.Tokens.{fits_int}
-use Rattle.graphql_spec.specs.Types.{named}
-use Rattle.graphql_spec.specs.Schema.{Schema, Entry, FieldDeclaration, plain_field}
 use Rattle.graphql_spec.specs.Resolvers.{Reply, answered, failed, nothing, leaf}
 use Rattle.juniper_values.specs.Conversions.{is_null, int_of, message_alone, refusal_text}
-use Rattle.juniper_schema.specs.SchemaView.{schema_of, scalar_entry}
 
 -- 41 and a number, where the sum is an Int (3.5.1)
 abbrev pub sum_reply : {N : Type 0} → ℤ → Reply N
@@ -29,27 +25,3 @@ test_reply field arguments =
     (cond (bytes_eq field (codes "fail")) (failed (message_alone (codes "failed")))
     (cond (bytes_eq field (codes "boom")) (failed (message_alone (codes "exploded")))
     (answered nothing)))))
-
--- `number(plus: Int = 1): Int`
-abbrev pub number_field : FieldDeclaration
-number_field = plain_field (codes "number") (record { name = codes "plus"; description = None; of_type = named false (codes "Int"); default = Some (scalar (int (pos 1))) } ∷ []) (named false (codes "Int"))
-
-abbrev pub test_fields : List FieldDeclaration
-test_fields =
-    plain_field (codes "id") [] (named true (codes "String"))
-    ∷ plain_field (codes "name") [] (named true (codes "String"))
-    ∷ plain_field (codes "nothing") [] (named false (codes "String"))
-    ∷ number_field
-    ∷ plain_field (codes "fail") [] (named false (codes "Int"))
-    ∷ plain_field (codes "boom") [] (named true (codes "Int"))
-    ∷ []
-
-abbrev pub test_scalars : List Entry
-test_scalars =
-    scalar_entry (codes "String") (record { int = false; text = true; boolean = false })
-    ∷ scalar_entry (codes "Int") (record { int = true; text = false; boolean = false })
-    ∷ scalar_entry (codes "Boolean") (record { int = false; text = false; boolean = true })
-    ∷ []
-
-abbrev pub test_schema : Schema
-test_schema = schema_of (codes "Query") test_fields test_scalars

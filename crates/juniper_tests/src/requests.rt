@@ -1,7 +1,7 @@
 //! Requests, and what they are answered: data with errors, or a refusal, each with its place. Each row is tried with both
 //! types of scalars.
 
-use crate::root::{Requests, test_root};
+use crate::root::{Requests, TestRoot, list_root, test_root};
 use juniper::{ExecutionError, GraphQLError, execute_sync};
 use juniper_language::{DefaultScalarValue, Object, ScalarValue, SourcePosition, Value, Variables};
 use juniper_language_tests::scalar::TestScalar;
@@ -311,5 +311,16 @@ fn places_count_characters_and_lines(rt: HostRuntime) -> Result<(), Fail> {
         let outcome = request::<DefaultScalarValue>(alloc, text, None, &mut context)?;
         assert_eq!(rt; first_place(&outcome), Some(*place), "{text}");
     }
+    Ok(())
+}
+
+#[test]
+fn nothing_is_served_on_a_query_type_with_a_list(rt: HostRuntime) -> Result<(), Fail> {
+    let alloc = rt.alloc();
+    let root: TestRoot<DefaultScalarValue> = list_root(alloc)?;
+    let variables = Variables::new(alloc);
+    let mut context = Requests { count: 7 };
+    let outcome = execute_sync(alloc, " { id }", None, &root, &variables, &mut context);
+    assert_eq!(rt; shown(alloc, &outcome)?.as_str(), "Not supported yet@1");
     Ok(())
 }

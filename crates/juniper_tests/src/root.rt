@@ -1,23 +1,22 @@
 //! A root with fields that are answered, are null, or fail, and one that has an argument.
 
-ghost use Rattle.std.specs.Prelude.{◌≡◌, Some, IfOk, codes, map, string_bytes, []};
+ghost use Rattle.std.specs.Prelude.{Some, codes};
 ghost use Rattle.graphql_spec.specs.Constants.{find};
 ghost use Rattle.graphql_spec.specs.Resolvers.{failed};
-ghost use Rattle.graphql_spec.specs.Schema.{plain_field};
 ghost use Rattle.juniper_values.specs.Conversions.{message_alone};
-ghost use Rattle.juniper_syntax.specs.TypeView.{view_type};
 ghost use Rattle.juniper_values.specs.ArgumentView.{view_arguments};
 ghost use Rattle.juniper_types.specs.ResolvedView.{Answers};
-ghost use Rattle.juniper_schema.specs.SchemaView.{view_schema, view_field, view_scalar, view_kinds, scalar_entry};
-ghost use Rattle.juniper_tests.specs.TestRoot.{number_field, number_reply, sum_reply, test_reply, test_fields, test_scalars, test_schema};
+ghost use Rattle.juniper_tests.specs.TestRoot.{number_reply, sum_reply, test_reply};
 
-use juniper::meta::{Argument, Field};
+use juniper::meta::{Argument, Field, MetaType, ObjectMeta};
 use juniper::{
     Arguments, EmptyMutation, EmptySubscription, Executor, FieldError, GraphQLType, GraphQLValue,
-    ResolveError, Resolved, RootNode, ScalarKinds, ScalarMeta, SchemaType,
+    ResolveError, Resolved, RootNode, SchemaType, schema_is_executable,
 };
+use juniper_builtins::int_scalar;
 use juniper_language::{InputValue, ScalarValue, Type, Value};
 use std::alloc::{AllocError, Global};
+use std::collections::HashMap;
 
 /// How many requests were made: a context that nothing changes.
 #[derive(Clone, Copy, Debug, PartialEq, Eq)]
@@ -130,112 +129,90 @@ pub type TestRoot<S> = RootNode<
     S,
 >;
 
-/// A new root; an error where memory is refused.
-#[tactic(auto, using(crate::proofs::ServedTests::test_is_served))]
+/// A new root; an error where memory is refused, or where its schema is not executable.
 pub fn test_root<S: ScalarValue>(alloc: Global) -> Result<TestRoot<S>, AllocError> {
+    root_with(alloc, query_fields(alloc)?)
+}
+
+/// A root whose query type has a field `list: [Int]` too; an error as for the other.
+pub fn list_root<S: ScalarValue>(alloc: Global) -> Result<TestRoot<S>, AllocError> {
+    let mut fields = query_fields(alloc)?;
+    let list = optional(alloc, "Int")?.wrap_list(alloc, None)?;
+    fields.push(field(alloc, "list", list)?)?;
+    root_with(alloc, fields)
+}
+
+fn root_with<S: ScalarValue>(
+    alloc: Global,
+    fields: Vec<Field<S>>,
+) -> Result<TestRoot<S>, AllocError> {
+    let schema = schema(alloc, fields)?;
+    if !schema_is_executable(&schema) {
+        return Err(AllocError);
+    }
     Ok(RootNode::of_parts(
         TestQuery { root: () },
         EmptyMutation::new(),
         EmptySubscription::default(),
-        schema(alloc)?,
+        schema,
         (),
         (),
         (),
     ))
 }
 
-fn schema<S: ScalarValue>(alloc: Global) -> Result<SchemaType<S>, AllocError>
-    ensures { IfOk result (λ s. view_schema S.shown s ≡ test_schema) }
-{
-    let name = String::from_str(alloc, "Query")?;
-    Ok(SchemaType::of_object(name, query_fields(alloc)?, scalars(alloc)?))
+fn schema<S: ScalarValue>(
+    alloc: Global,
+    fields: Vec<Field<S>>,
+) -> Result<SchemaType<S>, AllocError> {
+    let mut types = HashMap::new(alloc);
+    let query = String::from_str(alloc, "Query")?;
+    drop(types.insert(query, query_type(alloc, fields)?)?);
+    let int = String::from_str(alloc, "Int")?;
+    drop(types.insert(int, int_scalar(alloc)?)?);
+    SchemaType::new(alloc, types, String::from_str(alloc, "Query")?, None)
 }
 
-fn query_fields<S: ScalarValue>(alloc: Global) -> Result<Vec<Field<S>>, AllocError>
-    ensures { IfOk result (λ fields. map (view_field S.shown) fields.items ≡ test_fields) }
-{
+fn query_type<S: ScalarValue>(
+    alloc: Global,
+    fields: Vec<Field<S>>,
+) -> Result<MetaType<S>, AllocError> {
+    let name = String::from_str(alloc, "Query")?;
+    Ok(ObjectMeta::new(alloc, name, fields).into_meta())
+}
+
+fn query_fields<S: ScalarValue>(alloc: Global) -> Result<Vec<Field<S>>, AllocError> {
     Ok(vec![in alloc;
-        field(
-            alloc,
-            "id",
-            Type::NonNullNamed(String::from_str(alloc, "String")?)
-        )?,
-        field(
-            alloc,
-            "name",
-            Type::NonNullNamed(String::from_str(alloc, "String")?)
-        )?,
-        field(
-            alloc,
-            "nothing",
-            Type::Named(String::from_str(alloc, "String")?)
-        )?,
+        field(alloc, "id", required(alloc, "String")?)?,
+        field(alloc, "name", required(alloc, "String")?)?,
+        field(alloc, "nothing", optional(alloc, "String")?)?,
         number_field(alloc)?,
-        field(alloc, "fail", Type::Named(String::from_str(alloc, "Int")?))?,
-        field(
-            alloc,
-            "boom",
-            Type::NonNullNamed(String::from_str(alloc, "Int")?)
-        )?,
+        field(alloc, "fail", optional(alloc, "Int")?)?,
+        field(alloc, "boom", required(alloc, "Int")?)?,
     ]?)
+}
+
+fn required(alloc: Global, name: &str) -> Result<Type<String>, AllocError> {
+    Ok(Type::NonNullNamed(String::from_str(alloc, name)?))
+}
+
+fn optional(alloc: Global, name: &str) -> Result<Type<String>, AllocError> {
+    Ok(Type::Named(String::from_str(alloc, name)?))
 }
 
 fn field<S: ScalarValue>(
     alloc: Global,
     name: &str,
     field_type: Type<String>,
-) -> Result<Field<S>, AllocError>
-    ensures { IfOk result (λ f. view_field S.shown f ≡ plain_field name.now [] (view_type (λ n. string_bytes n) field_type)) }
-{
+) -> Result<Field<S>, AllocError> {
     Ok(Field::new(String::from_str(alloc, name)?, field_type))
 }
 
-/// The field with its argument.
-#[tactic(auto, unfolding(graphql_spec::specs::Schema::plain_field, graphql_spec::specs::Schema::plain_input))]
-fn number_field<S: ScalarValue>(alloc: Global) -> Result<Field<S>, AllocError>
-    ensures { IfOk result (λ f. view_field S.shown f ≡ number_field) }
-{
+/// `number(plus: Int = 1): Int`.
+fn number_field<S: ScalarValue>(alloc: Global) -> Result<Field<S>, AllocError> {
     let name = String::from_str(alloc, "plus")?;
-    let plus = Argument::new(name, Type::Named(String::from_str(alloc, "Int")?)).default_value(
-        InputValue::Scalar(S::from_int(1)),
-    );
-    let number: Field<S> = field(
-        alloc,
-        "number",
-        Type::Named(String::from_str(alloc, "Int")?),
-    )?;
-    Ok(number.argument(alloc, plus)?)
-}
-
-fn scalars(alloc: Global) -> Result<Vec<ScalarMeta>, AllocError>
-    ensures { IfOk result (λ scalars. map view_scalar scalars.items ≡ test_scalars) }
-{
-    let nothing = ScalarKinds {
-        int: false,
-        text: false,
-        boolean: false,
-    };
-    let text = ScalarKinds {
-        text: true,
-        ..nothing
-    };
-    let int = ScalarKinds {
-        int: true,
-        ..nothing
-    };
-    let boolean = ScalarKinds {
-        boolean: true,
-        ..nothing
-    };
-    Ok(vec![in alloc;
-        scalar(alloc, "String", text)?,
-        scalar(alloc, "Int", int)?,
-        scalar(alloc, "Boolean", boolean)?,
-    ]?)
-}
-
-fn scalar(alloc: Global, name: &str, kinds: ScalarKinds) -> Result<ScalarMeta, AllocError>
-    ensures { IfOk result (λ s. view_scalar s ≡ scalar_entry name.now (view_kinds kinds)) }
-{
-    Ok(ScalarMeta::new(String::from_str(alloc, name)?, kinds))
+    let default = InputValue::Scalar(S::from_int(1));
+    let plus = Argument::new(name, optional(alloc, "Int")?).default_value(default);
+    let number: Field<S> = field(alloc, "number", optional(alloc, "Int")?)?;
+    number.argument(alloc, plus)
 }

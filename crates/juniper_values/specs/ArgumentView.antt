@@ -13,9 +13,9 @@ use Rattle.juniper_position.specs.declared.position.Spanning.{Spanning}
 use Rattle.juniper_values.specs.ErrorView.{view_error}
 use Rattle.juniper_values.specs.declared.field_error.ResolveError.{ResolveError}
 use Rattle.juniper_values.specs.declared.field_error.ResolveError.TheVariants.{Field, Memory}
-use Rattle.juniper_schema.specs.SchemaView.{view_argument}
+use Rattle.juniper_meta.specs.MetaView.{view_argument}
 use Rattle.juniper_values.specs.declared.arguments.Arguments.{Arguments}
-use Rattle.juniper_schema.specs.declared.meta.Argument.{Argument}
+use Rattle.juniper_meta.specs.declared.declaration.Argument.{Argument}
 
 -- an argument with its place
 abbrev pub Placed : Type 0 → Type 0

@@ -7,14 +7,10 @@ use Rattle.juniper_values.specs.ErrorView.{view_listed}
 use Rattle.juniper.specs.RequestErrors.{view_request_error, unknown_operation}
 use Rattle.juniper_schema.specs.SchemaView.{view_schema}
 use Rattle.juniper.specs.Walking.{world_in}
-use Rattle.juniper.proofs.ServedTypes.{served-executable}
 use Rattle.juniper_syntax.proofs.Lists.{none-seen, some-seen}
 use Rattle.juniper_rules.proofs.ServedDocuments.{only-is-plain}
-use Rattle.juniper.proofs.Outcomes.{refuses-invalid, refuses-unserved, refuses-named, runs-alone, nothing-found, is-named, is-unnamed}
+use Rattle.juniper.proofs.Outcomes.{refuses-invalid, refuses-unserved, refuses-named, runs-alone, served-fields-alone, nothing-found, is-named, is-unnamed}
 use Rattle.juniper.proofs.execute.execute_document.Goals as goal
-
-pub validate-requires : goal.validate-requires
-validate-requires g c = served-executable (view_schema g.S.ScalarValue.shown c.args.root_node.now.schema) c.args.root_node.now.served
 
 pub returns-then-not-is_empty : goal.returns-then-not-is_empty
 returns-then-not-is_empty g c =
@@ -46,6 +42,12 @@ pub execute_query-requires-clause-plain : goal.execute_query-requires-clause-pla
 execute_query-requires-clause-plain g c =
     let shown = g.S.ScalarValue.shown in
     only-is-plain (view_document shown c.args.document.now) (view_operation shown c.in-Some.operation.now) c.in-Some.ensures.0 c.in-Some.ensures.1
+
+pub execute_query-requires-clause-served : goal.execute_query-requires-clause-served
+execute_query-requires-clause-served g c =
+    let shown = g.S.ScalarValue.shown in
+    served-fields-alone (view_schema shown c.args.root_node.now.schema) (view_document shown c.args.document.now) (view_operation shown c.in-Some.operation.now) c.in-Some.ensures.1
+    (sym c.in_ok-errors.ensures ∙ none-seen view_rule_error c.in_ok-errors.errors.items c.in_ok-errors.errors.len c.in_ok-errors.errors.ok.0 c.if-not-is_empty.ensures)
 
 pub execute_query-requires-clause-valid : goal.execute_query-requires-clause-valid
 execute_query-requires-clause-valid g c =

@@ -1,4 +1,4 @@
-use Rattle.std.proofs.Common.{map, string_bytes, [], ◌∷◌}
+use Rattle.std.proofs.Common.{map, [], ◌∷◌}
 use Rattle.graphql_spec.specs.Documents.{operation, fragments}
 use Rattle.graphql_spec.specs.Directives.{passes}
 use Rattle.graphql_spec.specs.Requests.{selected}
@@ -7,11 +7,12 @@ use Rattle.juniper_syntax.specs.DocumentView.{view_operation}
 use Rattle.juniper_syntax.specs.ValueView.{view_value}
 use Rattle.juniper_values.specs.ErrorView.{view_listed}
 use Rattle.juniper_rules.specs.Occurrences.{view_occurrence}
-use Rattle.juniper_schema.specs.SchemaView.{view_schema, view_field, view_scalar, view_kinds}
+use Rattle.juniper_schema.specs.SchemaView.{view_schema}
 use Rattle.juniper.specs.Walking.{world_in}
 use Rattle.juniper_rules.proofs.PlainErrors.{plain-parts, plain-fields, found-nothing}
 use Rattle.juniper.proofs.PlainExecution.{served-fields, fields-agree, fields-answer, world-sees-alike}
-use Rattle.juniper_rules.proofs.ServedScalars.{executable-built, takes-as-entry, scalar-is-plain}
+use Rattle.graphql_spec.proofs.FlatSchemas.{built}
+use Rattle.graphql_spec.proofs.ServedFields.{served}
 use Rattle.juniper.proofs.ServedTypes.{served-executable}
 use Rattle.juniper.proofs.execute.walk_query.Goals as goal
 
@@ -24,8 +25,7 @@ object-requires-clause-served g c =
     let s = view_schema shown types in
     let plain = plain-fields o c.requires.plain in
     let executable = served-executable s c.requires.schema in
-    let valid = found-nothing s (executable-built s executable) (takes-as-entry view_scalar (string_bytes types.query_name) (map (view_field shown) types.fields.items) types.scalars.items (λ m. scalar-is-plain (string_bytes m.name) (view_kinds m.kinds)))
-    o (plain-parts o c.requires.plain) c.requires.valid in
+    let valid = found-nothing s (built s (served s executable).built) o (plain-parts o c.requires.plain) c.requires.valid in
     served-fields (λ f. view_occurrence shown f.now) c.in_ok-occurrences.occurrences.fields.items (passes (view_variables shown walk.variables.now)) o.selections (rw c.as_slice-selections.ensures.value at c.in_ok-occurrences.ensures) plain s valid.served
 
 pub object-requires-clause-agree : goal.object-requires-clause-agree
@@ -38,10 +38,9 @@ object-requires-clause-agree g c =
     let s = view_schema shown types in
     let W = world_in g.Q.GraphQLValue.concrete g.Q.GraphQLValue.answer walk.resolver.now walk.info.now walk.context.now s vars in
     let executable = served-executable s c.requires.schema in
-    let valid = found-nothing s (executable-built s executable) (takes-as-entry view_scalar (string_bytes types.query_name) (map (view_field shown) types.fields.items) types.scalars.items (λ m. scalar-is-plain (string_bytes m.name) (view_kinds m.kinds)))
-    o (plain-parts o c.requires.plain) c.requires.valid in
+    let valid = found-nothing s (built s (served s executable).built) o (plain-parts o c.requires.plain) c.requires.valid in
     fields-agree (λ f. view_occurrence shown f.now) c.in_ok-occurrences.occurrences.fields.items (passes vars) o.selections (rw c.as_slice-selections.ensures.value at c.in_ok-occurrences.ensures) (plain-fields o c.requires.plain)
-    W (string_bytes types.query_name) s (world-sees-alike s vars (g.Q.GraphQLValue.concrete walk.resolver.now walk.info.now walk.context.now) (g.Q.GraphQLValue.answer walk.resolver.now walk.info.now walk.context.now) (string_bytes types.query_name)) valid
+    W (view_schema shown types).query s (world-sees-alike s vars (g.Q.GraphQLValue.concrete walk.resolver.now walk.info.now walk.context.now) (g.Q.GraphQLValue.answer walk.resolver.now walk.info.now walk.context.now) (view_schema shown types).query) valid
 
 pub returns : goal.returns
 unfolding selected
@@ -53,6 +52,6 @@ returns g c =
     let o = view_operation shown c.args.operation.now in
     let W = world_in g.Q.GraphQLValue.concrete g.Q.GraphQLValue.answer walk.resolver.now walk.info.now walk.context.now (view_schema shown types) vars in
     fields-answer (λ f. view_occurrence shown f.now) c.in_ok-occurrences.occurrences.fields.items (passes vars) o.selections (rw c.as_slice-selections.ensures.value at c.in_ok-occurrences.ensures) (plain-fields o c.requires.plain)
-    W (string_bytes types.query_name) (g.Q.GraphQLValue.root walk.resolver.now) (fragments (operation o ∷ []))
+    W (view_schema shown types).query (g.Q.GraphQLValue.root walk.resolver.now) (fragments (operation o ∷ []))
     (view_value shown c.in_ok-data.data) (map (view_listed shown) c.in_ok-data.errors.items) (map (view_listed shown) c.sort_errors.new.errors.items)
     (rw c.root_node.ensures at c.in_ok-data.ensures) c.in_ok-sort_errors.ensures.counted c.in_ok-sort_errors.ensures.sorted

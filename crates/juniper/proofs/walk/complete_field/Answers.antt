@@ -6,14 +6,15 @@ use Rattle.juniper_syntax.proofs.Values.{view-Null}
 use Rattle.juniper_values.specs.ErrorView.{view_error}
 use Rattle.juniper_rules.specs.Occurrences.{view_occurrence}
 use Rattle.juniper_types.specs.ResolvedView.{view_resolved}
-use Rattle.juniper_schema.specs.SchemaView.{view_schema, view_leaf_type}
+use Rattle.juniper_schema.specs.ServedView.{view_leaf_type}
+use Rattle.juniper_schema.specs.SchemaView.{view_schema}
 use Rattle.juniper.specs.Walking.{world_in}
 use Rattle.juniper.proofs.FieldCompletion.{completed-answer, completed-error}
-use Rattle.juniper.proofs.ServedTypes.{served-schema-fields, not-missing, type-found}
+use Rattle.juniper.proofs.ServedTypes.{not-missing, type-found}
 use Rattle.juniper.proofs.walk.complete_field.Goals as goal
 
 pub field_type-requires : goal.field_type-requires
-field_type-requires g c = served-schema-fields (view_schema g.S.ScalarValue.shown c.args.walk.now.schema.now) c.requires.schema
+field_type-requires g c = c.requires.schema
 
 pub unreachable-requires : goal.unreachable-requires
 unreachable-requires g c = not-missing (view_schema g.S.ScalarValue.shown c.args.walk.now.schema.now) (view_occurrence g.S.ScalarValue.shown c.args.field.now).head c.requires.served c.in_default.ensures

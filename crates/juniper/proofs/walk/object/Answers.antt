@@ -1,18 +1,17 @@
-use Rattle.std.proofs.Common.{◌<◌, length, arith, map, string_bytes, refl, sym, ap, ◌∙◌, option_map}
+use Rattle.std.proofs.Common.{◌<◌, length, arith, map, refl, sym, ap, ◌∙◌, option_map}
 use Rattle.graphql_spec.specs.Values.{object, keys_differ}
-use Rattle.graphql_spec.specs.Schema.{plain_field}
 use Rattle.juniper_syntax.specs.InputView.{view_variables}
 use Rattle.juniper_syntax.specs.ValueView.{view_value, view_object}
 use Rattle.juniper_syntax.proofs.Values.{view-Null, view-Object}
 use Rattle.juniper_values.specs.ErrorView.{view_error, view_listed}
 use Rattle.juniper_rules.specs.Occurrences.{view_occurrence}
-use Rattle.juniper_schema.specs.SchemaView.{view_schema, view_field, view_scalar, view_kinds}
+use Rattle.juniper_schema.specs.SchemaView.{view_schema}
 use Rattle.graphql_spec.specs.ServedFields.{is_served_head}
 use Rattle.juniper.specs.Walking.{world_in}
 use Rattle.juniper_syntax.proofs.Lists.{all-at}
 use Rattle.juniper.proofs.Settling.{settled-differs}
 use Rattle.juniper.proofs.Steps.{none-walked, step-on, step-stop, all-walked}
-use Rattle.juniper.proofs.ServedTypes.{served-world, seen-lists-none, seen-scalar-lists-none}
+use Rattle.juniper.proofs.ServedTypes.{served-world}
 use Rattle.juniper.proofs.walk.object.Goals as goal
 
 pub loop-i-init : goal.loop-i-init
@@ -23,7 +22,7 @@ loop-i-init g c =
     let s = walk.schema.now in
     let W = world_in g.Q.GraphQLValue.concrete g.Q.GraphQLValue.answer walk.resolver.now walk.info.now walk.context.now (view_schema shown s) (view_variables shown walk.variables.now) in
     record {
-      walked = rw (c.in_ok-data.ensures, c.new-errors.ensures.items) (none-walked W (string_bytes s.query_name) c.args.node.now);
+      walked = rw (c.in_ok-data.ensures, c.new-errors.ensures.items) (none-walked W (view_schema shown s).query c.args.node.now);
       differ = rw c.in_ok-data.ensures refl;
     }
 
@@ -34,7 +33,6 @@ complete_field-requires-clause-served g c =
     all-at (λ f. is_served_head (view_schema shown c.args.walk.now.schema.now) (view_occurrence shown f.now).head) c.args.occurrences.now.fields.items c.loop-i.i c.index-field.result.now c.requires.served below c.index-field.ensures
 
 pub returns-then-rises : goal.returns-then-rises
-unfolding plain_field
 returns-then-rises g c =
     let shown = g.S.ScalarValue.shown in
     let below : c.loop-i.i < length c.args.occurrences.now.fields.items = omega (arith, c.len-i-end.ensures, c.args.occurrences.now.fields.ok.0) in
@@ -42,8 +40,7 @@ returns-then-rises g c =
     let s = walk.schema.now in
     let vars = view_variables shown walk.variables.now in
     let W = world_in g.Q.GraphQLValue.concrete g.Q.GraphQLValue.answer walk.resolver.now walk.info.now walk.context.now (view_schema shown s) vars in
-    let world = served-world g.Q.GraphQLValue.concrete g.Q.GraphQLValue.answer walk.resolver.now walk.info.now walk.context.now (string_bytes s.query_name) (map (view_field shown) s.fields.items) (map view_scalar s.scalars.items) vars c.requires.schema
-    (seen-lists-none (string_bytes s.query_name) (map (view_field shown) s.fields.items) view_scalar s.scalars.items (λ m. seen-scalar-lists-none (string_bytes m.name) (view_kinds m.kinds))) in
+    let world = served-world g.Q.GraphQLValue.concrete g.Q.GraphQLValue.answer walk.resolver.now walk.info.now walk.context.now (view_schema shown s) vars c.requires.schema in
     let served = all-at (λ f. is_served_head (view_schema shown s) (view_occurrence shown f.now).head) c.args.occurrences.now.fields.items c.loop-i.i c.index-field.result.now c.requires.served below c.index-field.ensures in
     let d = c.in_ok-done.done in
     rw (view-Null shown, c.in_ok-list_error.ensures)
@@ -52,7 +49,6 @@ returns-then-rises g c =
     (sym c.if-rises.ensures))
 
 pub loop-i-preserved : goal.loop-i-preserved
-unfolding plain_field
 loop-i-preserved g c =
     let shown = g.S.ScalarValue.shown in
     let below : c.loop-i.i < length c.args.occurrences.now.fields.items = omega (arith, c.len-i-end.ensures, c.args.occurrences.now.fields.ok.0) in
@@ -60,8 +56,7 @@ loop-i-preserved g c =
     let s = walk.schema.now in
     let vars = view_variables shown walk.variables.now in
     let W = world_in g.Q.GraphQLValue.concrete g.Q.GraphQLValue.answer walk.resolver.now walk.info.now walk.context.now (view_schema shown s) vars in
-    let world = served-world g.Q.GraphQLValue.concrete g.Q.GraphQLValue.answer walk.resolver.now walk.info.now walk.context.now (string_bytes s.query_name) (map (view_field shown) s.fields.items) (map view_scalar s.scalars.items) vars c.requires.schema
-    (seen-lists-none (string_bytes s.query_name) (map (view_field shown) s.fields.items) view_scalar s.scalars.items (λ m. seen-scalar-lists-none (string_bytes m.name) (view_kinds m.kinds))) in
+    let world = served-world g.Q.GraphQLValue.concrete g.Q.GraphQLValue.answer walk.resolver.now walk.info.now walk.context.now (view_schema shown s) vars c.requires.schema in
     let served = all-at (λ f. is_served_head (view_schema shown s) (view_occurrence shown f.now).head) c.args.occurrences.now.fields.items c.loop-i.i c.index-field.result.now c.requires.served below c.index-field.ensures in
     let d = c.in_ok-done.done in
     let es = view_object shown c.loop-i.data in
@@ -80,5 +75,5 @@ returns g c =
     let s = walk.schema.now in
     let W = world_in g.Q.GraphQLValue.concrete g.Q.GraphQLValue.answer walk.resolver.now walk.info.now walk.context.now (view_schema shown s) (view_variables shown walk.variables.now) in
     rw (view-Object shown c.loop-i.data)
-    (all-walked W (string_bytes s.query_name) c.args.node.now (λ f. view_occurrence shown f.now) c.args.occurrences.now.fields.items c.loop-i.i (object (view_object shown c.loop-i.data)) (map (view_listed shown) c.loop-i.errors.items)
+    (all-walked W (view_schema shown s).query c.args.node.now (λ f. view_occurrence shown f.now) c.args.occurrences.now.fields.items c.loop-i.i (object (view_object shown c.loop-i.data)) (map (view_listed shown) c.loop-i.errors.items)
     (omega (arith, c.len-i-end.ensures, c.args.occurrences.now.fields.ok.0)) c.loop-i.invariant.walked)

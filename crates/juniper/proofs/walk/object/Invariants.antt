@@ -1,4 +1,4 @@
-use Rattle.std.proofs.Common.{◌≡◌, true, take, map, string_bytes}
+use Rattle.std.proofs.Common.{◌≡◌, true, take, map}
 use Rattle.graphql_spec.specs.Values.{object, keys_differ}
 use Rattle.juniper_syntax.specs.InputView.{view_variables}
 use Rattle.juniper_syntax.specs.ValueView.{view_object}
@@ -14,6 +14,6 @@ invariant-loop-i g l =
     let shown = g.S.ScalarValue.shown in
     record {
       walked : IsWalked (world_in g.Q.GraphQLValue.concrete g.Q.GraphQLValue.answer l.walk.resolver.now l.walk.info.now l.walk.context.now (view_schema shown l.walk.schema.now) (view_variables shown l.walk.variables.now))
-          (string_bytes l.walk.schema.now.query_name) l.node (map (λ f. view_occurrence shown f.now) (take l.i l.occurrences.fields.items)) (object (view_object shown l.data)) (map (view_listed shown) l.errors.items);
+          (view_schema shown l.walk.schema.now).query l.node (map (λ f. view_occurrence shown f.now) (take l.i l.occurrences.fields.items)) (object (view_object shown l.data)) (map (view_listed shown) l.errors.items);
       differ : keys_differ (view_object shown l.data) ≡ true;
     }

@@ -1,6 +1,6 @@
 use Rattle.std.proofs.Common.{◌≡◌, drop, map}
 use Rattle.graphql_spec.specs.Fields.{declaration_in}
-use Rattle.juniper_schema.specs.SchemaView.{view_argument}
+use Rattle.juniper_meta.specs.MetaView.{view_argument}
 use Rattle.juniper_rules.proofs.calls.declared_argument.Given as goal
 
 -- what is left decides

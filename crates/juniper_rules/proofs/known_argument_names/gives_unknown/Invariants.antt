@@ -4,7 +4,7 @@ use Rattle.std.specs.Option.{is_none}
 use Rattle.std.specs.List.{list_any}
 use Rattle.graphql_spec.specs.Fields.{declaration_in}
 use Rattle.juniper_syntax.specs.DocumentView.{view_argument as view_given}
-use Rattle.juniper_schema.specs.SchemaView.{view_argument}
+use Rattle.juniper_meta.specs.MetaView.{view_argument}
 use Rattle.juniper_rules.proofs.known_argument_names.gives_unknown.Given as goal
 
 -- what is left decides

@@ -4,7 +4,7 @@ use Rattle.std.specs.List.{list_any}
 use Rattle.std.specs.Str.{bytes_eq}
 use Rattle.graphql_spec.specs.Rules.{must_be_written}
 use Rattle.juniper_syntax.specs.DocumentView.{view_argument as view_given}
-use Rattle.juniper_schema.specs.SchemaView.{view_argument}
+use Rattle.juniper_meta.specs.MetaView.{view_argument}
 use Rattle.juniper_rules.proofs.provided_non_null_arguments.gives_too_few.Given as goal
 
 -- what is left decides

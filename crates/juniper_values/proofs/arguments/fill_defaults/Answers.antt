@@ -3,7 +3,7 @@ use Rattle.std.proofs.lemmas.List.{take_more, map-append}
 use Rattle.graphql_spec.specs.Arguments.{with_defaults, put_default}
 use Rattle.graphql_spec.proofs.Given.{defaults-more}
 use Rattle.juniper_values.specs.ArgumentView.{members_of}
-use Rattle.juniper_schema.specs.SchemaView.{view_argument}
+use Rattle.juniper_meta.specs.MetaView.{view_argument}
 use Rattle.juniper_values.proofs.arguments.fill_defaults.Goals as goal
 
 pub loop-argument-preserved : goal.loop-argument-preserved

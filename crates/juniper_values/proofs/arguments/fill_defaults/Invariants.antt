@@ -1,7 +1,7 @@
 use Rattle.std.proofs.Common.{◌≡◌, map, take}
 use Rattle.graphql_spec.specs.Arguments.{with_defaults}
 use Rattle.juniper_values.specs.ArgumentView.{members_of}
-use Rattle.juniper_schema.specs.SchemaView.{view_argument}
+use Rattle.juniper_meta.specs.MetaView.{view_argument}
 use Rattle.juniper_values.proofs.arguments.fill_defaults.Given as goal
 
 abbrev pub invariant-loop-argument : goal.invariant-loop-argument

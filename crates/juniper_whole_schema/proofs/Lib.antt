@@ -1,6 +1,0 @@
-pub mod Lookups
-pub mod Fitting
-pub mod BuiltIns
-pub mod ServedFields
-pub mod Executables
-pub mod TypeLevels

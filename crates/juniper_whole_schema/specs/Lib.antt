@@ -1,5 +1,0 @@
-pub mod SchemaView
-pub mod MadeTypes
-pub mod ServedView
-pub mod Fitting
-pub mod EntryTests
