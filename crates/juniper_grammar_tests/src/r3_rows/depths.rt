@@ -23,20 +23,34 @@ fn tower(alloc: Global, parts: Tower<'_>, count: usize) -> Result<String, AllocE
     Ok(text)
 }
 
-/// The selections of the first definition; none where there is none.
+/// The selections of the first definition.
 fn first_set<'d, 'a>(
     document: &'d Document<'a, DefaultScalarValue>,
-) -> &'d [Selection<'a, DefaultScalarValue>] {
-    match document.first() {
-        Some(Definition::Operation(operation)) => operation.item.selection_set.as_slice(),
-        Some(Definition::Fragment(fragment)) => fragment.item.selection_set.as_slice(),
-        None => &[],
+) -> Option<&'d [Selection<'a, DefaultScalarValue>]> {
+    match document.first()? {
+        Definition::Operation(operation) => Some(operation.item.selection_set.as_slice()),
+        Definition::Fragment(fragment) => Some(fragment.item.selection_set.as_slice()),
+    }
+}
+
+/// How many selections the first definition has.
+fn width(document: &Document<'_, DefaultScalarValue>) -> usize {
+    match first_set(document) {
+        None => 0,
+        Some(set) => set.len(),
     }
 }
 
 /// How many selection sets stand inside of one another, from the first definition on.
 fn levels(document: &Document<'_, DefaultScalarValue>) -> usize {
-    let mut set = first_set(document);
+    match first_set(document) {
+        None => 0,
+        Some(set) => set_levels(set),
+    }
+}
+
+fn set_levels(first: &[Selection<'_, DefaultScalarValue>]) -> usize {
+    let mut set = first;
     for level in 1..1000 {
         match set.first() {
             Some(Selection::Field(field)) => match &field.item.selection_set {
@@ -132,7 +146,7 @@ fn depth(document: &Document<'_, DefaultScalarValue>) -> usize {
 /// How many levels the text's first definition has, and how many selections.
 fn measures(alloc: Global, text: &str) -> (usize, usize) {
     match parse_document_source::<DefaultScalarValue>(alloc, text) {
-        Ok(document) => (depth(&document), first_set(&document).len()),
+        Ok(document) => (depth(&document), width(&document)),
         Err(_) => (0, 0),
     }
 }
