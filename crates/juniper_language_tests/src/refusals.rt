@@ -257,11 +257,14 @@ fn unknown_escapes_are_refused(rt: HostRuntime) {
     }
 }
 
+fn is_copied(alloc: Global, error: &ParseError) -> Result<bool, AllocError> {
+    Ok(error.try_clone(alloc)? == *error)
+}
+
 /// Whether the error is shown so, and its copy is the same.
 fn is_shown(alloc: Global, error: &ParseError, text: &str) -> Result<bool, AllocError> {
-    let copy = error.try_clone(alloc)?;
-    let shown = format!(in alloc; "{error}")?;
-    Ok(shown.as_str() == text && copy == *error)
+    let shown = error.to_string(alloc)?;
+    Ok(shown.as_str() == text && is_copied(alloc, error)?)
 }
 
 fn kind_is_shown(alloc: Global, kind: Kind, text: &str) -> Result<bool, AllocError> {

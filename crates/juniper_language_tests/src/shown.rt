@@ -12,8 +12,8 @@ fn writes_text<S: ScalarValue>(
     text: &str,
     written: &str,
 ) -> Result<bool, AllocError> {
-    let value = InputValue::Scalar(S::from_text(String::from_str(alloc, text)?)?);
-    Ok(value.to_string(alloc)?.as_str() == written)
+    let scalar = S::from_text(String::from_str(alloc, text)?)?;
+    writes_own(alloc, InputValue::Scalar(scalar), written)
 }
 
 /// Texts, and how they are written.
