@@ -9,6 +9,7 @@ mod outline;
 mod places;
 mod punctuators;
 mod rows;
+mod tables;
 mod texts;
 mod variables;
 mod words;

@@ -47,10 +47,11 @@ fn two_variables(alloc: Global) -> Result<Input, AllocError> {
     list(alloc, known, variable(alloc, "b")?)
 }
 
-/// Whether a value becomes a list of 1 and null.
-fn item_becomes_null(alloc: Global, given: &Input) -> Result<bool, AllocError> {
-    let wanted = list(alloc, int(1), InputValue::Null)?;
-    becomes(alloc, given, &Some(wanted))
+/// An item without value is null.
+fn an_item_becomes_null(alloc: Global) -> Result<bool, AllocError> {
+    let given = two_variables(alloc)?;
+    let wanted = Some(list(alloc, int(1), InputValue::Null)?);
+    Ok(!given.is_const() && becomes(alloc, &given, &wanted)?)
 }
 
 /// Whether an object with one field, which is the variable, becomes that one.
@@ -59,9 +60,24 @@ fn object_becomes(alloc: Global, name: &str, wanted: Input) -> Result<bool, Allo
     becomes(alloc, &given, &Some(wanted))
 }
 
-fn is_copied(alloc: Global, given: &Input) -> Result<bool, AllocError> {
+/// A field with a value has it.
+fn a_field_becomes_one(alloc: Global) -> Result<bool, AllocError> {
+    object_becomes(alloc, "a", object(alloc, "x", int(1))?)
+}
+
+/// A field without value is absent.
+fn a_field_becomes_absent(alloc: Global) -> Result<bool, AllocError> {
+    object_becomes(alloc, "b", InputValue::Object(Vec::new(alloc)))
+}
+
+/// A variable without value is absent.
+fn a_variable_becomes_absent(alloc: Global) -> Result<bool, AllocError> {
+    becomes(alloc, &variable(alloc, "b")?, &None)
+}
+
+fn is_copied(alloc: Global, given: Input) -> Result<bool, AllocError> {
     let made = given.try_clone(alloc)?;
-    Ok(given.is_const() && made == *given)
+    Ok(given.is_const() && made == given)
 }
 
 fn constant(alloc: Global) -> Result<Input, AllocError> {
@@ -75,32 +91,18 @@ fn constant(alloc: Global) -> Result<Input, AllocError> {
     list(alloc, first, InputValue::Enum(name))
 }
 
-#[test]
-fn an_item_without_value_is_null(rt: HostRuntime) -> Result<(), Fail> {
-    let alloc = rt.alloc();
-    assert!(rt; !two_variables(alloc)?.is_const());
-    assert!(rt; item_becomes_null(alloc, &two_variables(alloc)?)?);
-    Ok(())
+/// A copy is written the same.
+fn a_copy_is_the_same(alloc: Global) -> Result<bool, AllocError> {
+    is_copied(alloc, constant(alloc)?)
 }
 
 #[test]
-fn a_field_without_value_is_absent(rt: HostRuntime) -> Result<(), Fail> {
+fn variables_get_their_values(rt: HostRuntime) -> Result<(), Fail> {
     let alloc = rt.alloc();
-    assert!(rt; object_becomes(alloc, "a", object(alloc, "x", int(1))?)?);
-    assert!(rt; object_becomes(alloc, "b", InputValue::Object(Vec::new(alloc)))?);
-    Ok(())
-}
-
-#[test]
-fn a_variable_without_value_is_absent(rt: HostRuntime) -> Result<(), Fail> {
-    let alloc = rt.alloc();
-    assert!(rt; becomes(alloc, &variable(alloc, "b")?, &None)?);
-    Ok(())
-}
-
-#[test]
-fn a_copy_is_written_the_same(rt: HostRuntime) -> Result<(), Fail> {
-    let alloc = rt.alloc();
-    assert!(rt; is_copied(alloc, &constant(alloc)?)?);
+    assert!(rt; an_item_becomes_null(alloc)?);
+    assert!(rt; a_field_becomes_one(alloc)?);
+    assert!(rt; a_field_becomes_absent(alloc)?);
+    assert!(rt; a_variable_becomes_absent(alloc)?);
+    assert!(rt; a_copy_is_the_same(alloc)?);
     Ok(())
 }

@@ -1,32 +1,65 @@
-//! Texts that are refused: by which error, and at which place.
+//! Texts that are refused: by which error, and at which place; and how errors are shown.
 
 use crate::language::{Place, place};
 use juniper_language::{DefaultScalarValue, LexerError, ParseError, parse_document_source};
 use std::alloc::{AllocError, Global};
 use std::test::Fail;
 
+/// The errors that hold no text.
+#[derive(Clone, Copy)]
+pub(crate) enum Kind {
+    Token,
+    End,
+    Float,
+    Block,
+    Deep,
+    Memory,
+    Endless,
+    Character,
+    Number,
+}
+
+fn error_of(kind: Kind) -> ParseError {
+    match kind {
+        Kind::Token => ParseError::UnexpectedToken,
+        Kind::End => ParseError::UnexpectedEndOfFile,
+        Kind::Float => ParseError::FloatLiteral,
+        Kind::Block => ParseError::BlockString,
+        Kind::Deep => ParseError::TooDeep,
+        Kind::Memory => ParseError::Memory,
+        Kind::Endless => ParseError::LexerError(LexerError::UnterminatedString),
+        Kind::Character => ParseError::LexerError(LexerError::UnknownCharacter),
+        Kind::Number => ParseError::LexerError(LexerError::InvalidNumber),
+    }
+}
+
 /// Whether the text is refused so, at this place.
-fn refuses(alloc: Global, text: &str, kind: &ParseError, at: Place) -> bool {
+fn refuses(alloc: Global, text: &str, kind: Kind, at: Place) -> bool {
     match parse_document_source::<DefaultScalarValue>(alloc, text) {
         Ok(_) => false,
-        Err(error) => error.item == *kind && place(error.span.start) == at,
+        Err(error) => error.item == error_of(kind) && place(error.span.start) == at,
     }
+}
+
+/// Whether the text without its `^` is refused so, at the place of the `^`.
+fn is_refused(alloc: Global, kind: Kind, row: &str) -> Result<bool, AllocError> {
+    let Some((before, after)) = row.split_once('^') else {
+        return Ok(false);
+    };
+    let mut text = String::from_str(alloc, before)?;
+    text.push_str(after)?;
+    let at = (before.len(), 0, before.chars().count());
+    Ok(refuses(alloc, text.as_str(), kind, at))
 }
 
 /// The first row that is not refused so. A row is a line: a text with a `^` that is not part of it, where it is refused.
 fn first_other<'r>(
     alloc: Global,
-    kind: &ParseError,
+    kind: Kind,
     rows: &'r str,
 ) -> Result<Option<&'r str>, AllocError> {
     for row in rows.lines() {
-        let Some((before, after)) = row.split_once('^') else {
-            return Ok(Some(row));
-        };
-        let mut text = String::from_str(alloc, before)?;
-        text.push_str(after)?;
-        let at = (before.len(), 0, before.chars().count());
-        if !refuses(alloc, text.as_str(), kind, at) {
+        if !is_refused(alloc, kind, row)? {
             return Ok(Some(row));
         }
     }
@@ -40,13 +73,6 @@ const DOCUMENTS: &str = "\
 { id } ^x
 { id } ^x ~";
 
-#[test]
-fn other_documents_are_refused(rt: HostRuntime) -> Result<(), Fail> {
-    let kind = ParseError::UnexpectedToken;
-    assert_eq!(rt; first_other(rt.alloc(), &kind, DOCUMENTS)?, None);
-    Ok(())
-}
-
 /// What is no selection.
 const SELECTIONS: &str = "\
 {^}
@@ -55,13 +81,6 @@ const SELECTIONS: &str = "\
 { ... ^}
 { ...on ^}
 { ^1 }";
-
-#[test]
-fn broken_selections_are_refused(rt: HostRuntime) -> Result<(), Fail> {
-    let kind = ParseError::UnexpectedToken;
-    assert_eq!(rt; first_other(rt.alloc(), &kind, SELECTIONS)?, None);
-    Ok(())
-}
 
 /// What is no argument.
 const ARGUMENTS: &str = "\
@@ -87,13 +106,6 @@ const ARGUMENTS: &str = "\
 { a: b^: c }
 { ^:a }";
 
-#[test]
-fn broken_arguments_are_refused(rt: HostRuntime) -> Result<(), Fail> {
-    let kind = ParseError::UnexpectedToken;
-    assert_eq!(rt; first_other(rt.alloc(), &kind, ARGUMENTS)?, None);
-    Ok(())
-}
-
 /// What is no directive.
 const DIRECTIVES: &str = "\
 { ^@skip(if: true) }
@@ -102,13 +114,6 @@ const DIRECTIVES: &str = "\
 { id @skip(^) }
 { id @^1 }
 { id @^(if: true) }";
-
-#[test]
-fn broken_directives_are_refused(rt: HostRuntime) -> Result<(), Fail> {
-    let kind = ParseError::UnexpectedToken;
-    assert_eq!(rt; first_other(rt.alloc(), &kind, DIRECTIVES)?, None);
-    Ok(())
-}
 
 /// Characters that begin no token; inside of a string they are told where it begins.
 const CHARACTERS: &str = "\
@@ -124,38 +129,17 @@ const CHARACTERS: &str = "\
 { a(x: ^\"\0\") }
 { a(x: ^\"s\u{1F}\") }";
 
-#[test]
-fn characters_that_begin_no_token_are_refused(rt: HostRuntime) -> Result<(), Fail> {
-    let kind = ParseError::LexerError(LexerError::UnknownCharacter);
-    assert_eq!(rt; first_other(rt.alloc(), &kind, CHARACTERS)?, None);
-    Ok(())
-}
-
 /// Strings without an end.
 const STRINGS: &str = "\
 ^\"
 { a(x: ^\"s
 { a(x: ^\"\\\") }";
 
-#[test]
-fn strings_without_an_end_are_refused(rt: HostRuntime) -> Result<(), Fail> {
-    let kind = ParseError::LexerError(LexerError::UnterminatedString);
-    assert_eq!(rt; first_other(rt.alloc(), &kind, STRINGS)?, None);
-    Ok(())
-}
-
 /// Strings in three quotes.
 const BLOCKS: &str = "\
 { a(x: ^\"\"\"b\"\"\") }
 ^\"\"\"
 { ^\"\"\"\" }";
-
-#[test]
-fn strings_in_three_quotes_are_refused(rt: HostRuntime) -> Result<(), Fail> {
-    let kind = ParseError::BlockString;
-    assert_eq!(rt; first_other(rt.alloc(), &kind, BLOCKS)?, None);
-    Ok(())
-}
 
 /// Numbers that are none; the first fault in reading order is told.
 const NUMBERS: &str = "\
@@ -171,13 +155,6 @@ const NUMBERS: &str = "\
 { a(x: ^-.5) }
 { a(x: 1 y: ^2b z: 1.5 ~";
 
-#[test]
-fn broken_numbers_are_refused(rt: HostRuntime) -> Result<(), Fail> {
-    let kind = ParseError::LexerError(LexerError::InvalidNumber);
-    assert_eq!(rt; first_other(rt.alloc(), &kind, NUMBERS)?, None);
-    Ok(())
-}
-
 /// Floats.
 const FLOATS: &str = "\
 { a(x: ^1.5) }
@@ -186,13 +163,6 @@ const FLOATS: &str = "\
 { a(x: ^1E3) }
 { a(x: ^1.) }
 { a(x: ^10...) }";
-
-#[test]
-fn floats_are_refused(rt: HostRuntime) -> Result<(), Fail> {
-    let kind = ParseError::FloatLiteral;
-    assert_eq!(rt; first_other(rt.alloc(), &kind, FLOATS)?, None);
-    Ok(())
-}
 
 /// Texts that end too early.
 const ENDLESS: &str = "\
@@ -216,99 +186,114 @@ const ENDLESS: &str = "\
 { id @skip(if: true^
 { id @skip(if: true)^";
 
+static TABLES: [(Kind, &'static str); 10] = [
+    (Kind::Token, DOCUMENTS),
+    (Kind::Token, SELECTIONS),
+    (Kind::Token, ARGUMENTS),
+    (Kind::Token, DIRECTIVES),
+    (Kind::Character, CHARACTERS),
+    (Kind::Endless, STRINGS),
+    (Kind::Block, BLOCKS),
+    (Kind::Number, NUMBERS),
+    (Kind::Float, FLOATS),
+    (Kind::End, ENDLESS),
+];
+
 #[test]
-fn texts_that_end_too_early_are_refused(rt: HostRuntime) -> Result<(), Fail> {
-    let kind = ParseError::UnexpectedEndOfFile;
-    assert_eq!(rt; first_other(rt.alloc(), &kind, ENDLESS)?, None);
+fn broken_texts_are_refused(rt: HostRuntime) -> Result<(), Fail> {
+    for (kind, rows) in &TABLES {
+        assert_eq!(rt; first_other(rt.alloc(), *kind, rows)?, None);
+    }
     Ok(())
 }
+
+static LINES: [(&'static str, Kind, Place); 7] = [
+    ("{ id }\r\n{ }", Kind::Token, (10, 1, 2)),
+    (
+        "{\n id # a\u{1F600}b\u{1}c\n ~ }",
+        Kind::Character,
+        (14, 1, 9),
+    ),
+    ("{ a(x: \"s\n\") }", Kind::Endless, (7, 0, 7)),
+    ("{ a(x: \"s\r\n\") }", Kind::Endless, (7, 0, 7)),
+    ("{\n a(x: \"\\u12", Kind::Endless, (8, 1, 6)),
+    ("{ a }\n # 1.5\n 0x1", Kind::Number, (14, 2, 1)),
+    ("{\r\n", Kind::End, (3, 1, 0)),
+];
 
 /// LF, CR and CR LF end a line each.
 #[test]
 fn refusals_stand_on_their_lines(rt: HostRuntime) {
-    let rows = [
-        ("{ id }\r\n{ }", ParseError::UnexpectedToken, (10, 1, 2)),
-        (
-            "{\n id # a\u{1F600}b\u{1}c\n ~ }",
-            ParseError::LexerError(LexerError::UnknownCharacter),
-            (14, 1, 9),
-        ),
-        (
-            "{ a(x: \"s\n\") }",
-            ParseError::LexerError(LexerError::UnterminatedString),
-            (7, 0, 7),
-        ),
-        (
-            "{ a(x: \"s\r\n\") }",
-            ParseError::LexerError(LexerError::UnterminatedString),
-            (7, 0, 7),
-        ),
-        (
-            "{\n a(x: \"\\u12",
-            ParseError::LexerError(LexerError::UnterminatedString),
-            (8, 1, 6),
-        ),
-        (
-            "{ a }\n # 1.5\n 0x1",
-            ParseError::LexerError(LexerError::InvalidNumber),
-            (14, 2, 1),
-        ),
-        ("{\r\n", ParseError::UnexpectedEndOfFile, (3, 1, 0)),
-    ];
-    for (text, kind, at) in &rows {
-        assert!(rt; refuses(rt.alloc(), text, kind, *at), "{text}");
+    for (text, kind, at) in &LINES {
+        assert!(rt; refuses(rt.alloc(), text, *kind, *at), "{text}");
     }
 }
 
-#[test]
-fn unknown_escapes_are_refused(rt: HostRuntime) -> Result<(), Fail> {
-    let rows = [
-        ("{ a(x: \"\\q\") }", "\\q"),
-        ("{ a(x: \"s\\u+123\") }", "\\u+123"),
-        ("{ a(x: \"\\uD800\") }", "\\uD800"),
-    ];
-    for (text, escape) in rows {
-        let written = String::from_str(rt.alloc(), escape)?;
-        let kind = ParseError::LexerError(LexerError::UnknownEscapeSequence(written));
-        assert!(rt; refuses(rt.alloc(), text, &kind, (7, 0, 7)), "{text}");
+/// Whether the error is that of this escape.
+fn tells_escape(error: &ParseError, escape: &str) -> bool {
+    match error {
+        ParseError::LexerError(LexerError::UnknownEscapeSequence(told)) => told.as_str() == escape,
+        _ => false,
     }
-    Ok(())
 }
+
+fn refuses_escape(alloc: Global, text: &str, escape: &str) -> bool {
+    match parse_document_source::<DefaultScalarValue>(alloc, text) {
+        Ok(_) => false,
+        Err(error) => tells_escape(&error.item, escape) && place(error.span.start) == (7, 0, 7),
+    }
+}
+
+static ESCAPES: [(&'static str, &'static str); 3] = [
+    ("{ a(x: \"\\q\") }", "\\q"),
+    ("{ a(x: \"s\\u+123\") }", "\\u+123"),
+    ("{ a(x: \"\\uD800\") }", "\\uD800"),
+];
+
+#[test]
+fn unknown_escapes_are_refused(rt: HostRuntime) {
+    for (text, escape) in &ESCAPES {
+        assert!(rt; refuses_escape(rt.alloc(), text, escape), "{text}");
+    }
+}
+
+fn is_copied(alloc: Global, error: &ParseError) -> Result<bool, AllocError> {
+    Ok(error.try_clone(alloc)? == *error)
+}
+
+/// Whether the error is shown so, and its copy is the same.
+fn is_shown(alloc: Global, error: &ParseError, text: &str) -> Result<bool, AllocError> {
+    let shown = error.to_string(alloc)?;
+    Ok(shown.as_str() == text && is_copied(alloc, error)?)
+}
+
+fn kind_is_shown(alloc: Global, kind: Kind, text: &str) -> Result<bool, AllocError> {
+    is_shown(alloc, &error_of(kind), text)
+}
+
+fn escape_is_shown(alloc: Global, escape: &str, text: &str) -> Result<bool, AllocError> {
+    let told = LexerError::UnknownEscapeSequence(String::from_str(alloc, escape)?);
+    is_shown(alloc, &ParseError::LexerError(told), text)
+}
+
+static MESSAGES: [(Kind, &'static str); 9] = [
+    (Kind::Endless, "Unterminated string literal"),
+    (Kind::Character, "Unknown character"),
+    (Kind::Number, "Invalid number literal"),
+    (Kind::Token, "Unexpected token"),
+    (Kind::End, "Unexpected end of input"),
+    (Kind::Float, "Float literals are not supported"),
+    (Kind::Block, "Block strings are not supported"),
+    (Kind::Deep, "Brackets are nested too deeply"),
+    (Kind::Memory, "Out of memory"),
+];
 
 #[test]
 fn errors_are_shown(rt: HostRuntime) -> Result<(), Fail> {
-    let alloc = rt.alloc();
-    let rows = [
-        (
-            ParseError::LexerError(LexerError::UnknownEscapeSequence(String::from_str(
-                alloc, "\\x",
-            )?)),
-            "Unknown escape sequence \"\\x\" in string",
-        ),
-        (
-            ParseError::LexerError(LexerError::UnterminatedString),
-            "Unterminated string literal",
-        ),
-        (
-            ParseError::LexerError(LexerError::UnknownCharacter),
-            "Unknown character",
-        ),
-        (
-            ParseError::LexerError(LexerError::InvalidNumber),
-            "Invalid number literal",
-        ),
-        (ParseError::UnexpectedToken, "Unexpected token"),
-        (ParseError::UnexpectedEndOfFile, "Unexpected end of input"),
-        (ParseError::FloatLiteral, "Float literals are not supported"),
-        (ParseError::BlockString, "Block strings are not supported"),
-        (ParseError::TooDeep, "Brackets are nested too deeply"),
-        (ParseError::Memory, "Out of memory"),
-    ];
-    for (error, text) in &rows {
-        let shown = format!(in alloc; "{error}")?;
-        assert!(rt; shown.as_str() == *text, "{text}");
-        let copy = error.try_clone(alloc)?;
-        assert!(rt; copy == *error, "{text}");
+    for (kind, text) in &MESSAGES {
+        assert!(rt; kind_is_shown(rt.alloc(), *kind, text)?, "{text}");
     }
+    let text = "Unknown escape sequence \"\\x\" in string";
+    assert!(rt; escape_is_shown(rt.alloc(), "\\x", text)?);
     Ok(())
 }

@@ -1,7 +1,7 @@
 //! How types and input values are written.
 
 use crate::scalar::TestScalar;
-use juniper_language::{DefaultScalarValue, InputValue, ScalarValue, Spanning, Type};
+use juniper_language::{DefaultScalarValue, InputValue, ScalarValue, Span, Spanning, Type};
 use std::alloc::{AllocError, Global};
 use std::convert::AsStr;
 use std::test::Fail;
@@ -12,32 +12,35 @@ fn writes_text<S: ScalarValue>(
     text: &str,
     written: &str,
 ) -> Result<bool, AllocError> {
-    let value = InputValue::Scalar(S::from_text(String::from_str(alloc, text)?)?);
-    Ok(value.to_string(alloc)?.as_str() == written)
+    let scalar = S::from_text(String::from_str(alloc, text)?)?;
+    writes_own(alloc, InputValue::Scalar(scalar), written)
 }
+
+/// Texts, and how they are written.
+static TEXTS: [(&'static str, &'static str); 8] = [
+    ("", "\"\""),
+    ("Han Solo", "\"Han Solo\""),
+    ("\"", "\"\\\"\""),
+    ("say \"hi\" \\o/", "\"say \\\"hi\\\" \\\\o/\""),
+    ("\u{8}\u{c}\n\r\t", "\"\\b\\f\\n\\r\\t\""),
+    (
+        "\0\u{1}\u{b}\u{f}\u{10}\u{1f}",
+        "\"\\u0000\\u0001\\u000B\\u000F\\u0010\\u001F\"",
+    ),
+    (" \u{7f}/", "\" \u{7f}/\""),
+    ("é\"€\n😀", "\"é\\\"€\\n😀\""),
+];
 
 #[test]
 fn texts_stand_between_quotes(rt: HostRuntime) -> Result<(), Fail> {
-    let rows = [
-        ("", "\"\""),
-        ("Han Solo", "\"Han Solo\""),
-        ("\"", "\"\\\"\""),
-        ("say \"hi\" \\o/", "\"say \\\"hi\\\" \\\\o/\""),
-        ("\u{8}\u{c}\n\r\t", "\"\\b\\f\\n\\r\\t\""),
-        (
-            "\0\u{1}\u{b}\u{f}\u{10}\u{1f}",
-            "\"\\u0000\\u0001\\u000B\\u000F\\u0010\\u001F\"",
-        ),
-        (" \u{7f}/", "\" \u{7f}/\""),
-        ("é\"€\n😀", "\"é\\\"€\\n😀\""),
-    ];
-    for (text, written) in rows {
+    let alloc = rt.alloc();
+    for (text, written) in &TEXTS {
         assert!(rt;
-            writes_text::<DefaultScalarValue>(rt.alloc(), text, written)?,
+            writes_text::<DefaultScalarValue>(alloc, text, written)?,
             "{written}"
         );
         assert!(rt;
-            writes_text::<TestScalar>(rt.alloc(), text, written)?,
+            writes_text::<TestScalar>(alloc, text, written)?,
             "{written}"
         );
     }
@@ -65,15 +68,27 @@ fn writes_own<S: ScalarValue>(
 fn scalars_are_written<S: ScalarValue>(alloc: Global) -> Result<bool, AllocError> {
     Ok(
         writes_own(alloc, InputValue::<S>::Null, "null")?
-            && writes_own(alloc, InputValue::Scalar(S::from_int(-7)), "-7")?
-            && writes_own(
-                alloc,
-                InputValue::Scalar(S::from_int(i32::MIN)),
-                "-2147483648",
-            )?
-            && writes_own(alloc, InputValue::Scalar(S::from_bool(true)), "true")?
-            && writes_own(alloc, InputValue::Scalar(S::from_bool(false)), "false")?,
+            && int_is_written::<S>(alloc, -7, "-7")?
+            && int_is_written::<S>(alloc, i32::MIN, "-2147483648")?
+            && truth_is_written::<S>(alloc, true, "true")?
+            && truth_is_written::<S>(alloc, false, "false")?,
     )
+}
+
+fn int_is_written<S: ScalarValue>(
+    alloc: Global,
+    value: i32,
+    written: &str,
+) -> Result<bool, AllocError> {
+    writes_own(alloc, InputValue::Scalar(S::from_int(value)), written)
+}
+
+fn truth_is_written<S: ScalarValue>(
+    alloc: Global,
+    value: bool,
+    written: &str,
+) -> Result<bool, AllocError> {
+    writes_own(alloc, InputValue::Scalar(S::from_bool(value)), written)
 }
 
 fn enum_is_written<S: ScalarValue>(alloc: Global) -> Result<bool, AllocError> {
@@ -110,12 +125,17 @@ fn list(alloc: Global, first: Input, second: Input) -> Result<Input, AllocError>
     Ok(InputValue::List(items))
 }
 
+type InputField = (Spanning<String, Span>, Spanning<Input, Span>);
+
+fn field(alloc: Global, key: &str, value: Input) -> Result<InputField, AllocError> {
+    let name = Spanning::unlocated(String::from_str(alloc, key)?);
+    Ok((name, Spanning::unlocated(value)))
+}
+
 fn object(alloc: Global, first: Input, second: Input) -> Result<Input, AllocError> {
     let mut fields = Vec::new(alloc);
-    for (key, value) in [("k", first), ("l", second)] {
-        let name = Spanning::unlocated(String::from_str(alloc, key)?);
-        fields.push((name, Spanning::unlocated(value)))?;
-    }
+    fields.push(field(alloc, "k", first)?)?;
+    fields.push(field(alloc, "l", second)?)?;
     Ok(InputValue::Object(fields))
 }
 
@@ -158,22 +178,34 @@ fn type_is_written<N: AsStr + Drop>(
     Ok(given.to_string(alloc)?.as_str() == written)
 }
 
-fn episodes(alloc: Global) -> Result<Type<&'static str>, AllocError> {
-    Type::NonNullNamed("Episode").wrap_list(alloc, Some(3))
+/// `[Episode!]`, the same that is not null, and a list of these.
+fn episodes(alloc: Global, level: usize) -> Result<Type<&'static str>, AllocError> {
+    let list = Type::NonNullNamed("Episode").wrap_list(alloc, Some(3))?;
+    match level {
+        0 => Ok(list),
+        1 => Ok(list.wrap_non_null()),
+        _ => list.wrap_non_null().wrap_list(alloc, None),
+    }
 }
 
-fn lists_of_episodes(alloc: Global) -> Result<Type<&'static str>, AllocError> {
-    episodes(alloc)?.wrap_non_null().wrap_list(alloc, None)
+fn list_is_written(alloc: Global, level: usize, written: &str) -> Result<bool, AllocError> {
+    type_is_written(alloc, episodes(alloc, level)?, written)
+}
+
+fn names_are_written(alloc: Global) -> Result<bool, AllocError> {
+    let owned = Type::NonNullNamed(String::from_str(alloc, "Int")?);
+    Ok(
+        type_is_written(alloc, owned, "Int!")?
+            && type_is_written(alloc, Type::Named("Episode"), "Episode")?,
+    )
 }
 
 #[test]
 fn types_are_written(rt: HostRuntime) -> Result<(), Fail> {
     let alloc = rt.alloc();
-    assert!(rt; type_is_written(alloc, Type::Named("Episode"), "Episode")?);
-    assert!(rt; type_is_written(alloc, episodes(alloc)?, "[Episode!]")?);
-    assert!(rt; type_is_written(alloc, episodes(alloc)?.wrap_non_null(), "[Episode!]!")?);
-    assert!(rt; type_is_written(alloc, lists_of_episodes(alloc)?, "[[Episode!]!]")?);
-    let owned = Type::NonNullNamed(String::from_str(alloc, "Int")?);
-    assert!(rt; type_is_written(alloc, owned, "Int!")?);
+    assert!(rt; names_are_written(alloc)?);
+    assert!(rt; list_is_written(alloc, 0, "[Episode!]")?);
+    assert!(rt; list_is_written(alloc, 1, "[Episode!]!")?);
+    assert!(rt; list_is_written(alloc, 2, "[[Episode!]!]")?);
     Ok(())
 }

@@ -1,10 +1,6 @@
 //! Operations, fragments, spreads and inline fragments.
 
-use super::rows::{first_misread, first_other};
-use juniper_language::ParseError;
-use std::test::Fail;
-
-const OPERATIONS: &str = r#"{ a } => query { a };
+pub const OPERATIONS: &str = r#"{ a } => query { a };
 query { a } => query { a };
 query Q { a } => query Q { a };
 mutation { a } => mutation { a };
@@ -20,13 +16,7 @@ fragment F on T @d(x: $v) @e { a ...F } => fragment F on T @d( x:$v ) @e { a ...
 ,,query,Q,{,a,}, => query Q { a };
 query{a}mutation{b} => query { a };mutation { b };"#;
 
-#[test]
-fn definitions_are_read(rt: HostRuntime) -> Result<(), Fail> {
-    assert_eq!(rt; first_misread(rt.alloc(), OPERATIONS)?.as_str(), "");
-    Ok(())
-}
-
-const SELECTIONS: &str = r#"{ a b: c d } => query { a b:c d };
+pub const SELECTIONS: &str = r#"{ a b: c d } => query { a b:c d };
 { a: b(x: 1) @d { c } e } => query { a:b( x:1 ) @d { c } e };
 { a { b { c } d } e } => query { a { b { c } d } e };
 { a @d @d(x: 1) @e } => query { a @d @d( x:1 ) @e };
@@ -44,14 +34,8 @@ const SELECTIONS: &str = r#"{ a b: c d } => query { a b:c d };
 { a { ... { ...on T { b ...F c } } d } ...{ e } } => query { a { ... { ...on T { b ...F c } } d } ... { e } };
 { ...{ ...{ a } } } => query { ... { ... { a } } };"#;
 
-#[test]
-fn selections_are_read(rt: HostRuntime) -> Result<(), Fail> {
-    assert_eq!(rt; first_misread(rt.alloc(), SELECTIONS)?.as_str(), "");
-    Ok(())
-}
-
 /// What no rule has a place for.
-const REFUSED: &str = "\
+pub const REFUSED: &str = "\
 { a } ^&
 ^| { a }
 { a ^& b }
@@ -87,15 +71,8 @@ fragment F on T^}
 ^!
 ^=";
 
-#[test]
-fn tokens_out_of_place_are_refused(rt: HostRuntime) -> Result<(), Fail> {
-    let token = ParseError::UnexpectedToken;
-    assert_eq!(rt; first_other(rt.alloc(), &token, REFUSED)?, None);
-    Ok(())
-}
-
 /// Texts that end too early.
-const ENDLESS: &str = "\
+pub const ENDLESS: &str = "\
 ^
  # { a }^
 {^
@@ -139,10 +116,3 @@ fragment F on T {^
 { ...on T^
 { ... @d^
 { ... {^";
-
-#[test]
-fn texts_that_end_too_early_are_refused(rt: HostRuntime) -> Result<(), Fail> {
-    let end = ParseError::UnexpectedEndOfFile;
-    assert_eq!(rt; first_other(rt.alloc(), &end, ENDLESS)?, None);
-    Ok(())
-}

@@ -1,7 +1,7 @@
 //! The two queries that tools ask a schema with: all of it, and the same without descriptions.
 
-use super::rows::{Place, place, reading};
-use juniper_language::{DefaultScalarValue, Definition, Span, parse_document_source};
+use super::rows::{Place, place, reads_as};
+use juniper_language::{DefaultScalarValue, Definition, Document, Span, parse_document_source};
 use std::alloc::{AllocError, Global};
 use std::test::Fail;
 
@@ -96,17 +96,18 @@ fn without_descriptions(alloc: Global) -> Result<String, AllocError> {
     Ok(text)
 }
 
+/// Whether the text without descriptions is so long, and read so.
+fn rest_is_read(alloc: Global) -> Result<bool, AllocError> {
+    let rest = without_descriptions(alloc)?;
+    Ok(rest.len() == 849 && reads_as(alloc, rest.as_str(), WITHOUT_DESCRIPTIONS_OUTLINE)?)
+}
+
 #[test]
 fn both_are_read(rt: HostRuntime) -> Result<(), Fail> {
     let alloc = rt.alloc();
-    assert_eq!(rt; ALL.len(), 943);
-    assert_eq!(rt; reading(alloc, ALL)?.as_str(), ALL_OUTLINE);
-    let rest = without_descriptions(alloc)?;
-    assert_eq!(rt; rest.len(), 849);
-    assert_eq!(rt;
-        reading(alloc, rest.as_str())?.as_str(),
-        WITHOUT_DESCRIPTIONS_OUTLINE
-    );
+    assert!(rt; ALL.len() == 943);
+    assert!(rt; reads_as(alloc, ALL, ALL_OUTLINE)?);
+    assert!(rt; rest_is_read(alloc)?);
     Ok(())
 }
 
@@ -117,39 +118,60 @@ fn span_of(definition: &Definition<'_, DefaultScalarValue>) -> Span {
     }
 }
 
-/// Where the definitions of a text begin and end: index, line and column.
-fn ends(alloc: Global, text: &str) -> Result<Vec<(Place, Place)>, AllocError> {
-    let mut found = Vec::new(alloc);
-    if let Ok(document) = parse_document_source::<DefaultScalarValue>(alloc, text) {
-        for definition in &document {
-            let span = span_of(definition);
-            found.push((place(span.start), place(span.end)))?;
+/// Where the definitions begin and end: index, line and column.
+static ENDS: [(Place, Place); 4] = [
+    ((0, 0, 0), (282, 15, 1)),
+    ((283, 16, 0), (713, 38, 1)),
+    ((714, 39, 0), (811, 44, 1)),
+    ((812, 45, 0), (942, 49, 1)),
+];
+
+fn has_ends(document: &Document<'_, DefaultScalarValue>, ends: &[(Place, Place)]) -> bool {
+    for (definition, wanted) in document.iter().zip(ends) {
+        let span = span_of(definition);
+        if (place(span.start), place(span.end)) != *wanted {
+            return false;
         }
     }
-    Ok(found)
+    document.len() == ends.len()
+}
+
+fn stands_at(alloc: Global, text: &str, ends: &[(Place, Place)]) -> bool {
+    match parse_document_source::<DefaultScalarValue>(alloc, text) {
+        Ok(document) => has_ends(&document, ends),
+        Err(_) => false,
+    }
 }
 
 #[test]
-fn definitions_have_their_places(rt: HostRuntime) -> Result<(), Fail> {
-    let rows = [
-        ((0, 0, 0), (282, 15, 1)),
-        ((283, 16, 0), (713, 38, 1)),
-        ((714, 39, 0), (811, 44, 1)),
-        ((812, 45, 0), (942, 49, 1)),
-    ];
-    let found = ends(rt.alloc(), ALL)?;
-    assert_eq!(rt; found.as_slice(), rows.as_slice());
-    Ok(())
+fn definitions_have_their_places(rt: HostRuntime) {
+    assert!(rt; stands_at(rt.alloc(), ALL, ENDS.as_slice()));
 }
 
-/// How many bytes the beginnings of a text have that are read, and how many definitions.
+/// How many bytes the beginnings have that are read, and how many definitions.
+static BEGINNINGS: [(usize, usize); 7] = [
+    (282, 1),
+    (283, 1),
+    (713, 2),
+    (714, 2),
+    (811, 3),
+    (812, 3),
+    (942, 4),
+];
+
+/// How many definitions so many bytes of the text have; none where they are not read.
+fn definitions_in(alloc: Global, text: &str, count: usize) -> Option<usize> {
+    match parse_document_source::<DefaultScalarValue>(alloc, text.get(..count)?) {
+        Ok(document) => Some(document.len()),
+        Err(_) => None,
+    }
+}
+
 fn beginnings(alloc: Global, text: &str) -> Result<Vec<(usize, usize)>, AllocError> {
     let mut found = Vec::new(alloc);
     for count in 0..text.len() {
-        if let Some(beginning) = text.get(..count) {
-            if let Ok(document) = parse_document_source::<DefaultScalarValue>(alloc, beginning) {
-                found.push((count, document.len()))?;
-            }
+        if let Some(definitions) = definitions_in(alloc, text, count) {
+            found.push((count, definitions))?;
         }
     }
     Ok(found)
@@ -158,16 +180,6 @@ fn beginnings(alloc: Global, text: &str) -> Result<Vec<(usize, usize)>, AllocErr
 /// Of all proper beginnings just those are read that end with a definition's last brace, or with the line end behind it.
 #[test]
 fn seven_beginnings_are_read(rt: HostRuntime) -> Result<(), Fail> {
-    let rows = [
-        (282, 1),
-        (283, 1),
-        (713, 2),
-        (714, 2),
-        (811, 3),
-        (812, 3),
-        (942, 4),
-    ];
-    let found = beginnings(rt.alloc(), ALL)?;
-    assert_eq!(rt; found.as_slice(), rows.as_slice());
+    assert!(rt; beginnings(rt.alloc(), ALL)?.as_slice() == BEGINNINGS.as_slice());
     Ok(())
 }

@@ -3,8 +3,9 @@
 
 use juniper_language::ast::Arguments;
 use juniper_language::{
-    DefaultScalarValue, Definition, Directive, Document, Field, Fragment, InputValue, Operation,
-    OperationType, Selection, Span, Spanning, VariableDefinitions,
+    DefaultScalarValue, Definition, Directive, Document, Field, Fragment, FragmentSpread,
+    InlineFragment, InputValue, Operation, OperationType, Selection, Span, Spanning, Type,
+    VariableDefinition, VariableDefinitions,
 };
 use std::alloc::{AllocError, Global};
 
@@ -85,13 +86,23 @@ fn put_arguments(
     };
     line.push_str("(")?;
     for (name, value) in &arguments.item.items {
-        line.push_str(" ")?;
-        put_word(line, text, name)?;
-        line.push_str(":")?;
-        put_value(alloc, line, text, value)?;
+        put_argument(alloc, line, text, name, value)?;
     }
     line.push_str(" )")?;
     put_check(line, part(text, &arguments.span), '(', Some(')'))
+}
+
+fn put_argument(
+    alloc: Global,
+    line: &mut String,
+    text: &str,
+    name: &Spanning<&str, Span>,
+    value: &Spanning<InputValue<DefaultScalarValue>, Span>,
+) -> Result<(), AllocError> {
+    line.push_str(" ")?;
+    put_word(line, text, name)?;
+    line.push_str(":")?;
+    put_value(alloc, line, text, value)
 }
 
 fn put_directives(
@@ -146,23 +157,42 @@ fn put_head<'d, 'a>(
             }
         }
         Selection::FragmentSpread(spread) => {
-            line.push_str("...")?;
-            put_check(line, part(text, &spread.span), '.', None)?;
-            put_word(line, text, &spread.item.name)?;
-            put_directives(alloc, line, text, &spread.item.directives)?;
+            put_spread(alloc, line, text, spread)?;
             Ok(None)
         }
         Selection::InlineFragment(inline) => {
-            line.push_str("...")?;
-            put_check(line, part(text, &inline.span), '.', Some('}'))?;
-            if let Some(condition) = &inline.item.type_condition {
-                line.push_str("on ")?;
-                put_word(line, text, condition)?;
-            }
-            put_directives(alloc, line, text, &inline.item.directives)?;
+            put_inline(alloc, line, text, inline)?;
             Ok(Some(inline.item.selection_set.as_slice()))
         }
     }
+}
+
+fn put_spread(
+    alloc: Global,
+    line: &mut String,
+    text: &str,
+    spread: &Spanning<FragmentSpread<'_, DefaultScalarValue>, Span>,
+) -> Result<(), AllocError> {
+    line.push_str("...")?;
+    put_check(line, part(text, &spread.span), '.', None)?;
+    put_word(line, text, &spread.item.name)?;
+    put_directives(alloc, line, text, &spread.item.directives)
+}
+
+/// Writes an inline fragment without its selections.
+fn put_inline(
+    alloc: Global,
+    line: &mut String,
+    text: &str,
+    inline: &Spanning<InlineFragment<'_, DefaultScalarValue>, Span>,
+) -> Result<(), AllocError> {
+    line.push_str("...")?;
+    put_check(line, part(text, &inline.span), '.', Some('}'))?;
+    if let Some(condition) = &inline.item.type_condition {
+        line.push_str("on ")?;
+        put_word(line, text, condition)?;
+    }
+    put_directives(alloc, line, text, &inline.item.directives)
 }
 
 /// Writes selections in their braces, so many levels of them.
@@ -198,17 +228,37 @@ fn put_variables(
         line.push_str(" $")?;
         line.push_str(name.item)?;
         put_check(line, part(text, &name.span), '$', name.item.chars().last())?;
-        line.push_str(":")?;
-        let written = variable.var_type.item.to_string(alloc)?;
-        put_written(line, text, written.as_str(), &variable.var_type.span)?;
-        if let Some(value) = &variable.default_value {
-            line.push_str("=")?;
-            put_value(alloc, line, text, value)?;
-        }
-        put_directives(alloc, line, text, &variable.directives)?;
+        put_variable(alloc, line, text, variable)?;
     }
     line.push_str(" )")?;
     put_check(line, part(text, &variables.span), '(', Some(')'))
+}
+
+/// Writes the type of a variable.
+fn put_type(
+    alloc: Global,
+    line: &mut String,
+    text: &str,
+    reference: &Spanning<Type<&str>, Span>,
+) -> Result<(), AllocError> {
+    let written = reference.item.to_string(alloc)?;
+    put_written(line, text, written.as_str(), &reference.span)
+}
+
+/// Writes what stands behind the name of a variable.
+fn put_variable(
+    alloc: Global,
+    line: &mut String,
+    text: &str,
+    variable: &VariableDefinition<'_, DefaultScalarValue>,
+) -> Result<(), AllocError> {
+    line.push_str(":")?;
+    put_type(alloc, line, text, &variable.var_type)?;
+    if let Some(value) = &variable.default_value {
+        line.push_str("=")?;
+        put_value(alloc, line, text, value)?;
+    }
+    put_directives(alloc, line, text, &variable.directives)
 }
 
 fn put_operation(

@@ -1,10 +1,11 @@
 //! Where the parts of a document stand: the text of each part's span, part by part.
 
 use super::outline::part;
-use super::rows::place;
+use super::rows::{Place, place};
 use juniper_language::ast::Arguments;
 use juniper_language::{
-    DefaultScalarValue, Definition, Directive, Document, InputValue, Selection, Span, Spanning,
+    DefaultScalarValue, Definition, Directive, Document, Field, Fragment, FragmentSpread,
+    InlineFragment, InputValue, Operation, Selection, Span, Spanning, VariableDefinition,
     VariableDefinitions, parse_document_source,
 };
 use std::alloc::{AllocError, Global};
@@ -72,34 +73,71 @@ fn put_directives(
     Ok(())
 }
 
+fn put_name(
+    line: &mut String,
+    text: &str,
+    name: &Option<Spanning<&str, Span>>,
+) -> Result<(), AllocError> {
+    match name {
+        None => Ok(()),
+        Some(name) => put_part(line, text, &name.span),
+    }
+}
+
+fn put_field(
+    line: &mut String,
+    text: &str,
+    field: &Spanning<Field<'_, DefaultScalarValue>, Span>,
+) -> Result<(), AllocError> {
+    put_part(line, text, &field.span)?;
+    put_name(line, text, &field.item.alias)?;
+    put_part(line, text, &field.item.name.span)?;
+    put_arguments(line, text, &field.item.arguments)?;
+    put_directives(line, text, &field.item.directives)
+}
+
+fn put_spread(
+    line: &mut String,
+    text: &str,
+    spread: &Spanning<FragmentSpread<'_, DefaultScalarValue>, Span>,
+) -> Result<(), AllocError> {
+    put_part(line, text, &spread.span)?;
+    put_part(line, text, &spread.item.name.span)?;
+    put_directives(line, text, &spread.item.directives)
+}
+
+fn put_inline(
+    line: &mut String,
+    text: &str,
+    inline: &Spanning<InlineFragment<'_, DefaultScalarValue>, Span>,
+) -> Result<(), AllocError> {
+    put_part(line, text, &inline.span)?;
+    put_name(line, text, &inline.item.type_condition)?;
+    put_directives(line, text, &inline.item.directives)
+}
+
 fn put_selection(
     line: &mut String,
     text: &str,
     selection: &Selection<'_, DefaultScalarValue>,
 ) -> Result<(), AllocError> {
     match selection {
-        Selection::Field(field) => {
-            put_part(line, text, &field.span)?;
-            if let Some(alias) = &field.item.alias {
-                put_part(line, text, &alias.span)?;
-            }
-            put_part(line, text, &field.item.name.span)?;
-            put_arguments(line, text, &field.item.arguments)?;
-            put_directives(line, text, &field.item.directives)
-        }
-        Selection::FragmentSpread(spread) => {
-            put_part(line, text, &spread.span)?;
-            put_part(line, text, &spread.item.name.span)?;
-            put_directives(line, text, &spread.item.directives)
-        }
-        Selection::InlineFragment(inline) => {
-            put_part(line, text, &inline.span)?;
-            if let Some(condition) = &inline.item.type_condition {
-                put_part(line, text, &condition.span)?;
-            }
-            put_directives(line, text, &inline.item.directives)
-        }
+        Selection::Field(field) => put_field(line, text, field),
+        Selection::FragmentSpread(spread) => put_spread(line, text, spread),
+        Selection::InlineFragment(inline) => put_inline(line, text, inline),
     }
+}
+
+fn put_variable(
+    line: &mut String,
+    text: &str,
+    variable: &VariableDefinition<'_, DefaultScalarValue>,
+) -> Result<(), AllocError> {
+    put_part(line, text, &variable.var_type.span)?;
+    if let Some(value) = &variable.default_value {
+        put_value(line, text, value)?;
+    }
+    put_directives(line, text, &variable.directives)
 }
 
 fn put_variables(
@@ -113,13 +151,41 @@ fn put_variables(
     put_part(line, text, &variables.span)?;
     for (name, variable) in &variables.item.items {
         put_part(line, text, &name.span)?;
-        put_part(line, text, &variable.var_type.span)?;
-        if let Some(value) = &variable.default_value {
-            put_value(line, text, value)?;
-        }
-        put_directives(line, text, &variable.directives)?;
+        put_variable(line, text, variable)?;
     }
     Ok(())
+}
+
+fn put_operation(
+    line: &mut String,
+    text: &str,
+    operation: &Spanning<Operation<'_, DefaultScalarValue>, Span>,
+) -> Result<(), AllocError> {
+    put_part(line, text, &operation.span)?;
+    put_name(line, text, &operation.item.name)?;
+    put_variables(line, text, &operation.item.variable_definitions)?;
+    put_directives(line, text, &operation.item.directives)
+}
+
+fn put_fragment(
+    line: &mut String,
+    text: &str,
+    fragment: &Spanning<Fragment<'_, DefaultScalarValue>, Span>,
+) -> Result<(), AllocError> {
+    put_part(line, text, &fragment.span)?;
+    put_part(line, text, &fragment.item.name.span)?;
+    put_part(line, text, &fragment.item.type_condition.span)?;
+    put_directives(line, text, &fragment.item.directives)
+}
+
+/// The selections of the definition.
+fn set_of<'d, 'a>(
+    definition: &'d Definition<'a, DefaultScalarValue>,
+) -> &'d [Selection<'a, DefaultScalarValue>] {
+    match definition {
+        Definition::Operation(operation) => operation.item.selection_set.as_slice(),
+        Definition::Fragment(fragment) => fragment.item.selection_set.as_slice(),
+    }
 }
 
 /// The parts of the definition, and of its selections without what stands below them.
@@ -128,104 +194,100 @@ fn put_definition(
     text: &str,
     definition: &Definition<'_, DefaultScalarValue>,
 ) -> Result<(), AllocError> {
-    let set = match definition {
-        Definition::Operation(operation) => {
-            put_part(line, text, &operation.span)?;
-            if let Some(name) = &operation.item.name {
-                put_part(line, text, &name.span)?;
-            }
-            put_variables(line, text, &operation.item.variable_definitions)?;
-            put_directives(line, text, &operation.item.directives)?;
-            operation.item.selection_set.as_slice()
-        }
-        Definition::Fragment(fragment) => {
-            put_part(line, text, &fragment.span)?;
-            put_part(line, text, &fragment.item.name.span)?;
-            put_part(line, text, &fragment.item.type_condition.span)?;
-            put_directives(line, text, &fragment.item.directives)?;
-            fragment.item.selection_set.as_slice()
-        }
-    };
-    for selection in set {
+    match definition {
+        Definition::Operation(operation) => put_operation(line, text, operation)?,
+        Definition::Fragment(fragment) => put_fragment(line, text, fragment)?,
+    }
+    for selection in set_of(definition) {
         put_selection(line, text, selection)?;
     }
     Ok(())
 }
 
-fn parts(alloc: Global, text: &str) -> Result<String, AllocError> {
+fn parts_of(
+    alloc: Global,
+    text: &str,
+    document: &Document<'_, DefaultScalarValue>,
+) -> Result<String, AllocError> {
     let mut line = String::new(alloc);
-    if let Ok(document) = parse_document_source::<DefaultScalarValue>(alloc, text) {
-        for definition in &document {
-            put_definition(&mut line, text, definition)?;
-        }
+    for definition in document {
+        put_definition(&mut line, text, definition)?;
     }
     Ok(line)
 }
 
+/// Whether the parts of the text are these.
+fn has_parts(alloc: Global, text: &str, said: &str) -> Result<bool, AllocError> {
+    match parse_document_source::<DefaultScalarValue>(alloc, text) {
+        Ok(document) => Ok(parts_of(alloc, text, &document)?.as_str() == said),
+        Err(_) => Ok(false),
+    }
+}
+
+static PARTS: [(&'static str, &'static str); 5] = [
+    (" { a , } ", "{ a , }/a/a/"),
+    (
+        "{ a : b ( x : [ 1 , $ v ] ) @ c { d } , e }",
+        "{ a : b ( x : [ 1 , $ v ] ) @ c { d } , e }/a : b ( x : [ 1 , $ v ] ) @ c { d }/a/b/( x : [ 1 , $ v ] )/x/[ 1 , $ v ]/1/$ v/@ c/c/e/e/",
+    ),
+    (
+        "query Q ( $ v : [ T ] ! = { k : \"l\" } @ d ( x : 2 ) , ) @ e { f } ,",
+        "query Q ( $ v : [ T ] ! = { k : \"l\" } @ d ( x : 2 ) , ) @ e { f }/Q/( $ v : [ T ] ! = { k : \"l\" } @ d ( x : 2 ) , )/$ v/[ T ] !/{ k : \"l\" }/k/\"l\"/@ d ( x : 2 )/d/( x : 2 )/x/2/@ e/e/f/f/",
+    ),
+    (
+        "# a\n{ ... F @ g , ... on U @ h { i } ... { j } } # b",
+        "{ ... F @ g , ... on U @ h { i } ... { j } }/... F @ g/F/@ g/g/... on U @ h { i }/U/@ h/h/... { j }/",
+    ),
+    (
+        "mutation @ a { b } fragment F on T @ c { d } ",
+        "mutation @ a { b }/@ a/a/b/b/fragment F on T @ c { d }/F/T/@ c/c/d/d/",
+    ),
+];
+
 #[test]
 fn spans_begin_and_end_with_their_parts(rt: HostRuntime) -> Result<(), Fail> {
-    let rows = [
-        (" { a , } ", "{ a , }/a/a/"),
-        (
-            "{ a : b ( x : [ 1 , $ v ] ) @ c { d } , e }",
-            "{ a : b ( x : [ 1 , $ v ] ) @ c { d } , e }/a : b ( x : [ 1 , $ v ] ) @ c { d }/a/b/( x : [ 1 , $ v ] )/x/[ 1 , $ v ]/1/$ v/@ c/c/e/e/",
-        ),
-        (
-            "query Q ( $ v : [ T ] ! = { k : \"l\" } @ d ( x : 2 ) , ) @ e { f } ,",
-            "query Q ( $ v : [ T ] ! = { k : \"l\" } @ d ( x : 2 ) , ) @ e { f }/Q/( $ v : [ T ] ! = { k : \"l\" } @ d ( x : 2 ) , )/$ v/[ T ] !/{ k : \"l\" }/k/\"l\"/@ d ( x : 2 )/d/( x : 2 )/x/2/@ e/e/f/f/",
-        ),
-        (
-            "# a\n{ ... F @ g , ... on U @ h { i } ... { j } } # b",
-            "{ ... F @ g , ... on U @ h { i } ... { j } }/... F @ g/F/@ g/g/... on U @ h { i }/U/@ h/h/... { j }/",
-        ),
-        (
-            "mutation @ a { b } fragment F on T @ c { d } ",
-            "mutation @ a { b }/@ a/a/b/b/fragment F on T @ c { d }/F/T/@ c/c/d/d/",
-        ),
-    ];
-    for (text, said) in rows {
-        assert_eq!(rt; parts(rt.alloc(), text)?.as_str(), said, "{text}");
+    for (text, said) in &PARTS {
+        assert!(rt; has_parts(rt.alloc(), text, said)?, "{text}");
     }
     Ok(())
 }
 
 /// Where the first selection of the last definition begins and ends.
-fn last_first(document: &Document<'_, DefaultScalarValue>) -> Option<Span> {
-    let set = match document.last()? {
-        Definition::Operation(operation) => operation.item.selection_set.as_slice(),
-        Definition::Fragment(fragment) => fragment.item.selection_set.as_slice(),
+fn last_first(document: &Document<'_, DefaultScalarValue>) -> Option<(Place, Place)> {
+    let span = match set_of(document.last()?).first()? {
+        Selection::Field(field) => field.span,
+        Selection::FragmentSpread(spread) => spread.span,
+        Selection::InlineFragment(inline) => inline.span,
     };
-    match set.first()? {
-        Selection::Field(field) => Some(field.span),
-        Selection::FragmentSpread(spread) => Some(spread.span),
-        Selection::InlineFragment(inline) => Some(inline.span),
+    Some((place(span.start), place(span.end)))
+}
+
+fn stands_at(alloc: Global, text: &str, start: Place, end: Place) -> bool {
+    match parse_document_source::<DefaultScalarValue>(alloc, text) {
+        Ok(document) => last_first(&document) == Some((start, end)),
+        Err(_) => false,
     }
 }
 
 /// LF, CR and CR LF end a line each; a column counts characters.
+static PLACES: [(&'static str, Place, Place); 8] = [
+    ("{ a }", (2, 0, 2), (3, 0, 3)),
+    ("{\n a }", (3, 1, 1), (4, 1, 2)),
+    ("{\r\n\r\n a }", (6, 2, 1), (7, 2, 2)),
+    ("{\n\r a }", (4, 2, 1), (5, 2, 2)),
+    ("query Q {\r\t...on T {\r\n b } }", (11, 1, 1), (26, 2, 4)),
+    ("{ a(x: \"\u{1F600}\") }", (2, 0, 2), (14, 0, 11)),
+    (
+        "{ a } # \u{E9}\u{1F600}\n fragment F on T {\n\n ...F @d\n}",
+        (36, 3, 1),
+        (43, 3, 8),
+    ),
+    ("{ a(x: \"\u{2028}\") b } { c }", (20, 0, 18), (21, 0, 19)),
+];
+
 #[test]
-fn lines_and_columns_are_counted(rt: HostRuntime) -> Result<(), Fail> {
-    let rows = [
-        ("{ a }", (2, 0, 2), (3, 0, 3)),
-        ("{\n a }", (3, 1, 1), (4, 1, 2)),
-        ("{\r\n\r\n a }", (6, 2, 1), (7, 2, 2)),
-        ("{\n\r a }", (4, 2, 1), (5, 2, 2)),
-        ("query Q {\r\t...on T {\r\n b } }", (11, 1, 1), (26, 2, 4)),
-        ("{ a(x: \"\u{1F600}\") }", (2, 0, 2), (14, 0, 11)),
-        (
-            "{ a } # \u{E9}\u{1F600}\n fragment F on T {\n\n ...F @d\n}",
-            (36, 3, 1),
-            (43, 3, 8),
-        ),
-        ("{ a(x: \"\u{2028}\") b } { c }", (20, 0, 18), (21, 0, 19)),
-    ];
-    for (text, start, end) in rows {
-        let found = match parse_document_source::<DefaultScalarValue>(rt.alloc(), text) {
-            Ok(document) => last_first(&document),
-            Err(_) => None,
-        };
-        let told = found.map(|span| (place(span.start), place(span.end)));
-        assert_eq!(rt; told, Some((start, end)), "{text}");
+fn lines_and_columns_are_counted(rt: HostRuntime) {
+    for (text, start, end) in &PLACES {
+        assert!(rt; stands_at(rt.alloc(), text, *start, *end), "{text}");
     }
-    Ok(())
 }

@@ -1,7 +1,6 @@
 //! Each punctuator of a document that uses every rule of the grammar missing, written twice, and swapped for another.
 
-use super::rows::{reading, refuses};
-use juniper_language::ParseError;
+use super::rows::{Kind, joined, reading, reads_as, refuses};
 use std::alloc::{AllocError, Global};
 use std::test::Fail;
 
@@ -11,18 +10,33 @@ const DOCUMENT: &str =
 const OUTLINE: &str =
     r#"query { s };query Q ( $v:[T!]!=[1, {k: "t"}] @d( x:RED ) $w:T ) @e( x:$v ) { a:b( y:[$w, {k: 2}] ) @f { c } ...F @g ...on U @h { i } ... @j { k } };mutation { m };subscription S { n };fragment F on U @o { p };"#;
 
-/// The document with other characters in place of some that stand in it once, and how many stand before these.
-fn edited(alloc: Global, old: &str, new: &str) -> Result<Option<(usize, String)>, AllocError> {
-    let Some((before, after)) = DOCUMENT.split_once(old) else {
-        return Ok(None);
-    };
-    if after.find(old).is_some() {
-        return Ok(None);
+/// What stands in the document before these characters and behind them, which stand in it once.
+fn around(old: &str) -> Option<(&'static str, &'static str)> {
+    let (before, after) = DOCUMENT.split_once(old)?;
+    match after.find(old) {
+        None => Some((before, after)),
+        Some(_) => None,
     }
-    let mut text = String::from_str(alloc, before)?;
-    text.push_str(new)?;
-    text.push_str(after)?;
-    Ok(Some((before.len(), text)))
+}
+
+/// Whether the document with other characters there is refused behind the good ones.
+fn refuses_behind(
+    alloc: Global,
+    parts: (&str, &str),
+    good: &str,
+    rest: &str,
+) -> Result<bool, AllocError> {
+    let start = joined(alloc, parts.0, good, "")?;
+    let text = joined(alloc, start.as_str(), rest, parts.1)?;
+    let at = start.len();
+    Ok(refuses(alloc, text.as_str(), Kind::Token, (at, 0, at)))
+}
+
+/// Whether the document with other characters there ends too early.
+fn breaks_off(alloc: Global, parts: (&str, &str), new: &str) -> Result<bool, AllocError> {
+    let text = joined(alloc, parts.0, new, parts.1)?;
+    let at = text.len();
+    Ok(refuses(alloc, text.as_str(), Kind::End, (at, 0, at)))
 }
 
 /// Whether the document is refused at the `^`, which is not part of it; and without one at its end, where it breaks off.
@@ -30,27 +44,13 @@ fn is_refused(alloc: Global, row: &str) -> Result<bool, AllocError> {
     let Some((old, new)) = row.split_once(" => ") else {
         return Ok(false);
     };
-    let Some((good, rest)) = new.split_once('^') else {
-        return breaks_off(alloc, old, new);
-    };
-    let mut whole = String::from_str(alloc, good)?;
-    whole.push_str(rest)?;
-    let Some((start, text)) = edited(alloc, old, whole.as_str())? else {
+    let Some(parts) = around(old) else {
         return Ok(false);
     };
-    let at = start.saturating_add(good.len());
-    let token = ParseError::UnexpectedToken;
-    Ok(refuses(alloc, text.as_str(), &token, (at, 0, at)))
-}
-
-/// Whether the document ends too early.
-fn breaks_off(alloc: Global, old: &str, new: &str) -> Result<bool, AllocError> {
-    let Some((_, text)) = edited(alloc, old, new)? else {
-        return Ok(false);
-    };
-    let at = text.len();
-    let end = ParseError::UnexpectedEndOfFile;
-    Ok(refuses(alloc, text.as_str(), &end, (at, 0, at)))
+    match new.split_once('^') {
+        None => breaks_off(alloc, parts, new),
+        Some((good, rest)) => refuses_behind(alloc, parts, good, rest),
+    }
 }
 
 /// The first row that is not refused as it says.
@@ -63,7 +63,14 @@ fn first_other<'r>(alloc: Global, rows: &'r str) -> Result<Option<&'r str>, Allo
     Ok(None)
 }
 
-/// Whether the document is read, and its outline has what stands last in the row, which the document's own has not.
+/// Whether the document with other characters there has this in its outline, which the document's own has not.
+fn shows(alloc: Global, parts: (&str, &str), new: &str, said: &str) -> Result<bool, AllocError> {
+    let text = joined(alloc, parts.0, new, parts.1)?;
+    let found = reading(alloc, text.as_str())?;
+    Ok(found.as_str().find(said).is_some() && OUTLINE.find(said).is_none())
+}
+
+/// Whether the document is read, and its outline has what stands last in the row.
 fn is_read(alloc: Global, row: &str) -> Result<bool, AllocError> {
     let Some((old, behind)) = row.split_once(" => ") else {
         return Ok(false);
@@ -71,17 +78,20 @@ fn is_read(alloc: Global, row: &str) -> Result<bool, AllocError> {
     let Some((new, said)) = behind.split_once(" => ") else {
         return Ok(false);
     };
-    let Some((_, text)) = edited(alloc, old, new)? else {
-        return Ok(false);
-    };
-    let found = reading(alloc, text.as_str())?;
-    Ok(found.as_str().find(said).is_some() && OUTLINE.find(said).is_none())
+    match around(old) {
+        None => Ok(false),
+        Some(parts) => shows(alloc, parts, new, said),
+    }
 }
 
-#[test]
-fn the_document_is_read(rt: HostRuntime) -> Result<(), Fail> {
-    assert_eq!(rt; reading(rt.alloc(), DOCUMENT)?.as_str(), OUTLINE);
-    Ok(())
+/// The first row that is not read as it says.
+fn first_misread<'r>(alloc: Global, rows: &'r str) -> Result<Option<&'r str>, AllocError> {
+    for row in rows.lines() {
+        if !is_read(alloc, row)? {
+            return Ok(Some(row));
+        }
+    }
+    Ok(None)
 }
 
 /// What stands in the document, and what stands there in its place.
@@ -142,16 +152,6 @@ F @g => F g => ...F g ...on
 ...on U => on U => @g on U @h {
 , {k: 2 =>  {k: 2 => <[$w {k: 2}]>"#;
 
-#[test]
-fn a_punctuator_is_missing(rt: HostRuntime) -> Result<(), Fail> {
-    let alloc = rt.alloc();
-    assert_eq!(rt; first_other(alloc, MISSING)?, None);
-    for row in READ.lines() {
-        assert!(rt; is_read(alloc, row)?, "{row}");
-    }
-    Ok(())
-}
-
 /// The same of punctuators that are written twice.
 const DOUBLED: &str = r#"{ s => { ^{ s
 { s } => { s } ^}
@@ -206,12 +206,6 @@ S { => S { ^{
 { n } => { n } ^}
 @o { => @o { ^{
 { p } => { p } ^}"#;
-
-#[test]
-fn a_punctuator_is_written_twice(rt: HostRuntime) -> Result<(), Fail> {
-    assert_eq!(rt; first_other(rt.alloc(), DOUBLED)?, None);
-    Ok(())
-}
 
 /// The same of punctuators that are swapped for others.
 const SWAPPED: &str = r#"{ s } => ^( s }
@@ -270,8 +264,20 @@ S { => S ^:
 @o { => @o ^[
 { p } => { p ^)"#;
 
+static TABLES: [&'static str; 3] = [MISSING, DOUBLED, SWAPPED];
+
 #[test]
-fn a_punctuator_is_swapped(rt: HostRuntime) -> Result<(), Fail> {
-    assert_eq!(rt; first_other(rt.alloc(), SWAPPED)?, None);
+fn other_punctuators_are_refused(rt: HostRuntime) -> Result<(), Fail> {
+    for rows in &TABLES {
+        assert_eq!(rt; first_other(rt.alloc(), rows)?, None);
+    }
+    Ok(())
+}
+
+#[test]
+fn the_document_is_read(rt: HostRuntime) -> Result<(), Fail> {
+    let alloc = rt.alloc();
+    assert!(rt; reads_as(alloc, DOCUMENT, OUTLINE)?);
+    assert_eq!(rt; first_misread(alloc, READ)?, None);
     Ok(())
 }

@@ -1,13 +1,13 @@
 //! Strings and comments.
 
-use super::rows::{first_misread, first_other, is_refused, reading};
-use juniper_language::{LexerError, ParseError};
+use super::rows::{Kind, Place, is_refused, place, reads_as};
+use juniper_language::{DefaultScalarValue, LexerError, ParseError, parse_document_source};
 use std::alloc::{AllocError, Global};
 use std::test::Fail;
 
 /// Each escape, with how its character is written shortest; what the text has there stands between `<` and `>` where it
 /// differs.
-const ESCAPES: &str = r#"{ a(x: "") } => query { a( x:"" ) };
+pub const ESCAPES: &str = r#"{ a(x: "") } => query { a( x:"" ) };
 { a(x: "\"") } => query { a( x:"\"" ) };
 { a(x: "\\") } => query { a( x:"\\" ) };
 { a(x: "\/") } => query { a( x:"/"<"\/"> ) };
@@ -20,18 +20,26 @@ const ESCAPES: &str = r#"{ a(x: "") } => query { a( x:"" ) };
 { a(x: "quote \"") } => query { a( x:"quote \"" ) };
 query($v: String = "\u0041") { a @d(y: ["\/", {k: "\""}]) } => query ( $v:String="A"<"\u0041"> ) { a @d( y:["/", {k: "\""}]<["\/", {k: "\""}]> ) };"#;
 
-#[test]
-fn escapes_are_read(rt: HostRuntime) -> Result<(), Fail> {
-    assert_eq!(rt; first_misread(rt.alloc(), ESCAPES)?.as_str(), "");
-    Ok(())
+/// Whether the error is that of this escape.
+fn tells_escape(error: &ParseError, escape: &str) -> bool {
+    match error {
+        ParseError::LexerError(LexerError::UnknownEscapeSequence(told)) => told.as_str() == escape,
+        _ => false,
+    }
+}
+
+/// Whether the text is refused for the escape, at this place.
+fn refuses(alloc: Global, text: &str, escape: &str, at: Place) -> bool {
+    match parse_document_source::<DefaultScalarValue>(alloc, text) {
+        Ok(_) => false,
+        Err(error) => tells_escape(&error.item, escape) && place(error.span.start) == at,
+    }
 }
 
 /// Whether the string with these characters is refused for the escape, at its beginning.
 fn refuses_escape(alloc: Global, raw: &str, escape: &str) -> Result<bool, AllocError> {
-    let written = String::from_str(alloc, escape)?;
-    let kind = ParseError::LexerError(LexerError::UnknownEscapeSequence(written));
-    let row = format!(in alloc; "{{ a(x: ^\"{raw}\") }}")?;
-    is_refused(alloc, &kind, row.as_str())
+    let text = format!(in alloc; "{{ a(x: \"{raw}\") }}")?;
+    Ok(refuses(alloc, text.as_str(), escape, (7, 0, 7)))
 }
 
 /// What stands between the quotes, and the escape that is none.
@@ -59,16 +67,33 @@ s\n\q\" => \q
 \é => \é
 \😀 => \😀"#;
 
+/// The first row that is not refused so.
+fn first_other_escape<'r>(alloc: Global, rows: &'r str) -> Result<Option<&'r str>, AllocError> {
+    for row in rows.lines() {
+        if !is_no_escape(alloc, row)? {
+            return Ok(Some(row));
+        }
+    }
+    Ok(None)
+}
+
+fn is_no_escape(alloc: Global, row: &str) -> Result<bool, AllocError> {
+    match row.split_once(" => ") {
+        None => Ok(false),
+        Some((raw, escape)) => refuses_escape(alloc, raw, escape),
+    }
+}
+
 #[test]
 fn other_escapes_are_refused(rt: HostRuntime) -> Result<(), Fail> {
-    for row in NO_ESCAPES.lines() {
-        let found = match row.split_once(" => ") {
-            None => false,
-            Some((raw, escape)) => refuses_escape(rt.alloc(), raw, escape)?,
-        };
-        assert!(rt; found, "{row}");
-    }
+    assert_eq!(rt; first_other_escape(rt.alloc(), NO_ESCAPES)?, None);
     Ok(())
+}
+
+/// Whether the character is refused behind a backslash.
+fn is_never_escaped(alloc: Global, letter: char) -> Result<bool, AllocError> {
+    let escape = format!(in alloc; "\\{letter}")?;
+    refuses_escape(alloc, escape.as_str(), escape.as_str())
 }
 
 /// Behind a backslash stands one of nine characters.
@@ -77,16 +102,14 @@ fn no_other_character_is_escaped(rt: HostRuntime) -> Result<(), Fail> {
     for code in 32..127_u8 {
         let letter = char::from(code);
         if "\"\\/bfnrtu".find(letter).is_none() {
-            let escape = format!(in rt.alloc(); "\\{letter}")?;
-            let found = refuses_escape(rt.alloc(), escape.as_str(), escape.as_str())?;
-            assert!(rt; found, "{letter}");
+            assert!(rt; is_never_escaped(rt.alloc(), letter)?, "{letter}");
         }
     }
     Ok(())
 }
 
 /// Tab, U+007F, U+2028 and characters past U+FFFF stand in strings.
-const CHARACTERS: &str = "\
+pub const CHARACTERS: &str = "\
 { a(x: \"\u{7F}\u{85}\u{2028}\u{2029}\") } => query { a( x:\"\u{7F}\u{85}\u{2028}\u{2029}\" ) };
 { a(x: \"\t\") } => query { a( x:\"\\t\"<\"\t\"> ) };
 { a(x: \"\u{10000}\u{1F600}\u{10FFFF}\") } => query { a( x:\"\u{10000}\u{1F600}\u{10FFFF}\" ) };
@@ -95,13 +118,7 @@ const CHARACTERS: &str = "\
 { a(x: [\"\" \"b\"\"c\"]) } => query { a( x:[\"\", \"b\", \"c\"]<[\"\" \"b\"\"c\"]> ) };
 { a(x: [\"b\"\"\"]) } => query { a( x:[\"b\", \"\"]<[\"b\"\"\"]> ) };";
 
-#[test]
-fn characters_stand_in_strings(rt: HostRuntime) -> Result<(), Fail> {
-    assert_eq!(rt; first_misread(rt.alloc(), CHARACTERS)?.as_str(), "");
-    Ok(())
-}
-
-const CONTROLS: &str = "\
+pub const CONTROLS: &str = "\
 { a(x: ^\"\0\") }
 { a(x: ^\"s\u{1}\") }
 { a(x: ^\"\u{8}\") }
@@ -116,7 +133,7 @@ const CONTROLS: &str = "\
 { a(x: ^'s') }
 { a(x: ^`) }";
 
-const ENDLESS: &str = r#"{ a(x: ^"
+pub const ENDLESS: &str = r#"{ a(x: ^"
 { a(x: ^"s
 { a(x: ^") }
 { a(x: ^"\") }
@@ -125,7 +142,7 @@ const ENDLESS: &str = r#"{ a(x: ^"
 { a(x: "s" y: ^"t
 { a } ^" b"#;
 
-const BLOCKS: &str = r#"{ a(x: ^"""b""") }
+pub const BLOCKS: &str = r#"{ a(x: ^"""b""") }
 { a(x: ^""") }
 { a(x: ^"""") }
 { a(x: ^"""""") }
@@ -133,58 +150,45 @@ const BLOCKS: &str = r#"{ a(x: ^"""b""") }
 { ^"""b""" }
 { a(x: [1 ^"""b"""]) }"#;
 
-#[test]
-fn other_strings_are_refused(rt: HostRuntime) -> Result<(), Fail> {
-    let alloc = rt.alloc();
-    let control = ParseError::LexerError(LexerError::UnknownCharacter);
-    let endless = ParseError::LexerError(LexerError::UnterminatedString);
-    let found = first_other(alloc, &control, CONTROLS)?
-        .or(first_other(alloc, &endless, ENDLESS)?)
-        .or(first_other(alloc, &ParseError::BlockString, BLOCKS)?);
-    assert_eq!(rt; found, None);
-    Ok(())
-}
-
 /// A string ends on its line.
+static LINES: [&'static str; 6] = [
+    "{ a(x: ^\"\n\") }",
+    "{ a(x: ^\"s\r\") }",
+    "{ a(x: ^\"s\r\n\") }",
+    "{ a(x: ^\"\\\n\") }",
+    "{ a(x: ^\"\\u00\r41\") }",
+    "{ a(x: \"s\" y: ^\"\n",
+];
+
 #[test]
 fn lines_end_strings(rt: HostRuntime) -> Result<(), Fail> {
-    let alloc = rt.alloc();
-    let endless = ParseError::LexerError(LexerError::UnterminatedString);
-    let rows = [
-        "{ a(x: ^\"\n\") }",
-        "{ a(x: ^\"s\r\") }",
-        "{ a(x: ^\"s\r\n\") }",
-        "{ a(x: ^\"\\\n\") }",
-        "{ a(x: ^\"\\u00\r41\") }",
-        "{ a(x: \"s\" y: ^\"\n",
-    ];
-    for row in rows {
-        assert!(rt; is_refused(alloc, &endless, row)?, "{row}");
+    for row in &LINES {
+        assert!(rt; is_refused(rt.alloc(), Kind::Endless, row)?, "{row}");
     }
     Ok(())
 }
 
 /// A comment holds all but control characters, and ends with its line alone.
+static COMMENTS: [(&'static str, &'static str); 10] = [
+    ("{ a # } b\n c }", "query { a c };"),
+    ("{ a # } b\r c }", "query { a c };"),
+    ("{ a # } b\r\n c }", "query { a c };"),
+    ("{ a #\n#\r#\r\n c }", "query { a c };"),
+    ("{ a # \t\u{7F}\u{85} b\n c }", "query { a c };"),
+    ("{ a # \u{2028}b\u{2029}b\n c }", "query { a c };"),
+    (
+        "{ a # \u{1F600}\u{10FFFF} \" \\ \\u\n c }",
+        "query { a c };",
+    ),
+    ("{ a(x: # \"\n \"#\" # \"\n) }", "query { a( x:\"#\" ) };"),
+    ("#\n{ a#\n}# {", "query { a };"),
+    ("{ a...#\nF }", "query { a ...F };"),
+];
+
 #[test]
 fn comments_are_ignored(rt: HostRuntime) -> Result<(), Fail> {
-    let alloc = rt.alloc();
-    let rows = [
-        ("{ a # } b\n c }", "query { a c };"),
-        ("{ a # } b\r c }", "query { a c };"),
-        ("{ a # } b\r\n c }", "query { a c };"),
-        ("{ a #\n#\r#\r\n c }", "query { a c };"),
-        ("{ a # \t\u{7F}\u{85} b\n c }", "query { a c };"),
-        ("{ a # \u{2028}b\u{2029}b\n c }", "query { a c };"),
-        (
-            "{ a # \u{1F600}\u{10FFFF} \" \\ \\u\n c }",
-            "query { a c };",
-        ),
-        ("{ a(x: # \"\n \"#\" # \"\n) }", "query { a( x:\"#\" ) };"),
-        ("#\n{ a#\n}# {", "query { a };"),
-        ("{ a...#\nF }", "query { a ...F };"),
-    ];
-    for (text, said) in rows {
-        assert_eq!(rt; reading(alloc, text)?.as_str(), said, "{text}");
+    for (text, said) in &COMMENTS {
+        assert!(rt; reads_as(rt.alloc(), text, said)?, "{text}");
     }
     Ok(())
 }

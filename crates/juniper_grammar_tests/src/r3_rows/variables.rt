@@ -1,11 +1,7 @@
 //! Definitions of variables, and types.
 
-use super::rows::{first_misread, first_other};
-use juniper_language::ParseError;
-use std::test::Fail;
-
 /// What the text has stands between `<` and `>` where it is written otherwise.
-const READ: &str = r#"query($a: T) { a } => query ( $a:T ) { a };
+pub const READ: &str = r#"query($a: T) { a } => query ( $a:T ) { a };
 query Q($a:T$b:U!){a} => query Q ( $a:T $b:U! ) { a };
 query($a: [T], $b: [T!], $c: [T]!, $d: [T!]!) { a } => query ( $a:[T] $b:[T!] $c:[T]! $d:[T!]! ) { a };
 query($a: [[[T!]]!], $b: [[T]!]!) { a } => query ( $a:[[[T!]]!] $b:[[T]!]! ) { a };
@@ -22,13 +18,7 @@ subscription($a: T, $a: U) { b } => subscription ( $a:T $a:U ) { b };
 { a(x: $v, y: [$v, {k: $w}]) @d(z: $v) } => query { a( x:$v y:[$v, {k: $w}] ) @d( z:$v ) };
 fragment F on T @d(x: $v) { a(y: {k: [$v]}) } => fragment F on T @d( x:$v ) { a( y:{k: [$v]} ) };"#;
 
-#[test]
-fn variables_are_defined(rt: HostRuntime) -> Result<(), Fail> {
-    assert_eq!(rt; first_misread(rt.alloc(), READ)?.as_str(), "");
-    Ok(())
-}
-
-const REFUSED: &str = "\
+pub const REFUSED: &str = "\
 query(^) { a }
 query($^: T) { a }
 query(^a: T) { a }
@@ -60,7 +50,7 @@ fragment F on T^($a: T) { a }
 { a(x: T^!) }";
 
 /// A variable in a constant.
-const CONSTANTS: &str = "\
+pub const CONSTANTS: &str = "\
 query($a: T = ^$b) { a }
 query($a: T = ^$a) { a }
 query($a: T = [^$b]) { a }
@@ -71,12 +61,3 @@ query($a: T @d(x: 1, y: ^$a)) { a }
 query($a: T @d(x: {k: [^$b]})) { a }
 query($a: T @d @e(x: [^$b])) { a }
 query($a: T = 1, $b: U @d(x: ^$a)) { a }";
-
-#[test]
-fn other_variables_are_refused(rt: HostRuntime) -> Result<(), Fail> {
-    let alloc = rt.alloc();
-    let token = ParseError::UnexpectedToken;
-    let found = first_other(alloc, &token, REFUSED)?.or(first_other(alloc, &token, CONSTANTS)?);
-    assert_eq!(rt; found, None);
-    Ok(())
-}

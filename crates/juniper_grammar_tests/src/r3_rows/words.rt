@@ -1,13 +1,11 @@
 //! Words of the language as names: it keeps `on` alone, and only as a fragment's name.
 
-use super::rows::{first_misread, first_other};
-use juniper_language::{
-    DefaultScalarValue, Definition, InputValue, ParseError, Selection, parse_document_source,
-};
+use super::worked::first_arguments;
+use juniper_language::ast::Arguments;
+use juniper_language::{DefaultScalarValue, InputValue, parse_document_source};
 use std::alloc::Global;
-use std::test::Fail;
 
-const READ: &str = "\
+pub const READ: &str = "\
 { on } => query { on };
 { query: a } => query { query:a };
 { a(fragment: 1) } => query { a( fragment:1 ) };
@@ -33,13 +31,7 @@ fragment true on null { a } => fragment true on null { a };
 { a @include @true(false: null) } => query { a @include @true( false:null ) };
 { __typename _ _0 A1_b } => query { __typename _ _0 A1_b };";
 
-#[test]
-fn words_are_names(rt: HostRuntime) -> Result<(), Fail> {
-    assert_eq!(rt; first_misread(rt.alloc(), READ)?.as_str(), "");
-    Ok(())
-}
-
-const REFUSED: &str = "\
+pub const REFUSED: &str = "\
 ^on { a }
 ^true { a }
 ^Query { a }
@@ -67,13 +59,6 @@ query^: a { a }
 { a ^$b }
 { a: ^{ b } }";
 
-#[test]
-fn words_out_of_place_are_refused(rt: HostRuntime) -> Result<(), Fail> {
-    let token = ParseError::UnexpectedToken;
-    assert_eq!(rt; first_other(rt.alloc(), &token, REFUSED)?, None);
-    Ok(())
-}
-
 fn kind(value: &InputValue<DefaultScalarValue>) -> &str {
     match value {
         InputValue::Null => "null",
@@ -87,52 +72,57 @@ fn kind(value: &InputValue<DefaultScalarValue>) -> &str {
     }
 }
 
-/// Whether the first field's arguments have values of these kinds.
-fn has_kinds(alloc: Global, text: &str, kinds: &[&str]) -> bool {
-    let Ok(document) = parse_document_source::<DefaultScalarValue>(alloc, text) else {
-        return false;
-    };
-    let Some(Definition::Operation(operation)) = document.first() else {
-        return false;
-    };
-    let Some(Selection::Field(field)) = operation.item.selection_set.first() else {
-        return false;
-    };
-    let Some(arguments) = &field.item.arguments else {
-        return false;
-    };
-    let mut same = arguments.item.items.len() == kinds.len();
-    for (argument, wanted) in arguments.item.items.iter().zip(kinds) {
+/// Whether the arguments have values of these kinds.
+fn are_of_kinds(arguments: &Arguments<'_, DefaultScalarValue>, kinds: &[&str]) -> bool {
+    for (argument, wanted) in arguments.items.iter().zip(kinds) {
         if kind(&argument.1.item) != *wanted {
-            same = false;
+            return false;
         }
     }
-    same
+    arguments.items.len() == kinds.len()
 }
+
+/// Whether the first field's arguments have values of these kinds.
+fn has_kinds(alloc: Global, text: &str, kinds: &[&str]) -> bool {
+    match parse_document_source::<DefaultScalarValue>(alloc, text) {
+        Ok(document) => match first_arguments(&document) {
+            None => false,
+            Some(arguments) => are_of_kinds(arguments, kinds),
+        },
+        Err(_) => false,
+    }
+}
+
+static KINDS: [(&'static str, [&'static str; 7]); 2] = [
+    (
+        "{ a(a: true, b: false, c: null, d: nul, e: True, f: on, g: NULL) }",
+        [
+            "a Boolean",
+            "a Boolean",
+            "null",
+            "an enum's",
+            "an enum's",
+            "an enum's",
+            "an enum's",
+        ],
+    ),
+    (
+        "{ a(a: \"true\", b: \"null\", c: -1, d: $true, e: [], f: {}, g: [null]) }",
+        [
+            "a String",
+            "a String",
+            "an Int",
+            "a variable",
+            "a list",
+            "an object",
+            "a list",
+        ],
+    ),
+];
 
 #[test]
 fn values_have_their_kinds(rt: HostRuntime) {
-    let alloc = rt.alloc();
-    let words = "{ a(a: true, b: false, c: null, d: nul, e: True, f: on, g: NULL) }";
-    let kinds = [
-        "a Boolean",
-        "a Boolean",
-        "null",
-        "an enum's",
-        "an enum's",
-        "an enum's",
-        "an enum's",
-    ];
-    assert!(rt; has_kinds(alloc, words, kinds.as_slice()));
-    let others = "{ a(a: \"true\", b: \"null\", c: -1, d: $true, e: [], f: {}, g: [null]) }";
-    let kinds_of_others = [
-        "a String",
-        "a String",
-        "an Int",
-        "a variable",
-        "a list",
-        "an object",
-        "a list",
-    ];
-    assert!(rt; has_kinds(alloc, others, kinds_of_others.as_slice()));
+    for (text, kinds) in &KINDS {
+        assert!(rt; has_kinds(rt.alloc(), text, kinds.as_slice()), "{text}");
+    }
 }

@@ -1,10 +1,10 @@
 use Rattle.std.proofs.Common.{◌≡◌, ◌+◌, ◌≤◌, Some, option_map, unwrap_or, string_bytes, get_or, drop, sym, ap, ap₂, refl, ◌∙◌, arith, rules}
 use denote.Param.Weighed.{at_most}
-use Rattle.graphql_spec.specs.Inputs.{null, item, field_if, const, const_items, const_fields, object}
+use Rattle.graphql_spec.specs.Inputs.{null, item, field_if, const, const_items, const_fields, object, list}
 use Rattle.juniper_position.specs.Positions.{view_span}
 use Rattle.juniper_syntax.specs.InputView.{view_input, view_items, view_fields, view_variables}
-use Rattle.juniper_syntax.proofs.Inputs.{view-Variable, view-Object}
-use Rattle.juniper_syntax.proofs.InputLists.{items_turn, items_end, fields_turn, fields_skip, fields_end}
+use Rattle.juniper_syntax.proofs.Inputs.{view-Variable, view-List, view-Object}
+use Rattle.juniper_syntax.proofs.InputLists.{append_items, append_fields, items_turn, items_end, fields_turn, fields_skip, fields_end}
 use Rattle.juniper_syntax.proofs.input.InputValue.TheLaws.{the_size}
 use Rattle.juniper_syntax.specs.declared.input.InputValue.TheShapes.{weighed-InputValue-Object-0-at-4}
 use Rattle.juniper_syntax.proofs.input.+into_const.Goals as goal
@@ -87,3 +87,33 @@ const_fields-into_const-requires g t c κs within = (
       omega (arith, c.decreases, at, one, same),
   search rules,
 )
+
+pub InputValue::into_const-returns-in-None : goal.InputValue::into_const-returns-in-None
+unfolding const
+InputValue::into_const-returns-in-None g t c =
+    let shown = g.S.ScalarValue.shown in
+    let vars = view_variables shown c.args.variables.now in
+    let seen = ap (view_input shown) c.in-Variable.is ∙ view-Variable shown c.in-Variable.name in
+    let named = c.as_str.ensures.value in
+    ap (option_map (view_input shown)) c.in-None.ensures.value ∙ rw named (ap (const vars) (sym seen))
+
+pub InputValue::into_const-returns-in_ok-const_items-in-List : goal.InputValue::into_const-returns-in_ok-const_items-in-List
+unfolding const
+InputValue::into_const-returns-in_ok-const_items-in-List g t c =
+    let shown = g.S.ScalarValue.shown in
+    let vars = view_variables shown c.args.variables.now in
+    let seen = ap (view_input shown) c.in-List.is ∙ view-List shown c.in-List.items in
+    ap Some (view-List shown c.in_ok-const_items-in-List.field-0 ∙ ap list (c.in_ok-const_items-in-List.ensures ∙ ap (λ vs. const_items vars (view_items shown vs)) c.as_slice.ensures.value))
+    ∙ ap (const vars) (sym seen)
+
+pub const_items-loop-item-init : goal.const_items-loop-item-init
+const_items-loop-item-init g t c =
+    let shown = g.S.ScalarValue.shown in
+    let rest = const_items (view_variables shown c.args.variables.now) (view_items shown c.args.items.now) in
+    ap (λ vs. append_items (view_items shown vs) rest) c.in_ok-made.ensures.items
+
+pub const_fields-loop-field-init : goal.const_fields-loop-field-init
+const_fields-loop-field-init g t c =
+    let shown = g.S.ScalarValue.shown in
+    let rest = const_fields (view_variables shown c.args.variables.now) (view_fields shown c.args.fields.now) in
+    ap (λ vs. append_fields (view_fields shown vs) rest) c.in_ok-made.ensures.items

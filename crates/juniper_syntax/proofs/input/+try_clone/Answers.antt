@@ -3,11 +3,11 @@ use denote.Param.Weighed.{at_most}
 use Rattle.std.proofs.Common.{◌≤◌, get_or}
 use Rattle.juniper_syntax.proofs.input.InputValue.TheLaws.{the_size}
 use Rattle.juniper_syntax.specs.declared.input.InputValue.TheShapes.{weighed-InputValue-Object-0-at-4}
-use Rattle.graphql_spec.specs.Inputs.{item, input_field}
+use Rattle.graphql_spec.specs.Inputs.{item, input_field, scalar, enumerated, variable, list}
 use Rattle.juniper_position.specs.Positions.{view_span}
 use Rattle.juniper_syntax.specs.InputView.{view_input, view_items, view_fields}
-use Rattle.juniper_syntax.proofs.Inputs.{view-Object}
-use Rattle.juniper_syntax.proofs.InputLists.{items_turn, items_end, fields_turn, fields_end}
+use Rattle.juniper_syntax.proofs.Inputs.{view-Scalar, view-Enum, view-Variable, view-List, view-Object}
+use Rattle.juniper_syntax.proofs.InputLists.{append_items, append_fields, items_turn, items_end, fields_turn, fields_end}
 use Rattle.juniper_syntax.proofs.input.+try_clone.Goals as goal
 
 pub InputValue::try_clone-returns-in_ok-clone_fields-in-Object :
@@ -54,3 +54,40 @@ clone_fields-try_clone-requires g t c κs within = (
       omega (arith, c.decreases, at, one, same),
   search rules,
 )
+
+pub InputValue::try_clone-returns-in-Null : goal.InputValue::try_clone-returns-in-Null
+InputValue::try_clone-returns-in-Null g t c = sym (ap (view_input g.S.ScalarValue.shown) c.in-Null.is)
+
+pub InputValue::try_clone-returns-in_ok-try_clone-in-Scalar : goal.InputValue::try_clone-returns-in_ok-try_clone-in-Scalar
+InputValue::try_clone-returns-in_ok-try_clone-in-Scalar g t c =
+    let shown = g.S.ScalarValue.shown in
+    let seen = ap (view_input shown) c.in-Scalar.is ∙ view-Scalar shown c.in-Scalar.scalar in
+    view-Scalar shown c.in_ok-try_clone-in-Scalar.field-0 ∙ ap scalar c.in_ok-try_clone-in-Scalar.ensures ∙ sym seen
+
+pub InputValue::try_clone-returns-in_ok-from_str-in-Enum : goal.InputValue::try_clone-returns-in_ok-from_str-in-Enum
+InputValue::try_clone-returns-in_ok-from_str-in-Enum g t c =
+    let shown = g.S.ScalarValue.shown in
+    let seen = ap (view_input shown) c.in-Enum.is ∙ view-Enum shown c.in-Enum.name in
+    view-Enum shown c.in_ok-from_str-in-Enum.field-0 ∙ ap enumerated (c.in_ok-from_str-in-Enum.ensures.ok ∙ c.as_str.ensures.value) ∙ sym seen
+
+pub InputValue::try_clone-returns-in_ok-from_str-in-Variable : goal.InputValue::try_clone-returns-in_ok-from_str-in-Variable
+InputValue::try_clone-returns-in_ok-from_str-in-Variable g t c =
+    let shown = g.S.ScalarValue.shown in
+    let seen = ap (view_input shown) c.in-Variable.is ∙ view-Variable shown c.in-Variable.name in
+    view-Variable shown c.in_ok-from_str-in-Variable.field-0 ∙ ap variable (c.in_ok-from_str-in-Variable.ensures.ok ∙ c.as_str-in-Variable.ensures.value) ∙ sym seen
+
+pub InputValue::try_clone-returns-in_ok-clone_items-in-List : goal.InputValue::try_clone-returns-in_ok-clone_items-in-List
+InputValue::try_clone-returns-in_ok-clone_items-in-List g t c =
+    let shown = g.S.ScalarValue.shown in
+    let seen = ap (view_input shown) c.in-List.is ∙ view-List shown c.in-List.items in
+    view-List shown c.in_ok-clone_items-in-List.field-0 ∙ ap list (c.in_ok-clone_items-in-List.ensures ∙ ap (view_items shown) c.as_slice.ensures.value) ∙ sym seen
+
+pub clone_items-loop-item-init : goal.clone_items-loop-item-init
+clone_items-loop-item-init g t c =
+    let shown = g.S.ScalarValue.shown in
+    ap (λ vs. append_items (view_items shown vs) (view_items shown c.args.items.now)) c.in_ok-made.ensures.items
+
+pub clone_fields-loop-field-init : goal.clone_fields-loop-field-init
+clone_fields-loop-field-init g t c =
+    let shown = g.S.ScalarValue.shown in
+    ap (λ vs. append_fields (view_fields shown vs) (view_fields shown c.args.fields.now)) c.in_ok-made.ensures.items
