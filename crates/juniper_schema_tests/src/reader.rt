@@ -3,6 +3,7 @@
 //! A text of a schema is written as in the language for type systems (section 3 of the Specification), with these own forms:
 //! - `query N`, then `mutation N` may stand first and name the root types; else `Query` is the query type, and there is no
 //!   mutation type.
+//! - `bare` may stand next: placeholders `Int` and `ID` are then left out, which are there else.
 //! - Each interface that is listed stands behind a `&`, and each member of a union behind a `|`.
 //! - `scalar Date int text boolean` says which kinds it accepts, in this order.
 //! - `placeholder N`, `list N`, `nullable N` declare what stands in a registry alone.
@@ -10,9 +11,9 @@
 //! - `[Int;2]` is a list of the expected size 2.
 //! - A blank and `#` end the text.
 //!
-//! Placeholders `Int` and `ID` are there from the start, and objects and interfaces get a last field `__typename: String!`
-//! where they declare no `__typename`. The description of an entry is its first word, and the URL of a scalar is `there`. A
-//! text among values has no blanks, commas and marks. Another text ends the test.
+//! Objects and interfaces get a last field `__typename: String!` where they declare no `__typename`. The description of an
+//! entry is its first word, and the URL of a scalar is `there`. A text among values has no blanks, commas and marks. A text
+//! that is of another form ends the test.
 
 use juniper_meta::meta::{Argument, Field, find_field};
 use juniper_meta::{
@@ -370,8 +371,10 @@ impl<'w, R: Abort> Reader<'w, R> {
 
     fn read_types(&mut self) -> Types {
         let mut types = HashMap::new(self.alloc);
-        self.put_placeholder(&mut types, "Int");
-        self.put_placeholder(&mut types, "ID");
+        if !self.eats("bare") {
+            self.put_placeholder(&mut types, "Int");
+            self.put_placeholder(&mut types, "ID");
+        }
         for _turn in 0..self.words.len() {
             if self.ends() {
                 break;
@@ -405,17 +408,17 @@ pub fn schema<R: Abort>(rt: &R, alloc: Global, text: &str) -> SchemaType<Scalar>
     Reader::new(rt, alloc, &words).read_schema()
 }
 
-/// `yes` or `no`.
-pub fn word_for(answer: bool) -> &'static str {
-    if answer { "yes" } else { "no" }
-}
-
 /// Ends the test at the first row that is not as it says; a row is `yes` or `no`, a blank and the text of a schema, which can
 /// be executed or not.
 pub fn check_rows<R: Abort>(rt: &R, alloc: Global, rows: &str) {
     for row in rows.lines() {
         let (wanted, text) = row.split_once(' ').expect(rt, "a row");
-        let schema = schema(rt, alloc, text);
-        assert!(rt; word_for(schema_is_executable(&schema)) == wanted, "{row}");
+        let found = is_executable(rt, alloc, text);
+        assert!(rt; found == (wanted == "yes"), "{row}");
     }
+}
+
+/// Whether the schema of a text can be executed.
+fn is_executable<R: Abort>(rt: &R, alloc: Global, text: &str) -> bool {
+    schema_is_executable(&schema(rt, alloc, text))
 }
