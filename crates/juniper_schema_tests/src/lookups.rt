@@ -47,9 +47,9 @@ ID => ID leaf input int text
 Hero => none
 query => none
 __typename => none
-P =>  placeholder
-L => 
-N => ";
+P => - placeholder
+L => -
+N => -";
 
 #[test]
 fn types_are_found_by_name(rt: HostRuntime) {

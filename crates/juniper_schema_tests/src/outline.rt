@@ -126,9 +126,9 @@ impl<'r, R: Abort> Line<'r, R> {
         }
     }
 
-    /// Its name, behind a `/` the description and behind a `@` the URL, then what it is, then what it lists.
+    /// Its name or a `-`, behind a `/` the description and behind a `@` the URL, then what it is, then what it lists.
     pub fn put_meta(&mut self, meta: &MetaType<Scalar>) {
-        self.put_some("", meta.name());
+        self.put("", meta.name().unwrap_or("-"));
         self.put_some("/", meta.description());
         self.put_some("@", meta.specified_by_url());
         self.put_tests(meta);
