@@ -5,7 +5,7 @@
 #[cfg(test)]
 mod clauses;
 #[cfg(test)]
-mod declarations;
+mod directives;
 #[cfg(test)]
 mod fitting;
 #[cfg(test)]

@@ -9,7 +9,7 @@ use std::process::Abort;
 
 const SCHEMA: &str = "\
 mutation Cell
-type Query implements & I { a(n: Int): Int b: String! }
+type Query implements & I { a(n: Int, m: Int): Int b: String! }
 type Cell { a: Int }
 interface I { a(n: Int): Int }
 interface J implements & I { a(n: Int): Int }
@@ -21,24 +21,30 @@ placeholder P
 list L
 nullable N";
 
-/// Ends the test where a row `name => outline` is not what is told at this name; `none` where nothing is found there.
-fn check_names<R: Abort>(rt: &R, alloc: Global, schema: &SchemaType<Scalar>, rows: &str) {
+/// Ends the test where a row `name => outline` is not what the schema of a text tells at this name; `none` where nothing is
+/// found there.
+fn check_names<R: Abort>(rt: &R, alloc: Global, text: &str, rows: &str) {
+    let schema = schema(rt, alloc, text);
     for row in rows.lines() {
-        let (name, wanted) = row.split_once(" => ").expect(rt, "a row");
-        match schema.concrete_type_by_name(name) {
-            Some(meta) => check_told(rt, alloc, meta, wanted),
-            None => assert!(rt; wanted == "none", "{row}"),
-        }
+        check_name(rt, alloc, &schema, row);
+    }
+}
+
+fn check_name<R: Abort>(rt: &R, alloc: Global, schema: &SchemaType<Scalar>, row: &str) {
+    let (name, wanted) = row.split_once(" => ").expect(rt, "a row");
+    match schema.concrete_type_by_name(name) {
+        Some(meta) => check_told(rt, alloc, meta, wanted),
+        None => assert!(rt; wanted == "none", "{row}"),
     }
 }
 
 const TOLD: &str = "\
-Query => Query/type object composite a n:Int:Int b:String! __typename:String! &I
-I => I/interface interface composite a n:Int:Int __typename:String!
-J => J/interface interface composite a n:Int:Int __typename:String! &I
+Query => Query/type object composite a n:Int/argument m:Int/argument:Int/field--old b:String!/field--old __typename:String! &I
+I => I/interface interface composite a n:Int/argument:Int/field--old __typename:String!
+J => J/interface interface composite a n:Int/argument:Int/field--old __typename:String! &I
 U => U/union composite |Query |Cell
-E => E/enum leaf input RED
-In => In/input input x:Int=3
+E => E/enum leaf input RED/value-
+In => In/input input x:Int=3/argument
 Date => Date/scalar@there leaf input int
 String => String leaf input text
 Boolean => Boolean leaf input boolean
@@ -53,8 +59,7 @@ N => -";
 
 #[test]
 fn types_are_found_by_name(rt: HostRuntime) {
-    let schema = schema(&rt, rt.alloc(), SCHEMA);
-    check_names(&rt, rt.alloc(), &schema, TOLD);
+    check_names(&rt, rt.alloc(), SCHEMA, TOLD);
 }
 
 /// The types of introspection (4.2).
@@ -70,8 +75,7 @@ __DirectiveLocation => __DirectiveLocation leaf input QUERY MUTATION SUBSCRIPTIO
 
 #[test]
 fn introspection_types_are_found_by_name(rt: HostRuntime) {
-    let schema = schema(&rt, rt.alloc(), "type Query { a: Int }");
-    check_names(&rt, rt.alloc(), &schema, INTROSPECTION);
+    check_names(&rt, rt.alloc(), "type Query { a: Int }", INTROSPECTION);
 }
 
 /// Placeholders of the built-in scalars, and what stands there in a schema (3.5).
@@ -85,13 +89,12 @@ ID => ID leaf input int text";
 fn placeholders_of_built_in_scalars_are_replaced(rt: HostRuntime) {
     let text =
         "type Query { a: Int } placeholder String placeholder Boolean placeholder Int placeholder ID";
-    let schema = schema(&rt, rt.alloc(), text);
-    check_names(&rt, rt.alloc(), &schema, FILLED);
+    check_names(&rt, rt.alloc(), text, FILLED);
 }
 
 const DECLARED: &str = "\
 String => String/scalar@there leaf input int
-Boolean => Boolean/enum leaf input A
+Boolean => Boolean/enum leaf input A/value-
 Int => Int/scalar@there leaf input text
 ID => ID/scalar@there leaf input boolean";
 
@@ -99,8 +102,7 @@ ID => ID/scalar@there leaf input boolean";
 fn declared_built_in_scalars_stay(rt: HostRuntime) {
     let text =
         "type Query { a: Int } scalar String int enum Boolean { A } scalar Int text scalar ID boolean";
-    let schema = schema(&rt, rt.alloc(), text);
-    check_names(&rt, rt.alloc(), &schema, DECLARED);
+    check_names(&rt, rt.alloc(), text, DECLARED);
 }
 
 /// What stands there where no scalar is declared.
@@ -112,8 +114,7 @@ ID => none";
 
 #[test]
 fn strings_and_booleans_are_added(rt: HostRuntime) {
-    let schema = schema(&rt, rt.alloc(), "bare type Query { a: String }");
-    check_names(&rt, rt.alloc(), &schema, ADDED);
+    check_names(&rt, rt.alloc(), "bare type Query { a: String }", ADDED);
 }
 
 /// Ends the test where what is found has another name; `none` where nothing is found.

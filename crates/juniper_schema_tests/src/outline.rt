@@ -51,7 +51,7 @@ impl<'r, R: Abort> Line<'r, R> {
     }
 
     /// Writes what is shown behind a mark.
-    fn put_shown<T: Display>(&mut self, mark: &str, shown: &T) {
+    pub fn put_shown<T: Display>(&mut self, mark: &str, shown: &T) {
         let text = shown.to_string(self.alloc).expect(self.rt, "memory");
         self.put(mark, text.as_str());
     }
@@ -75,7 +75,7 @@ impl<'r, R: Abort> Line<'r, R> {
     }
 
     /// `name`, a `(` and the arguments, `:type`, and behind a `/` the description.
-    pub fn put_field(&mut self, field: &Field<Scalar>) {
+    fn put_field(&mut self, field: &Field<Scalar>) {
         self.put(" ", field.name.as_str());
         for argument in field.declared_arguments() {
             self.put_argument(argument);
@@ -86,7 +86,7 @@ impl<'r, R: Abort> Line<'r, R> {
     }
 
     /// `name`, and behind a `/` the description.
-    pub fn put_value(&mut self, value: &EnumValue) {
+    fn put_value(&mut self, value: &EnumValue) {
         self.put(" ", value.name.as_str());
         self.put_some("/", value.description.as_deref());
         self.put_status(&value.deprecation_status);

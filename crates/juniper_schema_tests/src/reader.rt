@@ -12,8 +12,9 @@
 //! - A blank and `#` end the text.
 //!
 //! Objects and interfaces get a last field `__typename: String!` where they declare no `__typename`. The description of an
-//! entry is its first word, and the URL of a scalar is `there`. A text among values has no blanks, commas and marks. A text
-//! that is of another form ends the test.
+//! entry is its first word, and the URL of a scalar is `there`. Fields are described as `field` and deprecated as `old`,
+//! values of enums are described as `value` and deprecated without a reason, and arguments and fields of input objects are
+//! described as `argument`. A text among values has no blanks, commas and marks. A text of another form ends the test.
 
 use juniper_meta::meta::{Argument, Field, find_field};
 use juniper_meta::{
@@ -203,37 +204,46 @@ impl<'w, R: Abort> Reader<'w, R> {
     fn read_argument(&mut self) -> Argument<Scalar> {
         let name = self.name();
         self.expect_word(":");
-        let argument = Argument::new(name, self.read_type());
+        let argument = Argument::new(name, self.read_type()).description(self.text("argument"));
         if self.eats("=") {
             return argument.default_value(self.read_value(4));
         }
         argument
     }
 
-    /// Arguments up to this mark.
-    fn read_arguments(&mut self, close: &str) -> Vec<Argument<Scalar>> {
-        let mut arguments = Vec::new(self.alloc);
+    /// The fields of an input object.
+    fn read_inputs(&mut self) -> Vec<Argument<Scalar>> {
+        let mut fields = Vec::new(self.alloc);
         for _turn in 0..self.words.len() {
-            if self.eats(close) {
+            if self.eats("}") {
                 break;
             }
-            arguments
-                .push(self.read_argument())
-                .expect(self.rt, "memory");
+            fields.push(self.read_argument()).expect(self.rt, "memory");
         }
-        arguments
+        fields
     }
 
     fn read_field(&mut self) -> Field<Scalar> {
-        let name = self.name();
-        let mut arguments = None;
+        let mut field = Field::new(self.name(), Type::Named(self.text("")));
         if self.eats("(") {
-            arguments = Some(self.read_arguments(")"));
+            for _turn in 0..self.words.len() {
+                if self.eats(")") {
+                    break;
+                }
+                field = self.add_argument(field);
+            }
         }
         self.expect_word(":");
-        let mut field = Field::new(name, self.read_type());
-        field.arguments = arguments;
+        field.field_type = self.read_type();
+        let described = field.description(self.text("field"));
+        described.deprecated(Some(self.text("old")))
+    }
+
+    fn add_argument(&mut self, field: Field<Scalar>) -> Field<Scalar> {
+        let argument = self.read_argument();
         field
+            .argument(self.alloc, argument)
+            .expect(self.rt, "memory")
     }
 
     /// Fields and the `}` behind them.
@@ -259,8 +269,9 @@ impl<'w, R: Abort> Reader<'w, R> {
             if self.eats("}") {
                 break;
             }
+            let value = EnumValue::new(self.name()).description(self.text("value"));
             values
-                .push(EnumValue::new(self.name()))
+                .push(value.deprecated(None))
                 .expect(self.rt, "memory");
         }
         values
@@ -320,7 +331,7 @@ impl<'w, R: Abort> Reader<'w, R> {
 
     fn read_input_object(&mut self, name: String) -> MetaType<Scalar> {
         self.expect_word("{");
-        let meta = InputObjectMeta::new(name, self.read_arguments("}"));
+        let meta = InputObjectMeta::new(name, self.read_inputs());
         meta.description(self.text("input")).into_meta()
     }
 
