@@ -1,0 +1,18 @@
+//! Tests of schemas: which can be executed, which values fit, what look-ups find, and what declarations tell. Schemas are
+//! written as texts.
+#![tactic(auto)]
+
+#[cfg(test)]
+mod clauses;
+#[cfg(test)]
+mod directives;
+#[cfg(test)]
+mod fitting;
+#[cfg(test)]
+mod lookups;
+#[cfg(test)]
+mod outline;
+#[cfg(test)]
+mod reader;
+#[cfg(test)]
+mod rows;
