@@ -1,0 +1,4 @@
+pub mod Defaults
+pub mod Lists
+pub mod Placeholders
+pub mod Tables
