@@ -6,7 +6,7 @@ ghost use Rattle.graphql_spec.specs.Schema.{enum_type, input_object_type, interf
 ghost use Rattle.graphql_spec.specs.Types.{innermost};
 ghost use Rattle.juniper_meta.specs.MetaView.{innermost_names, named_meta, unnamed_meta, view_argument, view_enum, view_enum_value, view_field, view_input_object, view_interface, view_kinds, view_list, view_nullable, view_object, view_scalar, view_union};
 
-use crate::graphql_type::GraphQLType;
+use crate::graphql_type::GraphQLReference;
 use crate::registry::{Registry, name_of};
 use juniper_meta::meta::Field;
 use juniper_meta::{
@@ -22,7 +22,7 @@ impl<S: ScalarValue> Registry<S> {
 
     /// The list of items of this type, with this number of them, where one is expected (3.11). The registry changes as by
     /// `get_type`; an error where memory is refused.
-    pub fn build_list_type<T: GraphQLType<S>>(
+    pub fn build_list_type<T: GraphQLReference<S>>(
         &mut self,
         info: &T::TypeInfo,
         expected_size: Option<usize>,
@@ -34,7 +34,7 @@ impl<S: ScalarValue> Registry<S> {
     }
 
     /// This type, and null (3.12). The registry changes as by `get_type`; an error where memory is refused.
-    pub fn build_nullable_type<T: GraphQLType<S>>(
+    pub fn build_nullable_type<T: GraphQLReference<S>>(
         &mut self,
         info: &T::TypeInfo,
     ) -> Result<NullableMeta, AllocError>
@@ -46,7 +46,7 @@ impl<S: ScalarValue> Registry<S> {
 
     /// The scalar of this type's name that accepts these kinds, without description and URL (3.5); an error where memory is
     /// refused.
-    pub fn build_scalar_type<T: GraphQLType<S>>(
+    pub fn build_scalar_type<T: GraphQLReference<S>>(
         &self,
         info: &T::TypeInfo,
         kinds: ScalarKinds,
@@ -60,7 +60,7 @@ impl<S: ScalarValue> Registry<S> {
     /// The object of this type's name with these fields and behind them `__typename: String!`, without description, that
     /// lists no interfaces (3.6). A placeholder is left at `String`, where nothing stands there; an error where memory is
     /// refused, when at most placeholders are added.
-    pub fn build_object_type<T: GraphQLType<S>>(
+    pub fn build_object_type<T: GraphQLReference<S>>(
         &mut self,
         info: &T::TypeInfo,
         fields: Vec<Field<S>>,
@@ -75,7 +75,7 @@ impl<S: ScalarValue> Registry<S> {
     }
 
     /// The enum of this type's name with these values, without description (3.9); an error where memory is refused.
-    pub fn build_enum_type<T: GraphQLType<S>>(
+    pub fn build_enum_type<T: GraphQLReference<S>>(
         &self,
         info: &T::TypeInfo,
         values: Vec<EnumValue>,
@@ -89,7 +89,7 @@ impl<S: ScalarValue> Registry<S> {
     /// The interface of this type's name with these fields and behind them `__typename: String!`, without description, that
     /// lists no interfaces (3.7). A placeholder is left at `String`, where nothing stands there; an error where memory is
     /// refused, when at most placeholders are added.
-    pub fn build_interface_type<T: GraphQLType<S>>(
+    pub fn build_interface_type<T: GraphQLReference<S>>(
         &mut self,
         info: &T::TypeInfo,
         fields: Vec<Field<S>>,
@@ -105,7 +105,7 @@ impl<S: ScalarValue> Registry<S> {
 
     /// The union of this type's name of these types, by their innermost names, without description (3.8); an error where
     /// memory is refused.
-    pub fn build_union_type<T: GraphQLType<S>>(
+    pub fn build_union_type<T: GraphQLReference<S>>(
         &self,
         info: &T::TypeInfo,
         types: &[Type<String>],
@@ -118,7 +118,7 @@ impl<S: ScalarValue> Registry<S> {
 
     /// The input object of this type's name with these fields, without description (3.10); an error where memory is
     /// refused.
-    pub fn build_input_object_type<T: GraphQLType<S>>(
+    pub fn build_input_object_type<T: GraphQLReference<S>>(
         &self,
         info: &T::TypeInfo,
         input_fields: Vec<Argument<S>>,
@@ -130,7 +130,7 @@ impl<S: ScalarValue> Registry<S> {
     }
 
     /// The name of a type that has one.
-    fn own_name<T: GraphQLType<S>>(&self, info: &T::TypeInfo) -> Result<String, AllocError>
+    fn own_name<T: GraphQLReference<S>>(&self, info: &T::TypeInfo) -> Result<String, AllocError>
         requires { IsSome (T.named info.now) }
         ensures { IfOk result (λ n. T.named info.now ≡ Some (string_bytes n)) }
     {

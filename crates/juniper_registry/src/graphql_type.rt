@@ -10,9 +10,10 @@ use juniper_meta::MetaType;
 use juniper_syntax::{ScalarValue, Type};
 use std::alloc::{AllocError, Global};
 
-/// A type of GraphQL, by what each implementation writes: its name, how it is referred to, and how it is declared.
-pub trait GraphQLType<S: ScalarValue> {
-    ghost use Rattle.juniper_registry.specs.Entries.{AddsPlaceholders, Awaits};
+/// A type of GraphQL by how it is referred to, which each implementation writes. It stands apart from how the type is
+/// declared, since declarations refer to one another, and to themselves.
+pub trait GraphQLReference<S: ScalarValue> {
+    ghost use Rattle.juniper_registry.specs.Entries.{Awaits};
     ghost use Rattle.juniper_registry.specs.RegistryView.{view_registry};
 
     /// What tells several GraphQL types of one Rust type apart.
@@ -24,12 +25,28 @@ pub trait GraphQLType<S: ScalarValue> {
     /// How it is referred to (2.11).
     ghost reference: { Self.TypeInfo → TypeRef };
 
-    /// How it is declared (3.4).
-    ghost declaration: { Self.TypeInfo → Meta };
-
     /// Its name; `None` for lists and other types without one.
     fn name(info: &Self::TypeInfo) -> Option<&str>
         ensures { option_map (λ n. n.now) result ≡ named info.now };
+
+    /// The reference to it: a named type and a list are non-null (3.12). The registry gets a placeholder at the name inside
+    /// all lists, where nothing stands there; an error where memory is refused, when it gets at most placeholders.
+    fn type_in(
+        alloc: Global,
+        info: &Self::TypeInfo,
+        registry: &mut Registry<S>,
+    ) -> Result<Type<String>, AllocError>
+        ensures referred { IfOk result (λ t. view_type t ≡ reference info.now) }
+        ensures awaited { Awaits result (innermost (reference info.now)) (view_registry S.shown registry.old) (view_registry S.shown registry.new) };
+}
+
+/// A type of GraphQL: how it is referred to, and how it is declared.
+pub trait GraphQLType<S: ScalarValue>: GraphQLReference<S> {
+    ghost use Rattle.juniper_registry.specs.Entries.{AddsPlaceholders};
+    ghost use Rattle.juniper_registry.specs.RegistryView.{view_registry};
+
+    /// How it is declared (3.4).
+    ghost declaration: { Self.TypeInfo → Meta };
 
     /// Its declaration. The registry gets at most placeholders, of types that the declaration refers to; an error where
     /// memory is refused.
@@ -41,16 +58,6 @@ pub trait GraphQLType<S: ScalarValue> {
         ensures declared { IfOk result (λ m. view_meta S.shown m ≡ declaration info.now) }
         ensures added { AddsPlaceholders (view_registry S.shown registry.old) (view_registry S.shown registry.new) };
 
-    /// The reference to it: a named type and a list are non-null (3.12). The registry gets a placeholder at the name inside
-    /// all lists, where nothing stands there; an error where memory is refused, when it gets at most placeholders.
-    fn type_in(
-        alloc: Global,
-        info: &Self::TypeInfo,
-        registry: &mut Registry<S>,
-    ) -> Result<Type<String>, AllocError>
-        ensures referred { IfOk result (λ t. view_type t ≡ reference info.now) }
-        ensures awaited { Awaits result (innermost (reference info.now)) (view_registry S.shown registry.old) (view_registry S.shown registry.new) };
-
     /// A named type's declaration has its name.
-    ghost keeps_name: { (i : Self.TypeInfo) (n : Name) → named i ≡ Some n → (declaration i).name ≡ Some n };
+    ghost keeps_name: { (i : Self.TypeInfo) (n : Name) → Self.named i ≡ Some n → (declaration i).name ≡ Some n };
 }

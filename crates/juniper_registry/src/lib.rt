@@ -6,11 +6,15 @@ mod error;
 mod graphql_type;
 mod names;
 mod registry;
+#[cfg(test)]
+mod samples;
 mod scalars;
+#[cfg(test)]
+mod tests;
 mod type_kind;
 mod wrappers;
 
 pub use error::RegistryError;
-pub use graphql_type::GraphQLType;
+pub use graphql_type::{GraphQLReference, GraphQLType};
 pub use registry::Registry;
 pub use type_kind::TypeKind;

@@ -10,7 +10,7 @@ ghost use Rattle.juniper_meta.specs.MetaView.{view_argument, view_field, view_me
 ghost use Rattle.juniper_registry.specs.Entries.{is_own, table};
 
 use crate::error::RegistryError;
-use crate::graphql_type::GraphQLType;
+use crate::graphql_type::{GraphQLReference, GraphQLType};
 use crate::names::{declares, put, stands};
 use juniper_meta::meta::Field;
 use juniper_meta::{Argument, MetaType, PlaceholderMeta};
@@ -121,7 +121,7 @@ impl<S: ScalarValue> Registry<S> {
 
     /// The reference to this type. A placeholder is left at the name inside all lists, where nothing stands there; an error
     /// where memory is refused, when at most placeholders are added.
-    pub fn get_type<T: GraphQLType<S>>(
+    pub fn get_type<T: GraphQLReference<S>>(
         &mut self,
         info: &T::TypeInfo,
     ) -> Result<Type<String>, AllocError>
@@ -133,7 +133,7 @@ impl<S: ScalarValue> Registry<S> {
 
     /// The field of this name and type, without description and arguments, and not deprecated. The registry changes as by
     /// `get_type`; an error where memory is refused.
-    pub fn field<T: GraphQLType<S>>(
+    pub fn field<T: GraphQLReference<S>>(
         &mut self,
         name: &str,
         info: &T::TypeInfo,
@@ -147,7 +147,7 @@ impl<S: ScalarValue> Registry<S> {
 
     /// The argument of this name and type, without description and default value. The registry changes as by `get_type`; an
     /// error where memory is refused.
-    pub fn arg<T: GraphQLType<S>>(
+    pub fn arg<T: GraphQLReference<S>>(
         &mut self,
         name: &str,
         info: &T::TypeInfo,
@@ -161,7 +161,7 @@ impl<S: ScalarValue> Registry<S> {
 
     /// The argument of this name, type and default value, without description. The registry changes as by `get_type`; an
     /// error where memory is refused.
-    pub fn arg_with_default<T: GraphQLType<S> + ToInputValue<S>>(
+    pub fn arg_with_default<T: GraphQLReference<S> + ToInputValue<S>>(
         &mut self,
         name: &str,
         value: &T,
@@ -177,7 +177,7 @@ impl<S: ScalarValue> Registry<S> {
 }
 
 /// The name of a type that has one.
-pub(crate) fn name_of<T: GraphQLType<S>, S: ScalarValue>(info: &T::TypeInfo) -> &str
+pub(crate) fn name_of<T: GraphQLReference<S>, S: ScalarValue>(info: &T::TypeInfo) -> &str
     requires { IsSome (T.named info.now) }
     ensures { T.named info.now ≡ Some result.now }
 {

@@ -4,7 +4,7 @@ ghost use Rattle.std.specs.Prelude.{Some, codes, true};
 ghost use Rattle.graphql_spec.specs.Types.{named as named_type};
 ghost use Rattle.juniper_builtins.specs.BuiltInScalars.{booleans, ints, scalar_of, texts};
 
-use crate::graphql_type::GraphQLType;
+use crate::graphql_type::{GraphQLReference, GraphQLType};
 use crate::registry::Registry;
 use juniper_builtins::{boolean_scalar, int_scalar, string_scalar};
 use juniper_meta::MetaType;
@@ -12,25 +12,15 @@ use juniper_syntax::{ScalarValue, Type};
 use std::alloc::{AllocError, Global};
 
 /// `Int` (3.5.1).
-impl<S: ScalarValue> GraphQLType<S> for i32 {
+impl<S: ScalarValue> GraphQLReference<S> for i32 {
     type TypeInfo = ();
 
     ghost named = { λ _. Some (codes "Int") };
 
     ghost reference = { λ _. named_type true (codes "Int") };
 
-    ghost declaration = { λ _. scalar_of (codes "Int") ints };
-
     fn name(_info: &()) -> Option<&str> {
         Some("Int")
-    }
-
-    fn meta(
-        alloc: Global,
-        _info: &(),
-        _registry: &mut Registry<S>,
-    ) -> Result<MetaType<S>, AllocError> {
-        int_scalar(alloc)
     }
 
     #[tactic(auto, unfolding(graphql_spec::specs::Types::innermost))]
@@ -41,30 +31,32 @@ impl<S: ScalarValue> GraphQLType<S> for i32 {
     ) -> Result<Type<String>, AllocError> {
         registry.named_type("Int")
     }
-
-    ghost keeps_name = { λ _ _ e. e };
 }
 
-/// `Boolean` (3.5.5).
-impl<S: ScalarValue> GraphQLType<S> for bool {
-    type TypeInfo = ();
-
-    ghost named = { λ _. Some (codes "Boolean") };
-
-    ghost reference = { λ _. named_type true (codes "Boolean") };
-
-    ghost declaration = { λ _. scalar_of (codes "Boolean") booleans };
-
-    fn name(_info: &()) -> Option<&str> {
-        Some("Boolean")
-    }
+impl<S: ScalarValue> GraphQLType<S> for i32 {
+    ghost declaration = { λ _. scalar_of (codes "Int") ints };
 
     fn meta(
         alloc: Global,
         _info: &(),
         _registry: &mut Registry<S>,
     ) -> Result<MetaType<S>, AllocError> {
-        boolean_scalar(alloc)
+        int_scalar(alloc)
+    }
+
+    ghost keeps_name = { λ _ _ e. e };
+}
+
+/// `Boolean` (3.5.5).
+impl<S: ScalarValue> GraphQLReference<S> for bool {
+    type TypeInfo = ();
+
+    ghost named = { λ _. Some (codes "Boolean") };
+
+    ghost reference = { λ _. named_type true (codes "Boolean") };
+
+    fn name(_info: &()) -> Option<&str> {
+        Some("Boolean")
     }
 
     #[tactic(auto, unfolding(graphql_spec::specs::Types::innermost))]
@@ -75,30 +67,32 @@ impl<S: ScalarValue> GraphQLType<S> for bool {
     ) -> Result<Type<String>, AllocError> {
         registry.named_type("Boolean")
     }
-
-    ghost keeps_name = { λ _ _ e. e };
 }
 
-/// `String` (3.5.3).
-impl<S: ScalarValue> GraphQLType<S> for String {
-    type TypeInfo = ();
-
-    ghost named = { λ _. Some (codes "String") };
-
-    ghost reference = { λ _. named_type true (codes "String") };
-
-    ghost declaration = { λ _. scalar_of (codes "String") texts };
-
-    fn name(_info: &()) -> Option<&str> {
-        Some("String")
-    }
+impl<S: ScalarValue> GraphQLType<S> for bool {
+    ghost declaration = { λ _. scalar_of (codes "Boolean") booleans };
 
     fn meta(
         alloc: Global,
         _info: &(),
         _registry: &mut Registry<S>,
     ) -> Result<MetaType<S>, AllocError> {
-        string_scalar(alloc)
+        boolean_scalar(alloc)
+    }
+
+    ghost keeps_name = { λ _ _ e. e };
+}
+
+/// `String` (3.5.3).
+impl<S: ScalarValue> GraphQLReference<S> for String {
+    type TypeInfo = ();
+
+    ghost named = { λ _. Some (codes "String") };
+
+    ghost reference = { λ _. named_type true (codes "String") };
+
+    fn name(_info: &()) -> Option<&str> {
+        Some("String")
     }
 
     #[tactic(auto, unfolding(graphql_spec::specs::Types::innermost))]
@@ -108,6 +102,18 @@ impl<S: ScalarValue> GraphQLType<S> for String {
         registry: &mut Registry<S>,
     ) -> Result<Type<String>, AllocError> {
         registry.named_type("String")
+    }
+}
+
+impl<S: ScalarValue> GraphQLType<S> for String {
+    ghost declaration = { λ _. scalar_of (codes "String") texts };
+
+    fn meta(
+        alloc: Global,
+        _info: &(),
+        _registry: &mut Registry<S>,
+    ) -> Result<MetaType<S>, AllocError> {
+        string_scalar(alloc)
     }
 
     ghost keeps_name = { λ _ _ e. e };
