@@ -7,7 +7,7 @@ use Rattle.graphql_spec.specs.Fields.{or_else}
 use Rattle.graphql_spec.specs.Types.{TypeRef, named, list_of, innermost, nullable}
 use Rattle.graphql_spec.proofs.Lists.{same_true, same_refl}
 use Rattle.juniper_meta.specs.MetaView.{Meta, entry_at, unnamed_meta, is_placeholder}
-use Rattle.juniper_registry.specs.Entries.{Table, awaited, is_declared, is_named, is_own, awaiting, declaring, AddsAt, AddsPlaceholders, Awaits, IsRegistered}
+use Rattle.juniper_registry.specs.Entries.{Table, awaited, is_declared, is_named, is_own, awaiting, declaring, AddsAt, AddsPlaceholders, KeepsAdding, Awaits, IsRegistered}
 
 -- ## One name
 
@@ -55,30 +55,20 @@ awaiting_put k old new e h n = h n ∙ elim (cases_Bool (bytes_eq n k)) [
 ]
 
 pub adds_same : (old new : Table) → ((n : Name) → new n ≡ old n) → AddsPlaceholders old new
-adds_same old new h n = inl (h n)
+adds_same old new h = record { at = λ n. inl (h n) }
 
 pub adds_awaiting : (k : Name) (old new : Table) → ((n : Name) → new n ≡ awaiting k old n) → AddsPlaceholders old new
-adds_awaiting k old new h n = subst (λ o. AddsAt (old n) o n) (sym (h n)) (added (old n) (bytes_eq n k) n)
+adds_awaiting k old new h = record { at = λ n. subst (λ o. AddsAt (old n) o n) (sym (h n)) (added (old n) (bytes_eq n k) n) }
 
 pub adds_then : (old mid new : Table) → AddsPlaceholders old mid → AddsPlaceholders mid new → AddsPlaceholders old new
-adds_then old mid new g h n = add_twice (old n) (mid n) (new n) n (g n) (h n)
-
--- a call that leaves a placeholder adds at most placeholders
-pub awaits_adds : {A E : Type 0} (r : Result A E) (k : Name) (old new : Table) → Awaits r k old new → AddsPlaceholders old new
-awaits_adds (Ok x) k old new h = adds_awaiting k old new h
-awaits_adds (Err e) k old new h = h
-
--- a call that is refused memory once a placeholder was added
-pub awaits_either : {A E : Type 0} (r : Result A E) (k : Name) (old new : Table) → ((n : Name) → new n ≡ awaiting k old n) → Awaits r k old new
-awaits_either (Ok x) k old new h = h
-awaits_either (Err e) k old new h = adds_awaiting k old new h
+adds_then old mid new g h = record { at = λ n. add_twice (old n) (mid n) (new n) n (g.at n) (h.at n) }
 
 -- a declaration that is put once placeholders are added
 pub registers : (k : Name) (m : Meta) (old mid new : Table) → is_declared (old k) ≡ false → AddsPlaceholders old mid → ((n : Name) → new n ≡ declaring k m mid n) → IsRegistered k m old new
 registers k m old mid new d g h = record {
   free = d;
   there = h k ∙ rw (same_refl k) refl;
-  others = λ n f. subst (λ o. AddsAt (old n) o n) (sym (h n ∙ rw f refl)) (g n);
+  others = λ n f. subst (λ o. AddsAt (old n) o n) (sym (h n ∙ rw f refl)) (g.at n);
 }
 
 -- ## Each declaration stays at its own name
@@ -93,10 +83,19 @@ own_placeholder n m e = rw e refl
 
 -- ## Where memory may be refused
 
--- what is put once nothing stands there is awaited, and where memory is refused nothing changed
-pub awaits_put : {A E : Type 0} (r : Result A E) (k : Name) (m : Meta) (old new : Table) → is_some (old k) ≡ false → m ≡ unnamed_meta placeholder → OnOk r ((n : Name) → new n ≡ declaring k m old n) → OnErr r ((n : Name) → new n ≡ old n) → Awaits r k old new
-awaits_put (Ok x) k m old new e p h g = awaiting_put k old new e (λ n. subst (λ z. new n ≡ declaring k z old n) p (h n))
-awaits_put (Err x) k m old new e p h g = adds_same old new g
+-- what is put where nothing stands is awaited
+pub put_awaits : {A E : Type 0} (r : Result A E) (k : Name) (m : Meta) (old new : Table) → is_some (old k) ≡ false → m ≡ unnamed_meta placeholder → OnOk r ((n : Name) → new n ≡ declaring k m old n) → Awaits r k old new
+put_awaits (Ok x) k m old new e p h = awaiting_put k old new e (λ n. subst (λ z. new n ≡ declaring k z old n) p (h n))
+put_awaits (Err x) k m old new e p h = tt
+
+-- what adds at most placeholders does so behind others too
+pub keeps_adding : (old new : Table) → AddsPlaceholders old new → KeepsAdding old new
+keeps_adding old new h = record { alone = h; behind = λ first a. adds_then first old new a h }
+
+-- and nothing else is, also where memory is refused
+pub put_keeps : {A E : Type 0} (r : Result A E) (k : Name) (old new : Table) → Awaits r k old new → OnErr r ((n : Name) → new n ≡ old n) → KeepsAdding old new
+put_keeps (Ok x) k old new h g = keeps_adding old new (adds_awaiting k old new h)
+put_keeps (Err x) k old new h g = keeps_adding old new (adds_same old new g)
 
 -- what is put stands at its own name, as all else did
 pub own_put : {A E : Type 0} (r : Result A E) (k : Name) (m : Meta) (old new : Table) → ((n : Name) → is_own (old n) ≡ true) → ((n : Name) → bytes_eq n k ≡ true → is_own (Some (entry_at n m)) ≡ true) → OnOk r ((n : Name) → new n ≡ declaring k m old n) → OnErr r ((n : Name) → new n ≡ old n) → (n : Name) → is_own (new n) ≡ true

@@ -1,5 +1,5 @@
 -- What stands at the names of a registry: declarations, and placeholders of types that are not declared yet (3).
-use Rattle.std.specs.Prelude.{◌≡◌, ◌⊎◌, ◌||◌, not, Bool, true, false, cond, List, map, Option, Some, None, Result, Ok, Err, String, string_bytes}
+use Rattle.std.specs.Prelude.{◌≡◌, ◌⊎◌, ◌||◌, not, Bool, true, false, cond, List, map, Option, Some, None, OnOk, Result, Ok, Err, String, string_bytes}
 use Rattle.std.specs.declared.alloc.Global.{Global}
 use Rattle.std.specs.HashMap.{HashMap}
 use Rattle.std.specs.Str.{bytes_eq}
@@ -57,13 +57,17 @@ abbrev pub AddsAt : Option Entry → Option Entry → Name → Type 0
 AddsAt old new n = (new ≡ old) ⊎ ((old ≡ None) × (new ≡ Some (awaited n)))
 
 -- nothing changed, but that there may be placeholders at names where nothing was
-abbrev pub AddsPlaceholders : Table → Table → Type 0
-AddsPlaceholders old new = (n : Name) → AddsAt (old n) (new n) n
+pub record AddsPlaceholders (old new : Table) : Type 0 where
+  pub at : (n : Name) → AddsAt (old n) (new n) n
 
--- a call that leaves a placeholder at k, where nothing stood there; where memory is refused at most placeholders were added
+-- a call adds at most placeholders, and so do this call and others of its kind before it
+pub record KeepsAdding (old new : Table) : Type 0 where
+  pub alone : AddsPlaceholders old new
+  pub behind : (first : Table) → AddsPlaceholders first old → AddsPlaceholders first new
+
+-- a call that answers leaves a placeholder at k, where nothing stood there, and changes nothing else
 abbrev pub Awaits : {A E : Type 0} → Result A E → Name → Table → Table → Type 0
-Awaits (Ok x) k old new = (n : Name) → new n ≡ awaiting k old n
-Awaits (Err e) k old new = AddsPlaceholders old new
+Awaits r k old new = OnOk r ((n : Name) → new n ≡ awaiting k old n)
 
 -- this declaration has come to k, where none stood; elsewhere at most placeholders were added
 pub record IsRegistered (k : Name) (m : Meta) (old new : Table) : Type 0 where

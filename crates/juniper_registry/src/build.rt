@@ -17,7 +17,7 @@ use juniper_syntax::{ScalarValue, Type};
 use std::alloc::AllocError;
 
 impl<S: ScalarValue> Registry<S> {
-    ghost use Rattle.juniper_registry.specs.Entries.{Awaits};
+    ghost use Rattle.juniper_registry.specs.Entries.{Awaits, KeepsAdding};
     ghost use Rattle.juniper_registry.specs.RegistryView.{view_registry};
 
     /// The list of items of this type, with this number of them, where one is expected (3.11). The registry changes as by
@@ -29,6 +29,7 @@ impl<S: ScalarValue> Registry<S> {
     ) -> Result<ListMeta, AllocError>
         ensures built { IfOk result (λ m. view_list m ≡ unnamed_meta (list_type expected_size (T.reference info.now))) }
         ensures awaited { Awaits result (innermost (T.reference info.now)) (view_registry S.shown self.old) (view_registry S.shown self.new) }
+        ensures added { KeepsAdding (view_registry S.shown self.old) (view_registry S.shown self.new) }
     {
         Ok(ListMeta::new(self.get_type::<T>(info)?, expected_size))
     }
@@ -40,6 +41,7 @@ impl<S: ScalarValue> Registry<S> {
     ) -> Result<NullableMeta, AllocError>
         ensures built { IfOk result (λ m. view_nullable m ≡ unnamed_meta (nullable_type (T.reference info.now))) }
         ensures awaited { Awaits result (innermost (T.reference info.now)) (view_registry S.shown self.old) (view_registry S.shown self.new) }
+        ensures added { KeepsAdding (view_registry S.shown self.old) (view_registry S.shown self.new) }
     {
         Ok(NullableMeta::new(self.get_type::<T>(info)?))
     }
@@ -68,6 +70,7 @@ impl<S: ScalarValue> Registry<S> {
         requires { IsSome (T.named info.now) }
         ensures built { IfSome (T.named info.now) (λ n. IfOk result (λ m. view_object S.shown m ≡ named_meta n (object_type (map (view_field S.shown) fields.items ++ typename_field ∷ []) []))) }
         ensures awaited { Awaits result (codes "String") (view_registry S.shown self.old) (view_registry S.shown self.new) }
+        ensures added { KeepsAdding (view_registry S.shown self.old) (view_registry S.shown self.new) }
     {
         let name = self.own_name::<T>(info)?;
         let fields = self.with_typename(fields)?;
@@ -97,6 +100,7 @@ impl<S: ScalarValue> Registry<S> {
         requires { IsSome (T.named info.now) }
         ensures built { IfSome (T.named info.now) (λ n. IfOk result (λ m. view_interface S.shown m ≡ named_meta n (interface_type (map (view_field S.shown) fields.items ++ typename_field ∷ []) []))) }
         ensures awaited { Awaits result (codes "String") (view_registry S.shown self.old) (view_registry S.shown self.new) }
+        ensures added { KeepsAdding (view_registry S.shown self.old) (view_registry S.shown self.new) }
     {
         let name = self.own_name::<T>(info)?;
         let fields = self.with_typename(fields)?;
@@ -141,6 +145,7 @@ impl<S: ScalarValue> Registry<S> {
     fn with_typename(&mut self, fields: Vec<Field<S>>) -> Result<Vec<Field<S>>, AllocError>
         ensures made { IfOk result (λ made. map (view_field S.shown) made.items ≡ map (view_field S.shown) fields.items ++ typename_field ∷ []) }
         ensures awaited { Awaits result (codes "String") (view_registry S.shown self.old) (view_registry S.shown self.new) }
+        ensures added { KeepsAdding (view_registry S.shown self.old) (view_registry S.shown self.new) }
     {
         let mut fields = fields;
         let typename = self.field::<String>("__typename", &())?;

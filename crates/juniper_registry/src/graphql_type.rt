@@ -13,7 +13,7 @@ use std::alloc::{AllocError, Global};
 /// A type of GraphQL by how it is referred to, which each implementation writes. It stands apart from how the type is
 /// declared, since declarations refer to one another, and to themselves.
 pub trait GraphQLReference<S: ScalarValue> {
-    ghost use Rattle.juniper_registry.specs.Entries.{Awaits};
+    ghost use Rattle.juniper_registry.specs.Entries.{AddsPlaceholders, Awaits};
     ghost use Rattle.juniper_registry.specs.RegistryView.{view_registry};
 
     /// What tells several GraphQL types of one Rust type apart.
@@ -37,7 +37,8 @@ pub trait GraphQLReference<S: ScalarValue> {
         registry: &mut Registry<S>,
     ) -> Result<Type<String>, AllocError>
         ensures referred { IfOk result (λ t. view_type t ≡ reference info.now) }
-        ensures awaited { Awaits result (innermost (reference info.now)) (view_registry S.shown registry.old) (view_registry S.shown registry.new) };
+        ensures awaited { Awaits result (innermost (reference info.now)) (view_registry S.shown registry.old) (view_registry S.shown registry.new) }
+        ensures added { AddsPlaceholders (view_registry S.shown registry.old) (view_registry S.shown registry.new) };
 }
 
 /// A type of GraphQL: how it is referred to, and how it is declared.

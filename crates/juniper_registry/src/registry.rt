@@ -29,7 +29,7 @@ pub struct Registry<S: ScalarValue> {
 }
 
 impl<S: ScalarValue> Registry<S> {
-    ghost use Rattle.juniper_registry.specs.Entries.{AddsPlaceholders, Awaits, Registers, declaring, is_declared};
+    ghost use Rattle.juniper_registry.specs.Entries.{Awaits, KeepsAdding, Registers, declaring, is_declared};
     ghost use Rattle.juniper_registry.specs.Made.{IsDefaulted};
     ghost use Rattle.juniper_registry.specs.RegistryView.{view_registry};
 
@@ -62,6 +62,7 @@ impl<S: ScalarValue> Registry<S> {
     pub fn named_type(&mut self, name: &str) -> Result<Type<String>, AllocError>
         ensures referred { IfOk result (λ t. view_type t ≡ refs.named true name.now) }
         ensures awaited { Awaits result name.now (view_registry S.shown self.old) (view_registry S.shown self.new) }
+        ensures added { KeepsAdding (view_registry S.shown self.old) (view_registry S.shown self.new) }
     {
         let own = String::from_str(self.alloc, name)?;
         self.await_type(name)?;
@@ -70,7 +71,8 @@ impl<S: ScalarValue> Registry<S> {
 
     /// Leaves a placeholder at this name, where nothing stands there.
     fn await_type(&mut self, name: &str) -> Result<(), AllocError>
-        ensures { Awaits result name.now (view_registry S.shown self.old) (view_registry S.shown self.new) }
+        ensures awaited { Awaits result name.now (view_registry S.shown self.old) (view_registry S.shown self.new) }
+        ensures added { KeepsAdding (view_registry S.shown self.old) (view_registry S.shown self.new) }
     {
         if stands(&self.types, name) {
             return Ok(());
@@ -127,6 +129,7 @@ impl<S: ScalarValue> Registry<S> {
     ) -> Result<Type<String>, AllocError>
         ensures referred { IfOk result (λ t. view_type t ≡ T.reference info.now) }
         ensures awaited { Awaits result (innermost (T.reference info.now)) (view_registry S.shown self.old) (view_registry S.shown self.new) }
+        ensures added { KeepsAdding (view_registry S.shown self.old) (view_registry S.shown self.new) }
     {
         T::type_in(self.alloc, info, self)
     }
@@ -140,6 +143,7 @@ impl<S: ScalarValue> Registry<S> {
     ) -> Result<Field<S>, AllocError>
         ensures made { IfOk result (λ f. view_field S.shown f ≡ plain_field name.now [] (T.reference info.now)) }
         ensures awaited { Awaits result (innermost (T.reference info.now)) (view_registry S.shown self.old) (view_registry S.shown self.new) }
+        ensures added { KeepsAdding (view_registry S.shown self.old) (view_registry S.shown self.new) }
     {
         let own = String::from_str(self.alloc, name)?;
         Ok(Field::new(own, self.get_type::<T>(info)?))
@@ -154,6 +158,7 @@ impl<S: ScalarValue> Registry<S> {
     ) -> Result<Argument<S>, AllocError>
         ensures made { IfOk result (λ a. view_argument S.shown a ≡ plain_input name.now (T.reference info.now)) }
         ensures awaited { Awaits result (innermost (T.reference info.now)) (view_registry S.shown self.old) (view_registry S.shown self.new) }
+        ensures added { KeepsAdding (view_registry S.shown self.old) (view_registry S.shown self.new) }
     {
         let own = String::from_str(self.alloc, name)?;
         Ok(Argument::new(own, self.get_type::<T>(info)?))
@@ -169,6 +174,7 @@ impl<S: ScalarValue> Registry<S> {
     ) -> Result<Argument<S>, AllocError>
         ensures made { IfOk result (λ a. IsDefaulted (view_argument S.shown a) name.now (T.reference info.now) (T.input value.now)) }
         ensures awaited { Awaits result (innermost (T.reference info.now)) (view_registry S.shown self.old) (view_registry S.shown self.new) }
+        ensures added { KeepsAdding (view_registry S.shown self.old) (view_registry S.shown self.new) }
     {
         let own_value = value.to_input_value(self.alloc)?;
         let argument = self.arg::<T>(name, info)?;

@@ -1,10 +1,10 @@
 //! Types of GraphQL for tests.
 
-ghost use Rattle.std.specs.Prelude.{[], ◌∷◌, None, Some, codes, true};
+ghost use Rattle.std.specs.Prelude.{[], ◌∷◌, None, Some, codes, false, true};
 ghost use Rattle.graphql_spec.specs.BuiltIns.{value_named};
 ghost use Rattle.graphql_spec.specs.Fields.{typename_field};
 ghost use Rattle.graphql_spec.specs.Schema.{enum_type, object_type, plain_field};
-ghost use Rattle.graphql_spec.specs.Types.{list_of, named as named_type};
+ghost use Rattle.graphql_spec.specs.Types.{list_of, named as named_type, nullable};
 ghost use Rattle.juniper_meta.specs.MetaView.{named_meta};
 
 use crate::graphql_type::{GraphQLReference, GraphQLType};
@@ -58,7 +58,7 @@ impl<S: ScalarValue> GraphQLType<S> for Episode {
     ghost keeps_name = { λ _ _ e. e };
 }
 
-/// `type Human { episodes: [Episode!]! }`
+/// `type Human { episodes: [Episode!]!, friends: [Human] }`
 #[derive(Drop)]
 pub struct Human;
 
@@ -84,8 +84,9 @@ impl<S: ScalarValue> GraphQLReference<S> for Human {
 }
 
 impl<S: ScalarValue> GraphQLType<S> for Human {
-    ghost declaration = { λ _. named_meta (codes "Human") (object_type (plain_field (codes "episodes") [] (list_of true None (named_type true (codes "Episode"))) ∷ typename_field ∷ []) []) };
+    ghost declaration = { λ _. named_meta (codes "Human") (object_type (plain_field (codes "episodes") [] (list_of true None (named_type true (codes "Episode"))) ∷ plain_field (codes "friends") [] (list_of false None (named_type false (codes "Human"))) ∷ typename_field ∷ []) []) };
 
+    #[tactic(auto, unfolding(graphql_spec::specs::Types::nullable))]
     fn meta(
         alloc: Global,
         info: &(),
@@ -93,6 +94,7 @@ impl<S: ScalarValue> GraphQLType<S> for Human {
     ) -> Result<MetaType<S>, AllocError> {
         let mut fields = Vec::new(alloc);
         fields.push(registry.field::<Vec<Episode>>("episodes", &())?)?;
+        fields.push(registry.field::<Option<Vec<Option<Human>>>>("friends", &())?)?;
         Ok(
             registry
                 .build_object_type::<Human>(info, fields)?

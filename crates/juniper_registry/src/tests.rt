@@ -8,6 +8,7 @@ use std::collections::HashMap;
 use std::test::Fail;
 
 /// An empty registry.
+#[tactic(auto, unfolding(graphql_spec::specs::Fields::entry_in))]
 fn empty(alloc: Global) -> Registry<DefaultScalarValue> {
     Registry::new(alloc, HashMap::new(alloc))
 }
