@@ -1,0 +1,5 @@
+pub mod Defaults
+pub mod Lists
+pub mod Placeholders
+pub mod Plain
+pub mod Tables

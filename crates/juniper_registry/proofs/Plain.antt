@@ -1,0 +1,18 @@
+-- What is made of parts that are known to be equal to others.
+use Rattle.std.proofs.Common.{◌≡◌, [], Option, ℕ}
+use Rattle.graphql_spec.specs.Shown.{Name}
+use Rattle.graphql_spec.specs.Types.{TypeRef}
+use Rattle.graphql_spec.specs.Schema.{FieldDeclaration, InputDeclaration, list_type, nullable_type, plain_field, plain_input}
+use Rattle.juniper_meta.specs.MetaView.{Meta, unnamed_meta}
+
+pub same_field : (f : FieldDeclaration) (b n : Name) (t u : TypeRef) → f ≡ plain_field b [] t → b ≡ n → t ≡ u → f ≡ plain_field n [] u
+same_field f b n t u e p q = cc
+
+pub same_input : (a : InputDeclaration) (b n : Name) (t u : TypeRef) → a ≡ plain_input b t → b ≡ n → t ≡ u → a ≡ plain_input n u
+same_input a b n t u e p q = cc
+
+pub same_list : (m : Meta) (size : Option ℕ) (t u : TypeRef) → m ≡ unnamed_meta (list_type size t) → t ≡ u → m ≡ unnamed_meta (list_type size u)
+same_list m size t u e q = rw (← q) e
+
+pub same_nullable : (m : Meta) (t u : TypeRef) → m ≡ unnamed_meta (nullable_type t) → t ≡ u → m ≡ unnamed_meta (nullable_type u)
+same_nullable m t u e q = rw (← q) e

@@ -1,0 +1,5 @@
+use Rattle.juniper_registry.proofs.Plain.{same_nullable}
+use Rattle.juniper_registry.proofs.registry.Registry.build_nullable_type.Goals as goal
+
+pub returns-clause-built : goal.returns-clause-built
+returns-clause-built g c = same_nullable _ _ _ c.new.ensures c.in_ok-get_type.ensures.referred

@@ -1,0 +1,20 @@
+//! Types of GraphQL by Rust types, and the registry that gathers their declarations (section 3 of the Specification).
+#![tactic(auto)]
+
+mod build;
+mod error;
+mod graphql_type;
+mod names;
+mod registry;
+#[cfg(test)]
+mod samples;
+mod scalars;
+#[cfg(test)]
+mod tests;
+mod type_kind;
+mod wrappers;
+
+pub use error::RegistryError;
+pub use graphql_type::{GraphQLReference, GraphQLType};
+pub use registry::Registry;
+pub use type_kind::TypeKind;
