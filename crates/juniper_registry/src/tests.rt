@@ -5,6 +5,7 @@ use crate::graphql_type::GraphQLReference;
 use crate::registry::Registry;
 use crate::samples::{Episode, Human};
 use crate::type_kind::TypeKind;
+use juniper_meta::meta::Field;
 use juniper_meta::{Argument, MetaType, ScalarKinds};
 use juniper_syntax::DefaultScalarValue;
 use std::alloc::{AllocError, Global};
@@ -34,9 +35,9 @@ fn reference<T: GraphQLReference<DefaultScalarValue, TypeInfo = ()>>(
     empty(alloc).get_type::<T>(&())?.to_string(alloc)
 }
 
-/// The last field of a declaration, as it is written.
-fn last_field(alloc: Global, meta: &MetaType<DefaultScalarValue>) -> Result<String, AllocError> {
-    match meta.fields().last() {
+/// The last of the fields, as it is written.
+fn last_field(alloc: Global, fields: &[Field<DefaultScalarValue>]) -> Result<String, AllocError> {
+    match fields.last() {
         Some(field) => {
             let name = field.name.as_str();
             let field_type = &field.field_type;
@@ -44,6 +45,18 @@ fn last_field(alloc: Global, meta: &MetaType<DefaultScalarValue>) -> Result<Stri
         }
         None => Ok(String::new(alloc)),
     }
+}
+
+/// The last field of an object that is built.
+fn last_of_object(alloc: Global) -> Result<String, AllocError> {
+    let object = empty(alloc).build_object_type::<Human>(&(), Vec::new(alloc))?;
+    last_field(alloc, object.fields.as_slice())
+}
+
+/// The last field of an interface that is built.
+fn last_of_interface(alloc: Global) -> Result<String, AllocError> {
+    let interface = empty(alloc).build_interface_type::<Human>(&(), Vec::new(alloc))?;
+    last_field(alloc, interface.fields.as_slice())
 }
 
 /// The default value of an argument as it is written.
@@ -91,18 +104,8 @@ fn types_are_referred_to(rt: HostRuntime) -> Result<(), Fail> {
 #[test]
 fn objects_and_interfaces_have_their_typename(rt: HostRuntime) -> Result<(), Fail> {
     let alloc = rt.alloc();
-    let mut registry = empty(alloc);
-    let object = registry
-        .build_object_type::<Human>(&(), Vec::new(alloc))?
-        .into_meta();
-    assert_eq!(rt; last_field(alloc, &object)?.as_str(), "__typename: String!");
-    let interface = registry
-        .build_interface_type::<Human>(&(), Vec::new(alloc))?
-        .into_meta();
-    assert_eq!(rt;
-        last_field(alloc, &interface)?.as_str(),
-        "__typename: String!"
-    );
+    assert_eq!(rt; last_of_object(alloc)?.as_str(), "__typename: String!");
+    assert_eq!(rt; last_of_interface(alloc)?.as_str(), "__typename: String!");
     Ok(())
 }
 
