@@ -10,8 +10,8 @@ ghost use Rattle.juniper_schema.specs.SchemaView.{view_schema};
 
 use crate::calls::{Call, call_of, declared_argument};
 use crate::occurrences::Occurrences;
-use juniper_schema::SchemaType;
 use juniper_meta::meta::Argument;
+use juniper_schema::SchemaType;
 use juniper_syntax::{Field, InputValue, ScalarValue, Span, Spanning};
 
 /// Whether a value does not fit its declared argument.

@@ -9,8 +9,8 @@ ghost use Rattle.juniper_meta.specs.MetaView.{view_argument};
 ghost use Rattle.juniper_schema.specs.SchemaView.{view_schema};
 
 use crate::occurrences::Occurrences;
-use juniper_schema::SchemaType;
 use juniper_meta::meta::Argument;
+use juniper_schema::SchemaType;
 use juniper_syntax::ast::Arguments;
 use juniper_syntax::{Field, InputValue, ScalarValue, Selection, Span, Spanning};
 use std::alloc::{AllocError, Global};

@@ -10,8 +10,8 @@ ghost use Rattle.juniper_schema.specs.SchemaView.{view_schema};
 use crate::calls::{Call, call_of};
 use crate::occurrences::Occurrences;
 use crate::unique_argument_names::names;
-use juniper_schema::SchemaType;
 use juniper_meta::meta::Argument;
+use juniper_schema::SchemaType;
 use juniper_syntax::{Field, ScalarValue, Span, Spanning};
 
 /// Whether a field lacks an argument that it asks for.

@@ -21,8 +21,8 @@ use juniper_meta::{
     EnumMeta, EnumValue, InputObjectMeta, InterfaceMeta, ListMeta, MetaType, NullableMeta,
     ObjectMeta, PlaceholderMeta, ScalarKinds, ScalarMeta, UnionMeta,
 };
-use juniper_syntax::{DefaultScalarValue, InputValue, ScalarValue, Spanning, Type};
 pub use juniper_schema::{SchemaType, TypeType, schema_is_executable};
+use juniper_syntax::{DefaultScalarValue, InputValue, ScalarValue, Spanning, Type};
 use std::alloc::Global;
 use std::collections::HashMap;
 use std::process::Abort;
