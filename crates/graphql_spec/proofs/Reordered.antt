@@ -1,15 +1,15 @@
 -- What is asked of an executable schema does not depend on the order of its entries.
-use Rattle.std.specs.Prelude.{◌≡◌, Bool, true, false, not, ◌&&◌, ◌||◌, cond, codes, map, List, [], ◌∷◌, Option, Some, None}
+use Rattle.std.specs.Prelude.{◌≡◌, Bool, true, false, not, ◌&&◌, ◌||◌, codes, map, List, [], ◌∷◌, Option, Some, None}
 use Rattle.std.specs.List.{list_all, list_any}
 use Rattle.std.specs.Str.{bytes_eq}
-use Rattle.std.proofs.lemmas.Bool.{cases_Bool, both_ways, and_parts, or_left}
+use Rattle.std.proofs.lemmas.Bool.{cases_Bool, both_ways, and_parts}
 use Rattle.std.proofs.lemmas.Option.{none-some, same_Some}
 use Rattle.std.proofs.Common.{refl, sym, ap, ap₂, ◌∙◌, inl, inr, subst}
 use Rattle.graphql_spec.specs.Shown.{Name}
 use Rattle.graphql_spec.specs.Types.{TypeRef, named, list_of, innermost}
 use Rattle.graphql_spec.specs.Inputs.{Input, null, scalar, enumerated, variable, list, object, InputItems, no_items, item, InputFields, no_fields, input_field, is_const, count_items}
 use Rattle.graphql_spec.specs.Schema.{Schema, Entry, Shape, FieldDeclaration, InputDeclaration}
-use Rattle.graphql_spec.specs.Fields.{entry_in, shape_of, or_else, entry_named, type_named, is_object, is_leaf, is_composite, is_input, interfaces_of, members_of, is_named_subtype, is_subtype, declaration_in, field_in}
+use Rattle.graphql_spec.specs.Fields.{entry_in, shape_of, or_else, entry_named, type_named, is_object, is_leaf, is_composite, is_input, interfaces_of, is_named_subtype, is_subtype, declaration_in, field_in}
 use Rattle.graphql_spec.specs.Fits.{size_met, through, scalar_fits, enum_fits, input_object_fits, all_written, fits_declared, has_field, fits, all_fit, fields_fit}
 use Rattle.graphql_spec.specs.BuiltIns.{introspection_types}
 use Rattle.graphql_spec.specs.Executable.{names_differ, shape_fields, input_fields_of, entry_is_named, entries_are_named, mutation_is_apart, roots_are_objects, ends_in_output, ends_in_input, field_is_known, types_are_known, entry_names_differ, all_names_differ, implements_field, implements, interfaces_are_met, default_is_right, defaults_fit, built_ins_are_right, is_executable, IsSameSchema, OrderIsOpen}

@@ -1,5 +1,5 @@
 -- The fields of a served schema are scalars, at which no object is possible.
-use Rattle.std.specs.Prelude.{Bool, true, false, ◌&&◌, ◌||◌, cond, codes, List, [], ◌∷◌, ◌≡◌, Option, Some, None, IsTrue}
+use Rattle.std.specs.Prelude.{Bool, true, false, ◌&&◌, ◌||◌, cond, codes, List, [], ◌∷◌, ◌≡◌, Option, Some, None}
 use Rattle.std.specs.List.{list_all, list_any}
 use Rattle.std.specs.Str.{bytes_eq}
 use Rattle.std.proofs.lemmas.Bool.{cases_Bool, both_ways, and_parts}
@@ -7,13 +7,13 @@ use Rattle.std.proofs.lemmas.Option.{none-some, same_Some}
 use Rattle.std.proofs.Common.{refl, sym, ap, ◌∙◌, inl, inr}
 use Rattle.graphql_spec.specs.Shown.{Name, Shown}
 use Rattle.graphql_spec.specs.Types.{TypeRef, named, list_of, required, innermost}
-use Rattle.graphql_spec.specs.Schema.{Schema, Entry, FieldDeclaration, Shape, scalar_type, enum_type, object_type, interface_type, union_type, input_object_type, list_type, nullable_type, placeholder, plain_field}
-use Rattle.graphql_spec.specs.Fields.{entry_in, shape_of, or_else, entry_named, type_named, is_object, is_interface, is_composite, interfaces_of, members_of, fields_of, is_possible, accepts, leaf_accepts, field_in, typename, typename_field, root_fields, meta_fields, field_of, declared_type}
-use Rattle.graphql_spec.specs.Executable.{entries_are_named, roots_are_objects, mutation_is_apart, types_are_known, all_names_differ, interfaces_are_met, defaults_fit, accepts_just, scalar_if_there, built_ins_are_right, is_executable}
+use Rattle.graphql_spec.specs.Schema.{Schema, Entry, FieldDeclaration, Shape, scalar_type, object_type, plain_field}
+use Rattle.graphql_spec.specs.Fields.{entry_in, shape_of, or_else, entry_named, type_named, is_object, is_interface, is_composite, interfaces_of, members_of, fields_of, is_possible, accepts, leaf_accepts, field_in, typename, typename_field, root_fields, meta_fields, field_of}
+use Rattle.graphql_spec.specs.Executable.{entries_are_named, roots_are_objects, types_are_known, all_names_differ, interfaces_are_met, defaults_fit, accepts_just, built_ins_are_right, is_executable}
 use Rattle.graphql_spec.specs.Rules.{is_introspection}
 use Rattle.graphql_spec.specs.ServedFields.{is_scalar, is_scalar_type, as_named, has_scalar_fields, served_field, is_served_schema}
 use Rattle.graphql_spec.proofs.Lists.{same_true, same_refl}
-use Rattle.graphql_spec.proofs.Keeping.{options, lists_interface}
+use Rattle.graphql_spec.proofs.Keeping.{lists_interface}
 
 -- ## The clauses that are needed
 
