@@ -1,0 +1,55 @@
+-- How what is written is seen.
+use Rattle.std.specs.Prelude.{ℕ, Bool, List, [], map, Option, Some, None}
+use Rattle.std.specs.Borrow.{Bor}
+use Rattle.std.specs.HashSet.{HashSet}
+use Rattle.std.specs.List.{list_any}
+use Rattle.std.specs.Str.{bytes_eq}
+use Rattle.graphql_spec.specs.Shown.{Shown, Name}
+use Rattle.graphql_spec.specs.Documents as spec
+use Rattle.graphql_spec.specs.Documents.{Head}
+use Rattle.juniper_position.specs.Positions.{view_span}
+use Rattle.juniper_position.specs.declared.position.Spanning.{Spanning}
+use Rattle.juniper_position.specs.declared.position.Span.{Span}
+use Rattle.juniper_syntax.specs.DocumentView.{view_head, view_directive, view_spread, inline_head, view_variable}
+use Rattle.juniper_syntax.specs.declared.ast.Directive.{Directive}
+use Rattle.juniper_syntax.specs.declared.ast.Field.{Field, out-Field}
+use Rattle.juniper_syntax.specs.declared.ast.FragmentSpread.{FragmentSpread}
+use Rattle.juniper_syntax.specs.declared.ast.InlineFragment.{InlineFragment, out-InlineFragment}
+use Rattle.juniper_syntax.specs.declared.ast.VariableDefinitions.{VariableDefinitions}
+use Rattle.juniper_written.specs.Parts.{Parts}
+use Rattle.juniper_written.specs.declared.written.Written.{Written}
+
+-- names that the text holds
+abbrev pub view_names : List (Bor (List ℕ)) → List Name
+view_names = map (λ n. n.now)
+
+-- a set of such names has this one
+unfoldable pub has_name : {H : Type 0} → HashSet (Bor (List ℕ)) H → Name → Bool
+has_name s n = list_any (λ k. bytes_eq n k.now) s.keys
+
+module _ {S : Type 0} (shown : S → Shown) where
+  -- a field without what stands below it
+  abbrev pub view_field : Spanning (Field S) Span → Head
+  view_field f = view_head shown (out-Field S f.item) (view_span f.span)
+
+  -- a spread
+  abbrev pub view_spread_at : Spanning (FragmentSpread S) Span → spec.Spread
+  view_spread_at x = view_spread shown x.item (view_span x.span)
+
+  -- an inline fragment without what stands below it
+  abbrev pub view_inline : Spanning (InlineFragment S) Span → spec.Inline
+  view_inline x = inline_head shown (out-InlineFragment S x.item) (view_span x.span)
+
+  -- the variables that are defined
+  abbrev pub view_variables : Option (Spanning (VariableDefinitions S) Span) → List spec.VariableDefinition
+  view_variables None = []
+  view_variables (Some v) = map (view_variable shown) v.item.items.items
+
+  abbrev pub view_fields : List (Bor (Spanning (Field S) Span)) → List Head
+  view_fields = map (λ f. view_field f.now)
+
+  abbrev pub view_directives_at : List (Bor (Spanning (Directive S) Span)) → List spec.Directive
+  view_directives_at = map (λ d. view_directive shown d.now)
+
+  abbrev pub view_written : Written S → Parts
+  view_written w = record { fields = view_fields w.fields.items; spreads = view_names w.spreads.items; conditions = view_names w.conditions.items; directives = view_directives_at w.directives.items }

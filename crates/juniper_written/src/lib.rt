@@ -1,0 +1,8 @@
+//! What is written in a document, as flat lists (section 5 of the Specification).
+#![tactic(auto)]
+
+mod names;
+mod written;
+
+pub use names::repeats;
+pub use written::{Written, written_in};
