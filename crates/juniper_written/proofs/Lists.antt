@@ -38,3 +38,8 @@ module _ {A C : Type 0} (view : A → C) (xs : List A) (old : List C) where
   seen-all i ys past so_far =
       let none : ys ++ map view (drop i xs) ≡ ys = rw (drop_all i xs past) (append-nil ys) in
       sym none ∙ so_far
+
+-- what is found at the views, one for each item
+pub seen-twice : {A B C : Type 0} (view : A → B) (f : B → C) (xs : List A) → map (λ x. f (view x)) xs ≡ map f (map view xs)
+seen-twice view f [] = refl
+seen-twice view f (x ∷ xs) = ap (λ l. f (view x) ∷ l) (seen-twice view f xs)

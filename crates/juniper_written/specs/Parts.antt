@@ -1,7 +1,7 @@
 -- What is written in a definition, kind by kind (5).
-use Rattle.std.specs.Prelude.{List, [], ◌∷◌, ◌++◌, Option, Some, None}
+use Rattle.std.specs.Prelude.{map, List, [], ◌∷◌, ◌++◌, Option, Some, None}
 use Rattle.graphql_spec.specs.Shown.{Name}
-use Rattle.graphql_spec.specs.Documents.{Word, Directive, Head, Spread, Inline, Selections, Definition}
+use Rattle.graphql_spec.specs.Documents.{Argument, written, Word, Directive, Head, Spread, Inline, Selections, Definition}
 use Rattle.graphql_spec.specs.Fragments.{spreads}
 use Rattle.graphql_spec.specs.Written.{heads, conditions, directives_in, selections_of, all_conditions, all_directives}
 
@@ -15,6 +15,10 @@ pub record Parts : Type 0 where
 -- what is written in a definition, at any depth
 unfoldable pub parts_of : Definition → Parts
 parts_of x = record { fields = heads (selections_of x); spreads = spreads (selections_of x); conditions = all_conditions x; directives = all_directives x }
+
+-- the arguments of each field and each directive; of a definition's parts they are `argument_lists`
+unfoldable pub lists_of : Parts → List (List Argument)
+lists_of p = map (λ h. written h.arguments) p.fields ++ map (λ d. written d.arguments) p.directives
 
 -- ## Selections; only private clauses cite what follows
 

@@ -6,17 +6,19 @@ use Rattle.std.specs.List.{list_any}
 use Rattle.std.specs.Str.{bytes_eq}
 use Rattle.graphql_spec.specs.Shown.{Shown, Name}
 use Rattle.graphql_spec.specs.Documents as spec
-use Rattle.graphql_spec.specs.Documents.{Head}
+use Rattle.graphql_spec.specs.Documents.{Head, written}
 use Rattle.juniper_position.specs.Positions.{view_span}
 use Rattle.juniper_position.specs.declared.position.Spanning.{Spanning}
 use Rattle.juniper_position.specs.declared.position.Span.{Span}
-use Rattle.juniper_syntax.specs.DocumentView.{view_head, view_directive, view_spread, inline_head, view_variable}
+use Rattle.juniper_syntax.specs.DocumentView.{view_arguments, view_head, view_directive, view_spread, inline_head, view_variable}
+use Rattle.juniper_syntax.specs.declared.ast.Arguments.{Arguments}
 use Rattle.juniper_syntax.specs.declared.ast.Directive.{Directive}
 use Rattle.juniper_syntax.specs.declared.ast.Field.{Field, out-Field}
 use Rattle.juniper_syntax.specs.declared.ast.FragmentSpread.{FragmentSpread}
 use Rattle.juniper_syntax.specs.declared.ast.InlineFragment.{InlineFragment, out-InlineFragment}
 use Rattle.juniper_syntax.specs.declared.ast.VariableDefinitions.{VariableDefinitions}
 use Rattle.juniper_written.specs.Parts.{Parts}
+use Rattle.juniper_written.specs.declared.arguments.ArgumentLists.{ArgumentLists}
 use Rattle.juniper_written.specs.declared.written.Written.{Written}
 
 -- names that the text holds
@@ -50,6 +52,13 @@ module _ {S : Type 0} (shown : S → Shown) where
 
   abbrev pub view_directives_at : List (Bor (Spanning (Directive S) Span)) → List spec.Directive
   view_directives_at = map (λ d. view_directive shown d.now)
+
+  -- the arguments of one field or directive after the other
+  abbrev pub view_list : List (Bor (Option (Spanning (Arguments S) Span))) → List (List spec.Argument)
+  view_list = map (λ a. written (view_arguments shown a.now))
+
+  abbrev pub view_lists : ArgumentLists S → List (List spec.Argument)
+  view_lists l = view_list l.lists.items
 
   abbrev pub view_written : Written S → Parts
   view_written w = record { fields = view_fields w.fields.items; spreads = view_names w.spreads.items; conditions = view_names w.conditions.items; directives = view_directives_at w.directives.items }

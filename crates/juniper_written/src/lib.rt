@@ -1,8 +1,10 @@
 //! What is written in a document, as flat lists (section 5 of the Specification).
 #![tactic(auto)]
 
+mod arguments;
 mod names;
 mod written;
 
+pub use arguments::{ArgumentLists, argument_lists};
 pub use names::repeats;
 pub use written::{Written, written_in};

@@ -1,0 +1,7 @@
+//! Tests of the rules of validation: what they look at, in documents that are written as texts.
+#![tactic(auto)]
+
+#[cfg(test)]
+mod listed;
+#[cfg(test)]
+mod written;
