@@ -4,4 +4,6 @@
 #[cfg(test)]
 mod listed;
 #[cfg(test)]
+mod names;
+#[cfg(test)]
 mod written;

@@ -1,4 +1,5 @@
+pub mod Deciding
 mod Joining
-mod Lists
-mod Variables
+pub mod Lists
 mod Repeated
+pub mod Variables

@@ -1,0 +1,11 @@
+//! The rules of validation on names (sections 5.2, 5.4.2, 5.5.1, 5.5.2, 5.7.1 and 5.8.1 of the Specification): the first phase, on
+//! which the other rules stand.
+#![tactic(auto)]
+
+mod known_directives;
+mod unique_argument_names;
+mod unique_variable_names;
+
+pub use known_directives::has_unknown_directive;
+pub use unique_argument_names::repeats_argument;
+pub use unique_variable_names::repeats_variable;
