@@ -10,11 +10,11 @@ pub none-is : {A : Type 0} (o : Option A) → is_none o ≡ not (is_some o)
 none-is None = refl
 none-is (Some x) = refl
 
-some-first : {A : Type 0} (b : Bool) (d : A) (o : Option A) → is_some (cond b (Some d) o) ≡ (b || is_some o)
+pub some-first : {A : Type 0} (b : Bool) (d : A) (o : Option A) → is_some (cond b (Some d) o) ≡ (b || is_some o)
 some-first true d o = refl
 some-first false d o = refl
 
-or-false : (b : Bool) → (b || false) ≡ b
+pub or-false : (b : Bool) → (b || false) ≡ b
 or-false true = refl
 or-false false = refl
 

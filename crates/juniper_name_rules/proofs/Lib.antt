@@ -1,1 +1,2 @@
+mod NamesBefore
 mod Known

@@ -2,10 +2,12 @@
 //! which the other rules stand.
 #![tactic(auto)]
 
+mod earlier;
 mod known_directives;
 mod unique_argument_names;
 mod unique_variable_names;
 
+pub use earlier::Earlier;
 pub use known_directives::has_unknown_directive;
 pub use unique_argument_names::repeats_argument;
 pub use unique_variable_names::repeats_variable;

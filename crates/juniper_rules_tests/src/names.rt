@@ -1,7 +1,7 @@
 //! What the rules on names find, worked out by hand.
 
 use juniper_language::{DefaultScalarValue, Definition, parse_document_source};
-use juniper_name_rules::{has_unknown_directive, repeats_argument, repeats_variable};
+use juniper_name_rules::{Earlier, has_unknown_directive, repeats_argument, repeats_variable};
 use juniper_written::{argument_lists, written_in};
 use std::alloc::{AllocError, Global};
 use std::test::Fail;
@@ -16,7 +16,10 @@ query @specifiedBy(url: 1) @include(if: true) { a @deprecated ...F @skip(if: tru
 query Q($n: Int @Skip) { a } => directive;
 query Q($n: Int, $n: Int) { a } => variable;
 query Q($n: Int, $m: Int, $N: Int) { a(x: $n) b(x: $n) } => ;
-query Q($n: Int, $m: Int, $n: Int) { a(x: 1, x: 1) @d } fragment F on T @d { a } => variableargumentdirective;directive;";
+query Q($n: Int, $m: Int, $n: Int) { a(x: 1, x: 1) @d } fragment F on T @d { a } => variableargumentdirective;directive;
+query A { a } query B { a } query A { a } mutation B { a } => ;;operation;operation;
+{ a } { a } => ;;
+fragment F on T { a } query F { a } fragment G on T { a } fragment F on T { b } => ;;;fragment;";
 
 /// The first row, `TEXT => FOUND`, in whose text something else is found.
 fn first_other<'r>(alloc: Global, rows: &'r str) -> Result<Option<&'r str>, AllocError> {
@@ -48,8 +51,11 @@ fn found_in(
     definitions: &[Definition<'_, DefaultScalarValue>],
 ) -> Result<String, AllocError> {
     let mut line = String::new(alloc);
+    let mut earlier = Earlier::new(alloc);
     for definition in definitions {
+        find_names(&earlier, definition, &mut line)?;
         find(alloc, definition, &mut line)?;
+        earlier.add(definition)?;
     }
     Ok(line)
 }
@@ -65,6 +71,15 @@ fn find(
     tell(repeats_argument(alloc, &arguments)?, "argument", line)?;
     tell(has_unknown_directive(&written), "directive", line)?;
     line.push_str(";")
+}
+
+fn find_names<'a>(
+    earlier: &Earlier<'a>,
+    definition: &Definition<'a, DefaultScalarValue>,
+    line: &mut String,
+) -> Result<(), AllocError> {
+    tell(earlier.repeats_operation(definition), "operation", line)?;
+    tell(earlier.repeats_fragment(definition), "fragment", line)
 }
 
 fn tell(is_so: bool, word: &str, line: &mut String) -> Result<(), AllocError> {

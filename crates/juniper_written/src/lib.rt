@@ -6,5 +6,5 @@ mod names;
 mod written;
 
 pub use arguments::{ArgumentLists, argument_lists};
-pub use names::repeats;
+pub use names::{is_seen, repeats};
 pub use written::{Written, written_in};

@@ -24,8 +24,8 @@ pub fn repeats(alloc: Global, names: &[&str]) -> Result<bool, AllocError>
     Ok(false)
 }
 
-/// Whether the name is there already; afterwards it is.
-fn is_seen<'a>(seen: &mut HashSet<&'a str>, name: &'a str) -> Result<bool, AllocError>
+/// Whether the name is there already; afterwards it is. An error where memory is refused.
+pub fn is_seen<'a>(seen: &mut HashSet<&'a str>, name: &'a str) -> Result<bool, AllocError>
     ensures found { IfOk result (λ b. b ≡ has_name seen.old name.now) }
     ensures added { OnOk result ((n : Name) → has_name seen.new n ≡ cond (bytes_eq name.now n) true (has_name seen.old n)) }
 {
