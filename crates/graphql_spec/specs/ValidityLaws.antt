@@ -1,0 +1,85 @@
+-- What validity gives to execution: fragments that end, fields that are declared, selections that merge (5, 6.3).
+use Rattle.std.specs.Prelude.{ℕ, Bool, true, List, [], ◌∷◌, ◌++◌, Option, Some, None, ◌≡◌, IsTrue}
+use Rattle.std.specs.Option.{is_some}
+use Rattle.graphql_spec.specs.Shown.{Name}
+use Rattle.graphql_spec.specs.Types.{innermost}
+use Rattle.graphql_spec.specs.Inputs.{Variables}
+use Rattle.graphql_spec.specs.Constants.{Members}
+use Rattle.graphql_spec.specs.Documents.{Directive, Selections, end, field, spread, inline, Operation, Fragment, Definition, operation, fragment, Document, fragments, name_or}
+use Rattle.graphql_spec.specs.Fragments.{fragment_of, plain, filled, expand, spreads, HasNoCycle}
+use Rattle.graphql_spec.specs.Schema.{Schema}
+use Rattle.graphql_spec.specs.Fields.{field_of, declared_type}
+use Rattle.graphql_spec.specs.Executable.{is_executable}
+use Rattle.graphql_spec.specs.Written.{selections_of}
+use Rattle.graphql_spec.specs.Placed.{root_type}
+use Rattle.graphql_spec.specs.Resolvers.{Reply, world_of}
+use Rattle.graphql_spec.specs.Laws.{In, Merges}
+use Rattle.graphql_spec.specs.Overlap.{fields, MayMerge, names_object, declares_field}
+use Rattle.graphql_spec.specs.Rules.{at_each, name_errors, rule_errors}
+
+-- a selection set with the type that it stands on
+pub record PlacedSet : Type 0 where
+  pub parent : Name
+  pub selections : Selections
+
+module _ (s : Schema) where
+  -- each selection set written below selections on the type p
+  unfoldable pub sets_below : Name → Selections → List PlacedSet
+  sets_below p end = []
+  sets_below p (field h below rest) = let q : Name = innermost (declared_type (field_of s p h.name.item)) in
+      record { parent = q; selections = below } ∷ (sets_below q below ++ sets_below p rest)
+  sets_below p (spread x rest) = sets_below p rest
+  sets_below p (inline x below rest) = let q : Name = name_or x.condition p in
+      record { parent = q; selections = below } ∷ (sets_below q below ++ sets_below p rest)
+
+  -- a set and each that is written below it
+  unfoldable pub sets_from : Name → Selections → List PlacedSet
+  sets_from p set = record { parent = p; selections = set } ∷ sets_below p set
+
+  -- each selection set written in the definition; none where an operation's root type is absent
+  unfoldable pub sets_in : Definition → List PlacedSet
+  sets_in (operation o) = elim (root_type s o.kind) [ None ↦ [] | Some p ↦ sets_from p o.selections ]
+  sets_in (fragment f) = sets_from f.condition.item f.selections
+
+-- the rules on names find nothing
+abbrev pub HasGoodNames : Schema → Bool → Document → Type 0
+HasGoodNames s disabled d = at_each (name_errors s disabled d) [] d ≡ []
+
+-- all rules find nothing
+abbrev pub IsValid : Schema → Bool → Document → Type 0
+IsValid s disabled d = rule_errors s disabled d ≡ []
+
+-- ## Fragments
+
+-- where the rules on names find nothing, no fragment reaches itself (5.5.2.2)
+abbrev pub NamesEndSpreads : Type 0
+NamesEndSpreads = (s : Schema) (disabled : Bool) (d : Document) → HasGoodNames s disabled d → HasNoCycle (fragments d)
+
+-- so each spread stands for its fragment, and that is expanded in turn
+abbrev pub NamesExpandInPlace : Type 0
+NamesExpandInPlace = (s : Schema) (disabled : Bool) (d : Document) → HasGoodNames s disabled d → (test : Directive → Bool) (set : Selections) →
+    expand test (fragments d) set ≡ plain test (λ k. filled (expand test (fragments d)) (fragment_of (fragments d) k)) set
+
+-- and each spread that is written has a fragment (5.5.2.1)
+abbrev pub NamesKnowSpreads : Type 0
+NamesKnowSpreads = (s : Schema) (disabled : Bool) (d : Document) → HasGoodNames s disabled d → (x : Definition) → In x d → (k : Name) → In k (spreads (selections_of x)) →
+    IsTrue (is_some (fragment_of (fragments d) k))
+
+-- ## Merging
+
+-- where all rules find nothing, each selection set that is written merges as it is written, to every depth (5.3.2)
+abbrev pub ValidSetsMerge : Type 0
+ValidSetsMerge = (s : Schema) (disabled : Bool) (d : Document) → IsValid s disabled d → (x : Definition) → In x d → (set : PlacedSet) → In set (sets_in s x) → (n : ℕ) →
+    MayMerge (λ T f. declared_type (field_of s T f)) (names_object s) (declares_field s) n (fields set.parent (expand (λ y. true) (fragments d) set.selections))
+
+-- so on a schema that can be executed it merges for each object type, whatever the variables, the resolver and the directives
+abbrev pub ValidSetsJoin : Type 0 → Type 0
+ValidSetsJoin N = (s : Schema) → IsTrue (is_executable s) → (disabled : Bool) (d : Document) → IsValid s disabled d →
+    (vars : Variables) (concrete : N → Name) (answer : N → Name → Members → Reply N) (passes : Directive → Bool) (x : Definition) → In x d → (set : PlacedSet) → In set (sets_in s x) →
+    Merges (world_of s vars concrete answer) set.parent (expand passes (fragments d) set.selections)
+
+-- and so does what an operation selects on its root type
+abbrev pub ValidOperationsJoin : Type 0 → Type 0
+ValidOperationsJoin N = (s : Schema) → IsTrue (is_executable s) → (disabled : Bool) (d : Document) → IsValid s disabled d →
+    (vars : Variables) (concrete : N → Name) (answer : N → Name → Members → Reply N) (passes : Directive → Bool) (o : Operation) → In (operation o) d → (root : Name) → root_type s o.kind ≡ Some root →
+    Merges (world_of s vars concrete answer) root (expand passes (fragments d) o.selections)
