@@ -3,7 +3,7 @@ use Rattle.std.specs.Prelude.{ℕ, Bool, true, false, not, ◌&&◌, ◌||◌, L
 use Rattle.std.specs.List.{list_all, list_any}
 use Rattle.std.specs.Str.{bytes_eq}
 use Rattle.std.specs.Option.{is_some}
-use Rattle.std.proofs.lemmas.Bool.{cases_Bool, both_ways, and_parts, or_parts, or_cases}
+use Rattle.std.proofs.lemmas.Bool.{both_ways}
 use Rattle.std.proofs.Common.{refl, sym, ap, ◌∙◌, inl, inr, subst, arith}
 use Rattle.graphql_spec.specs.Shown.{Name}
 use Rattle.graphql_spec.specs.Types.{TypeRef, innermost}
@@ -18,7 +18,7 @@ use Rattle.graphql_spec.specs.Overlap.{Field, condition_or, fields, declares_fie
 use Rattle.graphql_spec.specs.Merging.{each_pair, merge, set_merges}
 use Rattle.graphql_spec.specs.Laws.{In}
 use Rattle.graphql_spec.proofs.Grouping.{in_append, in_first, in_second}
-use Rattle.graphql_spec.proofs.Fragments.{expand-end, expand-field, expand-inline, expand-spread}
+use Rattle.graphql_spec.proofs.Fragments.{any-at, expand-end, expand-field, expand-inline, expand-spread}
 
 -- ## What holds of expanded selections
 
@@ -82,11 +82,6 @@ module _ (fs : List Fragment) where
 
 -- ## The whole is right
 
-any-none : (f : Name → Bool) (ks : List Name) (k : Name) → list_any f ks ≡ false → In k ks → f k ≡ false
-any-none f [] k e i = absurd i
-any-none f (j ∷ ks) k e (inl q) = rw q (or_parts (f j) (list_any f ks) e).0
-any-none f (j ∷ ks) k e (inr i) = any-none f ks k (or_parts (f j) (list_any f ks) e).1 i
-
 asked-is : (o : Option Word) (p : Name) → condition_or p (asked o) ≡ name_or o p
 unfolding condition_or asked name_or
 asked-is None p = refl
@@ -121,7 +116,7 @@ module _ (s : Schema) (fs : List Fragment) (c : HasNoCycle fs) where
   right_to : FragmentsAreWell s fs → (n : ℕ) → RightTo n
   unfolding deep deep_in
   right_to w zero k f e a = absurd (both_ways (is_some (fragment_of fs k)) a (ap is_some e))
-  right_to w (suc n) k f e a = set-right n (right_to w n) f.condition.item f.selections (w k f e) (λ j i. any-none (deep fs n) (spreads f.selections) j (ap (deep_in (deep fs n)) (sym e) ∙ a) i)
+  right_to w (suc n) k f e a = set-right n (right_to w n) f.condition.item f.selections (w k f e) (λ j i. any-at (deep fs n) (spreads f.selections) j (ap (deep_in (deep fs n)) (sym e) ∙ a) i)
 
   -- selections that are well are right, with every fragment put in
   pub whole_right : FragmentsAreWell s fs → (p : Name) (set : Selections) → AreWell s fs p set → AreRight s p (whole fs set)
