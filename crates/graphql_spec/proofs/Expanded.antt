@@ -48,12 +48,12 @@ module _ (s : Schema) (fs : List Fragment) where
     pub once : arguments_repeat (written h.arguments) ≡ false
     pub merges : set_merges s fs (type_below s p h.name.item) below ≡ true
 
-  -- so it is of each field that is written; what fragments hold is their own
+  -- so it is of each field that is written, and each set merges; what fragments hold is their own
   abbrev pub AreWell : Name → Selections → Type 0
   AreWell p Selections.end = Unit {0}
   AreWell p (Selections.field h below rest) = IsWell p h below × (AreWell (type_below s p h.name.item) below × AreWell p rest)
   AreWell p (Selections.spread x rest) = AreWell p rest
-  AreWell p (Selections.inline x below rest) = AreWell (name_or x.condition p) below × AreWell p rest
+  AreWell p (Selections.inline x below rest) = (set_merges s fs (name_or x.condition p) below ≡ true) × (AreWell (name_or x.condition p) below × AreWell p rest)
 
   -- so it is of each fragment that a name finds
   abbrev pub FragmentsAreWell : Type 0
@@ -109,8 +109,8 @@ module _ (s : Schema) (fs : List Fragment) (c : HasNoCycle fs) where
       let second = set-right n r p rest w (λ k i. a k (inr i)) in
       subst (AreRight s p) (sym (whole-spread fs c x rest)) (put-right p (fragment_of fs x.name.item) (whole fs rest) (λ f e. r x.name.item f e (a x.name.item (inl refl))) second)
   set-right n r p (Selections.inline x below rest) w a =
-      let first = set-right n r (name_or x.condition p) below w.0 (λ k i. a k (in_first k (spreads below) (spreads rest) i)) in
-      let second = set-right n r p rest w.1 (λ k i. a k (in_second k (spreads below) (spreads rest) i)) in
+      let first = set-right n r (name_or x.condition p) below w.1.0 (λ k i. a k (in_first k (spreads below) (spreads rest) i)) in
+      let second = set-right n r p rest w.1.1 (λ k i. a k (in_second k (spreads below) (spreads rest) i)) in
       subst (AreRight s p) (sym (whole-inline fs x below rest)) (subst (λ z. AreRight s z (whole fs below)) (sym (asked-is x.condition p)) first, second)
 
   right_to : FragmentsAreWell s fs → (n : ℕ) → RightTo n

@@ -67,7 +67,7 @@ names_end_spreads s disabled d e = no_cycle (fragments d) (λ k. not-round d (λ
 pub names_expand_in_place : NamesExpandInPlace
 names_expand_in_place s disabled d e test set = expands_in_place test (fragments d) (names_end_spreads s disabled d e) set
 
-is-there : {A : Type 0} (o : Option A) → is_none o ≡ false → IsTrue (is_some o)
+pub is-there : {A : Type 0} (o : Option A) → is_none o ≡ false → IsTrue (is_some o)
 is-there None e = cc
 is-there (Some x) e = refl
 

@@ -1,12 +1,11 @@
 use Rattle.graphql_spec.proofs.valid_joins.Goals as goal
-use Rattle.graphql_spec.proofs.Expanded.{whole_right}
-use Rattle.graphql_spec.proofs.PairsMerge.{right-merge}
+use Rattle.graphql_spec.proofs.ValidSets.{valid_sets_merge, valid_sets_join, valid_operations_join}
 
 pub returns-clause-sets : goal.returns-clause-sets
-returns-clause-sets g c = let w = whole_right in let v = right-merge in ?
+returns-clause-sets g c = valid_sets_merge
 
 pub returns-clause-types : goal.returns-clause-types
-returns-clause-types g c = ?
+returns-clause-types g c = valid_sets_join
 
 pub returns-clause-operations : goal.returns-clause-operations
-returns-clause-operations g c = ?
+returns-clause-operations g c = valid_operations_join
