@@ -71,6 +71,10 @@ pub is-there : {A : Type 0} (o : Option A) → is_none o ≡ false → IsTrue (i
 is-there None e = cc
 is-there (Some x) e = refl
 
+pub there : {A : Type 0} (o : Option A) → is_some o ≡ true → (x : A) × (o ≡ Some x)
+there None e = absurd (both_ways false refl e)
+there (Some x) e = (x, refl)
+
 pub names_know_spreads : NamesKnowSpreads
 unfolding spreads_unknown
 names_know_spreads s disabled d e x i k j =

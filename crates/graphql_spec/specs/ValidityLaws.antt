@@ -1,19 +1,23 @@
 -- What validity gives to execution: fragments that end, fields that are declared, selections that merge (5, 6.3).
-use Rattle.std.specs.Prelude.{ℕ, Bool, true, List, [], ◌∷◌, ◌++◌, Option, Some, None, ◌≡◌, IsTrue}
+use Rattle.std.specs.Prelude.{ℕ, zero, suc, Bool, true, List, [], ◌∷◌, ◌++◌, Option, Some, None, ◌≡◌, IsTrue}
 use Rattle.std.specs.Option.{is_some}
 use Rattle.graphql_spec.specs.Shown.{Name}
-use Rattle.graphql_spec.specs.Types.{innermost}
+use Rattle.graphql_spec.specs.Types.{named, innermost}
 use Rattle.graphql_spec.specs.Inputs.{Variables}
 use Rattle.graphql_spec.specs.Constants.{Members}
 use Rattle.graphql_spec.specs.Documents.{Directive, Selections, end, field, spread, inline, Operation, Fragment, Definition, operation, fragment, Document, fragments, name_or}
 use Rattle.graphql_spec.specs.Fragments.{fragment_of, plain, filled, expand, spreads, HasNoCycle}
 use Rattle.graphql_spec.specs.Schema.{Schema}
-use Rattle.graphql_spec.specs.Fields.{field_of, declared_type}
+use Rattle.graphql_spec.specs.Fields.{field_of, declared_type, is_possible}
 use Rattle.graphql_spec.specs.Executable.{is_executable}
 use Rattle.graphql_spec.specs.Written.{selections_of}
 use Rattle.graphql_spec.specs.Placed.{root_type}
+use Rattle.graphql_spec.specs.Selections.{Forest, chain, Occurrence, occurrences}
 use Rattle.graphql_spec.specs.Resolvers.{Reply, world_of}
+use Rattle.graphql_spec.specs.Values.{join}
+use Rattle.graphql_spec.specs.Execution.{value_of}
 use Rattle.graphql_spec.specs.Laws.{In, Merges}
+use Rattle.graphql_spec.specs.Requests.{runs, of_document, selected}
 use Rattle.graphql_spec.specs.Overlap.{fields, MayMerge, names_object, declares_field}
 use Rattle.graphql_spec.specs.Rules.{at_each, name_errors, rule_errors}
 
@@ -83,3 +87,32 @@ abbrev pub ValidOperationsJoin : Type 0 → Type 0
 ValidOperationsJoin N = (s : Schema) → IsTrue (is_executable s) → (disabled : Bool) (d : Document) → IsValid s disabled d →
     (vars : Variables) (concrete : N → Name) (answer : N → Name → Members → Reply N) (passes : Directive → Bool) (o : Operation) → In (operation o) d → (root : Name) → root_type s o.kind ≡ Some root →
     Merges (world_of s vars concrete answer) root (expand passes (fragments d) o.selections)
+
+-- ## Fields
+
+-- to the depth d, each occurrence for the object type T is a field of T, and so is what it selects for each object type that
+-- is possible there
+abbrev pub AreFields : Schema → ℕ → Name → List Occurrence → Type 0
+AreFields s zero T os = Unit {0}
+AreFields s (suc d) T os = (o : Occurrence) → In o os → IsTrue (declares_field s T o.head.name.item)
+    × ((U : Name) → IsTrue (is_possible s U (innermost (declared_type (field_of s T o.head.name.item)))) → AreFields s d U (occurrences (is_possible s) U o.below))
+
+-- where all rules find nothing, what is selected on a type is fields of each object type that is possible there, to every depth
+-- (5.3.1)
+abbrev pub ValidSetsAreFields : Type 0
+ValidSetsAreFields = (s : Schema) → IsTrue (is_executable s) → (disabled : Bool) (d : Document) → IsValid s disabled d → (passes : Directive → Bool) (x : Definition) → In x d → (set : PlacedSet) → In set (sets_in s x) →
+    (T : Name) → IsTrue (is_possible s T set.parent) → (n : ℕ) → AreFields s n T (occurrences (is_possible s) T (expand passes (fragments d) set.selections))
+
+-- ## Requests
+
+-- a request that runs is of a valid document, and runs an operation of it that has a root type (6.1)
+abbrev pub RunsAreValid : Type 0
+RunsAreValid = (s : Schema) (disabled : Bool) (n : Option Name) (given : Variables) (text : Option Document) (d : Document) (o : Operation) (vars : Variables) → of_document s disabled n given text ≡ runs d o vars →
+    (text ≡ Some d) × IsValid s disabled d × In (operation o) d × ((root : Name) × (root_type s o.kind ≡ Some root))
+
+-- so of what it selects, resolving one part and another and joining the answers is resolving both at once
+abbrev pub RunsJoin : Type 0 → Type 0
+RunsJoin N = (s : Schema) → IsTrue (is_executable s) → (disabled : Bool) (n : Option Name) (given : Variables) (text : Option Document) (d : Document) (o : Operation) (vars : Variables) →
+    of_document s disabled n given text ≡ runs d o vars → (concrete : N → Name) (answer : N → Name → Members → Reply N) (root : Name) → root_type s o.kind ≡ Some root →
+    (one other : Forest) → selected d o vars ≡ chain one other → (q : Bool) (r : Reply N) →
+    value_of (world_of s vars concrete answer) (named q root) r (selected d o vars) ≡ join (value_of (world_of s vars concrete answer) (named q root) r one) (value_of (world_of s vars concrete answer) (named q root) r other)

@@ -1,4 +1,5 @@
 use Rattle.graphql_spec.proofs.valid_joins.Goals as goal
+use Rattle.graphql_spec.proofs.ValidFields.{valid_sets_are_fields}
 use Rattle.graphql_spec.proofs.ValidSets.{valid_sets_merge, valid_sets_join, valid_operations_join}
 
 pub returns-clause-sets : goal.returns-clause-sets
@@ -9,3 +10,6 @@ returns-clause-types g c = valid_sets_join
 
 pub returns-clause-operations : goal.returns-clause-operations
 returns-clause-operations g c = valid_operations_join
+
+pub returns-clause-fields : goal.returns-clause-fields
+returns-clause-fields g c = valid_sets_are_fields
