@@ -27,7 +27,8 @@ pub record PlacedSet : Type 0 where
   pub selections : Selections
 
 module _ (s : Schema) where
-  -- each selection set written below selections on the type p
+  -- what each field and each inline fragment selects, at any depth, below selections on the type p; a field without a set
+  -- selects nothing
   unfoldable pub sets_below : Name → Selections → List PlacedSet
   sets_below p end = []
   sets_below p (field h below rest) = let q : Name = innermost (declared_type (field_of s p h.name.item)) in
@@ -36,11 +37,11 @@ module _ (s : Schema) where
   sets_below p (inline x below rest) = let q : Name = name_or x.condition p in
       record { parent = q; selections = below } ∷ (sets_below q below ++ sets_below p rest)
 
-  -- a set and each that is written below it
+  -- a set, and each below it
   unfoldable pub sets_from : Name → Selections → List PlacedSet
   sets_from p set = record { parent = p; selections = set } ∷ sets_below p set
 
-  -- each selection set written in the definition; none where an operation's root type is absent
+  -- each selection set of the definition; none where an operation's root type is absent
   unfoldable pub sets_in : Definition → List PlacedSet
   sets_in (operation o) = elim (root_type s o.kind) [ None ↦ [] | Some p ↦ sets_from p o.selections ]
   sets_in (fragment f) = sets_from f.condition.item f.selections
@@ -71,7 +72,7 @@ NamesKnowSpreads = (s : Schema) (disabled : Bool) (d : Document) → HasGoodName
 
 -- ## Merging
 
--- where all rules find nothing, each selection set that is written merges as it is written, to every depth (5.3.2)
+-- where all rules find nothing, each selection set of the document merges as it is written, to every depth (5.3.2)
 abbrev pub ValidSetsMerge : Type 0
 ValidSetsMerge = (s : Schema) (disabled : Bool) (d : Document) → IsValid s disabled d → (x : Definition) → In x d → (set : PlacedSet) → In set (sets_in s x) → (n : ℕ) →
     MayMerge (λ T f. declared_type (field_of s T f)) (names_object s) (declares_field s) n (fields set.parent (expand (λ y. true) (fragments d) set.selections))
