@@ -1,23 +1,21 @@
 -- Selections with every fragment put in: where each written set is right, so is the whole.
-use Rattle.std.specs.Prelude.{ℕ, Bool, true, false, not, ◌&&◌, ◌||◌, List, [], ◌∷◌, ◌++◌, ◌≡◌, ◌⊎◌, ◌≤◌, zero, suc, length, cond, Option, None, Some, IsTrue}
-use Rattle.std.specs.List.{list_all, list_any}
-use Rattle.std.specs.Str.{bytes_eq}
+use Rattle.std.specs.Prelude.{ℕ, true, false, List, [], ◌∷◌, ◌≡◌, zero, suc, length, cond, Option, None, Some, IsTrue}
 use Rattle.std.specs.Option.{is_some}
 use Rattle.std.proofs.lemmas.Bool.{both_ways}
-use Rattle.std.proofs.Common.{refl, sym, ap, ◌∙◌, inl, inr, subst, arith}
+use Rattle.std.proofs.Common.{refl, sym, ap, ◌∙◌, inl, inr, subst}
 use Rattle.graphql_spec.specs.Shown.{Name}
-use Rattle.graphql_spec.specs.Types.{TypeRef, innermost}
-use Rattle.graphql_spec.specs.Documents.{Word, Directive, Head, Spread, Inline, Selections, Fragment, written, response_key, name_or}
+use Rattle.graphql_spec.specs.Types.{innermost}
+use Rattle.graphql_spec.specs.Documents.{Word, Directive, Head, Spread, Inline, Selections, Fragment, written, name_or}
 use Rattle.graphql_spec.specs.Directives.{admits}
-use Rattle.graphql_spec.specs.Selections.{Forest, end, field, under, depth, Condition, nothing_asked, inline_on, spread_on}
-use Rattle.graphql_spec.specs.Fragments.{Contents, fragment_of, put_under, plain, filled, contents, expand, asked, spreads, deep_in, deep, HasNoCycle}
+use Rattle.graphql_spec.specs.Selections.{Forest, end, field, under, depth}
+use Rattle.graphql_spec.specs.Fragments.{fragment_of, put_under, filled, expand, asked, spreads, deep_in, deep, HasNoCycle}
 use Rattle.graphql_spec.specs.Schema.{Schema}
 use Rattle.graphql_spec.specs.Fields.{field_of, declared_type}
 use Rattle.graphql_spec.specs.Written.{arguments_repeat}
-use Rattle.graphql_spec.specs.Overlap.{Field, condition_or, fields, declares_field}
+use Rattle.graphql_spec.specs.Overlap.{condition_or, fields, declares_field}
 use Rattle.graphql_spec.specs.Merging.{each_pair, merge, set_merges}
 use Rattle.graphql_spec.specs.Laws.{In}
-use Rattle.graphql_spec.proofs.Grouping.{in_append, in_first, in_second}
+use Rattle.graphql_spec.proofs.Grouping.{in_first, in_second}
 use Rattle.graphql_spec.proofs.Fragments.{any-at, expand-end, expand-field, expand-inline, expand-spread}
 
 -- ## What holds of expanded selections

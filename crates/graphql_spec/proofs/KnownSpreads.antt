@@ -1,18 +1,17 @@
 -- Where the rules on names find nothing, spreads are known and come to an end.
-use Rattle.std.specs.Prelude.{ℕ, Bool, true, false, ◌||◌, List, [], ◌∷◌, ◌≡◌, zero, suc, length, Option, Some, None, IsTrue}
+use Rattle.std.specs.Prelude.{ℕ, true, false, ◌||◌, [], ◌∷◌, ◌≡◌, zero, suc, length, Option, Some, None, IsTrue}
 use Rattle.std.specs.List.{list_any}
 use Rattle.std.specs.Option.{is_some, is_none}
 use Rattle.std.specs.Str.{bytes_eq}
 use Rattle.std.proofs.lemmas.Bool.{cases_Bool, both_ways, or_parts, false_from_ne_true}
 use Rattle.std.proofs.Common.{refl, sym, ap, ◌∙◌, inl, inr, subst, arith}
 use Rattle.graphql_spec.specs.Shown.{Name}
-use Rattle.graphql_spec.specs.Documents.{Directive, Selections, Definition, operation, fragment, Document, fragments, Fragment}
-use Rattle.graphql_spec.specs.Fragments.{fragment_of, plain, filled, expand, spreads, spreads_in, reaches, HasNoCycle}
-use Rattle.graphql_spec.specs.Schema.{Schema}
+use Rattle.graphql_spec.specs.Documents.{Definition, operation, fragment, Document, fragments, Fragment}
+use Rattle.graphql_spec.specs.Fragments.{fragment_of, spreads, spreads_in, reaches}
 use Rattle.graphql_spec.specs.Written.{selections_of}
 use Rattle.graphql_spec.specs.Rules.{spreads_unknown, spreads_itself}
 use Rattle.graphql_spec.specs.Laws.{In}
-use Rattle.graphql_spec.specs.ValidityLaws.{HasGoodNames, NamesEndSpreads, NamesExpandInPlace, NamesKnowSpreads}
+use Rattle.graphql_spec.specs.ValidityLaws.{NamesEndSpreads, NamesExpandInPlace, NamesKnowSpreads}
 use Rattle.graphql_spec.proofs.Lists.{same_true}
 use Rattle.graphql_spec.proofs.Cycles.{no_cycle, reach-more, any-where}
 use Rattle.graphql_spec.proofs.Fragments.{any-at, expands_in_place}

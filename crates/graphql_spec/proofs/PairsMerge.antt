@@ -2,12 +2,11 @@
 use Rattle.std.specs.Prelude.{ℕ, Bool, true, false, not, ◌&&◌, ◌||◌, List, [], ◌∷◌, ◌++◌, ◌≡◌, ◌⊎◌, ◌≤◌, zero, suc, max, IsTrue}
 use Rattle.std.specs.List.{list_all}
 use Rattle.std.specs.Str.{bytes_eq}
-use Rattle.std.proofs.lemmas.Bool.{cases_Bool, both_ways, and_parts, or_left, or_right}
+use Rattle.std.proofs.lemmas.Bool.{and_parts, or_left, or_right}
 use Rattle.std.proofs.Common.{refl, sym, ap, ◌∙◌, inl, inr, subst, arith}
 use Rattle.graphql_spec.specs.Shown.{Name}
-use Rattle.graphql_spec.specs.Types.{TypeRef, innermost}
 use Rattle.graphql_spec.specs.Documents.{Head, written, response_key}
-use Rattle.graphql_spec.specs.Selections.{Forest, end, field, under, depth, Occurrence}
+use Rattle.graphql_spec.specs.Selections.{Forest, end, field, under, depth}
 use Rattle.graphql_spec.specs.Schema.{Schema}
 use Rattle.graphql_spec.specs.Fields.{type_named, is_object, field_of, declared_type}
 use Rattle.graphql_spec.specs.Arguments.{written_meaning}

@@ -1,5 +1,5 @@
 -- the test on meanings decides that they are equal
-use Rattle.std.specs.Prelude.{Bool, true, false, ◌&&◌, ◌≡◌}
+use Rattle.std.specs.Prelude.{true, false, ◌&&◌, ◌≡◌}
 use Rattle.std.specs.Str.{bytes_eq}
 use Rattle.std.proofs.lemmas.Bool.{both_ways, and_parts}
 use Rattle.std.proofs.Common.{refl, ap, ◌∙◌}

@@ -1,26 +1,23 @@
 -- Of a valid document execution meets declared fields only.
-use Rattle.std.specs.Prelude.{ℕ, Bool, true, List, [], ◌∷◌, ◌++◌, ◌≡◌, ◌⊎◌, zero, suc, Option, Some, None, IsTrue, is_some}
-use Rattle.std.proofs.lemmas.Bool.{both_ways}
-use Rattle.std.proofs.Common.{refl, sym, ap, ◌∙◌, inl, inr, subst}
+use Rattle.std.specs.Prelude.{ℕ, true, List, [], ◌++◌, zero, suc, None, IsTrue}
+use Rattle.std.proofs.Common.{refl, inl, subst}
 use Rattle.graphql_spec.specs.Shown.{Name}
 use Rattle.graphql_spec.specs.Types.{innermost}
-use Rattle.graphql_spec.specs.Inputs.{Variables}
-use Rattle.graphql_spec.specs.Documents.{Directive, Definition, Document, fragments}
-use Rattle.graphql_spec.specs.Selections.{Forest, Occurrence, occurrences}
+use Rattle.graphql_spec.specs.Documents.{fragments}
+use Rattle.graphql_spec.specs.Selections.{Occurrence, occurrences}
 use Rattle.graphql_spec.specs.Fragments.{expand}
-use Rattle.graphql_spec.specs.Schema.{Schema, FieldDeclaration}
+use Rattle.graphql_spec.specs.Schema.{Schema}
 use Rattle.graphql_spec.specs.Fields.{field_of, declared_type, is_possible}
 use Rattle.graphql_spec.specs.Executable.{is_executable}
 use Rattle.graphql_spec.specs.Resolvers.{World, world_of, answered, nothing}
-use Rattle.graphql_spec.specs.Laws.{In}
 use Rattle.graphql_spec.specs.Overlap.{Field, fields, fields_below, MayMerge, KeepsTypes, names_object, declares_field}
-use Rattle.graphql_spec.specs.ValidityLaws.{PlacedSet, AreFields, ValidSetsAreFields}
+use Rattle.graphql_spec.specs.ValidityLaws.{AreFields, ValidSetsAreFields}
 use Rattle.graphql_spec.proofs.Grouping.{in_first}
-use Rattle.graphql_spec.proofs.Overlap.{Parented, parented, Covers, below-covered}
+use Rattle.graphql_spec.proofs.Overlap.{parented, Covers, below-covered}
 use Rattle.graphql_spec.proofs.Thin.{thin-fields, thin-merges, expand-thin}
 use Rattle.graphql_spec.proofs.KeptTypes.{fields_are_kept, schemas_keep_types}
 use Rattle.graphql_spec.proofs.KnownSpreads.{there}
-use Rattle.graphql_spec.proofs.ValidSets.{valid_sets_merge}
+use Rattle.graphql_spec.proofs.ValidSets.{valid_sets_may_merge}
 
 module _ (s : Schema) (e : IsTrue (is_executable s)) where
   -- one world of the schema; what is possible is the same in all
@@ -55,4 +52,4 @@ valid_sets_are_fields s e disabled d valid passes x i set j T p n =
     are-fields s e n T (occurrences (is_possible s) T (expand passes (fragments d) set.selections)) (fields set.parent (expand passes (fragments d) set.selections))
     (λ o k. parented (is_possible s) T set.parent (expand passes (fragments d) set.selections) o p k)
     (thin-merges (λ T f. declared_type (field_of s T f)) (names_object s) (declares_field s) n (fields set.parent (expand passes (fragments d) set.selections)) (fields set.parent (expand (λ y. true) (fragments d) set.selections))
-      (thin-fields set.parent (expand-thin passes (λ y. true) (λ y q. refl) (fragments d) set.selections)) (valid_sets_merge s disabled d valid x i set j n))
+      (thin-fields set.parent (expand-thin passes (λ y. true) (λ y q. refl) (fragments d) set.selections)) (valid_sets_may_merge s disabled d valid x i set j n))

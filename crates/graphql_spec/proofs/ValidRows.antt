@@ -1,24 +1,23 @@
 -- worked rows: what validity gives, at small documents
-use Rattle.std.specs.Prelude.{ℕ, Bool, true, false, codes, List, [], ◌∷◌, ◌≡◌, Option, None, Some, zero, suc}
+use Rattle.std.specs.Prelude.{ℕ, true, false, codes, [], ◌∷◌, ◌≡◌, None, Some}
 use Rattle.std.specs.Str.{bytes_eq}
 use Rattle.std.proofs.lemmas.Bool.{both_ways}
-use Rattle.std.proofs.Common.{refl, sym, ap, ◌∙◌, inl, inr}
-use Rattle.graphql_spec.specs.Shown.{Name, Text, text}
+use Rattle.std.proofs.Common.{refl, sym, ap, inl, inr}
+use Rattle.graphql_spec.specs.Shown.{Text, text}
 use Rattle.graphql_spec.specs.Inputs.{Variables}
 use Rattle.graphql_spec.specs.Types.{named}
-use Rattle.graphql_spec.specs.Documents.{Head, Operation, Selections, end, query, operation, Definition, Document, fragments}
+use Rattle.graphql_spec.specs.Documents.{Operation, Selections, end, query, operation, Document, fragments}
 use Rattle.graphql_spec.specs.Fragments.{deep_in, deep, expand}
 use Rattle.graphql_spec.specs.Directives.{passes}
-use Rattle.graphql_spec.specs.Selections.{Forest, Occurrence, chain, occurrences}
-use Rattle.graphql_spec.specs.Fields.{is_possible}
+use Rattle.graphql_spec.specs.Selections.{Forest, Occurrence, chain}
 use Rattle.graphql_spec.specs.Executable.{is_executable}
 use Rattle.graphql_spec.specs.Placed.{root_type}
 use Rattle.graphql_spec.specs.Values.{Value, null, scalar, list, object, no_items, item, Entries, no_entries, entry, join}
-use Rattle.graphql_spec.specs.Resolvers.{Reply, answered, node, World, world_of}
+use Rattle.graphql_spec.specs.Resolvers.{answered, node, World, world_of}
 use Rattle.graphql_spec.specs.Execution.{value_of}
 use Rattle.graphql_spec.specs.Laws.{Merges}
-use Rattle.graphql_spec.specs.Rules.{RuleError, at_each, name_errors, rule_errors}
-use Rattle.graphql_spec.specs.Requests.{Outcome, runs, of_document, selected}
+use Rattle.graphql_spec.specs.Rules.{at_each, name_errors, rule_errors}
+use Rattle.graphql_spec.specs.Requests.{runs, of_document, selected}
 use Rattle.graphql_spec.specs.ValidityLaws.{PlacedSet, sets_below, sets_from, sets_in, AreFields}
 use Rattle.graphql_spec.proofs.Demo.{at, span, word, leaf_field, set_field, as_field, on, spread_of, fragment_on, demo, Node, root, concrete_of, answer_of}
 use Rattle.graphql_spec.proofs.Rows.{answer, outcome}
@@ -143,7 +142,16 @@ differ m = fail-is-odd ((m 1 (codes "Query") refl) (renamed (codes "fail")) (ren
     fail-is-odd : codes "fail" ≡ codes "odd" → ⊥
     fail-is-odd e = both_ways (bytes_eq (codes "fail") (codes "odd")) refl (ap (λ z. bytes_eq (codes "fail") z) (sym e))
 
--- { a: height }: no field of the query type
-unknown : AreFields demo 1 (codes "Query") (renamed (codes "height") ∷ []) → ⊥
+-- { a: height }: no field of the query type; { hero { a: height } }: none of droids
+abbrev hero_height : Occurrence
+hero_height = record {
+  head = record { alias = None; name = word (codes "hero") 2; arguments = None; directives = []; has_set = true; span = span 2 2 };
+  below = Forest.field (renamed (codes "height")).head Forest.end Forest.end;
+}
+
+unknown : (AreFields demo 1 (codes "Query") (renamed (codes "height") ∷ []) → ⊥) × (AreFields demo 2 (codes "Query") (hero_height ∷ []) → ⊥)
 unfolding outcome
-unknown f = both_ways false refl (f (renamed (codes "height")) (inl refl)).0
+unknown = (
+  λ f. both_ways false refl (f (renamed (codes "height")) (inl refl)).0,
+  λ f. both_ways false refl ((f hero_height (inl refl)).1 (codes "Droid") refl (renamed (codes "height")) (inl refl)).0,
+)

@@ -1,13 +1,12 @@
 -- A request that runs is of a valid document.
-use Rattle.std.specs.Prelude.{Bool, true, false, List, [], ◌∷◌, ◌≡◌, ◌⊎◌, cond, Option, Some, None, IsTrue}
+use Rattle.std.specs.Prelude.{List, [], ◌∷◌, ◌≡◌, ◌⊎◌, cond, Option, Some, None}
 use Rattle.std.specs.Option.{is_some}
-use Rattle.std.proofs.lemmas.Bool.{cases_Bool, both_ways}
+use Rattle.std.proofs.lemmas.Bool.{cases_Bool}
 use Rattle.std.proofs.Common.{refl, sym, ap, ◌∙◌, inl, inr, subst}
 use Rattle.graphql_spec.specs.Shown.{Name}
 use Rattle.graphql_spec.specs.Types.{named, innermost}
 use Rattle.graphql_spec.specs.Inputs.{Variables}
-use Rattle.graphql_spec.specs.Documents.{Operation, OperationType, query, mutation, subscription, Definition, operation, fragment, Document, operations, fragments, variables_of}
-use Rattle.graphql_spec.specs.Selections.{Forest, chain}
+use Rattle.graphql_spec.specs.Documents.{Operation, OperationType, query, mutation, subscription, operation, fragment, Document, operations, variables_of}
 use Rattle.graphql_spec.specs.Directives.{passes}
 use Rattle.graphql_spec.specs.Schema.{Schema}
 use Rattle.graphql_spec.specs.Placed.{root_type}
@@ -15,12 +14,11 @@ use Rattle.graphql_spec.specs.Resolvers.{world_of}
 use Rattle.graphql_spec.specs.Execution.{value_of}
 use Rattle.graphql_spec.specs.Rules.{RuleError, rule_errors}
 use Rattle.graphql_spec.specs.Requests.{Choice, chosen, many, unknown, is_named, choose_named, choose_only, choose, coerced_variables, variable_errors, first_not_constant, Outcome, refused, runs, of_kind, if_constant, if_valid, of_operation, of_choice, of_document_by, of_document, selected}
-use Rattle.graphql_spec.specs.Values.{join}
 use Rattle.graphql_spec.specs.Laws.{In, Merges}
 use Rattle.graphql_spec.specs.ValidityLaws.{IsValid, RunsAreValid, RunsJoin}
 use Rattle.graphql_spec.proofs.Whole.{values_join}
 use Rattle.graphql_spec.proofs.KnownSpreads.{there}
-use Rattle.graphql_spec.proofs.ValidSets.{valid_operations_join}
+use Rattle.graphql_spec.proofs.ValidSets.{valid_operations_merge}
 
 -- ## The operation
 
@@ -123,6 +121,6 @@ pub runs_join : {N : Type 0} → RunsJoin N
 unfolding selected innermost
 runs_join s executable disabled n given text d o vars e concrete answer root r one other split q reply =
     let v = runs_are_valid s disabled n given text d o vars e in
-    let m : Merges (world_of s vars concrete answer) root (selected d o vars) = valid_operations_join s executable disabled d v.1 vars concrete answer (passes vars) o v.2 root r in
+    let m : Merges (world_of s vars concrete answer) root (selected d o vars) = valid_operations_merge s executable disabled d v.1 vars concrete answer (passes vars) o v.2 root r in
     ap (value_of (world_of s vars concrete answer) (named q root) reply) split
     ∙ values_join (world_of s vars concrete answer) (named q root) reply one other (subst (Merges (world_of s vars concrete answer) root) split m)

@@ -1,16 +1,15 @@
 -- Of a valid document each written selection set merges.
-use Rattle.std.specs.Prelude.{ℕ, Bool, true, false, not, ◌&&◌, ◌||◌, map, List, [], ◌∷◌, ◌++◌, ◌≡◌, Option, Some, None, IsTrue}
+use Rattle.std.specs.Prelude.{ℕ, Bool, true, false, not, ◌&&◌, ◌||◌, map, List, [], ◌∷◌, ◌++◌, ◌≡◌, Option, Some, None}
 use Rattle.std.specs.List.{list_any, flat_map}
-use Rattle.std.specs.Option.{is_some, is_none}
+use Rattle.std.specs.Option.{is_none}
 use Rattle.std.specs.Str.{bytes_eq}
-use Rattle.std.proofs.lemmas.Bool.{both_ways, and_parts, or_parts, or_from}
+use Rattle.std.proofs.lemmas.Bool.{and_parts, or_parts, or_from}
 use Rattle.std.proofs.lemmas.List.Folds.{list_any-append}
 use Rattle.std.proofs.Common.{refl, sym, ap, ◌∙◌, inl, inr, subst}
 use Rattle.graphql_spec.specs.Shown.{Name}
 use Rattle.graphql_spec.specs.Types.{innermost}
-use Rattle.graphql_spec.specs.Inputs.{Variables}
-use Rattle.graphql_spec.specs.Documents.{Word, Argument, Directive, Head, Selections, end, field, spread, inline, Operation, Definition, operation, fragment, Document, fragments, Fragment, written, name_or, word_name}
-use Rattle.graphql_spec.specs.Fragments.{fragment_of, expand, HasNoCycle}
+use Rattle.graphql_spec.specs.Documents.{Word, Argument, Head, Selections, end, field, spread, inline, Operation, Definition, operation, fragment, Document, fragments, Fragment, written, name_or, word_name}
+use Rattle.graphql_spec.specs.Fragments.{expand}
 use Rattle.graphql_spec.specs.Schema.{Schema, FieldDeclaration}
 use Rattle.graphql_spec.specs.Fields.{type_named, is_composite, field_of, declared_type}
 use Rattle.graphql_spec.specs.Written.{heads, conditions, selections_of, defined_variables, all_directives, all_conditions, argument_lists, default_values, values_in, repeats, field_repeats, has_argument, arguments_repeat}
@@ -19,12 +18,12 @@ use Rattle.graphql_spec.specs.Overlap.{fields, MayMerge, names_object, declares_
 use Rattle.graphql_spec.specs.Merging.{set_merges, sets_merge, definition_merges}
 use Rattle.graphql_spec.specs.Rules.{repeats_argument, repeats_input_field, has_other_condition, has_unknown_field, cannot_merge}
 use Rattle.graphql_spec.specs.Laws.{In}
-use Rattle.graphql_spec.specs.ValidityLaws.{PlacedSet, sets_below, sets_from, sets_in, IsValid, ValidSetsMerge, ValidSetsJoin, ValidOperationsJoin}
+use Rattle.graphql_spec.specs.ValidityLaws.{PlacedSet, sets_below, sets_from, sets_in, IsValid, ValidSetsMayMerge, ValidSetsMerge, ValidOperationsMerge}
 use Rattle.graphql_spec.proofs.Grouping.{in_append}
 use Rattle.graphql_spec.proofs.KeptTypes.{schemas_merge}
-use Rattle.graphql_spec.proofs.Expanded.{type_below, IsWell, AreWell, FragmentsAreWell, whole_right}
+use Rattle.graphql_spec.proofs.Expanded.{type_below, AreWell, FragmentsAreWell, whole_right}
 use Rattle.graphql_spec.proofs.PairsMerge.{right-merge}
-use Rattle.graphql_spec.proofs.Found.{names-hold, types-hold, sets-hold, phases-hold, NamesHold}
+use Rattle.graphql_spec.proofs.Found.{names-hold, types-hold, sets-hold, phases-hold}
 use Rattle.graphql_spec.proofs.KnownSpreads.{found-fragment, is-there, names_end_spreads}
 
 -- ## Tests that nothing passes
@@ -229,15 +228,15 @@ module _ (s : Schema) (disabled : Bool) (d : Document) (valid : IsValid s disabl
 
 -- ## The laws
 
-pub valid_sets_merge : ValidSetsMerge
-valid_sets_merge s disabled d valid x i set j n = set-merges s disabled d valid x i set j n
+pub valid_sets_may_merge : ValidSetsMayMerge
+valid_sets_may_merge s disabled d valid x i set j n = set-merges s disabled d valid x i set j n
 
-pub valid_sets_join : {N : Type 0} → ValidSetsJoin N
-valid_sets_join s e disabled d valid vars concrete answer passes x i set j =
+pub valid_sets_merge : {N : Type 0} → ValidSetsMerge N
+valid_sets_merge s e disabled d valid vars concrete answer passes x i set j =
     schemas_merge s e vars concrete answer passes (fragments d) set.parent set.selections (λ n. set-merges s disabled d valid x i set j n)
 
-pub valid_operations_join : {N : Type 0} → ValidOperationsJoin N
+pub valid_operations_merge : {N : Type 0} → ValidOperationsMerge N
 unfolding sets_from
-valid_operations_join s e disabled d valid vars concrete answer passes o i root r =
-    valid_sets_join s e disabled d valid vars concrete answer passes (operation o) i (record { parent = root; selections = o.selections })
+valid_operations_merge s e disabled d valid vars concrete answer passes o i root r =
+    valid_sets_merge s e disabled d valid vars concrete answer passes (operation o) i (record { parent = root; selections = o.selections })
     (subst (In (record { parent = root; selections = o.selections })) (sym (sets-operation s o root r)) (inl refl))

@@ -5,7 +5,7 @@ use Rattle.graphql_spec.specs.Shown.{Name}
 use Rattle.graphql_spec.specs.Types.{named, innermost}
 use Rattle.graphql_spec.specs.Inputs.{Variables}
 use Rattle.graphql_spec.specs.Constants.{Members}
-use Rattle.graphql_spec.specs.Documents.{Directive, Selections, end, field, spread, inline, Operation, Fragment, Definition, operation, fragment, Document, fragments, name_or}
+use Rattle.graphql_spec.specs.Documents.{Directive, Selections, end, field, spread, inline, Operation, Definition, operation, fragment, Document, fragments, name_or}
 use Rattle.graphql_spec.specs.Fragments.{fragment_of, plain, filled, expand, spreads, HasNoCycle}
 use Rattle.graphql_spec.specs.Schema.{Schema}
 use Rattle.graphql_spec.specs.Fields.{field_of, declared_type, is_possible}
@@ -73,19 +73,19 @@ NamesKnowSpreads = (s : Schema) (disabled : Bool) (d : Document) → HasGoodName
 -- ## Merging
 
 -- where all rules find nothing, each selection set of the document merges as it is written, to every depth (5.3.2)
-abbrev pub ValidSetsMerge : Type 0
-ValidSetsMerge = (s : Schema) (disabled : Bool) (d : Document) → IsValid s disabled d → (x : Definition) → In x d → (set : PlacedSet) → In set (sets_in s x) → (n : ℕ) →
+abbrev pub ValidSetsMayMerge : Type 0
+ValidSetsMayMerge = (s : Schema) (disabled : Bool) (d : Document) → IsValid s disabled d → (x : Definition) → In x d → (set : PlacedSet) → In set (sets_in s x) → (n : ℕ) →
     MayMerge (λ T f. declared_type (field_of s T f)) (names_object s) (declares_field s) n (fields set.parent (expand (λ y. true) (fragments d) set.selections))
 
 -- so on a schema that can be executed it merges for each object type, whatever the variables, the resolver and the directives
-abbrev pub ValidSetsJoin : Type 0 → Type 0
-ValidSetsJoin N = (s : Schema) → IsTrue (is_executable s) → (disabled : Bool) (d : Document) → IsValid s disabled d →
+abbrev pub ValidSetsMerge : Type 0 → Type 0
+ValidSetsMerge N = (s : Schema) → IsTrue (is_executable s) → (disabled : Bool) (d : Document) → IsValid s disabled d →
     (vars : Variables) (concrete : N → Name) (answer : N → Name → Members → Reply N) (passes : Directive → Bool) (x : Definition) → In x d → (set : PlacedSet) → In set (sets_in s x) →
     Merges (world_of s vars concrete answer) set.parent (expand passes (fragments d) set.selections)
 
 -- and so does what an operation selects on its root type
-abbrev pub ValidOperationsJoin : Type 0 → Type 0
-ValidOperationsJoin N = (s : Schema) → IsTrue (is_executable s) → (disabled : Bool) (d : Document) → IsValid s disabled d →
+abbrev pub ValidOperationsMerge : Type 0 → Type 0
+ValidOperationsMerge N = (s : Schema) → IsTrue (is_executable s) → (disabled : Bool) (d : Document) → IsValid s disabled d →
     (vars : Variables) (concrete : N → Name) (answer : N → Name → Members → Reply N) (passes : Directive → Bool) (o : Operation) → In (operation o) d → (root : Name) → root_type s o.kind ≡ Some root →
     Merges (world_of s vars concrete answer) root (expand passes (fragments d) o.selections)
 

@@ -1,4 +1,4 @@
-use Rattle.graphql_spec.proofs.names_serve.Goals as goal
+use Rattle.graphql_spec.proofs.spreads_end.Goals as goal
 use Rattle.graphql_spec.proofs.KnownSpreads.{names_end_spreads, names_expand_in_place, names_know_spreads}
 
 pub returns-clause-cycles : goal.returns-clause-cycles
