@@ -42,12 +42,12 @@ module _ (d : Document) (good : (x : Definition) → In x d → spreads_itself d
       let p = found-fragment d k f e in
       let g : list_any (λ i. bytes_eq f.name.item i || reaches (fragments d) (length (fragments d)) i f.name.item) (spreads f.selections) ≡ false = good (fragment f) p.0 in
       let h : list_any (λ i. bytes_eq k i || reaches (fragments d) (length (fragments d)) i k) (spreads f.selections) ≡ false =
-          subst (λ z. list_any (λ i. bytes_eq z i || reaches (fragments d) (length (fragments d)) i z) (spreads f.selections) ≡ false) (sym p.1) g in
+      subst (λ z. list_any (λ i. bytes_eq z i || reaches (fragments d) (length (fragments d)) i z) (spreads f.selections) ≡ false) (sym p.1) g in
       false_from_ne_true _ (λ t.
-        let w = any-where (λ i. bytes_eq k i || reaches (fragments d) n i k) (spreads f.selections) t in
-        let q = or_parts (bytes_eq k w.0) (reaches (fragments d) (length (fragments d)) w.0 k) (any-at (λ i. bytes_eq k i || reaches (fragments d) (length (fragments d)) i k) (spreads f.selections) w.0 h w.1) in
-        let later : reaches (fragments d) n w.0 k ≡ true = ap (λ b. b || reaches (fragments d) n w.0 k) (sym q.0) ∙ w.2 in
-        both_ways (reaches (fragments d) (length (fragments d)) w.0 k) q.1 (reach-more (fragments d) n (length (fragments d)) w.0 k (omega (arith, l)) later))
+      let w = any-where (λ i. bytes_eq k i || reaches (fragments d) n i k) (spreads f.selections) t in
+      let q = or_parts (bytes_eq k w.0) (reaches (fragments d) (length (fragments d)) w.0 k) (any-at (λ i. bytes_eq k i || reaches (fragments d) (length (fragments d)) i k) (spreads f.selections) w.0 h w.1) in
+      let later : reaches (fragments d) n w.0 k ≡ true = ap (λ b. b || reaches (fragments d) n w.0 k) (sym q.0) ∙ w.2 in
+      both_ways (reaches (fragments d) (length (fragments d)) w.0 k) q.1 (reach-more (fragments d) n (length (fragments d)) w.0 k (omega (arith, l)) later))
 
   not-round : (n : ℕ) (k : Name) → length (fragments d) ≡ n → reaches (fragments d) n k k ≡ false
   unfolding reaches spreads_in

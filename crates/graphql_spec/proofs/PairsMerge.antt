@@ -149,8 +149,8 @@ module _ (s : Schema) where
     refl,
     record { first_differ = r.own.once; second_differ = r.own.once; same = refl },
     ih (depth x.occurrence.below) (below_of x ++ below_of x)
-      (both-right (depth x.occurrence.below) (below_of x) (below_of x) (inside-right (depth x.occurrence.below) x r (omega arith)) (inside-right (depth x.occurrence.below) x r (omega arith)))
-      (λ y z i j. pairs-of (depth x.occurrence.below) (below_of x) r.own.merges y z (once y i) (once z j)),
+        (both-right (depth x.occurrence.below) (below_of x) (below_of x) (inside-right (depth x.occurrence.below) x r (omega arith)) (inside-right (depth x.occurrence.below) x r (omega arith)))
+        (λ y z i j. pairs-of (depth x.occurrence.below) (below_of x) r.own.merges y z (once y i) (once z j)),
     r.own.declared,
     r.own.declared,
   )

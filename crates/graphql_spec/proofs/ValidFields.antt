@@ -11,7 +11,7 @@ use Rattle.graphql_spec.specs.Fields.{field_of, declared_type, is_possible}
 use Rattle.graphql_spec.specs.Executable.{is_executable}
 use Rattle.graphql_spec.specs.Resolvers.{World, world_of, answered, nothing}
 use Rattle.graphql_spec.specs.Overlap.{Field, fields, fields_below, MayMerge, KeepsTypes, names_object, declares_field}
-use Rattle.graphql_spec.specs.ValidityLaws.{AreFields, ValidSetsAreFields}
+use Rattle.graphql_spec.specs.ValidityLaws.{AreDeclared, ValidFieldsAreDeclared}
 use Rattle.graphql_spec.proofs.Grouping.{in_first}
 use Rattle.graphql_spec.proofs.Overlap.{parented, Covers, below-covered}
 use Rattle.graphql_spec.proofs.Thin.{thin-fields, thin-merges, expand-thin}
@@ -33,23 +33,24 @@ module _ (s : Schema) (e : IsTrue (is_executable s)) where
   kept-field T n f p g = let q = there (field_of s n f) g in let h = fields_are_kept s e T n f q.0 p q.1 in rw (h.1) refl
 
   -- fields that merge are declared
-  are-fields : (d : ℕ) (T : Name) (os : List Occurrence) (xs : List Field) → Covers here (names_object s) (declares_field s) keeps T os xs →
-      MayMerge (λ T f. declared_type (field_of s T f)) (names_object s) (declares_field s) d xs → AreFields s d T os
+  are-declared : (d : ℕ) (T : Name) (os : List Occurrence) (xs : List Field) → Covers here (names_object s) (declares_field s) keeps T os xs →
+      MayMerge (λ T f. declared_type (field_of s T f)) (names_object s) (declares_field s) d xs → AreDeclared s d T os
   unfolding here world_of
-  are-fields zero T os xs c m = tt
-  are-fields (suc d) T os xs c m = λ o i.
+  are-declared zero T os xs c m = tt
+  are-declared (suc d) T os xs c m = λ o i.
       let a = c o i in
       let r = m a.0 a.0 a.1 a.1 refl (inl refl) in
       subst (λ z. IsTrue (declares_field s T z.head.name.item)
-          × ((U : Name) → IsTrue (is_possible s U (innermost (declared_type (field_of s T z.head.name.item)))) → AreFields s d U (occurrences (is_possible s) U z.below))) a.2
-        (kept-field T a.0.parent a.0.occurrence.head.name.item a.3 r.3,
-        λ U p. are-fields d U (occurrences (is_possible s) U a.0.occurrence.below) (fields_below (λ T f. declared_type (field_of s T f)) (names_object s) (declares_field s) a.0 ++ fields_below (λ T f. declared_type (field_of s T f)) (names_object s) (declares_field s) a.0)
-          (λ y j. let b = below-covered here (names_object s) (declares_field s) keeps T U a.0 a.3 r.3 p y j in (b.0, in_first b.0 _ _ b.1, b.2, b.3)) r.2)
+      × ((U : Name) → IsTrue (is_possible s U (innermost (declared_type (field_of s T z.head.name.item)))) → AreDeclared s d U (occurrences (is_possible s) U z.below))) a.2 (
+        kept-field T a.0.parent a.0.occurrence.head.name.item a.3 r.3,
+        λ U p. are-declared d U (occurrences (is_possible s) U a.0.occurrence.below) (fields_below (λ T f. declared_type (field_of s T f)) (names_object s) (declares_field s) a.0 ++ fields_below (λ T f. declared_type (field_of s T f)) (names_object s) (declares_field s) a.0)
+            (λ y j. let b = below-covered here (names_object s) (declares_field s) keeps T U a.0 a.3 r.3 p y j in (b.0, in_first b.0 _ _ b.1, b.2, b.3)) r.2,
+      )
 
-pub valid_sets_are_fields : ValidSetsAreFields
+pub valid_fields_are_declared : ValidFieldsAreDeclared
 unfolding here world_of
-valid_sets_are_fields s e disabled d valid passes x i set j T p n =
-    are-fields s e n T (occurrences (is_possible s) T (expand passes (fragments d) set.selections)) (fields set.parent (expand passes (fragments d) set.selections))
+valid_fields_are_declared s e disabled d valid passes x i set j T p n =
+    are-declared s e n T (occurrences (is_possible s) T (expand passes (fragments d) set.selections)) (fields set.parent (expand passes (fragments d) set.selections))
     (λ o k. parented (is_possible s) T set.parent (expand passes (fragments d) set.selections) o p k)
     (thin-merges (λ T f. declared_type (field_of s T f)) (names_object s) (declares_field s) n (fields set.parent (expand passes (fragments d) set.selections)) (fields set.parent (expand (λ y. true) (fragments d) set.selections))
-      (thin-fields set.parent (expand-thin passes (λ y. true) (λ y q. refl) (fragments d) set.selections)) (valid_sets_may_merge s disabled d valid x i set j n))
+    (thin-fields set.parent (expand-thin passes (λ y. true) (λ y q. refl) (fragments d) set.selections)) (valid_sets_may_merge s disabled d valid x i set j n))

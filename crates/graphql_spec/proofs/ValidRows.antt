@@ -18,7 +18,7 @@ use Rattle.graphql_spec.specs.Execution.{value_of}
 use Rattle.graphql_spec.specs.Laws.{Merges}
 use Rattle.graphql_spec.specs.Rules.{at_each, name_errors, rule_errors}
 use Rattle.graphql_spec.specs.Requests.{runs, of_document, selected}
-use Rattle.graphql_spec.specs.ValidityLaws.{PlacedSet, sets_below, sets_from, sets_in, AreFields}
+use Rattle.graphql_spec.specs.ValidityLaws.{PlacedSet, sets_below, sets_from, sets_in, AreDeclared}
 use Rattle.graphql_spec.proofs.Demo.{at, span, word, leaf_field, set_field, as_field, on, spread_of, fragment_on, demo, Node, root, concrete_of, answer_of}
 use Rattle.graphql_spec.proofs.Rows.{answer, outcome}
 use Rattle.graphql_spec.proofs.ValidRuns.{runs_join}
@@ -149,7 +149,7 @@ hero_height = record {
   below = Forest.field (renamed (codes "height")).head Forest.end Forest.end;
 }
 
-unknown : (AreFields demo 1 (codes "Query") (renamed (codes "height") ∷ []) → ⊥) × (AreFields demo 2 (codes "Query") (hero_height ∷ []) → ⊥)
+unknown : (AreDeclared demo 1 (codes "Query") (renamed (codes "height") ∷ []) → ⊥) × (AreDeclared demo 2 (codes "Query") (hero_height ∷ []) → ⊥)
 unfolding outcome
 unknown = (
   λ f. both_ways false refl (f (renamed (codes "height")) (inl refl)).0,

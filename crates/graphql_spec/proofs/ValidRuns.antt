@@ -15,7 +15,7 @@ use Rattle.graphql_spec.specs.Execution.{value_of}
 use Rattle.graphql_spec.specs.Rules.{RuleError, rule_errors}
 use Rattle.graphql_spec.specs.Requests.{Choice, chosen, many, unknown, is_named, choose_named, choose_only, choose, coerced_variables, variable_errors, first_not_constant, Outcome, refused, runs, of_kind, if_constant, if_valid, of_operation, of_choice, of_document_by, of_document, selected}
 use Rattle.graphql_spec.specs.Laws.{In, Merges}
-use Rattle.graphql_spec.specs.ValidityLaws.{IsValid, RunsAreValid, RunsJoin}
+use Rattle.graphql_spec.specs.ValidityLaws.{IsValidDocument, RunsAreValid, RunsJoin}
 use Rattle.graphql_spec.proofs.Whole.{values_join}
 use Rattle.graphql_spec.proofs.KnownSpreads.{there}
 use Rattle.graphql_spec.proofs.ValidSets.{valid_operations_merge}
@@ -115,7 +115,7 @@ runs_are_valid s disabled n given None d o vars e = cc
 runs_are_valid s disabled n given (Some c) d o vars e =
     let a = valid-runs (rule_errors s disabled c) (of_choice s given c (choose c n)) d o vars e in
     let b = choice-runs s given c (choose c n) d o vars a.1 in
-    (ap Some b.1, subst (IsValid s disabled) b.1 a.0, subst (λ z. In (operation o) z) b.1 (choice-in c n o b.0), b.2)
+    (ap Some b.1, subst (IsValidDocument s disabled) b.1 a.0, subst (λ z. In (operation o) z) b.1 (choice-in c n o b.0), b.2)
 
 pub runs_join : {N : Type 0} → RunsJoin N
 unfolding selected innermost

@@ -18,7 +18,7 @@ use Rattle.graphql_spec.specs.Overlap.{fields, MayMerge, names_object, declares_
 use Rattle.graphql_spec.specs.Merging.{set_merges, sets_merge, definition_merges}
 use Rattle.graphql_spec.specs.Rules.{repeats_argument, repeats_input_field, has_other_condition, has_unknown_field, cannot_merge}
 use Rattle.graphql_spec.specs.Laws.{In}
-use Rattle.graphql_spec.specs.ValidityLaws.{PlacedSet, sets_below, sets_from, sets_in, IsValid, ValidSetsMayMerge, ValidSetsMerge, ValidOperationsMerge}
+use Rattle.graphql_spec.specs.ValidityLaws.{PlacedSet, sets_below, sets_from, sets_in, IsValidDocument, ValidSetsMayMerge, ValidSetsMerge, ValidOperationsMerge}
 use Rattle.graphql_spec.proofs.Grouping.{in_append}
 use Rattle.graphql_spec.proofs.KeptTypes.{schemas_merge}
 use Rattle.graphql_spec.proofs.Expanded.{type_below, AreWell, FragmentsAreWell, whole_right}
@@ -182,7 +182,7 @@ placed-fragment : (s : Schema) (f : Fragment) → is_composite (type_named s f.c
 unfolding placed_in if_composite
 placed-fragment s f e = rw e refl
 
-module _ (s : Schema) (disabled : Bool) (d : Document) (valid : IsValid s disabled d) where
+module _ (s : Schema) (disabled : Bool) (d : Document) (valid : IsValidDocument s disabled d) where
   -- what an operation selects on its root type, and what is written below
   operation-good : (o : Operation) (p : Name) → In (operation o) d → root_type s o.kind ≡ Some p → (set : PlacedSet) → In set (sets_from s p o.selections) → GoodSet s (fragments d) set
   unfolding selections_of has_unknown_field has_other_condition all_conditions cannot_merge
@@ -203,7 +203,7 @@ module _ (s : Schema) (disabled : Bool) (d : Document) (valid : IsValid s disabl
       let names = names-hold s disabled d phases.names (fragment f) i in
       let types = types-hold s disabled d phases.types (fragment f) i in
       let m = and_parts (set_merges s (fragments d) f.condition.item f.selections) (sets_merge s (fragments d) f.condition.item f.selections)
-          (unturned (definition_merges s d (fragment f)) (sets-hold s disabled d phases.uses (fragment f) i)) in
+      (unturned (definition_merges s d (fragment f)) (sets-hold s disabled d phases.uses (fragment f) i)) in
       let c = or_parts (is_other s f.condition.item) (list_any (is_other s) (conditions f.selections)) types.conditions_composite in
       let a = sym (ap (list_any (lacks s)) (placed-fragment s f (composite s f.condition.item c.0))) ∙ types.fields_known in
       (m.0, well s (fragments d) f.condition.item f.selections a c.1 (no-head-repeats (fragment f) names.arguments_differ names.input_fields_differ) m.1)

@@ -51,8 +51,8 @@ abbrev pub HasGoodNames : Schema → Bool → Document → Type 0
 HasGoodNames s disabled d = at_each (name_errors s disabled d) [] d ≡ []
 
 -- all rules find nothing
-abbrev pub IsValid : Schema → Bool → Document → Type 0
-IsValid s disabled d = rule_errors s disabled d ≡ []
+abbrev pub IsValidDocument : Schema → Bool → Document → Type 0
+IsValidDocument s disabled d = rule_errors s disabled d ≡ []
 
 -- ## Fragments
 
@@ -74,18 +74,18 @@ NamesKnowSpreads = (s : Schema) (disabled : Bool) (d : Document) → HasGoodName
 
 -- where all rules find nothing, each selection set of the document merges as it is written, to every depth (5.3.2)
 abbrev pub ValidSetsMayMerge : Type 0
-ValidSetsMayMerge = (s : Schema) (disabled : Bool) (d : Document) → IsValid s disabled d → (x : Definition) → In x d → (set : PlacedSet) → In set (sets_in s x) → (n : ℕ) →
+ValidSetsMayMerge = (s : Schema) (disabled : Bool) (d : Document) → IsValidDocument s disabled d → (x : Definition) → In x d → (set : PlacedSet) → In set (sets_in s x) → (n : ℕ) →
     MayMerge (λ T f. declared_type (field_of s T f)) (names_object s) (declares_field s) n (fields set.parent (expand (λ y. true) (fragments d) set.selections))
 
 -- so on a schema that can be executed it merges for each object type, whatever the variables, the resolver and the directives
 abbrev pub ValidSetsMerge : Type 0 → Type 0
-ValidSetsMerge N = (s : Schema) → IsTrue (is_executable s) → (disabled : Bool) (d : Document) → IsValid s disabled d →
+ValidSetsMerge N = (s : Schema) → IsTrue (is_executable s) → (disabled : Bool) (d : Document) → IsValidDocument s disabled d →
     (vars : Variables) (concrete : N → Name) (answer : N → Name → Members → Reply N) (passes : Directive → Bool) (x : Definition) → In x d → (set : PlacedSet) → In set (sets_in s x) →
     Merges (world_of s vars concrete answer) set.parent (expand passes (fragments d) set.selections)
 
 -- and so does what an operation selects on its root type
 abbrev pub ValidOperationsMerge : Type 0 → Type 0
-ValidOperationsMerge N = (s : Schema) → IsTrue (is_executable s) → (disabled : Bool) (d : Document) → IsValid s disabled d →
+ValidOperationsMerge N = (s : Schema) → IsTrue (is_executable s) → (disabled : Bool) (d : Document) → IsValidDocument s disabled d →
     (vars : Variables) (concrete : N → Name) (answer : N → Name → Members → Reply N) (passes : Directive → Bool) (o : Operation) → In (operation o) d → (root : Name) → root_type s o.kind ≡ Some root →
     Merges (world_of s vars concrete answer) root (expand passes (fragments d) o.selections)
 
@@ -93,23 +93,23 @@ ValidOperationsMerge N = (s : Schema) → IsTrue (is_executable s) → (disabled
 
 -- to the depth d, each occurrence for the object type T is a field of T, and so is what it selects for each object type that
 -- is possible there
-abbrev pub AreFields : Schema → ℕ → Name → List Occurrence → Type 0
-AreFields s zero T os = Unit {0}
-AreFields s (suc d) T os = (o : Occurrence) → In o os → IsTrue (declares_field s T o.head.name.item)
-    × ((U : Name) → IsTrue (is_possible s U (innermost (declared_type (field_of s T o.head.name.item)))) → AreFields s d U (occurrences (is_possible s) U o.below))
+abbrev pub AreDeclared : Schema → ℕ → Name → List Occurrence → Type 0
+AreDeclared s zero T os = Unit {0}
+AreDeclared s (suc d) T os = (o : Occurrence) → In o os → IsTrue (declares_field s T o.head.name.item)
+    × ((U : Name) → IsTrue (is_possible s U (innermost (declared_type (field_of s T o.head.name.item)))) → AreDeclared s d U (occurrences (is_possible s) U o.below))
 
 -- where all rules find nothing, what is selected on a type is fields of each object type that is possible there, to every depth
 -- (5.3.1)
-abbrev pub ValidSetsAreFields : Type 0
-ValidSetsAreFields = (s : Schema) → IsTrue (is_executable s) → (disabled : Bool) (d : Document) → IsValid s disabled d → (passes : Directive → Bool) (x : Definition) → In x d → (set : PlacedSet) → In set (sets_in s x) →
-    (T : Name) → IsTrue (is_possible s T set.parent) → (n : ℕ) → AreFields s n T (occurrences (is_possible s) T (expand passes (fragments d) set.selections))
+abbrev pub ValidFieldsAreDeclared : Type 0
+ValidFieldsAreDeclared = (s : Schema) → IsTrue (is_executable s) → (disabled : Bool) (d : Document) → IsValidDocument s disabled d → (passes : Directive → Bool) (x : Definition) → In x d → (set : PlacedSet) → In set (sets_in s x) →
+    (T : Name) → IsTrue (is_possible s T set.parent) → (n : ℕ) → AreDeclared s n T (occurrences (is_possible s) T (expand passes (fragments d) set.selections))
 
 -- ## Requests
 
 -- a request that runs is of a valid document, and runs an operation of it that has a root type (6.1)
 abbrev pub RunsAreValid : Type 0
 RunsAreValid = (s : Schema) (disabled : Bool) (n : Option Name) (given : Variables) (text : Option Document) (d : Document) (o : Operation) (vars : Variables) → of_document s disabled n given text ≡ runs d o vars →
-    (text ≡ Some d) × IsValid s disabled d × In (operation o) d × ((root : Name) × (root_type s o.kind ≡ Some root))
+    (text ≡ Some d) × IsValidDocument s disabled d × In (operation o) d × ((root : Name) × (root_type s o.kind ≡ Some root))
 
 -- so of what it selects, resolving one part and another and joining the answers is resolving both at once
 abbrev pub RunsJoin : Type 0 → Type 0
