@@ -1,9 +1,11 @@
 -- Of a valid document execution meets declared fields only.
-use Rattle.std.specs.Prelude.{ℕ, true, List, [], ◌++◌, zero, suc, None, IsTrue}
+use Rattle.std.specs.Prelude.{◌≡◌, ℕ, Bool, true, List, [], ◌++◌, zero, suc, Some, None, IsTrue}
 use Rattle.std.proofs.Common.{refl, inl, subst}
 use Rattle.graphql_spec.specs.Shown.{Name}
 use Rattle.graphql_spec.specs.Types.{innermost}
-use Rattle.graphql_spec.specs.Documents.{fragments}
+use Rattle.graphql_spec.specs.Documents.{Directive, Operation, Document, operation, fragments}
+use Rattle.graphql_spec.specs.Placed.{root_type}
+use Rattle.graphql_spec.specs.Laws.{In}
 use Rattle.graphql_spec.specs.Selections.{Occurrence, occurrences}
 use Rattle.graphql_spec.specs.Fragments.{expand}
 use Rattle.graphql_spec.specs.Schema.{Schema}
@@ -11,13 +13,13 @@ use Rattle.graphql_spec.specs.Fields.{field_of, declared_type, is_possible}
 use Rattle.graphql_spec.specs.Executable.{is_executable}
 use Rattle.graphql_spec.specs.Resolvers.{World, world_of, answered, nothing}
 use Rattle.graphql_spec.specs.Overlap.{Field, fields, fields_below, MayMerge, KeepsTypes, names_object, declares_field}
-use Rattle.graphql_spec.specs.ValidityLaws.{AreDeclared, ValidFieldsAreDeclared}
+use Rattle.graphql_spec.specs.ValidityLaws.{PlacedSet, IsValidDocument, AreDeclared, ValidFieldsAreDeclared}
 use Rattle.graphql_spec.proofs.Grouping.{in_first}
 use Rattle.graphql_spec.proofs.Overlap.{parented, Covers, below-covered}
 use Rattle.graphql_spec.proofs.Thin.{thin-fields, thin-merges, expand-thin}
 use Rattle.graphql_spec.proofs.KeptTypes.{fields_are_kept, schemas_keep_types}
 use Rattle.graphql_spec.proofs.KnownSpreads.{there}
-use Rattle.graphql_spec.proofs.ValidSets.{valid_sets_may_merge}
+use Rattle.graphql_spec.proofs.ValidSets.{operation-set, valid_sets_may_merge}
 
 module _ (s : Schema) (e : IsTrue (is_executable s)) where
   -- one world of the schema; what is possible is the same in all
@@ -54,3 +56,11 @@ valid_fields_are_declared s e disabled d valid passes x i set j T p n =
     (λ o k. parented (is_possible s) T set.parent (expand passes (fragments d) set.selections) o p k)
     (thin-merges (λ T f. declared_type (field_of s T f)) (names_object s) (declares_field s) n (fields set.parent (expand passes (fragments d) set.selections)) (fields set.parent (expand (λ y. true) (fragments d) set.selections))
     (thin-fields set.parent (expand-thin passes (λ y. true) (λ y q. refl) (fragments d) set.selections)) (valid_sets_may_merge s disabled d valid x i set j n))
+
+-- what an operation selects on its root type
+pub operation_is_declared : (s : Schema) → IsTrue (is_executable s) → (disabled : Bool) (d : Document) → IsValidDocument s disabled d → (passes : Directive → Bool) →
+    (o : Operation) → In (operation o) d → (root : Name) → root_type s o.kind ≡ Some root → (T : Name) → IsTrue (is_possible s T root) → (n : ℕ) →
+    AreDeclared s n T (occurrences (is_possible s) T (expand passes (fragments d) o.selections))
+operation_is_declared s e disabled d valid passes o i root r T p n =
+    let set : PlacedSet = record { parent = root; selections = o.selections } in
+    valid_fields_are_declared s e disabled d valid passes (operation o) i set (operation-set s o root r) T p n

@@ -118,7 +118,7 @@ joined = (refl, refl, refl, refl, refl, refl)
 -- the law gives the same
 by_law : value (selected heroes asked no_values) ≡ join (value (part 2 first_set)) (value (part 19 second_set))
 unfolding of_document outcome
-by_law = runs_join {N = Node} demo premises.1 true None no_values (Some heroes) heroes asked no_values joined.0 concrete_of answer_of (codes "Query") premises.2 (part 2 first_set) (part 19 second_set) joined.1 false (answered (node root))
+by_law = runs_join {N = Node} demo true None no_values (Some heroes) heroes asked no_values joined.0 premises.1 concrete_of answer_of (codes "Query") premises.2 (part 2 first_set) (part 19 second_set) joined.1 false (answered (node root))
 
 -- ## What it refuses
 

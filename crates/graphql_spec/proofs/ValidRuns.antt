@@ -1,7 +1,7 @@
 -- A request that runs is of a valid document.
-use Rattle.std.specs.Prelude.{List, [], ◌∷◌, ◌≡◌, ◌⊎◌, cond, Option, Some, None}
+use Rattle.std.specs.Prelude.{true, List, [], ◌∷◌, ◌≡◌, ◌⊎◌, cond, Option, Some, None, IsTrue}
 use Rattle.std.specs.Option.{is_some}
-use Rattle.std.proofs.lemmas.Bool.{cases_Bool}
+use Rattle.std.proofs.lemmas.Bool.{cases_Bool, and_parts, and_from, or_left}
 use Rattle.std.proofs.Common.{refl, sym, ap, ◌∙◌, inl, inr, subst}
 use Rattle.graphql_spec.specs.Shown.{Name}
 use Rattle.graphql_spec.specs.Types.{named, innermost}
@@ -9,15 +9,21 @@ use Rattle.graphql_spec.specs.Inputs.{Variables}
 use Rattle.graphql_spec.specs.Documents.{Operation, OperationType, query, mutation, subscription, operation, fragment, Document, operations, variables_of}
 use Rattle.graphql_spec.specs.Directives.{passes}
 use Rattle.graphql_spec.specs.Schema.{Schema}
+use Rattle.graphql_spec.specs.Fields.{entry_named, type_named, is_object, is_possible}
+use Rattle.graphql_spec.specs.Executable.{entries_are_named, mutation_is_apart, roots_are_objects, is_executable}
 use Rattle.graphql_spec.specs.Placed.{root_type}
+use Rattle.graphql_spec.proofs.Lists.{same_refl}
+use Rattle.std.specs.Str.{bytes_eq}
 use Rattle.graphql_spec.specs.Resolvers.{world_of}
 use Rattle.graphql_spec.specs.Execution.{value_of}
 use Rattle.graphql_spec.specs.Rules.{RuleError, rule_errors}
 use Rattle.graphql_spec.specs.Requests.{Choice, chosen, many, unknown, is_named, choose_named, choose_only, choose, coerced_variables, variable_errors, first_not_constant, Outcome, refused, runs, of_kind, if_constant, if_valid, of_operation, of_choice, of_document_by, of_document, selected}
 use Rattle.graphql_spec.specs.Laws.{In, Merges}
-use Rattle.graphql_spec.specs.ValidityLaws.{IsValidDocument, RunsAreValid, RunsJoin}
+use Rattle.graphql_spec.specs.ValidityLaws.{IsValidDocument, RootsAreObjects, RunsAreValid, RunsAgree, RunsJoin}
 use Rattle.graphql_spec.proofs.Whole.{values_join}
 use Rattle.graphql_spec.proofs.KnownSpreads.{there}
+use Rattle.graphql_spec.proofs.KeptTypes.{object_type_named}
+use Rattle.graphql_spec.proofs.ValidFields.{operation_is_declared}
 use Rattle.graphql_spec.proofs.ValidSets.{valid_operations_merge}
 
 -- ## The operation
@@ -107,6 +113,28 @@ choice-runs s given d (chosen p) e o vars q =
 choice-runs s given d many e o vars q = cc
 choice-runs s given d unknown e o vars q = cc
 
+-- ## Root types
+
+object-there : (s : Schema) (n : Name) → is_object (entry_named s n) ≡ true → IsTrue (is_possible s n n)
+unfolding is_possible
+object-there s n e = and_from (is_object (type_named s n)) _ (object_type_named s n e) (or_left (bytes_eq n n) _ (same_refl n))
+
+pub roots_are_possible : RootsAreObjects
+unfolding root_type is_executable roots_are_objects mutation_is_apart
+roots_are_possible s e query root r =
+    let a = and_parts (entries_are_named s) _ e in
+    let b = and_parts (roots_are_objects s) _ a.1 in
+    let c = and_parts (is_object (entry_named s s.query)) _ b.0 in
+    let q : s.query ≡ root = cc in
+    subst (λ z. IsTrue (is_possible s z z)) q (object-there s s.query c.0)
+roots_are_possible s e mutation root r =
+    let a = and_parts (entries_are_named s) _ e in
+    let b = and_parts (roots_are_objects s) _ a.1 in
+    let c = and_parts (is_object (entry_named s s.query)) _ b.0 in
+    let m : mutation_is_apart s (Some root) ≡ true = subst (λ z. mutation_is_apart s z ≡ true) r c.1 in
+    object-there s root (and_parts (is_object (entry_named s root)) _ m).0
+roots_are_possible s e subscription root r = cc
+
 -- ## The laws
 
 pub runs_are_valid : RunsAreValid
@@ -117,9 +145,18 @@ runs_are_valid s disabled n given (Some c) d o vars e =
     let b = choice-runs s given c (choose c n) d o vars a.1 in
     (ap Some b.1, subst (IsValidDocument s disabled) b.1 a.0, subst (λ z. In (operation o) z) b.1 (choice-in c n o b.0), b.2)
 
+pub runs_agree : {N : Type 0} → RunsAgree N
+unfolding selected world_of
+runs_agree s disabled n given text d o vars e executable concrete answer root r depth =
+    let v = runs_are_valid s disabled n given text d o vars e in
+    let p = roots_are_possible s executable o.kind root r in (
+      valid_operations_merge s executable disabled d v.1 vars concrete answer (passes vars) o v.2 root r depth root p,
+      operation_is_declared s executable disabled d v.1 (passes vars) o v.2 root r root p depth,
+    )
+
 pub runs_join : {N : Type 0} → RunsJoin N
 unfolding selected innermost
-runs_join s executable disabled n given text d o vars e concrete answer root r one other split q reply =
+runs_join s disabled n given text d o vars e executable concrete answer root r one other split q reply =
     let v = runs_are_valid s disabled n given text d o vars e in
     let m : Merges (world_of s vars concrete answer) root (selected d o vars) = valid_operations_merge s executable disabled d v.1 vars concrete answer (passes vars) o v.2 root r in
     ap (value_of (world_of s vars concrete answer) (named q root) reply) split

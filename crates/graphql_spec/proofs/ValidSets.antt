@@ -235,8 +235,11 @@ pub valid_sets_merge : {N : Type 0} → ValidSetsMerge N
 valid_sets_merge s e disabled d valid vars concrete answer passes x i set j =
     schemas_merge s e vars concrete answer passes (fragments d) set.parent set.selections (λ n. set-merges s disabled d valid x i set j n)
 
-pub valid_operations_merge : {N : Type 0} → ValidOperationsMerge N
+-- what an operation selects on its root type is one of its sets
+pub operation-set : (s : Schema) (o : Operation) (root : Name) → root_type s o.kind ≡ Some root → In (record { parent = root; selections = o.selections }) (sets_in s (operation o))
 unfolding sets_from
+operation-set s o root r = subst (In (record { parent = root; selections = o.selections })) (sym (sets-operation s o root r)) (inl refl)
+
+pub valid_operations_merge : {N : Type 0} → ValidOperationsMerge N
 valid_operations_merge s e disabled d valid vars concrete answer passes o i root r =
-    valid_sets_merge s e disabled d valid vars concrete answer passes (operation o) i (record { parent = root; selections = o.selections })
-    (subst (In (record { parent = root; selections = o.selections })) (sym (sets-operation s o root r)) (inl refl))
+    valid_sets_merge s e disabled d valid vars concrete answer passes (operation o) i (record { parent = root; selections = o.selections }) (operation-set s o root r)

@@ -5,7 +5,7 @@ use Rattle.graphql_spec.specs.Shown.{Name}
 use Rattle.graphql_spec.specs.Types.{named, innermost}
 use Rattle.graphql_spec.specs.Inputs.{Variables}
 use Rattle.graphql_spec.specs.Constants.{Members}
-use Rattle.graphql_spec.specs.Documents.{Directive, Selections, end, field, spread, inline, Operation, Definition, operation, fragment, Document, fragments, name_or}
+use Rattle.graphql_spec.specs.Documents.{Directive, Selections, end, field, spread, inline, OperationType, Operation, Definition, operation, fragment, Document, fragments, name_or}
 use Rattle.graphql_spec.specs.Fragments.{fragment_of, plain, filled, expand, spreads, HasNoCycle}
 use Rattle.graphql_spec.specs.Schema.{Schema}
 use Rattle.graphql_spec.specs.Fields.{field_of, declared_type, is_possible}
@@ -16,7 +16,7 @@ use Rattle.graphql_spec.specs.Selections.{Forest, chain, Occurrence, occurrences
 use Rattle.graphql_spec.specs.Resolvers.{Reply, world_of}
 use Rattle.graphql_spec.specs.Values.{join}
 use Rattle.graphql_spec.specs.Execution.{value_of}
-use Rattle.graphql_spec.specs.Laws.{In, Merges}
+use Rattle.graphql_spec.specs.Laws.{In, Agree, Merges}
 use Rattle.graphql_spec.specs.Requests.{runs, of_document, selected}
 use Rattle.graphql_spec.specs.Overlap.{fields, MayMerge, names_object, declares_field}
 use Rattle.graphql_spec.specs.Rules.{at_each, name_errors, rule_errors}
@@ -74,19 +74,22 @@ NamesKnowSpreads = (s : Schema) (disabled : Bool) (d : Document) → HasGoodName
 
 -- where all rules find nothing, each selection set of the document merges as it is written, to every depth (5.3.2)
 abbrev pub ValidSetsMayMerge : Type 0
-ValidSetsMayMerge = (s : Schema) (disabled : Bool) (d : Document) → IsValidDocument s disabled d → (x : Definition) → In x d → (set : PlacedSet) → In set (sets_in s x) → (n : ℕ) →
+ValidSetsMayMerge = (s : Schema) (disabled : Bool) (d : Document) → IsValidDocument s disabled d →
+    (x : Definition) → In x d → (set : PlacedSet) → In set (sets_in s x) → (n : ℕ) →
     MayMerge (λ T f. declared_type (field_of s T f)) (names_object s) (declares_field s) n (fields set.parent (expand (λ y. true) (fragments d) set.selections))
 
 -- so on a schema that can be executed it merges for each object type, whatever the variables, the resolver and the directives
 abbrev pub ValidSetsMerge : Type 0 → Type 0
 ValidSetsMerge N = (s : Schema) → IsTrue (is_executable s) → (disabled : Bool) (d : Document) → IsValidDocument s disabled d →
-    (vars : Variables) (concrete : N → Name) (answer : N → Name → Members → Reply N) (passes : Directive → Bool) (x : Definition) → In x d → (set : PlacedSet) → In set (sets_in s x) →
+    (vars : Variables) (concrete : N → Name) (answer : N → Name → Members → Reply N) (passes : Directive → Bool) →
+    (x : Definition) → In x d → (set : PlacedSet) → In set (sets_in s x) →
     Merges (world_of s vars concrete answer) set.parent (expand passes (fragments d) set.selections)
 
 -- and so does what an operation selects on its root type
 abbrev pub ValidOperationsMerge : Type 0 → Type 0
 ValidOperationsMerge N = (s : Schema) → IsTrue (is_executable s) → (disabled : Bool) (d : Document) → IsValidDocument s disabled d →
-    (vars : Variables) (concrete : N → Name) (answer : N → Name → Members → Reply N) (passes : Directive → Bool) (o : Operation) → In (operation o) d → (root : Name) → root_type s o.kind ≡ Some root →
+    (vars : Variables) (concrete : N → Name) (answer : N → Name → Members → Reply N) (passes : Directive → Bool) →
+    (o : Operation) → In (operation o) d → (root : Name) → root_type s o.kind ≡ Some root →
     Merges (world_of s vars concrete answer) root (expand passes (fragments d) o.selections)
 
 -- ## Fields
@@ -101,19 +104,43 @@ AreDeclared s (suc d) T os = (o : Occurrence) → In o os → IsTrue (declares_f
 -- where all rules find nothing, what is selected on a type is fields of each object type that is possible there, to every depth
 -- (5.3.1)
 abbrev pub ValidFieldsAreDeclared : Type 0
-ValidFieldsAreDeclared = (s : Schema) → IsTrue (is_executable s) → (disabled : Bool) (d : Document) → IsValidDocument s disabled d → (passes : Directive → Bool) (x : Definition) → In x d → (set : PlacedSet) → In set (sets_in s x) →
-    (T : Name) → IsTrue (is_possible s T set.parent) → (n : ℕ) → AreDeclared s n T (occurrences (is_possible s) T (expand passes (fragments d) set.selections))
+ValidFieldsAreDeclared = (s : Schema) → IsTrue (is_executable s) → (disabled : Bool) (d : Document) → IsValidDocument s disabled d →
+    (passes : Directive → Bool) (x : Definition) → In x d → (set : PlacedSet) → In set (sets_in s x) → (T : Name) → IsTrue (is_possible s T set.parent) → (n : ℕ) →
+    AreDeclared s n T (occurrences (is_possible s) T (expand passes (fragments d) set.selections))
 
 -- ## Requests
 
--- a request that runs is of a valid document, and runs an operation of it that has a root type (6.1)
-abbrev pub RunsAreValid : Type 0
-RunsAreValid = (s : Schema) (disabled : Bool) (n : Option Name) (given : Variables) (text : Option Document) (d : Document) (o : Operation) (vars : Variables) → of_document s disabled n given text ≡ runs d o vars →
-    (text ≡ Some d) × IsValidDocument s disabled d × In (operation o) d × ((root : Name) × (root_type s o.kind ≡ Some root))
+-- in a schema that can be executed a root type is an object type (3.3.1)
+abbrev pub RootsAreObjects : Type 0
+RootsAreObjects = (s : Schema) → IsTrue (is_executable s) → (k : OperationType) (root : Name) → root_type s k ≡ Some root → IsTrue (is_possible s root root)
 
--- so of what it selects, resolving one part and another and joining the answers is resolving both at once
+module _ (s : Schema) (disabled : Bool) (n : Option Name) (given : Variables) (text : Option Document) (d : Document) (o : Operation) (vars : Variables) where
+  -- a request that runs is of a valid document, and runs an operation of it that has a root type (6.1)
+  abbrev pub RunIsValid : Type 0
+  RunIsValid = of_document s disabled n given text ≡ runs d o vars →
+      (text ≡ Some d) × IsValidDocument s disabled d × In (operation o) d × ((root : Name) × (root_type s o.kind ≡ Some root))
+
+  -- so of what it selects on the root type all occurrences of a response key agree, to every depth, and each is declared
+  abbrev pub RunAgrees : Type 0 → Type 0
+  RunAgrees N = of_document s disabled n given text ≡ runs d o vars → IsTrue (is_executable s) →
+      (concrete : N → Name) (answer : N → Name → Members → Reply N) (root : Name) → root_type s o.kind ≡ Some root → (depth : ℕ) →
+      Agree (world_of s vars concrete answer) depth root (occurrences (is_possible s) root (selected d o vars))
+      × AreDeclared s depth root (occurrences (is_possible s) root (selected d o vars))
+
+  -- and resolving one part of it and another and joining the answers is resolving both at once
+  abbrev pub RunJoins : Type 0 → Type 0
+  RunJoins N = of_document s disabled n given text ≡ runs d o vars → IsTrue (is_executable s) →
+      (concrete : N → Name) (answer : N → Name → Members → Reply N) (root : Name) → root_type s o.kind ≡ Some root →
+      (one other : Forest) → selected d o vars ≡ chain one other → (q : Bool) (r : Reply N) →
+      value_of (world_of s vars concrete answer) (named q root) r (selected d o vars)
+      ≡ join (value_of (world_of s vars concrete answer) (named q root) r one) (value_of (world_of s vars concrete answer) (named q root) r other)
+
+-- each request that runs does
+abbrev pub RunsAreValid : Type 0
+RunsAreValid = (s : Schema) (disabled : Bool) (n : Option Name) (given : Variables) (text : Option Document) (d : Document) (o : Operation) (vars : Variables) → RunIsValid s disabled n given text d o vars
+
+abbrev pub RunsAgree : Type 0 → Type 0
+RunsAgree N = (s : Schema) (disabled : Bool) (n : Option Name) (given : Variables) (text : Option Document) (d : Document) (o : Operation) (vars : Variables) → RunAgrees s disabled n given text d o vars N
+
 abbrev pub RunsJoin : Type 0 → Type 0
-RunsJoin N = (s : Schema) → IsTrue (is_executable s) → (disabled : Bool) (n : Option Name) (given : Variables) (text : Option Document) (d : Document) (o : Operation) (vars : Variables) →
-    of_document s disabled n given text ≡ runs d o vars → (concrete : N → Name) (answer : N → Name → Members → Reply N) (root : Name) → root_type s o.kind ≡ Some root →
-    (one other : Forest) → selected d o vars ≡ chain one other → (q : Bool) (r : Reply N) →
-    value_of (world_of s vars concrete answer) (named q root) r (selected d o vars) ≡ join (value_of (world_of s vars concrete answer) (named q root) r one) (value_of (world_of s vars concrete answer) (named q root) r other)
+RunsJoin N = (s : Schema) (disabled : Bool) (n : Option Name) (given : Variables) (text : Option Document) (d : Document) (o : Operation) (vars : Variables) → RunJoins s disabled n given text d o vars N
