@@ -1,27 +1,29 @@
 -- worked rows: what validity gives, at small documents
-use Rattle.std.specs.Prelude.{ℕ, true, false, codes, [], ◌∷◌, ◌≡◌, None, Some}
+use Rattle.std.specs.Prelude.{ℕ, pos, true, false, codes, List, [], ◌∷◌, ◌≡◌, None, Some}
 use Rattle.std.specs.Str.{bytes_eq}
 use Rattle.std.proofs.lemmas.Bool.{both_ways}
 use Rattle.std.proofs.Common.{refl, sym, ap, inl, inr}
-use Rattle.graphql_spec.specs.Shown.{Text, text}
+use Rattle.graphql_spec.specs.Shown.{Text, int, text}
+use Rattle.graphql_spec.specs.Inputs as i
 use Rattle.graphql_spec.specs.Inputs.{Variables}
 use Rattle.graphql_spec.specs.Types.{named}
-use Rattle.graphql_spec.specs.Documents.{Operation, Selections, end, query, operation, Document, fragments}
+use Rattle.graphql_spec.specs.Documents.{Selections, end, query, mutation, subscription, Operation, operation, Document, fragments}
 use Rattle.graphql_spec.specs.Fragments.{deep_in, deep, expand}
 use Rattle.graphql_spec.specs.Directives.{passes}
-use Rattle.graphql_spec.specs.Selections.{Forest, Occurrence, chain}
+use Rattle.graphql_spec.specs.Selections.{Forest, Occurrence, chain, occurrences}
+use Rattle.graphql_spec.specs.Fields.{is_possible}
 use Rattle.graphql_spec.specs.Executable.{is_executable}
 use Rattle.graphql_spec.specs.Placed.{root_type}
 use Rattle.graphql_spec.specs.Values.{Value, null, scalar, list, object, no_items, item, Entries, no_entries, entry, join}
 use Rattle.graphql_spec.specs.Resolvers.{answered, node, World, world_of}
 use Rattle.graphql_spec.specs.Execution.{value_of}
-use Rattle.graphql_spec.specs.Laws.{Merges}
+use Rattle.graphql_spec.specs.Laws.{Agree, Merges}
 use Rattle.graphql_spec.specs.Rules.{at_each, name_errors, rule_errors}
 use Rattle.graphql_spec.specs.Requests.{runs, of_document, selected}
 use Rattle.graphql_spec.specs.ValidityLaws.{PlacedSet, sets_below, sets_from, sets_in, AreDeclared}
-use Rattle.graphql_spec.proofs.Demo.{at, span, word, leaf_field, set_field, as_field, on, spread_of, fragment_on, demo, Node, root, concrete_of, answer_of}
+use Rattle.graphql_spec.proofs.Demo.{at, span, word, leaf_field, set_field, as_field, given_field, on, spread_of, fragment_on, demo, Node, root, concrete_of, answer_of}
 use Rattle.graphql_spec.proofs.Rows.{answer, outcome}
-use Rattle.graphql_spec.proofs.ValidRuns.{runs_join}
+use Rattle.graphql_spec.proofs.ValidRuns.{runs_agree, runs_join}
 
 -- ## A valid document
 
@@ -119,6 +121,35 @@ joined = (refl, refl, refl, refl, refl, refl)
 by_law : value (selected heroes asked no_values) ≡ join (value (part 2 first_set)) (value (part 19 second_set))
 unfolding of_document outcome
 by_law = runs_join {N = Node} demo true None no_values (Some heroes) heroes asked no_values joined.0 premises.1 concrete_of answer_of (codes "Query") premises.2 (part 2 first_set) (part 19 second_set) joined.1 false (answered (node root))
+
+-- mutation { add(n: 1) { total } add(n: k) { count } }
+abbrev adding : ℕ → Operation
+adding k = record {
+  kind = mutation;
+  name = None;
+  variables = None;
+  directives = [];
+  selections = given_field None (codes "add") (codes "n") (i.scalar (int (pos 1))) 11 true (leaf_field (codes "total") 23 end) (given_field None (codes "add") (codes "n") (i.scalar (int (pos k))) 31 true (leaf_field (codes "count") 43 end) end);
+  span = span 0 51;
+}
+
+-- with k = 1 it runs, on the mutation type, and its sets are those; with k = 2 its fields cannot be merged
+mutations : (outcome no_values (operation (adding 1) ∷ []) ≡ runs (operation (adding 1) ∷ []) (adding 1) (λ n. None)) × (root_type demo mutation ≡ Some (codes "Mutation"))
+    × (sets_in demo (operation (adding 1)) ≡ set_on (codes "Mutation") (adding 1).selections ∷ set_on (codes "Tally") (leaf_field (codes "total") 23 end) ∷ set_on (codes "Int") end
+    ∷ set_on (codes "Tally") (leaf_field (codes "count") 43 end) ∷ set_on (codes "Int") end ∷ [])
+    × (rule_errors demo true (operation (adding 2) ∷ []) ≡ record { message = codes "Fields cannot be merged"; start = at 0 } ∷ [])
+    × (sets_in demo (operation (record { kind = subscription; name = None; variables = None; directives = []; selections = held; span = span 0 0 })) ≡ [])
+unfolding outcome sets_in sets_from sets_below
+mutations = (refl, refl, refl, refl, refl)
+
+-- the two occurrences of `add` for the mutation type
+abbrev added : List Occurrence
+added = occurrences (is_possible demo) (codes "Mutation") (selected (operation (adding 1) ∷ []) (adding 1) no_values)
+
+-- by the law they agree, to every depth, and each is declared
+adding_agrees : (depth : ℕ) → Agree demo_world depth (codes "Mutation") added × AreDeclared demo depth (codes "Mutation") added
+unfolding of_document outcome
+adding_agrees depth = runs_agree {N = Node} demo true None no_values (Some (operation (adding 1) ∷ [])) (operation (adding 1) ∷ []) (adding 1) no_values mutations.0 premises.1 concrete_of answer_of (codes "Mutation") mutations.1 depth
 
 -- ## What it refuses
 
