@@ -36,7 +36,8 @@ found-fragment (fragment g ∷ d) k f e = elim (cases_Bool (bytes_eq k g.name.it
 
 module _ (d : Document) (good : (x : Definition) → In x d → spreads_itself d x ≡ false) where
   -- what a fragment spreads does not reach it
-  kept-apart : (n : ℕ) (k : Name) (f : Fragment) → length (fragments d) ≡ suc n → fragment_of (fragments d) k ≡ Some f → list_any (λ i. bytes_eq k i || reaches (fragments d) n i k) (spreads f.selections) ≡ false
+  kept-apart : (n : ℕ) (k : Name) (f : Fragment) → length (fragments d) ≡ suc n → fragment_of (fragments d) k ≡ Some f →
+      list_any (λ i. bytes_eq k i || reaches (fragments d) n i k) (spreads f.selections) ≡ false
   unfolding spreads_itself
   kept-apart n k f l e =
       let p = found-fragment d k f e in

@@ -169,7 +169,12 @@ module _ (s : Schema) where
       let w = and_parts (same_name x y && same_arguments x y) (each_pair (merge s n) (fields_at s x ++ fields_at s y)) v in
       let z = and_parts (same_name x y) (same_arguments x y) w.0 in (
         same_true x.occurrence.head.name.item y.occurrence.head.name.item z.0,
-        record { first_differ = a.own.once; second_differ = b.own.once; same = same_members-true (written_meaning (written x.occurrence.head.arguments)) (written_meaning (written y.occurrence.head.arguments)) z.1 },
+        record {
+          first_differ = a.own.once;
+          second_differ = b.own.once;
+          same = same_members-true
+              (written_meaning (written x.occurrence.head.arguments)) (written_meaning (written y.occurrence.head.arguments)) z.1;
+        },
         ih n (below_of x ++ below_of y) (both-right n (below_of x) (below_of y) (inside-right n x a (omega (arith, k))) (inside-right n y b (omega (arith, l)))) (pairs-of n (below_of x ++ below_of y) w.1),
         a.own.declared,
         b.own.declared,
@@ -186,5 +191,6 @@ module _ (s : Schema) where
       ]
 
   -- selections whose fields are right, and of which each two fields can be merged, merge to every depth
-  pub right-merge : (p : Name) (t : Forest) → AreRight s p t → each_pair (merge s (depth t)) (fields p t) ≡ true → (d : ℕ) → MayMerge (λ T f. declared_type (field_of s T f)) (names_object s) (declares_field s) d (fields p t)
+  pub right-merge : (p : Name) (t : Forest) → AreRight s p t → each_pair (merge s (depth t)) (fields p t) ≡ true → (d : ℕ) →
+      MayMerge (λ T f. declared_type (field_of s T f)) (names_object s) (declares_field s) d (fields p t)
   right-merge p t r e d = merges-to d (depth t) (fields p t) (right-fields p t r) (pairs-of (depth t) (fields p t) e)

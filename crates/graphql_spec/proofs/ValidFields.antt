@@ -34,6 +34,15 @@ module _ (s : Schema) (e : IsTrue (is_executable s)) where
   kept-field : (T n f : Name) → IsTrue (is_possible s T n) → IsTrue (declares_field s n f) → IsTrue (declares_field s T f)
   kept-field T n f p g = let q = there (field_of s n f) g in let h = fields_are_kept s e T n f q.0 p q.1 in rw (h.1) refl
 
+  -- what is selected below a field
+  abbrev below_of : Field → List Field
+  below_of x = fields_below (λ T f. declared_type (field_of s T f)) (names_object s) (declares_field s) x
+
+  -- the occurrence is declared for T, and what it selects is to the depth d
+  abbrev IsDeclared : ℕ → Name → Occurrence → Type 0
+  IsDeclared d T o = IsTrue (declares_field s T o.head.name.item)
+      × ((U : Name) → IsTrue (is_possible s U (innermost (declared_type (field_of s T o.head.name.item)))) → AreDeclared s d U (occurrences (is_possible s) U o.below))
+
   -- fields that merge are declared
   are-declared : (d : ℕ) (T : Name) (os : List Occurrence) (xs : List Field) → Covers here (names_object s) (declares_field s) keeps T os xs →
       MayMerge (λ T f. declared_type (field_of s T f)) (names_object s) (declares_field s) d xs → AreDeclared s d T os
@@ -42,19 +51,19 @@ module _ (s : Schema) (e : IsTrue (is_executable s)) where
   are-declared (suc d) T os xs c m = λ o i.
       let a = c o i in
       let r = m a.0 a.0 a.1 a.1 refl (inl refl) in
-      subst (λ z. IsTrue (declares_field s T z.head.name.item)
-      × ((U : Name) → IsTrue (is_possible s U (innermost (declared_type (field_of s T z.head.name.item)))) → AreDeclared s d U (occurrences (is_possible s) U z.below))) a.2 (
+      subst (IsDeclared d T) a.2 (
         kept-field T a.0.parent a.0.occurrence.head.name.item a.3 r.3,
-        λ U p. are-declared d U (occurrences (is_possible s) U a.0.occurrence.below) (fields_below (λ T f. declared_type (field_of s T f)) (names_object s) (declares_field s) a.0 ++ fields_below (λ T f. declared_type (field_of s T f)) (names_object s) (declares_field s) a.0)
-            (λ y j. let b = below-covered here (names_object s) (declares_field s) keeps T U a.0 a.3 r.3 p y j in (b.0, in_first b.0 _ _ b.1, b.2, b.3)) r.2,
+        λ U p. are-declared d U (occurrences (is_possible s) U a.0.occurrence.below) (below_of a.0 ++ below_of a.0)
+            (λ y j. let b = below-covered here (names_object s) (declares_field s) keeps T U a.0 a.3 r.3 p y j in (b.0, in_first b.0 (below_of a.0) (below_of a.0) b.1, b.2, b.3)) r.2,
       )
 
 pub valid_fields_are_declared : ValidFieldsAreDeclared
 unfolding here world_of
 valid_fields_are_declared s e disabled d valid passes x i set j T p n =
-    are-declared s e n T (occurrences (is_possible s) T (expand passes (fragments d) set.selections)) (fields set.parent (expand passes (fragments d) set.selections))
-    (λ o k. parented (is_possible s) T set.parent (expand passes (fragments d) set.selections) o p k)
-    (thin-merges (λ T f. declared_type (field_of s T f)) (names_object s) (declares_field s) n (fields set.parent (expand passes (fragments d) set.selections)) (fields set.parent (expand (λ y. true) (fragments d) set.selections))
+    let some = expand passes (fragments d) set.selections in
+    let all = expand (λ y. true) (fragments d) set.selections in
+    are-declared s e n T (occurrences (is_possible s) T some) (fields set.parent some) (λ o k. parented (is_possible s) T set.parent some o p k)
+    (thin-merges (λ T f. declared_type (field_of s T f)) (names_object s) (declares_field s) n (fields set.parent some) (fields set.parent all)
     (thin-fields set.parent (expand-thin passes (λ y. true) (λ y q. refl) (fragments d) set.selections)) (valid_sets_may_merge s disabled d valid x i set j n))
 
 -- what an operation selects on its root type

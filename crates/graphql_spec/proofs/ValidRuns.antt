@@ -79,7 +79,8 @@ unfolding if_constant
 constant-runs None x d o vars e = e
 constant-runs (Some n) x d o vars e = cc
 
-kind-runs : (s : Schema) (k : OperationType) (x : Outcome) (d : Document) (o : Operation) (vars : Variables) → Runs (of_kind s k x) d o vars → Runs x d o vars × ((root : Name) × (root_type s k ≡ Some root))
+kind-runs : (s : Schema) (k : OperationType) (x : Outcome) (d : Document) (o : Operation) (vars : Variables) → Runs (of_kind s k x) d o vars →
+    Runs x d o vars × ((root : Name) × (root_type s k ≡ Some root))
 unfolding of_kind root_type
 kind-runs s query x d o vars e = (e, (s.query, refl))
 kind-runs s mutation x d o vars e = elim (cases_Bool (is_some s.mutation)) [

@@ -1,5 +1,5 @@
 -- Of a valid document each written selection set merges.
-use Rattle.std.specs.Prelude.{ℕ, Bool, true, false, not, ◌&&◌, ◌||◌, map, List, [], ◌∷◌, ◌++◌, ◌≡◌, Option, Some, None}
+use Rattle.std.specs.Prelude.{Bool, true, false, not, ◌&&◌, ◌||◌, map, List, [], ◌∷◌, ◌++◌, ◌≡◌, Option, Some, None}
 use Rattle.std.specs.List.{list_any, flat_map}
 use Rattle.std.specs.Option.{is_none}
 use Rattle.std.specs.Str.{bytes_eq}
@@ -14,7 +14,6 @@ use Rattle.graphql_spec.specs.Schema.{Schema, FieldDeclaration}
 use Rattle.graphql_spec.specs.Fields.{type_named, is_composite, field_of, declared_type}
 use Rattle.graphql_spec.specs.Written.{heads, conditions, selections_of, defined_variables, all_directives, all_conditions, argument_lists, default_values, values_in, repeats, field_repeats, has_argument, arguments_repeat}
 use Rattle.graphql_spec.specs.Placed.{Placed, if_declared, if_composite, placed, root_type, placed_in}
-use Rattle.graphql_spec.specs.Overlap.{fields, MayMerge, names_object, declares_field}
 use Rattle.graphql_spec.specs.Merging.{set_merges, sets_merge, definition_merges}
 use Rattle.graphql_spec.specs.Rules.{repeats_argument, repeats_input_field, has_other_condition, has_unknown_field, cannot_merge}
 use Rattle.graphql_spec.specs.Laws.{In}
@@ -34,6 +33,10 @@ any-parts test xs ys e = or_parts (list_any test xs) (list_any test ys) (sym (li
 any-map : {A B : Type 0} (test : B → Bool) (f : A → B) (xs : List A) → list_any test (map f xs) ≡ list_any (λ x. test (f x)) xs
 any-map test f [] = refl
 any-map test f (x ∷ xs) = ap (λ b. test (f x) || b) (any-map test f xs)
+
+unturned : (b : Bool) → not b ≡ false → b ≡ true
+unturned true e = refl
+unturned false e = sym e
 
 -- ## Arguments (5.4.2, 5.6.3)
 
@@ -81,11 +84,7 @@ module _ (s : Schema) where
   is_other n = not (is_composite (type_named s n))
 
   composite : (n : Name) → is_other n ≡ false → is_composite (type_named s n) ≡ true
-  composite n e = go (is_composite (type_named s n)) e
-    where
-      go : (b : Bool) → not b ≡ false → b ≡ true
-      go true e = refl
-      go false e = sym e
+  composite n e = unturned (is_composite (type_named s n)) e
 
   -- a condition that is composite, and those behind it
   condition-parts : (o : Option Word) (p : Name) (rest : List Name) (f : Name → List Placed) → list_any is_other (elim o [ None ↦ rest | Some w ↦ w.item ∷ rest ]) ≡ false →
@@ -102,7 +101,8 @@ module _ (s : Schema) where
 
   module _ (fs : List Fragment) where
     -- what the rules find nothing in is well
-    well : (p : Name) (set : Selections) → list_any lacks (placed s p set) ≡ false → list_any is_other (conditions set) ≡ false → list_any repeats_at (heads set) ≡ false → sets_merge s fs p set ≡ true → AreWell s fs p set
+    well : (p : Name) (set : Selections) → list_any lacks (placed s p set) ≡ false → list_any is_other (conditions set) ≡ false →
+        list_any repeats_at (heads set) ≡ false → sets_merge s fs p set ≡ true → AreWell s fs p set
     unfolding placed conditions heads sets_merge
     well p end a b c m = tt
     well p (field h below rest) a b c m =
@@ -157,10 +157,6 @@ module _ (s : Schema) where
 
 -- ## Definitions
 
-unturned : (b : Bool) → not b ≡ false → b ≡ true
-unturned true e = refl
-unturned false e = sym e
-
 placed-operation : (s : Schema) (o : Operation) (p : Name) → root_type s o.kind ≡ Some p → placed_in s (operation o) ≡ placed s p o.selections
 unfolding placed_in
 placed-operation s o p r = rw (r, placed_in) refl
@@ -208,7 +204,7 @@ module _ (s : Schema) (disabled : Bool) (d : Document) (valid : IsValidDocument 
       let a = sym (ap (list_any (lacks s)) (placed-fragment s f (composite s f.condition.item c.0))) ∙ types.fields_known in
       (m.0, well s (fragments d) f.condition.item f.selections a c.1 (no-head-repeats (fragment f) names.arguments_differ names.input_fields_differ) m.1)
 
-  pub fragments-well : FragmentsAreWell s (fragments d)
+  fragments-well : FragmentsAreWell s (fragments d)
   fragments-well k f e = (fragment-well f (found-fragment d k f e).0).1
 
   set-good : (x : Definition) → In x d → (set : PlacedSet) → In set (sets_in s x) → GoodSet s (fragments d) set
@@ -220,20 +216,19 @@ module _ (s : Schema) (disabled : Bool) (d : Document) (valid : IsValidDocument 
       go (Some p) r = operation-good o p i r set (subst (In set) (sets-operation s o p r) j)
   set-good (fragment f) i set j = let w = fragment-well f i in good-from s (fragments d) f.condition.item f.selections w.0 w.1 set j
 
-  pub set-merges : (x : Definition) → In x d → (set : PlacedSet) → In set (sets_in s x) → (n : ℕ) →
-      MayMerge (λ T f. declared_type (field_of s T f)) (names_object s) (declares_field s) n (fields set.parent (expand (λ y. true) (fragments d) set.selections))
-  unfolding set_merges
-  set-merges x i set j n = let g = set-good x i set j in right-merge s set.parent (expand (λ y. true) (fragments d) set.selections)
-      (whole_right s (fragments d) (names_end_spreads s disabled d (phases-hold s disabled d valid).names) fragments-well set.parent set.selections g.well) g.merges n
-
 -- ## The laws
 
 pub valid_sets_may_merge : ValidSetsMayMerge
-valid_sets_may_merge s disabled d valid x i set j n = set-merges s disabled d valid x i set j n
+unfolding set_merges
+valid_sets_may_merge s disabled d valid x i set j n =
+    let g = set-good s disabled d valid x i set j in
+    let ends = names_end_spreads s disabled d (phases-hold s disabled d valid).names in
+    right-merge s set.parent (expand (λ y. true) (fragments d) set.selections)
+    (whole_right s (fragments d) ends (fragments-well s disabled d valid) set.parent set.selections g.well) g.merges n
 
 pub valid_sets_merge : {N : Type 0} → ValidSetsMerge N
 valid_sets_merge s e disabled d valid vars concrete answer passes x i set j =
-    schemas_merge s e vars concrete answer passes (fragments d) set.parent set.selections (λ n. set-merges s disabled d valid x i set j n)
+    schemas_merge s e vars concrete answer passes (fragments d) set.parent set.selections (valid_sets_may_merge s disabled d valid x i set j)
 
 -- what an operation selects on its root type is one of its sets
 pub operation-set : (s : Schema) (o : Operation) (root : Name) → root_type s o.kind ≡ Some root → In (record { parent = root; selections = o.selections }) (sets_in s (operation o))
