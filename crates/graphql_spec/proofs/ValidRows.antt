@@ -1,5 +1,5 @@
 -- worked rows: what validity gives, at small documents
-use Rattle.std.specs.Prelude.{ℕ, pos, true, false, codes, List, [], ◌∷◌, ◌≡◌, None, Some}
+use Rattle.std.specs.Prelude.{ℕ, ◌+◌, pos, true, false, codes, List, [], ◌∷◌, ◌≡◌, None, Some}
 use Rattle.std.specs.Str.{bytes_eq}
 use Rattle.std.proofs.lemmas.Bool.{both_ways}
 use Rattle.std.proofs.Common.{refl, sym, ap, inl, inr}
@@ -21,9 +21,9 @@ use Rattle.graphql_spec.specs.Laws.{Agree, Merges}
 use Rattle.graphql_spec.specs.Rules.{at_each, name_errors, rule_errors}
 use Rattle.graphql_spec.specs.Requests.{runs, of_document, selected}
 use Rattle.graphql_spec.specs.ValidityLaws.{PlacedSet, sets_below, sets_from, sets_in, AreDeclared}
-use Rattle.graphql_spec.proofs.Demo.{at, span, word, leaf_field, set_field, as_field, given_field, on, spread_of, fragment_on, demo, Node, root, concrete_of, answer_of}
+use Rattle.graphql_spec.proofs.Demo.{at, span, word, leaf_field, set_field, as_field, given_field, on, spread_of, fragment_on, demo, Node, root, droid, concrete_of, answer_of}
 use Rattle.graphql_spec.proofs.Rows.{answer, outcome}
-use Rattle.graphql_spec.proofs.ValidRuns.{runs_agree, runs_join}
+use Rattle.graphql_spec.proofs.ValidRuns.{runs_agree, runs_join, runs_join_below}
 
 -- ## A valid document
 
@@ -121,6 +121,24 @@ joined = (refl, refl, refl, refl, refl, refl)
 by_law : value (selected heroes asked no_values) ≡ join (value (part 2 first_set)) (value (part 19 second_set))
 unfolding of_document outcome
 by_law = runs_join {N = Node} demo true None no_values (Some heroes) heroes asked no_values joined.0 premises.1 concrete_of answer_of (codes "Query") premises.2 (part 2 first_set) (part 19 second_set) joined.1 false (answered (node root))
+
+-- the two occurrences of `hero`
+abbrev hero_at : ℕ → Selections → Occurrence
+hero_at n s = record { head = record { alias = None; name = word (codes "hero") n; arguments = None; directives = []; has_set = true; span = span n (n + 4) }; below = expand (passes no_values) (fragments heroes) s }
+
+-- the value of a droid for them
+abbrev droid_for : Forest → Value
+droid_for t = value_of demo_world (named false (codes "Character")) (answered (node droid)) t
+
+-- the law at their place, and what it says there by hand
+by_law_below : droid_for (chain (hero_at 2 first_set).below (hero_at 19 second_set).below) ≡ join (droid_for (hero_at 2 first_set).below) (droid_for (hero_at 19 second_set).below)
+unfolding answer of_document outcome
+by_law_below = ((runs_join_below {N = Node} demo true None no_values (Some heroes) heroes asked no_values joined.0 premises.1 concrete_of answer_of (codes "Query") premises.2 1)
+    (hero_at 2 first_set) (hero_at 19 second_set) (inl refl) (inr (inl refl)) refl).0 (answered (node droid))
+
+below_by_hand : droid_for (chain (hero_at 2 first_set).below (hero_at 19 second_set).below) ≡ object (named_droid (entry (codes "friends") (friends_with (friend_id friend_name)) no_entries))
+unfolding answer outcome
+below_by_hand = refl
 
 -- mutation { add(n: 1) { total } add(n: k) { count } }
 abbrev adding : ℕ → Operation

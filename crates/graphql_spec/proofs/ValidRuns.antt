@@ -1,5 +1,5 @@
 -- A request that runs is of a valid document.
-use Rattle.std.specs.Prelude.{true, List, [], ◌∷◌, ◌≡◌, ◌⊎◌, cond, Option, Some, None, IsTrue}
+use Rattle.std.specs.Prelude.{ℕ, zero, suc, true, List, [], ◌∷◌, ◌≡◌, ◌⊎◌, cond, Option, Some, None, IsTrue}
 use Rattle.std.specs.Option.{is_some}
 use Rattle.std.proofs.lemmas.Bool.{cases_Bool, and_parts, and_from, or_left}
 use Rattle.std.proofs.Common.{refl, sym, ap, ◌∙◌, inl, inr, subst}
@@ -12,14 +12,15 @@ use Rattle.graphql_spec.specs.Schema.{Schema}
 use Rattle.graphql_spec.specs.Fields.{entry_named, type_named, is_object, is_possible}
 use Rattle.graphql_spec.specs.Executable.{entries_are_named, mutation_is_apart, roots_are_objects, is_executable}
 use Rattle.graphql_spec.specs.Placed.{root_type}
-use Rattle.graphql_spec.proofs.Lists.{same_refl}
+use Rattle.graphql_spec.proofs.Lists.{same_refl, occurrences-chain}
 use Rattle.std.specs.Str.{bytes_eq}
-use Rattle.graphql_spec.specs.Resolvers.{world_of}
+use Rattle.graphql_spec.specs.Resolvers.{World, world_of}
 use Rattle.graphql_spec.specs.Execution.{value_of}
 use Rattle.graphql_spec.specs.Rules.{RuleError, rule_errors}
 use Rattle.graphql_spec.specs.Requests.{Choice, chosen, many, unknown, is_named, choose_named, choose_only, choose, coerced_variables, variable_errors, first_not_constant, Outcome, refused, runs, of_kind, if_constant, if_valid, of_operation, of_choice, of_document_by, of_document, selected}
-use Rattle.graphql_spec.specs.Laws.{In, Merges}
-use Rattle.graphql_spec.specs.ValidityLaws.{IsValidDocument, RootsAreObjects, RunsAreValid, RunsAgree, RunsJoin}
+use Rattle.graphql_spec.specs.Selections.{Occurrence, chain, occurrences}
+use Rattle.graphql_spec.specs.Laws.{In, Agree, Merges}
+use Rattle.graphql_spec.specs.ValidityLaws.{IsValidDocument, RootsAreObjects, RunsAreValid, RunsAgree, RunsJoin, JoinBelow, RunsJoinBelow}
 use Rattle.graphql_spec.proofs.Whole.{values_join}
 use Rattle.graphql_spec.proofs.KnownSpreads.{there}
 use Rattle.graphql_spec.proofs.KeptTypes.{object_type_named}
@@ -162,3 +163,21 @@ runs_join s disabled n given text d o vars e executable concrete answer root r o
     let m : Merges (world_of s vars concrete answer) root (selected d o vars) = valid_operations_merge s executable disabled d v.1 vars concrete answer (passes vars) o v.2 root r in
     ap (value_of (world_of s vars concrete answer) (named q root) reply) split
     ∙ values_join (world_of s vars concrete answer) (named q root) reply one other (subst (Merges (world_of s vars concrete answer) root) split m)
+
+-- ## Below the root
+
+-- what agrees to every depth joins to every depth
+agreeing-join : {N : Type 0} (W : World N) (d : ℕ) (T : Name) (os : List Occurrence) → ((n : ℕ) → Agree W n T os) → JoinBelow W d T os
+agreeing-join W zero T os a = tt
+agreeing-join W (suc d) T os a = λ x y i j k.
+    let both : Merges W (innermost (W.field_type T x.head.name.item)) (chain x.below y.below) =
+    λ n U p. subst (Agree W n U) (sym (occurrences-chain W.possible U x.below y.below)) ((a (suc n) x y i j k).2 U p) in (
+      λ r. values_join W (W.field_type T x.head.name.item) r x.below y.below both,
+      λ U p. agreeing-join W d U (occurrences W.possible U (chain x.below y.below)) (λ n. both n U p),
+    )
+
+pub runs_join_below : {N : Type 0} → RunsJoinBelow N
+unfolding world_of
+runs_join_below s disabled n given text d o vars e executable concrete answer root r depth =
+    agreeing-join (world_of s vars concrete answer) depth root (occurrences (is_possible s) root (selected d o vars))
+    (λ n'. (runs_agree s disabled n given text d o vars e executable concrete answer root r n').0)

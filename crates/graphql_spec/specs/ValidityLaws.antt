@@ -5,7 +5,7 @@ use Rattle.graphql_spec.specs.Shown.{Name}
 use Rattle.graphql_spec.specs.Types.{named, innermost}
 use Rattle.graphql_spec.specs.Inputs.{Variables}
 use Rattle.graphql_spec.specs.Constants.{Members}
-use Rattle.graphql_spec.specs.Documents.{Directive, Selections, end, field, spread, inline, OperationType, Operation, Definition, operation, fragment, Document, fragments, name_or}
+use Rattle.graphql_spec.specs.Documents.{Directive, Selections, end, field, spread, inline, OperationType, Operation, Definition, operation, fragment, Document, fragments, name_or, response_key}
 use Rattle.graphql_spec.specs.Fragments.{fragment_of, plain, filled, expand, spreads, HasNoCycle}
 use Rattle.graphql_spec.specs.Schema.{Schema}
 use Rattle.graphql_spec.specs.Fields.{field_of, declared_type, is_possible}
@@ -13,7 +13,7 @@ use Rattle.graphql_spec.specs.Executable.{is_executable}
 use Rattle.graphql_spec.specs.Written.{selections_of}
 use Rattle.graphql_spec.specs.Placed.{root_type}
 use Rattle.graphql_spec.specs.Selections.{Forest, chain, Occurrence, occurrences}
-use Rattle.graphql_spec.specs.Resolvers.{Reply, world_of}
+use Rattle.graphql_spec.specs.Resolvers.{Reply, World, world_of}
 use Rattle.graphql_spec.specs.Values.{join}
 use Rattle.graphql_spec.specs.Execution.{value_of}
 use Rattle.graphql_spec.specs.Laws.{In, Agree, Merges}
@@ -108,6 +108,18 @@ ValidFieldsAreDeclared = (s : Schema) → IsTrue (is_executable s) → (disabled
     (passes : Directive → Bool) (x : Definition) → In x d → (set : PlacedSet) → In set (sets_in s x) → (T : Name) → IsTrue (is_possible s T set.parent) → (n : ℕ) →
     AreDeclared s n T (occurrences (is_possible s) T (expand passes (fragments d) set.selections))
 
+-- ## Joining
+
+-- to the depth d, of each two occurrences of one response key for the object type T: whatever is answered, the value for what
+-- both select is that of the one joined with that of the other; and so is what they select for each object type that is
+-- possible there
+abbrev pub JoinBelow : {N : Type 0} → World N → ℕ → Name → List Occurrence → Type 0
+JoinBelow W zero T os = Unit {0}
+JoinBelow {N} W (suc d) T os = (x y : Occurrence) → In x os → In y os → response_key x.head ≡ response_key y.head →
+    ((r : Reply N) → value_of W (W.field_type T x.head.name.item) r (chain x.below y.below)
+    ≡ join (value_of W (W.field_type T x.head.name.item) r x.below) (value_of W (W.field_type T x.head.name.item) r y.below))
+    × ((U : Name) → IsTrue (W.possible U (innermost (W.field_type T x.head.name.item))) → JoinBelow W d U (occurrences W.possible U (chain x.below y.below)))
+
 -- ## Requests
 
 -- in a schema that can be executed a root type is an object type (3.3.1)
@@ -135,6 +147,12 @@ module _ (s : Schema) (disabled : Bool) (n : Option Name) (given : Variables) (t
       value_of (world_of s vars concrete answer) (named q root) r (selected d o vars)
       ≡ join (value_of (world_of s vars concrete answer) (named q root) r one) (value_of (world_of s vars concrete answer) (named q root) r other)
 
+  -- and so it is at every depth
+  abbrev pub RunJoinsBelow : Type 0 → Type 0
+  RunJoinsBelow N = of_document s disabled n given text ≡ runs d o vars → IsTrue (is_executable s) →
+      (concrete : N → Name) (answer : N → Name → Members → Reply N) (root : Name) → root_type s o.kind ≡ Some root → (depth : ℕ) →
+      JoinBelow (world_of s vars concrete answer) depth root (occurrences (is_possible s) root (selected d o vars))
+
 -- each request that runs does
 abbrev pub RunsAreValid : Type 0
 RunsAreValid = (s : Schema) (disabled : Bool) (n : Option Name) (given : Variables) (text : Option Document) (d : Document) (o : Operation) (vars : Variables) → RunIsValid s disabled n given text d o vars
@@ -144,3 +162,6 @@ RunsAgree N = (s : Schema) (disabled : Bool) (n : Option Name) (given : Variable
 
 abbrev pub RunsJoin : Type 0 → Type 0
 RunsJoin N = (s : Schema) (disabled : Bool) (n : Option Name) (given : Variables) (text : Option Document) (d : Document) (o : Operation) (vars : Variables) → RunJoins s disabled n given text d o vars N
+
+abbrev pub RunsJoinBelow : Type 0 → Type 0
+RunsJoinBelow N = (s : Schema) (disabled : Bool) (n : Option Name) (given : Variables) (text : Option Document) (d : Document) (o : Operation) (vars : Variables) → RunJoinsBelow s disabled n given text d o vars N

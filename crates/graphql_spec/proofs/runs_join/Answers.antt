@@ -1,5 +1,5 @@
 use Rattle.graphql_spec.proofs.runs_join.Goals as goal
-use Rattle.graphql_spec.proofs.ValidRuns.{roots_are_possible, runs_are_valid, runs_agree, runs_join}
+use Rattle.graphql_spec.proofs.ValidRuns.{roots_are_possible, runs_are_valid, runs_agree, runs_join, runs_join_below}
 
 pub returns-clause-roots : goal.returns-clause-roots
 returns-clause-roots g c = roots_are_possible
@@ -12,3 +12,6 @@ returns-clause-fields g c = runs_agree
 
 pub returns-clause-joins : goal.returns-clause-joins
 returns-clause-joins g c = runs_join
+
+pub returns-clause-below : goal.returns-clause-below
+returns-clause-below g c = runs_join_below
