@@ -55,7 +55,7 @@ object_entry : (s : Schema) (n : Name) → is_object (entry_named s n) ≡ true 
 unfolding entry_named shape_of is_object
 object_entry s n e = elim (options (entry_in s.entries n)) [ inl q ↦ absurd (both_ways false refl (rw q at e)) | inr (x, q) ↦ (x, q) ]
 
-object_type_named : (s : Schema) (n : Name) → is_object (entry_named s n) ≡ true → is_object (type_named s n) ≡ true
+pub object_type_named : (s : Schema) (n : Name) → is_object (entry_named s n) ≡ true → is_object (type_named s n) ≡ true
 unfolding type_named entry_named shape_of or_else is_object
 object_type_named s n e = elim (options (entry_in s.entries n)) [ inl q ↦ absurd (both_ways false refl (rw q at e)) | inr (x, q) ↦ rw q (rw q at e) ]
 

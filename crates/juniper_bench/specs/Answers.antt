@@ -1,9 +1,11 @@
 -- What the program answers.
-use Rattle.std.specs.Prelude.{◌≡◌, ◌≢◌, ◌⊎◌, MatchOption, ◌+◌, ℕ, length, ◌++◌, codes, decimal, string_bytes}
+use Rattle.std.specs.Prelude.{◌≡◌, ◌≢◌, ◌⊎◌, Bool, MatchOption, ◌+◌, ℕ, cond, length, ◌++◌, codes, decimal, string_bytes}
 use Rattle.graphql_spec.specs.Shown.{Text}
 use Rattle.graphql_spec.specs.Documents.{Document}
 use Rattle.graphql_spec.specs.Grammar.{Spells}
 use Rattle.graphql_spec.specs.Positions.{Position}
+use Rattle.graphql_spec.specs.Schema.{Schema}
+use Rattle.graphql_spec.specs.Executable.{is_executable}
 use Rattle.juniper_position.specs.Refusals.{refusal_text, view_refusal}
 use Rattle.juniper_position.specs.declared.error.ParseError.{ParseError}
 use Rattle.juniper_position.specs.declared.error.ParseError.TheVariants.{Memory}
@@ -36,3 +38,15 @@ abbrev pub IsScanOf : Text → Answer → Type 0
 IsScanOf t a = MatchOption (read t)
     ((a.status ≡ 1) × (string_bytes a.line ≡ codes "refused: not JSON"))
     (λ v. (a.status ≡ 0) × (string_bytes a.line ≡ codes "bytes: " ++ decimal (length t)))
+
+-- whether requests can be executed on a schema, in a word
+unfoldable pub executable_word : Bool → Text
+executable_word b = cond b (codes "yes") (codes "no")
+
+-- how it is told whether requests can be executed on a schema that was made of so many types
+abbrev pub schema_line : ℕ → Bool → Text
+schema_line n b = codes "types: " ++ (decimal n ++ (codes ", executable: " ++ executable_word b))
+
+-- the answer for a schema that was made of so many types (3), with status 0
+abbrev pub IsTestOf : ℕ → Answer → Type 0
+IsTestOf n a = (s : Schema) × (a.status ≡ 0) × (string_bytes a.line ≡ schema_line n (is_executable s))

@@ -4,13 +4,17 @@ ghost use Rattle.std.specs.Prelude.{◌≡◌, IfOk, length, string_bytes};
 ghost use Rattle.juniper_syntax.specs.DocumentView.{view_document};
 ghost use Rattle.juniper_position.specs.Positions.{view_position};
 ghost use Rattle.juniper_syntax.specs.Scalars.{default_shown};
-ghost use Rattle.juniper_bench.specs.Answers.{IsAnswerTo, IsScanOf, counts_line, refusal_line};
+ghost use Rattle.juniper_schema.specs.SchemaView.{view_schema};
+ghost use Rattle.graphql_spec.specs.Executable.{is_executable};
+ghost use Rattle.juniper_bench.specs.Answers.{IsAnswerTo, IsScanOf, IsTestOf, counts_line, executable_word, refusal_line, schema_line};
 ghost use Rattle.juniper_bench.specs.Counts.{capped, fields_of};
 
 use crate::count::count_fields;
+use crate::schema::made_schema;
 use juniper_language::{
     DefaultScalarValue, Document, ParseError, Span, Spanning, parse_document_source,
 };
+use juniper_schema::{SchemaType, schema_is_executable};
 use serde_json::Value;
 use std::alloc::{AllocError, Global};
 
@@ -96,6 +100,45 @@ pub fn scan_answer(alloc: Global, text: &str, times: usize) -> Result<Answer, Al
     }
 }
 
+/// Makes a schema of so many types beside the few that each has, tests it so many times, and answers whether requests can be
+/// executed on it. An error where memory is refused.
+pub fn schema_answer(alloc: Global, types: usize, times: usize) -> Result<Answer, AllocError>
+    ensures { IfOk result (IsTestOf types) }
+{
+    let schema = made_schema(alloc, types)?;
+    for _turn in 1..times {
+        let _tested = schema_is_executable(&schema);
+    }
+    tested(alloc, &schema, types)
+}
+
+/// Whether requests can be executed on a schema that was made of so many types.
+fn tested(
+    alloc: Global,
+    schema: &SchemaType<DefaultScalarValue>,
+    types: usize,
+) -> Result<Answer, AllocError>
+    ensures status { IfOk result (λ a. a.status ≡ 0) }
+    ensures line { IfOk result (λ a. string_bytes a.line ≡ schema_line types (is_executable (view_schema default_shown schema.now))) }
+{
+    let executable = is_told(schema);
+    Ok(Answer {
+        status: 0,
+        line: format!(in alloc; "types: {types}, executable: {executable}")?,
+    })
+}
+
+/// Whether requests can be executed on a schema, in a word.
+fn is_told(schema: &SchemaType<DefaultScalarValue>) -> &'static str
+    ensures { result.now ≡ executable_word (is_executable (view_schema default_shown schema.now)) }
+{
+    if schema_is_executable(schema) {
+        "yes"
+    } else {
+        "no"
+    }
+}
+
 #[cfg(test)]
 mod tests {
     use super::*;
@@ -161,6 +204,21 @@ mod tests {
     }
 
     #[test]
+    fn what_is_made_can_be_executed(rt: HostRuntime) -> Result<(), Fail> {
+        let alloc = rt.alloc();
+        let rows = [
+            (1, "types: 1, executable: yes"),
+            (12, "types: 12, executable: yes"),
+        ];
+        for (types, line) in &rows {
+            let answer = schema_answer(alloc, *types, 2)?;
+            assert_eq!(rt; answer.line.as_str(), *line);
+            assert_eq!(rt; answer.status, 0);
+        }
+        Ok(())
+    }
+
+    #[test]
     fn other_words_ask_for_nothing(rt: HostRuntime) -> Result<(), Fail> {
         let alloc = rt.alloc();
         let rows = [
@@ -169,6 +227,7 @@ mod tests {
             ("make", "x", "1"),
             ("parse", "file", "0"),
             ("scan", "file", "many"),
+            ("schema", "0", "1"),
             ("print", "file", "1"),
         ];
         for (word, first, second) in &rows {

@@ -24,10 +24,12 @@ pub enum Command<'a> {
     Scan(&'a str, usize),
     /// To make a text.
     Make(Size),
+    /// To make a schema of so many types, and to test so many times whether requests can be executed on it.
+    Schema(usize, usize),
 }
 
-/// What the words ask for; nothing where they are none of `parse FILE TIMES`, `scan FILE TIMES` and `make FIELDS DEPTH`, or
-/// a number is not in its bounds.
+/// What the words ask for; nothing where they are none of `parse FILE TIMES`, `scan FILE TIMES`, `make FIELDS DEPTH` and
+/// `schema TYPES TIMES`, or a number is not in its bounds.
 pub fn read_command(words: &[String]) -> Option<Command<'_>> {
     let [word, first, second] = words else {
         return None;
@@ -40,6 +42,7 @@ pub fn read_command(words: &[String]) -> Option<Command<'_>> {
             let size = bounded_size(number(first.as_str())?, last)?;
             Some(Command::Make(size))
         }
+        "schema" => Some(Command::Schema(number(first.as_str())?, last)),
         _ => None,
     }
 }

@@ -1,6 +1,7 @@
-//! Measures the parser: `juniper_bench parse FILE TIMES` parses a file so many times and prints what its document counts,
-//! `juniper_bench scan FILE TIMES` reads a file of JSON so many times, and `juniper_bench make FIELDS DEPTH` prints a text to
-//! be parsed. The program takes no time itself: the one who runs it does.
+//! Measures the parser and the test of schemas: `juniper_bench parse FILE TIMES` parses a file so many times and prints what
+//! its document counts, `juniper_bench scan FILE TIMES` reads a file of JSON so many times, `juniper_bench make FIELDS DEPTH`
+//! prints a text to be parsed, and `juniper_bench schema TYPES TIMES` makes a schema of so many types, and tests so many times
+//! whether requests can be executed on it. The program takes no time itself: the one who runs it does.
 #![tactic(auto)]
 
 ghost use Rattle.std.specs.Prelude.{◌≡◌, ◌++◌, IfOk, codes, string_bytes};
@@ -9,8 +10,9 @@ mod answers;
 mod command;
 mod count;
 mod make;
+mod schema;
 
-use answers::{Answer, parse_answer, scan_answer};
+use answers::{Answer, parse_answer, scan_answer, schema_answer};
 use command::{Command, read_command};
 use make::made_text;
 use std::alloc::{AllocError, Global};
@@ -26,7 +28,7 @@ fn answer<R: Files + AllocGlobal>(rt: &R, words: &[String]) -> Result<Answer, Al
             status: 2,
             line: String::from_str(
                 alloc,
-                "usage: juniper_bench parse FILE TIMES | scan FILE TIMES | make FIELDS DEPTH",
+                "usage: juniper_bench parse FILE TIMES | scan FILE TIMES | make FIELDS DEPTH | schema TYPES TIMES",
             )?,
         }),
         Some(Command::Parse(file, times)) => match fs::read_to_string(rt, file) {
@@ -41,6 +43,7 @@ fn answer<R: Files + AllocGlobal>(rt: &R, words: &[String]) -> Result<Answer, Al
             status: 0,
             line: made_text(alloc, size)?,
         }),
+        Some(Command::Schema(types, times)) => schema_answer(alloc, types, times),
     }
 }
 
