@@ -1,2 +1,3 @@
 mod NamesBefore
+mod Counted
 mod Known

@@ -1,7 +1,9 @@
 //! What the rules on names find, worked out by hand.
 
-use juniper_language::{DefaultScalarValue, Definition, parse_document_source};
-use juniper_name_rules::{Earlier, has_unknown_directive, repeats_argument, repeats_variable};
+use juniper_language::{DefaultScalarValue, Definition, Document, parse_document_source};
+use juniper_name_rules::{
+    Earlier, has_unknown_directive, is_not_alone, repeats_argument, repeats_variable,
+};
 use juniper_written::{argument_lists, written_in};
 use std::alloc::{AllocError, Global};
 use std::test::Fail;
@@ -10,7 +12,7 @@ const ROWS: &str = "\
 { a(x: 1, y: 1) b(x: 1) } => ;
 { a(x: 1, y: 2, x: 3) } => argument;
 { a @skip(if: true, if: true) } => argument;
-{ a { b(x: 1, x: 1) } } { c } => argument;;
+{ a { b(x: 1, x: 1) } } { c } => aloneargument;alone;
 { a @what } => directive;
 query @specifiedBy(url: 1) @include(if: true) { a @deprecated ...F @skip(if: true) } => ;
 query Q($n: Int @Skip) { a } => directive;
@@ -18,7 +20,8 @@ query Q($n: Int, $n: Int) { a } => variable;
 query Q($n: Int, $m: Int, $N: Int) { a(x: $n) b(x: $n) } => ;
 query Q($n: Int, $m: Int, $n: Int) { a(x: 1, x: 1) @d } fragment F on T @d { a } => variableargumentdirective;directive;
 query A { a } query B { a } query A { a } mutation B { a } => ;;operation;operation;
-{ a } { a } => ;;
+{ a } { a } => alone;alone;
+query A { a } { b } fragment F on T { c } => ;alone;;
 fragment F on T { a } query F { a } fragment G on T { a } fragment F on T { b } => ;;;fragment;";
 
 /// The first row, `TEXT => FOUND`, in whose text something else is found.
@@ -41,19 +44,20 @@ fn is_found(alloc: Global, row: &str) -> Result<bool, AllocError> {
 /// What is found in the definitions of a text, each with a `;` at its end.
 fn found(alloc: Global, text: &str) -> Result<String, AllocError> {
     match parse_document_source::<DefaultScalarValue>(alloc, text) {
-        Ok(document) => found_in(alloc, document.as_slice()),
+        Ok(document) => found_in(alloc, &document),
         Err(error) => error.item.to_string(alloc),
     }
 }
 
 fn found_in(
     alloc: Global,
-    definitions: &[Definition<'_, DefaultScalarValue>],
+    document: &Document<'_, DefaultScalarValue>,
 ) -> Result<String, AllocError> {
     let mut line = String::new(alloc);
     let mut earlier = Earlier::new(alloc);
-    for definition in definitions {
+    for definition in document {
         find_names(&earlier, definition, &mut line)?;
+        tell(is_not_alone(document, definition), "alone", &mut line)?;
         find(alloc, definition, &mut line)?;
         earlier.add(definition)?;
     }
