@@ -4,3 +4,4 @@ pub mod BuiltIns
 pub mod ServedFields
 pub mod Executables
 pub mod TypeLevels
+pub mod Sorting
