@@ -5,3 +5,4 @@ pub mod ServedFields
 pub mod Executables
 pub mod TypeLevels
 pub mod Sorting
+pub mod Pushing

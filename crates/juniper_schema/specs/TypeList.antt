@@ -8,9 +8,13 @@ use Rattle.graphql_spec.specs.Shown.{Name}
 use Rattle.graphql_spec.specs.BuiltIns.{introspection_types}
 use Rattle.graphql_spec.specs.Schema.{Entry, Schema}
 
--- neither of the names that stand for no mutation and no subscription
-abbrev pub is_listed : Entry → Bool
-is_listed e = not (bytes_eq e.key (codes "_EmptyMutation") || bytes_eq e.key (codes "_EmptySubscription"))
+-- neither of the names of what stands for no mutation and no subscription
+abbrev pub is_listed : Name → Bool
+is_listed n = not (bytes_eq n (codes "_EmptyMutation") || bytes_eq n (codes "_EmptySubscription"))
+
+-- an entry at a name that is listed
+abbrev pub has_listed_name : Entry → Bool
+has_listed_name e = is_listed e.key
 
 -- the key of the first is before that of the second, byte by byte
 abbrev pub comes_before : Entry → Entry → Bool
@@ -28,4 +32,4 @@ in_order before (x ∷ xs) = placed before x (in_order before xs)
 
 -- the types that a schema lists: its entries and the types of introspection, in order
 unfoldable pub type_list : Schema → List Entry
-type_list s = in_order comes_before (filter is_listed (s.entries ++ introspection_types))
+type_list s = in_order comes_before (filter has_listed_name (s.entries ++ introspection_types))

@@ -1,6 +1,8 @@
 //! What a schema lists of itself (section 4.2.1 of the Specification): its types and its directives.
 
+ghost use Rattle.std.specs.Cmp.Lexicographic.{slice_cmp};
 ghost use Rattle.std.specs.List.{filter};
+ghost use Rattle.std.specs.Ordering.{nat_cmp};
 ghost use Rattle.std.specs.Prelude.{◌≡◌, ◌++◌, [], ◌∷◌, IfOk, OnOk, map};
 ghost use Rattle.graphql_spec.specs.BuiltIns as built;
 ghost use Rattle.graphql_spec.specs.BuiltIns.{introspection_types};
@@ -8,19 +10,29 @@ ghost use Rattle.juniper_meta.specs.MetaView.{entry_at, view_directive, view_met
 ghost use Rattle.juniper_schema.specs.ListedTypes.{view_named};
 ghost use Rattle.juniper_schema.specs.MadeTypes.{concrete, view_made};
 ghost use Rattle.juniper_schema.specs.SchemaView.{meta_of, view_schema};
-ghost use Rattle.juniper_schema.specs.TypeList.{comes_before, in_order, is_listed, type_list};
+ghost use Rattle.juniper_schema.specs.TypeList.{comes_before, has_listed_name, in_order, is_listed, type_list};
 
 use crate::schema::SchemaType;
 use crate::type_type::TypeType;
 use juniper_meta::{DirectiveType, MetaType};
 use juniper_syntax::ScalarValue;
 use std::alloc::{AllocError, Global};
+use std::cmp::Ordering;
 
 /// A declaration, and the name that it stands at.
 #[derive(Drop)]
 struct NamedType<'a, S> {
     name: &'a str,
     meta: &'a MetaType<S>,
+}
+
+impl<'a, S: ScalarValue> NamedType<'a, S> {
+    /// The order of the names, by their bytes.
+    fn compare(&self, other: &Self) -> Ordering
+        ensures { result ≡ slice_cmp nat_cmp self.now.name.now other.now.name.now }
+    {
+        self.name.cmp(other.name)
+    }
 }
 
 impl<S: ScalarValue> SchemaType<S> {
@@ -49,7 +61,7 @@ impl<S: ScalarValue> SchemaType<S> {
 
     /// The entries and the types of introspection that are listed, in no order.
     fn listed_types(&self, alloc: Global) -> Result<Vec<NamedType<'_, S>>, AllocError>
-        ensures { IfOk result (λ made. map (view_named S.shown) made.items ≡ filter is_listed ((view_schema S.shown self.now).entries ++ introspection_types)) }
+        ensures { IfOk result (λ made. map (view_named S.shown) made.items ≡ filter has_listed_name ((view_schema S.shown self.now).entries ++ introspection_types)) }
     {
         let mut types = Vec::new(alloc);
         for (name, meta) in &self.types {
@@ -68,19 +80,26 @@ fn push_listed<'a, S: ScalarValue>(
     name: &'a str,
     meta: &'a MetaType<S>,
 ) -> Result<(), AllocError>
-    ensures { OnOk result (map (view_named S.shown) types.new.items ≡ map (view_named S.shown) types.old.items ++ filter is_listed (entry_at name.now (view_meta S.shown meta.now) ∷ [])) }
+    ensures { OnOk result (map (view_named S.shown) types.new.items ≡ map (view_named S.shown) types.old.items ++ filter has_listed_name (entry_at name.now (view_meta S.shown meta.now) ∷ [])) }
 {
-    if !(name == "_EmptyMutation" || name == "_EmptySubscription") {
+    if is_listed(name) {
         types.push(NamedType { name, meta })?;
     }
     Ok(())
+}
+
+/// Whether a type of this name is listed: the names of what stands for no mutation and no subscription are not.
+fn is_listed(name: &str) -> bool
+    ensures { result ≡ is_listed name.now }
+{
+    !(name == "_EmptyMutation" || name == "_EmptySubscription")
 }
 
 /// Sorts the declarations by the bytes of their names.
 fn sort_types<S: ScalarValue>(types: &mut Vec<NamedType<'_, S>>) -> Result<(), AllocError>
     ensures { OnOk result (map (view_named S.shown) types.new.items ≡ in_order comes_before (map (view_named S.shown) types.old.items)) }
 {
-    types.sort_by(|a, b| a.name.cmp(b.name))
+    types.sort_by(|a, b| a.compare(b))
 }
 
 /// The declarations as types, nullable, in the same order.
