@@ -1,5 +1,5 @@
 -- A stable sort gives the list in order.
-use Rattle.std.proofs.Common.{◌≡◌, ℕ, suc, ◌+◌, ◌≤◌, ◌<◌, ◌⊎◌, inl, inr, Bool, true, false, not, ◌&&◌, cond, List, [], ◌∷◌, map, length, get_or, refl, ap, ap₂, ◌∙◌, sym, arith}
+use Rattle.std.proofs.Common.{◌≡◌, ℕ, suc, ◌≤◌, ◌<◌, inl, inr, Bool, true, false, cond, List, [], ◌∷◌, map, length, get_or, refl, ap, ap₂, ◌∙◌, sym, arith}
 use Rattle.std.specs.List.{filter}
 use Rattle.std.specs.Cmp.{IsStrictWeakOrder, IsTotalOrder, nat_cmp_total}
 use Rattle.std.specs.Cmp.Lexicographic.{slice_cmp, lists_total}
@@ -108,10 +108,10 @@ module _ {X : Type 0} (lt : X → X → Bool) where
     alike : (y z : X) (ys zs : List X) → Ascends (y ∷ ys) → Ascends (z ∷ zs) → ((x : X) → filter (ties lt x) (y ∷ ys) ≡ filter (ties lt x) (z ∷ zs)) → y ≡ z
     alike y z ys zs a b h =
         elim (cases_Bool (lt y z)) [
-          inl e ↦ absurd (not_empty y ys (z ∷ zs) (h y) (all_greater y z zs e b.0))
-        | inr p ↦ elim (cases_Bool (lt z y)) [
-            inl e ↦ absurd (not_empty z zs (y ∷ ys) (sym (h z)) (all_greater z y ys e a.0))
-          | inr q ↦ same_first y z ys zs p q (h y)
+          | inl e ↦ absurd (not_empty y ys (z ∷ zs) (h y) (all_greater y z zs e b.0))
+          | inr p ↦ elim (cases_Bool (lt z y)) [
+            | inl e ↦ absurd (not_empty z zs (y ∷ ys) (sym (h z)) (all_greater z y ys e a.0))
+            | inr q ↦ same_first y z ys zs p q (h y)
           ]
         ]
 
@@ -139,8 +139,8 @@ module _ {X : Type 0} (lt : X → X → Bool) where
     ascends_placed x [] a = (tt, tt)
     ascends_placed x (y ∷ ys) a =
         elim (cases_Bool (lt y x)) [
-          inl e ↦ rw e (none_less_placed y x ys (o.one_way y x e) a.0, ascends_placed x ys a.1)
-        | inr e ↦ rw e ((e, none_less_all x y ys e a.0), a)
+          | inl e ↦ rw e (none_less_placed y x ys (o.one_way y x e) a.0, ascends_placed x ys a.1)
+          | inr e ↦ rw e ((e, none_less_all x y ys e a.0), a)
         ]
 
     kept_placed : (z x : X) (ys : List X) → filter (ties lt z) (placed lt x ys) ≡ filter (ties lt z) (x ∷ ys)
@@ -148,8 +148,8 @@ module _ {X : Type 0} (lt : X → X → Bool) where
     kept_placed z x [] = refl
     kept_placed z x (y ∷ ys) =
         elim (cases_Bool (lt y x)) [
-          inl e ↦ rw e (rw (kept_placed z x ys) (swapped x y (ties lt z x) (ties lt z y) (filter (ties lt z) ys) (no_third x y z e)))
-        | inr e ↦ rw e refl
+          | inl e ↦ rw e (rw (kept_placed z x ys) (swapped x y (ties lt z x) (ties lt z y) (filter (ties lt z) ys) (no_third x y z e)))
+          | inr e ↦ rw e refl
         ]
 
     ascends_in_order : (xs : List X) → Ascends (in_order lt xs)

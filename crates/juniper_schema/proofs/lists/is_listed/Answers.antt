@@ -6,6 +6,6 @@ pub returns : goal.returns
 returns c =
     let other = bytes_eq c.args.name.now (codes "_EmptySubscription") in
     ap not (elim c.if-eq.branch [
-      then-eq w ↦ w.result-is ∙ (w.if-eq.true ∙ sym (ap (λ b. b || other) (sym c.eq.ensures ∙ w.if-eq.true)))
-    | else-eq w ↦ w.result-is ∙ (w.eq-else-eq.ensures ∙ sym (ap (λ b. b || other) (sym c.eq.ensures ∙ w.if-eq.false)))
+      | then-eq w ↦ w.result-is ∙ (w.if-eq.true ∙ sym (ap (λ b. b || other) (sym c.eq.ensures ∙ w.if-eq.true)))
+      | else-eq w ↦ w.result-is ∙ (w.eq-else-eq.ensures ∙ sym (ap (λ b. b || other) (sym c.eq.ensures ∙ w.if-eq.false)))
     ])
