@@ -7,7 +7,7 @@ use Rattle.std.specs.Ordering.{nat_cmp}
 use Rattle.std.specs.List.Sorted.{IsSortedBy, IsStableBy, ties}
 use Rattle.std.proofs.lemmas.Bool.{cases_Bool}
 use Rattle.std.proofs.lemmas.List.Sorted.{sorted_far}
-use Rattle.juniper_schema.specs.TypeList.{placed, in_order}
+use Rattle.juniper_schema.specs.TypeList.{put_in_order, in_order}
 
 module _ {X : Type 0} where
   head_or : X → List X → X
@@ -125,8 +125,8 @@ module _ {X : Type 0} (lt : X → X → Bool) where
 
     -- ## The list in order
 
-    none_less_placed : (z x : X) (ys : List X) → lt x z ≡ false → NoneLess z ys → NoneLess z (placed lt x ys)
-    unfolding placed
+    none_less_placed : (z x : X) (ys : List X) → lt x z ≡ false → NoneLess z ys → NoneLess z (put_in_order lt x ys)
+    unfolding put_in_order
     none_less_placed z x [] p n = (p, tt)
     none_less_placed z x (y ∷ ys) p n = elim (cases_Bool (lt y x)) [ inl e ↦ rw e (n.0, none_less_placed z x ys p n.1) | inr e ↦ rw e (p, n) ]
 
@@ -134,8 +134,8 @@ module _ {X : Type 0} (lt : X → X → Bool) where
     none_less_all x y [] p n = tt
     none_less_all x y (w ∷ ys) p n = (o.chain w y x n.0 p, none_less_all x y ys p n.1)
 
-    ascends_placed : (x : X) (ys : List X) → Ascends ys → Ascends (placed lt x ys)
-    unfolding placed
+    ascends_placed : (x : X) (ys : List X) → Ascends ys → Ascends (put_in_order lt x ys)
+    unfolding put_in_order
     ascends_placed x [] a = (tt, tt)
     ascends_placed x (y ∷ ys) a =
         elim (cases_Bool (lt y x)) [
@@ -143,8 +143,8 @@ module _ {X : Type 0} (lt : X → X → Bool) where
           | inr e ↦ rw e ((e, none_less_all x y ys e a.0), a)
         ]
 
-    kept_placed : (z x : X) (ys : List X) → filter (ties lt z) (placed lt x ys) ≡ filter (ties lt z) (x ∷ ys)
-    unfolding placed
+    kept_placed : (z x : X) (ys : List X) → filter (ties lt z) (put_in_order lt x ys) ≡ filter (ties lt z) (x ∷ ys)
+    unfolding put_in_order
     kept_placed z x [] = refl
     kept_placed z x (y ∷ ys) =
         elim (cases_Bool (lt y x)) [
@@ -172,15 +172,15 @@ placed_step : {X Y : Type 0} (view : X → Y) (b : Bool) (x y : X) (xs ys : List
 placed_step view true x y xs ys zs e = ap (λ l. view y ∷ l) e
 placed_step view false x y xs ys zs e = refl
 
-view_placed : {X Y : Type 0} (view : X → Y) (lt : Y → Y → Bool) (x : X) (ys : List X) → map view (placed (λ a b. lt (view a) (view b)) x ys) ≡ placed lt (view x) (map view ys)
-unfolding placed
+view_placed : {X Y : Type 0} (view : X → Y) (lt : Y → Y → Bool) (x : X) (ys : List X) → map view (put_in_order (λ a b. lt (view a) (view b)) x ys) ≡ put_in_order lt (view x) (map view ys)
+unfolding put_in_order
 view_placed view lt x [] = refl
-view_placed view lt x (y ∷ ys) = placed_step view (lt (view y) (view x)) x y (placed (λ a b. lt (view a) (view b)) x ys) ys (placed lt (view x) (map view ys)) (view_placed view lt x ys)
+view_placed view lt x (y ∷ ys) = placed_step view (lt (view y) (view x)) x y (put_in_order (λ a b. lt (view a) (view b)) x ys) ys (put_in_order lt (view x) (map view ys)) (view_placed view lt x ys)
 
 view_in_order : {X Y : Type 0} (view : X → Y) (lt : Y → Y → Bool) (xs : List X) → map view (in_order (λ a b. lt (view a) (view b)) xs) ≡ in_order lt (map view xs)
 unfolding in_order
 view_in_order view lt [] = refl
-view_in_order view lt (x ∷ xs) = view_placed view lt x (in_order (λ a b. lt (view a) (view b)) xs) ∙ ap (placed lt (view x)) (view_in_order view lt xs)
+view_in_order view lt (x ∷ xs) = view_placed view lt x (in_order (λ a b. lt (view a) (view b)) xs) ∙ ap (put_in_order lt (view x)) (view_in_order view lt xs)
 
 -- what a stable sort by an order of what is seen leaves
 pub seen_in_order : {X Y : Type 0} (view : X → Y) (lt : Y → Y → Bool) → IsStrictWeakOrder (λ a b. lt (view a) (view b)) → (xs ys : List X) →
