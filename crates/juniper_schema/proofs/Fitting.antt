@@ -95,6 +95,11 @@ pub list_met : (s : Schema) (given : Bool) (is : InputItems) (r : Bool) (size : 
 unfolding list_fits
 list_met s given is r size t met m x e = e ∙ ap (λ b. b && all_fit s given is t) m
 
+-- one value at a list type
+pub one_met : (u : TypeRef) (r : Bool) (size : Option ℕ) (t : TypeRef) → u ≡ list_of r size t → (met : Bool) → met ≡ size_met size 1 → (x : Bool) → x ≡ (met && takes_one t) → x ≡ takes_one u
+unfolding takes_one
+one_met u r size t is met m x e = e ∙ (ap (λ b. b && takes_one t) m ∙ sym (ap takes_one is))
+
 -- an object at a type
 pub object_is : (s : Schema) (given : Bool) (fs : InputFields) (x : Option Shape) → object_by s given fs (declared_fields x) ≡ input_object_fits (λ ds. all_written fs ds && fields_fit s given fs ds) x
 unfolding object_by declared_fields input_object_fits

@@ -4,3 +4,5 @@ pub mod BuiltIns
 pub mod ServedFields
 pub mod Executables
 pub mod TypeLevels
+pub mod Sorting
+pub mod Pushing

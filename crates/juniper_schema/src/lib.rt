@@ -4,6 +4,7 @@
 mod built_ins;
 mod executable;
 mod fits;
+mod lists;
 mod names;
 mod schema;
 mod served;

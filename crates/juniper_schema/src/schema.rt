@@ -26,8 +26,8 @@ use std::convert::AsStr;
 #[derive(Debug, Drop)]
 pub struct SchemaType<S: ScalarValue> {
     pub(crate) types: HashMap<String, MetaType<S>>,
-    introspection: Vec<MetaType<S>>,
-    directives: Vec<DirectiveType<S>>,
+    pub(crate) introspection: Vec<MetaType<S>>,
+    pub(crate) directives: Vec<DirectiveType<S>>,
     pub(crate) query_name: String,
     pub(crate) mutation_name: Option<String>,
     ghost introspected: { map (own_entry S.shown) introspection.items ≡ built.introspection_types } by { entries-set _ _ },

@@ -1,5 +1,5 @@
-//! Tests of schemas: which can be executed, which values fit, what look-ups find, and what declarations tell. Schemas are
-//! written as texts.
+//! Tests of schemas: which can be executed, which values fit, what look-ups find, what is listed, and what declarations
+//! tell. Schemas are written as texts.
 #![tactic(auto)]
 
 #[cfg(test)]
@@ -8,6 +8,8 @@ mod clauses;
 mod directives;
 #[cfg(test)]
 mod fitting;
+#[cfg(test)]
+mod lists;
 #[cfg(test)]
 mod lookups;
 #[cfg(test)]

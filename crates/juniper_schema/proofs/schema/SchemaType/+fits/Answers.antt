@@ -1,10 +1,10 @@
-use Rattle.std.proofs.Common.{◌&&◌, true, false, sym, ap, ◌∙◌}
+use Rattle.std.proofs.Common.{not, ◌&&◌, true, false, sym, ap, ◌∙◌}
 use Rattle.graphql_spec.specs.Inputs.{object}
 use Rattle.graphql_spec.specs.Fields.{type_named}
 use Rattle.graphql_spec.specs.Fits.{all_fit, all_written, fields_fit, fits, input_object_fits, size_met}
 use Rattle.juniper_meta.specs.MetaView.{view_type}
 use Rattle.juniper_syntax.specs.InputView.{view_fields, view_input, view_items}
-use Rattle.juniper_syntax.proofs.Inputs.{view-Object}
+use Rattle.juniper_syntax.proofs.Inputs.{view-Null, view-Object}
 use Rattle.juniper_schema.specs.Fitting.{list_fits}
 use Rattle.juniper_schema.specs.SchemaView.{view_schema}
 use Rattle.juniper_schema.proofs.Fitting.{count_is, list_met, object_is, through_no, through_yes}
@@ -57,3 +57,9 @@ list_fits-returns-else-is_met-2 g t c =
     list_met s c.args.given is true c.in-NonNullList.size (view_type c.in-NonNullList.inner.value) c.is_met-in-NonNullList.result (c.is_met-in-NonNullList.ensures ∙ ap (size_met c.in-NonNullList.size) (sym (count_is shown c.args.items.now)))
     c.is_met-in-NonNullList.result (c.if-is_met-2.false ∙ sym (ap (λ b. b && all_fit s c.args.given is (view_type c.in-NonNullList.inner.value)) c.if-is_met-2.false))
     ∙ sym (ap (list_fits s c.args.given is) (ap view_type c.in-NonNullList.is ∙ view-NonNullList c.in-NonNullList.inner c.in-NonNullList.size))
+
+pub fits-returns-in-Null : goal.fits-returns-in-Null
+unfolding fits
+fits-returns-in-Null g t c =
+    let shown = g.S.ScalarValue.shown in
+    ap not c.is_non_null.ensures ∙ sym (ap (λ v. fits (view_schema shown c.args.self.now) c.args.given v (view_type c.args.reference.now)) (ap (view_input shown) c.in-Null.is ∙ view-Null shown))
