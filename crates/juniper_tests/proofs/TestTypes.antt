@@ -2,14 +2,13 @@
 use Rattle.std.proofs.Common.{◌≡◌, [], ◌∷◌, codes, pos, true, refl, ap, ◌∙◌}
 use Rattle.graphql_spec.specs.Shown.{Name, int}
 use Rattle.graphql_spec.specs.Constants.{scalar}
-use Rattle.graphql_spec.specs.Types.{named, nullable, innermost}
+use Rattle.graphql_spec.specs.Types.{named, nullable}
 use Rattle.graphql_spec.specs.Schema.{FieldDeclaration, InputDeclaration, plain_field}
 use Rattle.juniper_meta.specs.MetaView.{with_argument}
 use Rattle.juniper_registry.specs.Entries.{Table, awaiting, awaiting_each}
 use Rattle.juniper_registry.specs.Made.{IsDefaulted}
-use Rattle.juniper_registry.specs.Referred.{fields_refer}
 use Rattle.juniper_registry.proofs.Defaults.{defaulted_scalar}
-use Rattle.juniper_tests.specs.TestRoot.{number_field, test_fields}
+use Rattle.juniper_tests.specs.TestRoot.{number_field}
 
 -- `number` with its argument
 pub number_made : (f r : FieldDeclaration) (a : InputDeclaration) → f ≡ plain_field (codes "number") [] (nullable (named true (codes "Int"))) → IsDefaulted a (codes "plus") (nullable (named true (codes "Int"))) (scalar (int (pos 1))) → r ≡ with_argument f a → r ≡ number_field
