@@ -55,18 +55,13 @@ impl<S: ScalarValue, T, N> GraphQLReference<S> for EmptyMutation<T, N> {
 impl<S: ScalarValue, T, N> GraphQLType<S> for EmptyMutation<T, N> {
     ghost declaration = { λ _. named_meta (codes "_EmptyMutation") (object_type (typename_field ∷ []) []) };
 
-    #[tactic(auto, unfolding(graphql_spec::specs::Fields::typename_field, graphql_spec::specs::Schema::plain_field, graphql_spec::specs::Types::innermost))]
     fn meta(
         alloc: Global,
         info: &Self::TypeInfo,
         registry: &mut Registry<S>,
     ) -> Result<MetaType<S>, AllocError> {
-        let no_fields = Vec::new(alloc);
-        Ok(
-            registry
-                .build_object_type::<Self>(info, no_fields)?
-                .into_meta(),
-        )
+        let object = registry.build_object_type::<EmptyMutation<T, N>>(info, Vec::new(alloc))?;
+        Ok(object.into_meta())
     }
 
     ghost keeps_name = { λ _ _ e. e };
@@ -115,18 +110,13 @@ impl<S: ScalarValue, T> GraphQLReference<S> for EmptySubscription<T> {
 impl<S: ScalarValue, T> GraphQLType<S> for EmptySubscription<T> {
     ghost declaration = { λ _. named_meta (codes "_EmptySubscription") (object_type (typename_field ∷ []) []) };
 
-    #[tactic(auto, unfolding(graphql_spec::specs::Fields::typename_field, graphql_spec::specs::Schema::plain_field, graphql_spec::specs::Types::innermost))]
     fn meta(
         alloc: Global,
         info: &Self::TypeInfo,
         registry: &mut Registry<S>,
     ) -> Result<MetaType<S>, AllocError> {
-        let no_fields = Vec::new(alloc);
-        Ok(
-            registry
-                .build_object_type::<Self>(info, no_fields)?
-                .into_meta(),
-        )
+        let object = registry.build_object_type::<EmptySubscription<T>>(info, Vec::new(alloc))?;
+        Ok(object.into_meta())
     }
 
     ghost keeps_name = { λ _ _ e. e };
