@@ -84,7 +84,11 @@ impl<S: ScalarValue> GraphQLType<S> for Demo {
         fields.push(registry.field::<Option<String>>("nothing", &())?)?;
         fields.push(registry.field::<Option<i32>>("fail", &())?)?;
         fields.push(number_field(alloc, registry)?)?;
-        Ok(registry.build_object_type::<Demo>(info, fields)?.into_meta())
+        Ok(
+            registry
+                .build_object_type::<Demo>(info, fields)?
+                .into_meta(),
+        )
     }
 
     ghost keeps_name = { λ _ _ e. e };

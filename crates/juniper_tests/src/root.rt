@@ -15,8 +15,9 @@ ghost use Rattle.juniper_tests.specs.TestRoot.{number_field, number_reply, query
 
 use juniper::meta::{Field, MetaType};
 use juniper::{
-    Arguments, EmptyMutation, EmptySubscription, Executor, FieldError, GraphQLReference, GraphQLType,
-    GraphQLValue, Registry, ResolveError, Resolved, RootNode, SchemaType, schema_is_executable,
+    Arguments, EmptyMutation, EmptySubscription, Executor, FieldError, GraphQLReference,
+    GraphQLType, GraphQLValue, Registry, ResolveError, Resolved, RootNode, SchemaType,
+    schema_is_executable,
 };
 use juniper_language::{ScalarValue, Type, Value};
 use std::alloc::{AllocError, Global};
