@@ -1,13 +1,13 @@
 -- How the demo's query type is declared, and what its registry holds then.
-use Rattle.std.proofs.Common.{◌≡◌, [], ◌∷◌, None, bytes_eq, codes, pos, true, refl, sym, ap, subst, ◌∙◌, inl, inr}
+use Rattle.std.proofs.Common.{◌≡◌, List, [], ◌∷◌, ◌++◌, map, None, bytes_eq, codes, pos, true, refl, sym, ap, subst, ◌∙◌, inl, inr}
 use Rattle.std.proofs.lemmas.Bool.{cases_Bool}
 use Rattle.graphql_spec.specs.Shown.{Name, int}
 use Rattle.graphql_spec.specs.Constants.{scalar}
 use Rattle.graphql_spec.specs.Types.{named, nullable, innermost}
-use Rattle.graphql_spec.specs.Schema.{FieldDeclaration, InputDeclaration, plain_field}
+use Rattle.graphql_spec.specs.Schema.{FieldDeclaration, InputDeclaration, object_type, plain_field}
 use Rattle.graphql_spec.specs.Fields.{entry_in, or_else, typename_field}
 use Rattle.graphql_spec.proofs.Lists.{same_true}
-use Rattle.juniper_meta.specs.MetaView.{with_argument}
+use Rattle.juniper_meta.specs.MetaView.{Meta, named_meta, with_argument}
 use Rattle.juniper_registry.specs.Entries.{IsRegistered, Table, awaiting, awaiting_each, declaring}
 use Rattle.juniper_registry.specs.Made.{IsDefaulted}
 use Rattle.juniper_registry.specs.Referred.{referred}
@@ -18,6 +18,13 @@ use Rattle.juniper_demo.specs.DemoSchema.{demo_types, number_field, query_meta}
 pub number_made : (f r : FieldDeclaration) (a : InputDeclaration) → f ≡ plain_field (codes "number") [] (nullable (named true (codes "Int"))) → IsDefaulted a (codes "plus") (nullable (named true (codes "Int"))) (scalar (int (pos 1))) → r ≡ with_argument f a → r ≡ number_field
 unfolding plain_field nullable
 number_made f r a e d p = p ∙ (ap (λ (x : InputDeclaration). with_argument f x) (defaulted_scalar a (codes "plus") (nullable (named true (codes "Int"))) (int (pos 1)) d) ∙ rw e refl)
+
+-- the query type, of the fields that are put in one by one
+pub query_made : {F : Type 0} (view : F → FieldDeclaration) (us vs ws xs ys zs : List F) (a b d e f : F) (m o : Meta) → us ≡ [] → vs ≡ us ++ a ∷ [] → ws ≡ vs ++ b ∷ [] → xs ≡ ws ++ d ∷ [] → ys ≡ xs ++ e ∷ [] → zs ≡ ys ++ f ∷ [] →
+    view a ≡ plain_field (codes "id") [] (named true (codes "ID")) → view b ≡ plain_field (codes "name") [] (named true (codes "String")) → view d ≡ plain_field (codes "nothing") [] (nullable (named true (codes "String"))) →
+    view e ≡ plain_field (codes "fail") [] (nullable (named true (codes "Int"))) → view f ≡ number_field → m ≡ o → o ≡ named_meta (codes "Query") (object_type (map view zs ++ typename_field ∷ []) []) → m ≡ query_meta
+unfolding nullable
+query_made view us vs ws xs ys zs a b d e f m o hu hv hw hx hy hz ha hb hd he hf p q = p ∙ (q ∙ rw (hz, hy, hx, hw, hv, hu, ha, hb, hd, he, hf) refl)
 
 -- two names that are awaited in turn
 pub two_awaited : (k l : Name) (old mid new : Table) → ((n : Name) → mid n ≡ awaiting k old n) → ((n : Name) → new n ≡ awaiting l mid n) → (n : Name) → new n ≡ awaiting_each (k ∷ l ∷ []) old n
