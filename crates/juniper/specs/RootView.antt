@@ -2,17 +2,19 @@
 use Rattle.std.specs.declared.cmp.PartialEq.{Ghosts as Equality}
 use Rattle.std.specs.declared.fmt.Debug.{Ghosts as Shows}
 use Rattle.juniper_syntax.specs.declared.scalar.ScalarValue.{Ghosts as Scalars}
-use Rattle.juniper_types.specs.declared.resolver.GraphQLType.{Ghosts as Types}
+use Rattle.juniper_registry.specs.declared.graphql_type.GraphQLReference.{Ghosts as References}
+use Rattle.juniper_registry.specs.declared.graphql_type.GraphQLType.{Ghosts as Types}
 use Rattle.juniper.specs.declared.root.RootNode.{RootNode}
 use Rattle.juniper_schema.specs.declared.schema.SchemaType.{SchemaType}
 
-module _ {Q M Sub S I J K : Type 0} {query : Types Q S I} {mutation : Types M S J} {subscription : Types Sub S K} {scalar : Scalars S} {equality : Equality S} {shows : Shows S} where
+module _ {Q M Sub S I J K : Type 0} {query : Types Q S I} {query_ref : References Q S I} {mutation : Types M S J} {mutation_ref : References M S J} {subscription : Types Sub S K} {subscription_ref : References Sub S K}
+    {scalar : Scalars S} {equality : Equality S} {shows : Shows S} where
   -- the schema, the query's resolver, and what it is told about its type
-  abbrev pub schema_of : RootNode Q M Sub S I J K query mutation subscription scalar equality shows → SchemaType S scalar equality shows
+  abbrev pub schema_of : RootNode Q M Sub S I J K query query_ref mutation mutation_ref subscription subscription_ref scalar equality shows → SchemaType S scalar equality shows
   schema_of r = r.schema
 
-  abbrev pub resolver_of : RootNode Q M Sub S I J K query mutation subscription scalar equality shows → Q
+  abbrev pub resolver_of : RootNode Q M Sub S I J K query query_ref mutation mutation_ref subscription subscription_ref scalar equality shows → Q
   resolver_of r = r.query
 
-  abbrev pub info_of : RootNode Q M Sub S I J K query mutation subscription scalar equality shows → I
+  abbrev pub info_of : RootNode Q M Sub S I J K query query_ref mutation mutation_ref subscription subscription_ref scalar equality shows → I
   info_of r = r.query_info

@@ -25,7 +25,8 @@ pub use juniper_schema::{
     ScalarMeta, SchemaType, TypeType, UnionMeta, meta, schema_is_executable,
 };
 pub use juniper_types::{
-    EmptyMutation, EmptySubscription, Executor, GraphQLType, GraphQLValue, Resolved,
+    EmptyMutation, EmptySubscription, Executor, GraphQLReference, GraphQLType, GraphQLValue,
+    Registry, RegistryError, Resolved, TypeKind,
 };
 pub use juniper_values::{
     Arguments, ExecutionError, ExecutionResult, FieldError, FieldResult, FromInputValue,

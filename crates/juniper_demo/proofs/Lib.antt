@@ -1,3 +1,4 @@
 pub mod Sums
 pub mod Answering
 pub mod ServedDemo
+pub mod DemoTypes

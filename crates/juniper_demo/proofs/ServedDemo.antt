@@ -1,25 +1,25 @@
--- The demo's schema is executable, and the map of its types has its entries.
-use Rattle.std.proofs.Common.{◌≡◌, IsTrue, true, false, cond, codes, List, Option, Some, None, refl, ap, ◌∙◌, sym, subst, bytes_eq, inl, inr}
+-- The demo's schema is executable, and what is made of the demo's types is this schema.
+use Rattle.std.proofs.Common.{◌≡◌, IsTrue, true, codes, List, None, refl, ap, ◌∙◌, sym, subst, bytes_eq, inl, inr}
 use Rattle.std.proofs.lemmas.Bool.{cases_Bool}
-use Rattle.graphql_spec.specs.Schema.{Schema, Entry, scalar_type, plain_field}
+use Rattle.graphql_spec.specs.Schema.{Schema, Entry, plain_field}
 use Rattle.graphql_spec.specs.Fits.{fits, through, scalar_fits}
 use Rattle.graphql_spec.specs.Inputs.{is_const}
 use Rattle.graphql_spec.specs.Types.{innermost, same_type, required}
 use Rattle.graphql_spec.specs.Tokens.{is_name, starts_name, continues_name}
 use Rattle.graphql_spec.specs.Shown.{Name, same_bool}
-use Rattle.graphql_spec.specs.Fields.{accepts_kind, entry_in, or_else, shape_of, entry_named, type_named, is_object, is_interface, is_composite, is_leaf, is_input, interfaces_of, members_of, fields_of}
+use Rattle.graphql_spec.specs.Fields.{accepts_kind, entry_in, or_else, typename_field, shape_of, entry_named, type_named, is_object, is_interface, is_composite, is_leaf, is_input, interfaces_of, members_of, fields_of}
 use Rattle.graphql_spec.specs.Executable.{values_of, input_fields_of, shape_fields, names_differ, is_filled, is_reserved, no_declarations, is_typename_field, input_is_free, field_is_free, is_own_name, entry_is_named, entries_are_named, mutation_is_apart, roots_are_objects, ends_in_output, ends_in_input, field_is_known, types_are_known, input_names_differ, is_value_name, entry_names_differ, all_names_differ, implements, interfaces_are_met, default_is_right, defaults_fit, accepts_just, scalar_if_there, built_ins_are_right, is_executable, IsSameSchema}
 use Rattle.graphql_spec.proofs.Lists.{same_true}
 use Rattle.graphql_spec.proofs.Reordered.{order_is_open}
-use Rattle.juniper_meta.specs.MetaView.{Meta, entry_at, is_placeholder, named_meta}
+use Rattle.juniper_meta.specs.MetaView.{is_placeholder}
 use Rattle.juniper_schema.specs.SchemaView.{AreCompleted, with_built_ins}
-use Rattle.juniper_demo.specs.DemoSchema.{demo_schema, demo_types, query_meta}
+use Rattle.juniper_demo.specs.DemoSchema.{demo_schema, demo_types}
 
 demo_is_executable : is_executable demo_schema ≡ true
-unfolding is_const fits through scalar_fits accepts_kind type_named or_else required plain_field innermost same_type is_name starts_name continues_name same_bool entry_in shape_of entry_named is_object is_interface is_composite is_leaf is_input interfaces_of members_of fields_of values_of input_fields_of shape_fields names_differ is_filled is_reserved no_declarations is_typename_field input_is_free field_is_free is_own_name entry_is_named entries_are_named mutation_is_apart roots_are_objects ends_in_output ends_in_input field_is_known types_are_known input_names_differ is_value_name entry_names_differ all_names_differ implements interfaces_are_met default_is_right defaults_fit accepts_just scalar_if_there built_ins_are_right is_executable
+unfolding typename_field is_const fits through scalar_fits accepts_kind type_named or_else required plain_field innermost same_type is_name starts_name continues_name same_bool entry_in shape_of entry_named is_object is_interface is_composite is_leaf is_input interfaces_of members_of fields_of values_of input_fields_of shape_fields names_differ is_filled is_reserved no_declarations is_typename_field input_is_free field_is_free is_own_name entry_is_named entries_are_named mutation_is_apart roots_are_objects ends_in_output ends_in_input field_is_known types_are_known input_names_differ is_value_name entry_names_differ all_names_differ implements interfaces_are_met default_is_right defaults_fit accepts_just scalar_if_there built_ins_are_right is_executable
 demo_is_executable = refl
 
--- the built-in scalars beside the demo's own types are the entries of its schema
+-- the demo's types, with the built-in scalars, are the entries of its schema
 completed : (n : Name) → with_built_ins n (entry_in demo_types n) ≡ entry_in demo_schema.entries n
 unfolding entry_in is_placeholder
 completed n = elim (cases_Bool (bytes_eq n (codes "String"))) [
@@ -50,10 +50,3 @@ made_is_same types s at made query mutation = record {
 -- so it is executable
 pub made_is_executable : (types : List Entry) (s : Schema) → AreCompleted types s.entries → IsSameSchema demo_schema s → IsTrue (is_executable s)
 made_is_executable types s made same = order_is_open demo_schema s same made.distinct demo_is_executable
-
--- a map that nothing is in and three types are put into has the demo's types
-pub types_are : (a b c z : Name → Option Entry) (x y w : Meta) → x ≡ query_meta → y ≡ named_meta (codes "ID") (scalar_type (record { int = true; text = true; boolean = false }) None) →
-    w ≡ named_meta (codes "Int") (scalar_type (record { int = true; text = false; boolean = false }) None) → ((n : Name) → a n ≡ None) → ((n : Name) → b n ≡ cond (bytes_eq n (codes "Query")) (Some (entry_at (codes "Query") x)) (a n)) →
-    ((n : Name) → c n ≡ cond (bytes_eq n (codes "ID")) (Some (entry_at (codes "ID") y)) (b n)) → ((n : Name) → z n ≡ cond (bytes_eq n (codes "Int")) (Some (entry_at (codes "Int") w)) (c n)) → (n : Name) → z n ≡ entry_in demo_types n
-unfolding entry_in
-types_are a b c z x y w ex ey ew p q r s n = rw (s n, r n, q n, p n, ex, ey, ew) refl

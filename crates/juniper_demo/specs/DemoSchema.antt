@@ -4,7 +4,9 @@ use Rattle.graphql_spec.specs.Shown.{int}
 use Rattle.graphql_spec.specs.Inputs.{scalar}
 use Rattle.graphql_spec.specs.Types.{named}
 use Rattle.graphql_spec.specs.Schema.{Schema, Entry, FieldDeclaration, object_type, plain_field}
+use Rattle.graphql_spec.specs.Fields.{typename_field}
 use Rattle.juniper_meta.specs.MetaView.{Meta, entry_at, named_meta}
+use Rattle.juniper_registry.specs.Entries.{awaited}
 use Rattle.juniper_schema.specs.SchemaView.{built_in}
 
 -- `number(plus: Int = 1): Int`
@@ -19,16 +21,21 @@ demo_fields =
     ∷ plain_field (codes "nothing") [] (named false (codes "String"))
     ∷ plain_field (codes "fail") [] (named false (codes "Int"))
     ∷ number_field
+    ∷ typename_field
     ∷ []
 
 -- the query type
 abbrev pub query_meta : Meta
 query_meta = named_meta (codes "Query") (object_type demo_fields [])
 
--- the types that the demo declares: the query type, and two of the built-in scalars (3.5)
+-- the types of the demo's registry: the query type, and placeholders of the scalars that it refers to
 abbrev pub demo_types : List Entry
-demo_types = built_in (codes "Int") true false false ∷ built_in (codes "ID") true true false ∷ entry_at (codes "Query") query_meta ∷ []
+demo_types = entry_at (codes "Query") query_meta ∷ awaited (codes "ID") ∷ awaited (codes "String") ∷ awaited (codes "Int") ∷ []
 
--- with those that every schema has
+-- the demo's schema: the query type, and the built-in scalars (3.5)
 abbrev pub demo_schema : Schema
-demo_schema = record { entries = built_in (codes "String") false true false ∷ built_in (codes "Boolean") false false true ∷ demo_types; query = codes "Query"; mutation = None }
+demo_schema = record {
+  entries = built_in (codes "String") false true false ∷ built_in (codes "Boolean") false false true ∷ built_in (codes "Int") true false false ∷ built_in (codes "ID") true true false ∷ entry_at (codes "Query") query_meta ∷ [];
+  query = codes "Query";
+  mutation = None;
+}

@@ -1,6 +1,6 @@
 //! The demo's resolver.
 
-ghost use Rattle.std.specs.Prelude.{◌≡◌, Some, codes, pos};
+ghost use Rattle.std.specs.Prelude.{◌≡◌, codes, pos};
 ghost use Rattle.graphql_spec.specs.Constants.{find};
 ghost use Rattle.graphql_spec.specs.Resolvers.{failed};
 ghost use Rattle.juniper_values.specs.ArgumentView.{view_arguments};
@@ -9,7 +9,7 @@ ghost use Rattle.juniper_types.specs.ResolvedView.{Answers};
 ghost use Rattle.juniper_demo.specs.Demo.{concrete_type, number_reply, query_reply, reply, root_of, sum_reply};
 ghost use Rattle.juniper_demo.specs.declared.demo.DemoNode.TheVariants.{Query};
 
-use juniper::{Arguments, Executor, FieldError, GraphQLType, GraphQLValue, ResolveError, Resolved};
+use juniper::{Arguments, Executor, FieldError, GraphQLValue, ResolveError, Resolved};
 use juniper_language::{ScalarValue, Value};
 use std::alloc::Global;
 
@@ -52,16 +52,6 @@ impl Demo {
         Demo {
             root: DemoNode::Query,
         }
-    }
-}
-
-impl<S: ScalarValue> GraphQLType<S> for Demo {
-    type TypeInfo = ();
-
-    ghost named = { λ _. Some (codes "Query") };
-
-    fn name(_info: &Self::TypeInfo) -> Option<&str> {
-        Some("Query")
     }
 }
 

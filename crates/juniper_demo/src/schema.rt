@@ -1,30 +1,112 @@
-//! The demo's schema (section 3 of the Specification), and the root of its server.
+//! The demo's types and its schema (section 3 of the Specification), and the root of its server.
 
-ghost use Rattle.std.specs.Prelude.{◌≡◌, IfOk, IsTrue, OnOk, Some, cond, string_bytes, map, []};
-ghost use Rattle.std.specs.Str.{bytes_eq};
+ghost use Rattle.std.specs.Prelude.{◌≡◌, ◌∷◌, [], IfOk, IsTrue, Some, codes, true};
 ghost use Rattle.graphql_spec.specs.Executable.{IsSameSchema, is_executable};
 ghost use Rattle.graphql_spec.specs.Fields.{entry_in};
-ghost use Rattle.graphql_spec.specs.Schema.{plain_field};
 ghost use Rattle.graphql_spec.specs.Shown.{Name};
+ghost use Rattle.graphql_spec.specs.Types.{named as named_type};
 ghost use Rattle.juniper.specs.RootView.{schema_of, resolver_of};
-ghost use Rattle.juniper_meta.specs.MetaView.{entry_at, view_field, view_meta};
+ghost use Rattle.juniper_meta.specs.MetaView.{view_field};
+ghost use Rattle.juniper_registry.specs.Entries.{AwaitsEach, KeepsAdding};
+ghost use Rattle.juniper_registry.specs.RegistryView.{view_registry};
 ghost use Rattle.juniper_schema.specs.SchemaView.{view_entries, view_schema};
 ghost use Rattle.juniper_syntax.specs.Scalars.{default_shown};
-ghost use Rattle.juniper_syntax.specs.TypeView.{view_type};
 ghost use Rattle.juniper_demo.specs.Demo.{root_of};
 ghost use Rattle.juniper_demo.specs.declared.demo.DemoNode.TheVariants.{Query};
-ghost use Rattle.juniper_demo.specs.DemoSchema.{demo_fields, demo_schema, demo_types, number_field, query_meta};
+ghost use Rattle.juniper_demo.specs.DemoSchema.{demo_schema, demo_types, number_field, query_meta};
 
 use crate::demo::{Demo, DemoContext, DemoNode};
-use juniper::meta::{Argument, Field, MetaType, ObjectMeta};
-use juniper::{EmptyMutation, EmptySubscription, RootNode, SchemaType};
-use juniper_builtins::{id_scalar, int_scalar};
-use juniper_language::{DefaultScalarValue, InputValue, Type};
+use juniper::meta::{Field, MetaType};
+use juniper::{
+    EmptyMutation, EmptySubscription, GraphQLReference, GraphQLType, Registry, RootNode, SchemaType,
+};
+use juniper_language::{DefaultScalarValue, ScalarValue, Type};
 use std::alloc::{AllocError, Global};
 use std::collections::HashMap;
 
-/// The demo's types by their names.
-type Types = HashMap<String, MetaType<DefaultScalarValue>>;
+/// `ID`, as fields refer to it (3.5.5).
+pub struct Id;
+
+impl<S: ScalarValue> GraphQLReference<S> for Id {
+    type TypeInfo = ();
+
+    ghost named = { λ _. Some (codes "ID") };
+
+    ghost reference = { λ _. named_type true (codes "ID") };
+
+    fn name(_info: &Self::TypeInfo) -> Option<&str> {
+        Some("ID")
+    }
+
+    #[tactic(auto, unfolding(graphql_spec::specs::Types::innermost))]
+    fn type_in(
+        _alloc: Global,
+        _info: &Self::TypeInfo,
+        registry: &mut Registry<S>,
+    ) -> Result<Type<String>, AllocError> {
+        registry.named_type("ID")
+    }
+}
+
+impl<S: ScalarValue> GraphQLReference<S> for Demo {
+    type TypeInfo = ();
+
+    ghost named = { λ _. Some (codes "Query") };
+
+    ghost reference = { λ _. named_type true (codes "Query") };
+
+    fn name(_info: &Self::TypeInfo) -> Option<&str> {
+        Some("Query")
+    }
+
+    #[tactic(auto, unfolding(graphql_spec::specs::Types::innermost))]
+    fn type_in(
+        _alloc: Global,
+        _info: &Self::TypeInfo,
+        registry: &mut Registry<S>,
+    ) -> Result<Type<String>, AllocError> {
+        registry.named_type("Query")
+    }
+}
+
+impl<S: ScalarValue> GraphQLType<S> for Demo {
+    ghost declaration = { λ _. query_meta };
+
+    #[tactic(auto, unfolding(graphql_spec::specs::Fields::typename_field, graphql_spec::specs::Schema::plain_field, graphql_spec::specs::Types::innermost, graphql_spec::specs::Types::nullable))]
+    fn meta(
+        alloc: Global,
+        info: &Self::TypeInfo,
+        registry: &mut Registry<S>,
+    ) -> Result<MetaType<S>, AllocError> {
+        let mut fields = Vec::new(alloc);
+        fields.push(registry.field::<Id>("id", &())?)?;
+        fields.push(registry.field::<String>("name", &())?)?;
+        fields.push(registry.field::<Option<String>>("nothing", &())?)?;
+        fields.push(registry.field::<Option<i32>>("fail", &())?)?;
+        fields.push(number_field(alloc, registry)?)?;
+        Ok(
+            registry
+                .build_object_type::<Demo>(info, fields)?
+                .into_meta(),
+        )
+    }
+
+    ghost keeps_name = { λ _ _ e. e };
+}
+
+/// `number(plus: Int = 1): Int`.
+fn number_field<S: ScalarValue>(
+    alloc: Global,
+    registry: &mut Registry<S>,
+) -> Result<Field<S>, AllocError>
+    ensures made { IfOk result (λ f. view_field S.shown f ≡ number_field) }
+    ensures awaited { AwaitsEach result (codes "Int" ∷ codes "Int" ∷ []) (view_registry S.shown registry.old) (view_registry S.shown registry.new) }
+    ensures added { KeepsAdding (view_registry S.shown registry.old) (view_registry S.shown registry.new) }
+{
+    let number = registry.field::<Option<i32>>("number", &())?;
+    let plus = registry.arg_with_default::<Option<i32>>("plus", &Some(1), &())?;
+    Ok(number.argument(alloc, plus)?)
+}
 
 /// The root of the demo's server.
 pub type DemoRoot = RootNode<
@@ -60,89 +142,14 @@ fn schema(alloc: Global) -> Result<SchemaType<DefaultScalarValue>, AllocError>
     Ok(SchemaType::new(alloc, types, query, None)?)
 }
 
-/// The query type, and the built-in scalars that it uses beside `String`.
-fn types(alloc: Global) -> Result<Types, AllocError>
+/// The query type, and placeholders of the scalars that it refers to; an error where memory is refused, and no other, since
+/// nothing is registered before.
+fn types(alloc: Global) -> Result<HashMap<String, MetaType<DefaultScalarValue>>, AllocError>
     ensures { IfOk result (λ types. (n : Name) → entry_in (view_entries default_shown types) n ≡ entry_in demo_types n) }
 {
-    let mut types = HashMap::new(alloc);
-    put(alloc, &mut types, "Query", query_type(alloc)?)?;
-    put(alloc, &mut types, "ID", id_scalar(alloc)?)?;
-    put(alloc, &mut types, "Int", int_scalar(alloc)?)?;
-    Ok(types)
-}
-
-/// Puts a type in at its name.
-fn put(
-    alloc: Global,
-    types: &mut Types,
-    name: &str,
-    meta: MetaType<DefaultScalarValue>,
-) -> Result<(), AllocError>
-    ensures { OnOk result ((n : Name) → entry_in (view_entries default_shown types.new) n ≡ cond (bytes_eq n name.now) (Some (entry_at name.now (view_meta default_shown meta))) (entry_in (view_entries default_shown types.old) n)) }
-{
-    let key = String::from_str(alloc, name)?;
-    drop(types.insert(key, meta)?);
-    Ok(())
-}
-
-/// The query type.
-fn query_type(alloc: Global) -> Result<MetaType<DefaultScalarValue>, AllocError>
-    ensures { IfOk result (λ m. view_meta default_shown m ≡ query_meta) }
-{
-    let name = String::from_str(alloc, "Query")?;
-    Ok(ObjectMeta::new(alloc, name, query_fields(alloc)?).into_meta())
-}
-
-/// The fields of the query type.
-fn query_fields(alloc: Global) -> Result<Vec<Field<DefaultScalarValue>>, AllocError>
-    ensures { IfOk result (λ fields. map (view_field default_shown) fields.items ≡ demo_fields) }
-{
-    Ok(vec![in alloc;
-        field(
-            alloc,
-            "id",
-            Type::NonNullNamed(String::from_str(alloc, "ID")?)
-        )?,
-        field(
-            alloc,
-            "name",
-            Type::NonNullNamed(String::from_str(alloc, "String")?)
-        )?,
-        field(
-            alloc,
-            "nothing",
-            Type::Named(String::from_str(alloc, "String")?)
-        )?,
-        field(alloc, "fail", Type::Named(String::from_str(alloc, "Int")?))?,
-        number_field(alloc)?,
-    ]?)
-}
-
-/// A field without arguments.
-fn field(
-    alloc: Global,
-    name: &str,
-    field_type: Type<String>,
-) -> Result<Field<DefaultScalarValue>, AllocError>
-    ensures { IfOk result (λ f. view_field default_shown f ≡ plain_field name.now [] (view_type (λ n. string_bytes n) field_type)) }
-{
-    Ok(Field::new(String::from_str(alloc, name)?, field_type))
-}
-
-/// `number(plus: Int = 1): Int`.
-#[tactic(auto, unfolding(graphql_spec::specs::Schema::plain_field, graphql_spec::specs::Schema::plain_input))]
-fn number_field(alloc: Global) -> Result<Field<DefaultScalarValue>, AllocError>
-    ensures { IfOk result (λ f. view_field default_shown f ≡ number_field) }
-{
-    let name = String::from_str(alloc, "plus")?;
-    let default = InputValue::Scalar(DefaultScalarValue::Int(1));
-    let plus = Argument::new(name, Type::Named(String::from_str(alloc, "Int")?)).default_value(
-        default,
-    );
-    let number = field(
-        alloc,
-        "number",
-        Type::Named(String::from_str(alloc, "Int")?),
-    )?;
-    Ok(number.argument(alloc, plus)?)
+    let mut registry = Registry::new(alloc, HashMap::new(alloc));
+    match registry.register::<Demo>(&()) {
+        Ok(()) => Ok(registry.into_types()),
+        Err(_) => Err(AllocError),
+    }
 }

@@ -1,5 +1,5 @@
 -- Placeholders that are added, and declarations that take their place.
-use Rattle.std.proofs.Common.{◌≡◌, ◌⊎◌, ◌||◌, ℕ, Bool, true, false, not, cond, is_some, Option, Some, None, Result, Ok, Err, OnOk, OnErr, bytes_eq, refl, sym, ap, subst, ◌∙◌, inl, inr}
+use Rattle.std.proofs.Common.{◌≡◌, ℕ, Bool, true, false, cond, is_some, Option, Some, None, Result, Ok, Err, OnOk, OnErr, bytes_eq, refl, sym, ap, subst, ◌∙◌, inl, inr}
 use Rattle.std.proofs.lemmas.Bool.{cases_Bool}
 use Rattle.graphql_spec.specs.Shown.{Name}
 use Rattle.graphql_spec.specs.Schema.{Entry, placeholder}
@@ -7,7 +7,8 @@ use Rattle.graphql_spec.specs.Fields.{or_else}
 use Rattle.graphql_spec.specs.Types.{TypeRef, named, list_of, innermost, nullable}
 use Rattle.graphql_spec.proofs.Lists.{same_true, same_refl}
 use Rattle.juniper_meta.specs.MetaView.{Meta, entry_at, unnamed_meta, is_placeholder}
-use Rattle.juniper_registry.specs.Entries.{Table, awaited, is_declared, is_named, is_own, awaiting, declaring, AddsAt, AddsPlaceholders, KeepsAdding, Awaits, IsRegistered}
+use Rattle.juniper_registry.specs.Referred.{referred}
+use Rattle.juniper_registry.specs.Entries.{Table, awaited, is_declared, is_named, is_own, awaiting, awaiting_each, declaring, AddsAt, AddsPlaceholders, KeepsAdding, Awaits, IsRegistered}
 
 -- ## One name
 
@@ -64,12 +65,8 @@ pub adds_then : (old mid new : Table) → AddsPlaceholders old mid → AddsPlace
 adds_then old mid new g h = record { at = λ n. add_twice (old n) (mid n) (new n) n (g.at n) (h.at n) }
 
 -- a declaration that is put once placeholders are added
-pub registers : (k : Name) (m : Meta) (old mid new : Table) → is_declared (old k) ≡ false → AddsPlaceholders old mid → ((n : Name) → new n ≡ declaring k m mid n) → IsRegistered k m old new
-registers k m old mid new d g h = record {
-  free = d;
-  there = h k ∙ rw (same_refl k) refl;
-  others = λ n f. subst (λ o. AddsAt (old n) o n) (sym (h n ∙ rw f refl)) (g.at n);
-}
+pub registers : (k : Name) (m : Meta) (old mid new : Table) → is_declared (old k) ≡ false → ((n : Name) → mid n ≡ awaiting_each (referred m.shape) old n) → ((n : Name) → new n ≡ declaring k m mid n) → IsRegistered k m old new
+registers k m old mid new d g h = record { free = d; held = λ n. h n ∙ ap (λ o. cond (bytes_eq n k) (Some (entry_at n m)) o) (g n) }
 
 -- ## Each declaration stays at its own name
 

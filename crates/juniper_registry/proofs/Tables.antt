@@ -1,6 +1,5 @@
 -- What stands at the names of a map, and how a map changes where something is put.
 use Rattle.std.proofs.Common.{◌≡◌, Bool, true, false, not, cond, is_some, List, [], ◌∷◌, map, Option, Some, None, option_map, bytes_eq, refl, sym, ap, ◌∙◌, inl, inr}
-use Rattle.std.specs.Option.{option_copied}
 use Rattle.std.specs.Map.{lookup, update}
 use Rattle.std.proofs.lemmas.Bool.{cases_Bool}
 use Rattle.graphql_spec.specs.Shown.{Name}
@@ -9,7 +8,6 @@ use Rattle.graphql_spec.specs.Fields.{entry_in}
 use Rattle.graphql_spec.proofs.Lists.{same_true, same_sym}
 use Rattle.juniper_meta.specs.MetaView.{Meta, entry_at, is_placeholder}
 use Rattle.juniper_registry.specs.Entries.{is_declared}
-use denote.Ref.{Bor}
 
 cond_map : {X Y : Type 0} (f : X → Y) (b : Bool) (x : X) (o : Option X) → option_map f (cond b (Some x) o) ≡ cond b (Some (f x)) (option_map f o)
 cond_map f true x o = refl

@@ -1,5 +1,5 @@
 -- What stands at the names of a registry: declarations, and placeholders of types that are not declared yet (3).
-use Rattle.std.specs.Prelude.{◌≡◌, ◌⊎◌, ◌||◌, not, Bool, true, false, cond, List, map, Option, Some, None, OnOk, Result, Ok, Err, String, string_bytes}
+use Rattle.std.specs.Prelude.{◌≡◌, ◌⊎◌, ◌||◌, not, Bool, true, false, cond, List, [], ◌∷◌, map, Option, Some, None, OnOk, Result, Ok, Err, String, string_bytes}
 use Rattle.std.specs.declared.alloc.Global.{Global}
 use Rattle.std.specs.HashMap.{HashMap}
 use Rattle.std.specs.Str.{bytes_eq}
@@ -8,6 +8,7 @@ use Rattle.graphql_spec.specs.Schema.{Entry, placeholder}
 use Rattle.graphql_spec.specs.Fields.{entry_in, or_else}
 use Rattle.juniper_meta.specs.declared.meta.MetaType.{MetaType}
 use Rattle.juniper_meta.specs.MetaView.{Meta, entry_at, unnamed_meta, is_placeholder, view_meta}
+use Rattle.juniper_registry.specs.Referred.{referred}
 use Rattle.juniper_registry.specs.declared.error.RegistryError.{RegistryError}
 use Rattle.juniper_registry.specs.declared.error.RegistryError.TheVariants.{AlreadyRegistered, Memory}
 
@@ -48,6 +49,11 @@ is_own (Some e) = is_placeholder e.shape || is_named e.name e.key
 abbrev pub awaiting : Name → Table → Table
 awaiting k old n = or_else (old n) (cond (bytes_eq n k) (Some (awaited n)) None)
 
+-- with placeholders at these names, where nothing stood there
+abbrev pub awaiting_each : List Name → Table → Table
+awaiting_each [] old = old
+awaiting_each (k ∷ ks) old = awaiting_each ks (awaiting k old)
+
 -- with this declaration at k, in place of what stood there
 abbrev pub declaring : Name → Meta → Table → Table
 declaring k m old n = cond (bytes_eq n k) (Some (entry_at n m)) (old n)
@@ -69,11 +75,14 @@ pub record KeepsAdding (old new : Table) : Type 0 where
 abbrev pub Awaits : {A E : Type 0} → Result A E → Name → Table → Table → Type 0
 Awaits r k old new = OnOk r ((n : Name) → new n ≡ awaiting k old n)
 
--- this declaration has come to k, where none stood; elsewhere at most placeholders were added
+-- the same of several names
+abbrev pub AwaitsEach : {A E : Type 0} → Result A E → List Name → Table → Table → Type 0
+AwaitsEach r ks old new = OnOk r ((n : Name) → new n ≡ awaiting_each ks old n)
+
+-- this declaration has come to k, where none stood, and placeholders to the names that it refers to, where nothing stood
 pub record IsRegistered (k : Name) (m : Meta) (old new : Table) : Type 0 where
   pub free : is_declared (old k) ≡ false
-  pub there : new k ≡ Some (entry_at k m)
-  pub others : (n : Name) → bytes_eq n k ≡ false → AddsAt (old n) (new n) n
+  pub held : (n : Name) → new n ≡ declaring k m (awaiting_each (referred m.shape) old) n
 
 -- a declaration is registered, is refused since one stands there, or memory is refused
 abbrev pub Registers : Result (Unit {0}) RegistryError → Name → Meta → Table → Table → Type 0

@@ -1,4 +1,5 @@
 pub mod Entries
 pub mod Kinds
 pub mod Made
+pub mod Referred
 pub mod RegistryView

@@ -1,5 +1,5 @@
 -- What a registry's calls make: fields, arguments and declarations (3).
-use Rattle.std.specs.Prelude.{◌≡◌, Option, Some, None, option_map}
+use Rattle.std.specs.Prelude.{◌≡◌, Some, None, option_map}
 use Rattle.graphql_spec.specs.Shown.{Name}
 use Rattle.graphql_spec.specs.Types.{TypeRef}
 use Rattle.graphql_spec.specs.Constants.{Constant, meaning}

@@ -43,20 +43,22 @@ pub trait GraphQLReference<S: ScalarValue> {
 
 /// A type of GraphQL: how it is referred to, and how it is declared.
 pub trait GraphQLType<S: ScalarValue>: GraphQLReference<S> {
-    ghost use Rattle.juniper_registry.specs.Entries.{AddsPlaceholders};
+    ghost use Rattle.juniper_registry.specs.Entries.{AddsPlaceholders, AwaitsEach};
+    ghost use Rattle.juniper_registry.specs.Referred.{referred};
     ghost use Rattle.juniper_registry.specs.RegistryView.{view_registry};
 
     /// How it is declared (3.4).
     ghost declaration: { Self.TypeInfo → Meta };
 
-    /// Its declaration. The registry gets at most placeholders, of types that the declaration refers to; an error where
-    /// memory is refused.
+    /// Its declaration. The registry gets placeholders at the names that the declaration refers to, where nothing stands
+    /// there; an error where memory is refused, when it gets at most placeholders.
     fn meta(
         alloc: Global,
         info: &Self::TypeInfo,
         registry: &mut Registry<S>,
     ) -> Result<MetaType<S>, AllocError>
         ensures declared { IfOk result (λ m. view_meta S.shown m ≡ declaration info.now) }
+        ensures awaited { AwaitsEach result (referred (declaration info.now).shape) (view_registry S.shown registry.old) (view_registry S.shown registry.new) }
         ensures added { AddsPlaceholders (view_registry S.shown registry.old) (view_registry S.shown registry.new) };
 
     /// A named type's declaration has its name.

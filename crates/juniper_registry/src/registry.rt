@@ -104,7 +104,7 @@ impl<S: ScalarValue> Registry<S> {
     }
 
     /// Registers the declaration of this type, at a name where nothing or a placeholder stands. The registry gets
-    /// placeholders of types that the declaration refers to.
+    /// placeholders at the names that the declaration refers to, where nothing stands there, and nothing else.
     ///
     /// Errors: `AlreadyRegistered` exactly where a declaration stands at the name, when nothing changes; `Memory` where
     /// memory is refused, when at most placeholders are added.

@@ -86,7 +86,7 @@ impl<S: ScalarValue> GraphQLReference<S> for Human {
 impl<S: ScalarValue> GraphQLType<S> for Human {
     ghost declaration = { λ _. named_meta (codes "Human") (object_type (plain_field (codes "episodes") [] (list_of true None (named_type true (codes "Episode"))) ∷ plain_field (codes "friends") [] (list_of false None (named_type false (codes "Human"))) ∷ typename_field ∷ []) []) };
 
-    #[tactic(auto, unfolding(graphql_spec::specs::Types::nullable))]
+    #[tactic(auto, unfolding(graphql_spec::specs::Fields::typename_field, graphql_spec::specs::Schema::plain_field, graphql_spec::specs::Types::innermost, graphql_spec::specs::Types::nullable))]
     fn meta(
         alloc: Global,
         info: &(),

@@ -47,7 +47,7 @@ impl<S: ScalarValue> GraphQLType<S> for i32 {
     ghost keeps_name = { λ _ _ e. e };
 }
 
-/// `Boolean` (3.5.5).
+/// `Boolean` (3.5.4).
 impl<S: ScalarValue> GraphQLReference<S> for bool {
     type TypeInfo = ();
 

@@ -1,20 +1,25 @@
-//! A root with fields that are answered, are null, or fail, and one that has an argument.
+//! A root with fields that are answered, are null, or fail, and one that has an argument, and how it is declared.
 
-ghost use Rattle.std.specs.Prelude.{Some, codes};
+ghost use Rattle.std.specs.Prelude.{◌≡◌, ◌∷◌, [], IfOk, Some, codes, map, true};
 ghost use Rattle.graphql_spec.specs.Constants.{find};
 ghost use Rattle.graphql_spec.specs.Resolvers.{failed};
+ghost use Rattle.graphql_spec.specs.Types.{named as named_type};
+ghost use Rattle.juniper_meta.specs.MetaView.{view_field};
+ghost use Rattle.juniper_registry.specs.Entries.{AwaitsEach, KeepsAdding};
+ghost use Rattle.juniper_registry.specs.Referred.{fields_refer};
+ghost use Rattle.juniper_registry.specs.RegistryView.{view_registry};
 ghost use Rattle.juniper_values.specs.Conversions.{message_alone};
 ghost use Rattle.juniper_values.specs.ArgumentView.{view_arguments};
 ghost use Rattle.juniper_types.specs.ResolvedView.{Answers};
-ghost use Rattle.juniper_tests.specs.TestRoot.{number_reply, sum_reply, test_reply};
+ghost use Rattle.juniper_tests.specs.TestRoot.{number_field, number_reply, query_meta, sum_reply, test_fields, test_reply};
 
-use juniper::meta::{Argument, Field, MetaType, ObjectMeta};
+use juniper::meta::{Field, MetaType};
 use juniper::{
-    Arguments, EmptyMutation, EmptySubscription, Executor, FieldError, GraphQLType, GraphQLValue,
-    ResolveError, Resolved, RootNode, SchemaType, schema_is_executable,
+    Arguments, EmptyMutation, EmptySubscription, Executor, FieldError, GraphQLReference,
+    GraphQLType, GraphQLValue, Registry, ResolveError, Resolved, RootNode, SchemaType,
+    schema_is_executable,
 };
-use juniper_builtins::int_scalar;
-use juniper_language::{InputValue, ScalarValue, Type, Value};
+use juniper_language::{ScalarValue, Type, Value};
 use std::alloc::{AllocError, Global};
 use std::collections::HashMap;
 
@@ -31,14 +36,45 @@ pub struct TestQuery {
     root: (),
 }
 
-impl<S: ScalarValue> GraphQLType<S> for TestQuery {
+impl<S: ScalarValue> GraphQLReference<S> for TestQuery {
     type TypeInfo = ();
 
     ghost named = { λ _. Some (codes "Query") };
 
+    ghost reference = { λ _. named_type true (codes "Query") };
+
     fn name(_info: &Self::TypeInfo) -> Option<&str> {
         Some("Query")
     }
+
+    #[tactic(auto, unfolding(graphql_spec::specs::Types::innermost))]
+    fn type_in(
+        _alloc: Global,
+        _info: &Self::TypeInfo,
+        registry: &mut Registry<S>,
+    ) -> Result<Type<String>, AllocError> {
+        registry.named_type("Query")
+    }
+}
+
+impl<S: ScalarValue> GraphQLType<S> for TestQuery {
+    ghost declaration = { λ _. query_meta };
+
+    #[tactic(auto, unfolding(graphql_spec::specs::Fields::typename_field, graphql_spec::specs::Schema::plain_field, graphql_spec::specs::Types::innermost))]
+    fn meta(
+        alloc: Global,
+        info: &Self::TypeInfo,
+        registry: &mut Registry<S>,
+    ) -> Result<MetaType<S>, AllocError> {
+        let fields = query_fields(alloc, registry)?;
+        Ok(
+            registry
+                .build_object_type::<TestQuery>(info, fields)?
+                .into_meta(),
+        )
+    }
+
+    ghost keeps_name = { λ _ _ e. e };
 }
 
 impl<S: ScalarValue> GraphQLValue<S> for TestQuery {
@@ -131,22 +167,37 @@ pub type TestRoot<S> = RootNode<
 
 /// A new root; an error where memory is refused, or where its schema is not executable.
 pub fn test_root<S: ScalarValue>(alloc: Global) -> Result<TestRoot<S>, AllocError> {
-    root_with(alloc, query_fields(alloc)?)
+    let mut registry = empty_registry(alloc);
+    match registry.register::<TestQuery>(&()) {
+        Ok(()) => root_with(alloc, registry.into_types()),
+        Err(_) => Err(AllocError),
+    }
 }
 
 /// A root whose query type has a field `list: [Int]` too; an error as for the other.
 pub fn list_root<S: ScalarValue>(alloc: Global) -> Result<TestRoot<S>, AllocError> {
-    let mut fields = query_fields(alloc)?;
-    let list = optional(alloc, "Int")?.wrap_list(alloc, None)?;
-    fields.push(field(alloc, "list", list)?)?;
-    root_with(alloc, fields)
+    let mut registry = empty_registry(alloc);
+    let mut fields = query_fields(alloc, &mut registry)?;
+    fields.push(registry.field::<Option<Vec<Option<i32>>>>("list", &())?)?;
+    let query_type = registry
+        .build_object_type::<TestQuery>(&(), fields)?
+        .into_meta();
+    let mut types = registry.into_types();
+    drop(types.insert(String::from_str(alloc, "Query")?, query_type)?);
+    root_with(alloc, types)
+}
+
+/// A registry without types.
+#[tactic(auto, unfolding(graphql_spec::specs::Fields::entry_in))]
+fn empty_registry<S: ScalarValue>(alloc: Global) -> Registry<S> {
+    Registry::new(alloc, HashMap::new(alloc))
 }
 
 fn root_with<S: ScalarValue>(
     alloc: Global,
-    fields: Vec<Field<S>>,
+    types: HashMap<String, MetaType<S>>,
 ) -> Result<TestRoot<S>, AllocError> {
-    let schema = schema(alloc, fields)?;
+    let schema = SchemaType::new(alloc, types, String::from_str(alloc, "Query")?, None)?;
     if !schema_is_executable(&schema) {
         return Err(AllocError);
     }
@@ -161,58 +212,36 @@ fn root_with<S: ScalarValue>(
     ))
 }
 
-fn schema<S: ScalarValue>(
+/// The fields of the query type, but for `__typename`.
+#[tactic(auto, unfolding(graphql_spec::specs::Schema::plain_field, graphql_spec::specs::Types::innermost, graphql_spec::specs::Types::nullable))]
+fn query_fields<S: ScalarValue>(
     alloc: Global,
-    fields: Vec<Field<S>>,
-) -> Result<SchemaType<S>, AllocError> {
-    let mut types = HashMap::new(alloc);
-    let query = String::from_str(alloc, "Query")?;
-    drop(types.insert(query, query_type(alloc, fields)?)?);
-    let int = String::from_str(alloc, "Int")?;
-    drop(types.insert(int, int_scalar(alloc)?)?);
-    SchemaType::new(alloc, types, String::from_str(alloc, "Query")?, None)
-}
-
-fn query_type<S: ScalarValue>(
-    alloc: Global,
-    fields: Vec<Field<S>>,
-) -> Result<MetaType<S>, AllocError> {
-    let name = String::from_str(alloc, "Query")?;
-    Ok(ObjectMeta::new(alloc, name, fields).into_meta())
-}
-
-fn query_fields<S: ScalarValue>(alloc: Global) -> Result<Vec<Field<S>>, AllocError> {
-    Ok(vec![in alloc;
-        field(alloc, "id", required(alloc, "String")?)?,
-        field(alloc, "name", required(alloc, "String")?)?,
-        field(alloc, "nothing", optional(alloc, "String")?)?,
-        number_field(alloc)?,
-        field(alloc, "fail", optional(alloc, "Int")?)?,
-        field(alloc, "boom", required(alloc, "Int")?)?,
-    ]?)
-}
-
-fn required(alloc: Global, name: &str) -> Result<Type<String>, AllocError> {
-    Ok(Type::NonNullNamed(String::from_str(alloc, name)?))
-}
-
-fn optional(alloc: Global, name: &str) -> Result<Type<String>, AllocError> {
-    Ok(Type::Named(String::from_str(alloc, name)?))
-}
-
-fn field<S: ScalarValue>(
-    alloc: Global,
-    name: &str,
-    field_type: Type<String>,
-) -> Result<Field<S>, AllocError> {
-    Ok(Field::new(String::from_str(alloc, name)?, field_type))
+    registry: &mut Registry<S>,
+) -> Result<Vec<Field<S>>, AllocError>
+    ensures made { IfOk result (λ fields. map (view_field S.shown) fields.items ≡ test_fields) }
+    ensures awaited { AwaitsEach result (fields_refer test_fields) (view_registry S.shown registry.old) (view_registry S.shown registry.new) }
+    ensures added { KeepsAdding (view_registry S.shown registry.old) (view_registry S.shown registry.new) }
+{
+    let mut fields = Vec::new(alloc);
+    fields.push(registry.field::<String>("id", &())?)?;
+    fields.push(registry.field::<String>("name", &())?)?;
+    fields.push(registry.field::<Option<String>>("nothing", &())?)?;
+    fields.push(number_field(alloc, registry)?)?;
+    fields.push(registry.field::<Option<i32>>("fail", &())?)?;
+    fields.push(registry.field::<i32>("boom", &())?)?;
+    Ok(fields)
 }
 
 /// `number(plus: Int = 1): Int`.
-fn number_field<S: ScalarValue>(alloc: Global) -> Result<Field<S>, AllocError> {
-    let name = String::from_str(alloc, "plus")?;
-    let default = InputValue::Scalar(S::from_int(1));
-    let plus = Argument::new(name, optional(alloc, "Int")?).default_value(default);
-    let number: Field<S> = field(alloc, "number", optional(alloc, "Int")?)?;
-    number.argument(alloc, plus)
+fn number_field<S: ScalarValue>(
+    alloc: Global,
+    registry: &mut Registry<S>,
+) -> Result<Field<S>, AllocError>
+    ensures made { IfOk result (λ f. view_field S.shown f ≡ number_field) }
+    ensures awaited { AwaitsEach result (codes "Int" ∷ codes "Int" ∷ []) (view_registry S.shown registry.old) (view_registry S.shown registry.new) }
+    ensures added { KeepsAdding (view_registry S.shown registry.old) (view_registry S.shown registry.new) }
+{
+    let number = registry.field::<Option<i32>>("number", &())?;
+    let plus = registry.arg_with_default::<Option<i32>>("plus", &Some(1), &())?;
+    Ok(number.argument(alloc, plus)?)
 }

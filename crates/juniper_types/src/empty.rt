@@ -1,12 +1,18 @@
 //! What stands for a mutation or a subscription that a schema lacks.
 
-ghost use Rattle.std.specs.Prelude.{Some, codes};
+ghost use Rattle.std.specs.Prelude.{[], ◌∷◌, Some, codes, true};
+ghost use Rattle.graphql_spec.specs.Fields.{typename_field};
+ghost use Rattle.graphql_spec.specs.Schema.{object_type};
+ghost use Rattle.graphql_spec.specs.Types.{named as named_type};
+ghost use Rattle.juniper_meta.specs.MetaView.{named_meta};
 
-use crate::resolver::GraphQLType;
-use juniper_syntax::ScalarValue;
+use juniper_meta::MetaType;
+use juniper_registry::{GraphQLReference, GraphQLType, Registry};
+use juniper_syntax::{ScalarValue, Type};
+use std::alloc::{AllocError, Global};
 use std::marker::PhantomData;
 
-/// No mutation, beside a query of contexts `T` and nodes `N`.
+/// No mutation, beside a query of contexts `T` and nodes `N`: an object type without fields of its own.
 #[derive(Drop)]
 pub struct EmptyMutation<T, N> {
     query: PhantomData<(T, N)>,
@@ -25,17 +31,43 @@ impl<T, N> Default for EmptyMutation<T, N> {
     }
 }
 
-impl<S: ScalarValue, T, N> GraphQLType<S> for EmptyMutation<T, N> {
+impl<S: ScalarValue, T, N> GraphQLReference<S> for EmptyMutation<T, N> {
     type TypeInfo = ();
 
     ghost named = { λ _. Some (codes "_EmptyMutation") };
 
+    ghost reference = { λ _. named_type true (codes "_EmptyMutation") };
+
     fn name(_info: &Self::TypeInfo) -> Option<&str> {
         Some("_EmptyMutation")
     }
+
+    #[tactic(auto, unfolding(graphql_spec::specs::Types::innermost))]
+    fn type_in(
+        _alloc: Global,
+        _info: &Self::TypeInfo,
+        registry: &mut Registry<S>,
+    ) -> Result<Type<String>, AllocError> {
+        registry.named_type("_EmptyMutation")
+    }
 }
 
-/// No subscription, beside a query of contexts `T`.
+impl<S: ScalarValue, T, N> GraphQLType<S> for EmptyMutation<T, N> {
+    ghost declaration = { λ _. named_meta (codes "_EmptyMutation") (object_type (typename_field ∷ []) []) };
+
+    fn meta(
+        alloc: Global,
+        info: &Self::TypeInfo,
+        registry: &mut Registry<S>,
+    ) -> Result<MetaType<S>, AllocError> {
+        let object = registry.build_object_type::<EmptyMutation<T, N>>(info, Vec::new(alloc))?;
+        Ok(object.into_meta())
+    }
+
+    ghost keeps_name = { λ _ _ e. e };
+}
+
+/// No subscription, beside a query of contexts `T`: an object type without fields of its own.
 #[derive(Drop)]
 pub struct EmptySubscription<T> {
     query: PhantomData<T>,
@@ -54,12 +86,38 @@ impl<T> Default for EmptySubscription<T> {
     }
 }
 
-impl<S: ScalarValue, T> GraphQLType<S> for EmptySubscription<T> {
+impl<S: ScalarValue, T> GraphQLReference<S> for EmptySubscription<T> {
     type TypeInfo = ();
 
     ghost named = { λ _. Some (codes "_EmptySubscription") };
 
+    ghost reference = { λ _. named_type true (codes "_EmptySubscription") };
+
     fn name(_info: &Self::TypeInfo) -> Option<&str> {
         Some("_EmptySubscription")
     }
+
+    #[tactic(auto, unfolding(graphql_spec::specs::Types::innermost))]
+    fn type_in(
+        _alloc: Global,
+        _info: &Self::TypeInfo,
+        registry: &mut Registry<S>,
+    ) -> Result<Type<String>, AllocError> {
+        registry.named_type("_EmptySubscription")
+    }
+}
+
+impl<S: ScalarValue, T> GraphQLType<S> for EmptySubscription<T> {
+    ghost declaration = { λ _. named_meta (codes "_EmptySubscription") (object_type (typename_field ∷ []) []) };
+
+    fn meta(
+        alloc: Global,
+        info: &Self::TypeInfo,
+        registry: &mut Registry<S>,
+    ) -> Result<MetaType<S>, AllocError> {
+        let object = registry.build_object_type::<EmptySubscription<T>>(info, Vec::new(alloc))?;
+        Ok(object.into_meta())
+    }
+
+    ghost keeps_name = { λ _ _ e. e };
 }

@@ -1,4 +1,4 @@
-//! Resolvers and what they are asked with.
+//! Types of GraphQL by Rust types, resolvers, and what they are asked with.
 #![tactic(auto)]
 
 pub mod empty;
@@ -8,5 +8,6 @@ pub mod resolver;
 
 pub use empty::{EmptyMutation, EmptySubscription};
 pub use executor::Executor;
+pub use juniper_registry::{GraphQLReference, GraphQLType, Registry, RegistryError, TypeKind};
 pub use resolved::Resolved;
-pub use resolver::{GraphQLType, GraphQLValue};
+pub use resolver::GraphQLValue;

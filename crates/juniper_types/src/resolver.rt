@@ -1,6 +1,6 @@
 //! Resolvers.
 
-ghost use Rattle.std.specs.Prelude.{◌≡◌, Option, option_map};
+ghost use Rattle.std.specs.Prelude.{◌≡◌, option_map};
 ghost use Rattle.graphql_spec.specs.Shown.{Name};
 ghost use Rattle.graphql_spec.specs.Constants.{Members};
 ghost use Rattle.graphql_spec.specs.Resolvers.{Reply};
@@ -10,22 +10,10 @@ ghost use Rattle.juniper_types.specs.ResolvedView.{Answers};
 
 use crate::executor::Executor;
 use crate::resolved::Resolved;
+use juniper_registry::GraphQLType;
 use juniper_syntax::ScalarValue;
 use juniper_values::{Arguments, ResolveError};
 use std::alloc::Global;
-
-/// A type of GraphQL.
-pub trait GraphQLType<S: ScalarValue> {
-    /// What tells several GraphQL types of one Rust type apart.
-    type TypeInfo;
-
-    /// Its name.
-    ghost named: { Self.TypeInfo → Option Name };
-
-    /// Its name; `None` for lists and other types without one.
-    fn name(info: &Self::TypeInfo) -> Option<&str>
-        ensures { option_map (λ n. n.now) result ≡ named info.now };
-}
 
 /// A resolver by its meaning: two definitions, which each implementation writes and which its calls answer, memory aside.
 /// They see the arguments' meaning alone, so neither their order nor where they are written can count.

@@ -1,4 +1,4 @@
-use Rattle.std.proofs.Common.{◌≡◌, Option, Some, None, string_bytes, not, sym, ap, ◌∙◌}
+use Rattle.std.proofs.Common.{string_bytes, not, sym, ap, ◌∙◌}
 use Rattle.std.specs.Option.{option_copied}
 use Rattle.juniper_meta.specs.MetaView.{view_meta}
 use Rattle.juniper_registry.proofs.Tables.{none_found, some_found}

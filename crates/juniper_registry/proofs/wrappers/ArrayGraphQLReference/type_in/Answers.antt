@@ -1,4 +1,4 @@
-use Rattle.std.proofs.Common.{true, Some, None}
+use Rattle.std.proofs.Common.{true, Some}
 use Rattle.juniper_registry.specs.RegistryView.{view_registry}
 use Rattle.juniper_registry.proofs.Placeholders.{awaiting_list}
 use Rattle.juniper_registry.proofs.wrappers.ArrayGraphQLReference.type_in.Goals as goal
