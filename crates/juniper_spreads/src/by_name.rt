@@ -108,18 +108,18 @@ fn first_spreads<'a, S: ScalarValue>(
 fn put_spreads<'a, S: ScalarValue>(
     alloc: Global,
     definition: &Definition<'a, S>,
-    first: &mut SpreadsByName<'a>,
+    spreads: &mut SpreadsByName<'a>,
 ) -> Result<(), AllocError>
-    ensures { OnOk result ((k : Name) → spread_by first.new k ≡ option_or (spread_by first.old k) (spreads_at (fragments (view_definition S.shown definition.now ∷ [])) k)) }
+    ensures { OnOk result ((k : Name) → spread_by spreads.new k ≡ option_or (spread_by spreads.old k) (spreads_at (fragments (view_definition S.shown definition.now ∷ [])) k)) }
 {
     match definition {
         Definition::Fragment(fragment) => {
             let name = fragment.item.name.item;
-            if first.contains_key(name) {
+            if spreads.contains_key(name) {
                 return Ok(());
             }
             let written = written_in(alloc, definition)?;
-            first.insert(name, written.spreads)?;
+            spreads.insert(name, written.spreads)?;
             Ok(())
         }
         Definition::Operation(_) => Ok(()),

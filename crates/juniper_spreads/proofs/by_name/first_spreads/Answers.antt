@@ -12,7 +12,7 @@ loop-definition-init g c =
 
 pub loop-definition-preserved : goal.loop-definition-preserved
 loop-definition-preserved g c =
-    first-next (λ ds k. spreads_at (fragments ds) k) spreads-split spreads-none (view_definition g.S.ScalarValue.shown) c.args.document.now (spread_by c.loop-definition.first) (spread_by c.put_spreads.new.first)
+    first-next (λ ds k. spreads_at (fragments ds) k) spreads-split spreads-none (view_definition g.S.ScalarValue.shown) c.args.document.now (spread_by c.loop-definition.first) (spread_by c.put_spreads.new.spreads)
     c.loop-definition.definition-index c.definition-item.result c.loop-definition-test.true c.definition-item.is c.loop-definition.invariant c.in_ok-put_spreads.ensures
 
 pub returns : goal.returns
