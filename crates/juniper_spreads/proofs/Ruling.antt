@@ -4,7 +4,8 @@ use Rattle.std.specs.HashMap.{HashMap}
 use Rattle.std.specs.List.{list_any}
 use Rattle.std.specs.Option.{is_none}
 use Rattle.std.specs.Str.{bytes_eq}
-use Rattle.std.proofs.lemmas.Bool.{and_parts}
+use Rattle.std.proofs.lemmas.Bool.{and_from, and_parts}
+use Rattle.std.specs.Cmp.Derive.Mapped.{pointwise-map}
 use lib.Pointwise.{pointwise}
 use Rattle.std.proofs.Common.{Vec, Global}
 use Rattle.graphql_spec.specs.Shown.{Name}
@@ -15,7 +16,7 @@ use Rattle.graphql_spec.specs.VariableUses.{is_reached}
 use Rattle.graphql_spec.specs.Written.{selections_of}
 use Rattle.juniper_written.specs.WrittenView.{view_names}
 use Rattle.juniper_spreads.specs.SpreadsView.{AreSpreadsOf, NoneReachesItself, names_or_none, spread_by}
-use Rattle.juniper_spreads.proofs.Names.{next, same, true_false}
+use Rattle.juniper_spreads.proofs.Names.{next, same, itself, true_false}
 use Rattle.juniper_spreads.proofs.Looking.{known-is, next-is}
 
 none-is : {A : Type 0} (o : Option A) → not (is_some o) ≡ is_none o
@@ -60,3 +61,14 @@ same-names (x ∷ xs) [] e = true_false false e refl
 same-names (x ∷ xs) (y ∷ ys) e =
     let p = and_parts (bytes_eq x.now y.now) (pointwise (λ x y. bytes_eq x.now y.now) xs ys) e in
     ap₂ (λ n ns. n ∷ ns) (same x.now y.now p.0) (same-names xs ys p.1)
+
+all-same : (ks : List Name) → pointwise bytes_eq ks ks ≡ true
+all-same [] = refl
+all-same (k ∷ ks) = and_from (bytes_eq k k) (pointwise bytes_eq ks ks) (itself k) (all-same ks)
+
+pub names-same : (xs ys : List (Bor (List ℕ))) → view_names xs ≡ view_names ys → pointwise (λ x y. bytes_eq x.now y.now) xs ys ≡ true
+names-same xs ys e =
+    sym (pointwise-map (λ (n : Bor (List ℕ)). n.now) bytes_eq xs ys) ∙ (ap (pointwise bytes_eq (view_names xs)) (sym e) ∙ all-same (view_names xs))
+
+pub some-none : {P A : Type 0} (x : A) (o : Option A) → o ≡ Some x → o ≡ None → P
+some-none x o some none = true_false (is_some o) (ap is_some some) (ap is_some none)

@@ -1,6 +1,6 @@
 //! Rules on spreads: fragments that are unknown, or spread themselves; and the fragments that an operation reaches.
 
-ghost use Rattle.std.specs.Prelude.{◌≡◌, IfOk, List, Some, is_some, not, true};
+ghost use Rattle.std.specs.Prelude.{◌≡◌, ◌↔◌, IfOk, IsTrue, List, Some, is_some, not, true};
 ghost use Rattle.std.specs.List.{list_any};
 ghost use Rattle.graphql_spec.specs.Shown.{Name};
 ghost use Rattle.graphql_spec.specs.Documents.{Document, Fragment as SpecFragment, fragments};
@@ -27,9 +27,9 @@ impl<'d, 'a, S: ScalarValue> FragmentsByName<'d, 'a, S> {
         has_unknown(&self.spreads, names)
     }
 
-    /// Whether a definition that spreads these names is a fragment that they lead to (5.5.2.2). Where no fragment reaches
-    /// itself, this looks at the names alone; else it goes through all that they lead to. An error where memory is
-    /// refused.
+    /// Whether a definition that spreads these names is a fragment that they lead to (5.5.2.2). Of a name's first
+    /// fragment it looks at the names alone, where no fragment reaches itself; else it goes through all that they lead
+    /// to. An error where memory is refused.
     pub fn spreads_itself(
         &self,
         alloc: Global,
@@ -90,7 +90,7 @@ fn leads_to<'a>(
 
 /// Whether the names are those that the first fragment of a name spreads.
 fn are_first<'a>(spreads: &SpreadsByName<'a>, name: &str, names: &[&str]) -> bool
-    ensures { result ≡ true → spread_by spreads.now name.now ≡ Some (view_names names.now) }
+    ensures { IsTrue result ↔ (spread_by spreads.now name.now ≡ Some (view_names names.now)) }
 {
     match spreads.get(name) {
         Some(first) => are_same(first, names),
@@ -100,7 +100,7 @@ fn are_first<'a>(spreads: &SpreadsByName<'a>, name: &str, names: &[&str]) -> boo
 
 /// Whether two lists have the same names in the same order.
 fn are_same(first: &[&str], names: &[&str]) -> bool
-    ensures { result ≡ true → view_names first.now ≡ view_names names.now }
+    ensures { IsTrue result ↔ (view_names first.now ≡ view_names names.now) }
 {
     first == names
 }
