@@ -1,0 +1,8 @@
+mod Names
+mod Reaching
+mod Searching
+mod Weights
+mod Orders
+mod Looking
+mod ByName
+mod Ruling

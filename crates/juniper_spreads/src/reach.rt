@@ -1,0 +1,60 @@
+//! The names that spreads lead to.
+
+ghost use Rattle.std.specs.Prelude.{◌≡◌, ◌++◌, IfOk, List, OnOk, cond, not, true};
+ghost use Rattle.std.specs.Str.{bytes_eq};
+ghost use Rattle.graphql_spec.specs.Shown.{Name};
+ghost use Rattle.graphql_spec.specs.Documents.{Fragment};
+ghost use Rattle.graphql_spec.specs.VariableUses.{is_reached};
+ghost use Rattle.juniper_written.specs.WrittenView.{has_name, view_names};
+ghost use Rattle.juniper_spreads.specs.SpreadsView.{AreSpreadsOf, names_or_none, spread_by};
+
+use std::alloc::{AllocError, Global};
+use std::collections::{HashMap, HashSet};
+
+/// The names that each fragment spreads, by the fragment's name.
+pub type SpreadsByName<'a> = HashMap<&'a str, Vec<&'a str>>;
+
+/// The names, and all that their fragments' spreads lead to, known or not (5.8.3); the time grows with the number of
+/// spreads. An error where memory is refused.
+pub fn reached<'a>(
+    alloc: Global,
+    spreads: &SpreadsByName<'a>,
+    names: &[&'a str],
+) -> Result<HashSet<&'a str>, AllocError>
+    ensures { IfOk result (λ r. (fs : List Fragment) → AreSpreadsOf spreads.now fs → (n : Name) → has_name r n ≡ is_reached fs (view_names names.now) n) }
+{
+    let mut seen = HashSet::new(alloc);
+    let mut left = Vec::new(alloc);
+    left.extend_from_slice(names)?;
+    while let Some(name) = left.pop() {
+        if is_new(&mut seen, name)? {
+            follow(spreads, name, &mut left)?;
+        }
+    }
+    Ok(seen)
+}
+
+/// Adds what the fragment of a name spreads.
+fn follow<'a>(
+    spreads: &SpreadsByName<'a>,
+    name: &str,
+    left: &mut Vec<&'a str>,
+) -> Result<(), AllocError>
+    ensures { OnOk result (view_names left.new.items ≡ view_names left.old.items ++ names_or_none (spread_by spreads.now name.now)) }
+{
+    match spreads.get(name) {
+        Some(names) => {
+            left.extend_from_slice(names)?;
+            Ok(())
+        }
+        None => Ok(()),
+    }
+}
+
+/// Whether the name is not there yet; afterwards it is.
+pub(crate) fn is_new<'a>(seen: &mut HashSet<&'a str>, name: &'a str) -> Result<bool, AllocError>
+    ensures found { IfOk result (λ b. b ≡ not (has_name seen.old name.now)) }
+    ensures added { OnOk result ((n : Name) → has_name seen.new n ≡ cond (bytes_eq name.now n) true (has_name seen.old n)) }
+{
+    Ok(seen.insert(name)?)
+}
