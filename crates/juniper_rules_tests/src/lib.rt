@@ -6,4 +6,6 @@ mod listed;
 #[cfg(test)]
 mod names;
 #[cfg(test)]
+mod spreads;
+#[cfg(test)]
 mod written;

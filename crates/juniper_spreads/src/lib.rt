@@ -6,8 +6,6 @@ mod by_name;
 mod cycles;
 mod reach;
 mod rules;
-#[cfg(test)]
-mod tests;
 
 pub use by_name::{FragmentsByName, fragments_by_name};
 pub use reach::SpreadsByName;
