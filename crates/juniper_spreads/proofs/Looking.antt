@@ -19,6 +19,7 @@ use Rattle.juniper_spreads.proofs.Names.{next, same as same-name, true_false}
 use Rattle.juniper_spreads.proofs.Orders.{or_unknown}
 use Rattle.juniper_spreads.proofs.Weights.{weight, less, falls, fewer}
 
+-- the names that a fragment spreads, if there is one
 names-of : (o : Option Fragment) → names_or_none (option_map (λ f. spreads f.selections) o) ≡ spreads_in o
 unfolding names_or_none spreads_in
 names-of None = refl
@@ -46,6 +47,7 @@ module _ {H : Type 0} (m : HashMap (Bor (List ℕ)) (Vec (Bor (List ℕ)) Global
   unfolding spread_by
   missing-is k o e is = ap (option_map (λ w. view_names w.items)) (sym e ∙ ap option_copied is)
 
+-- what the opposite of a test tells
 pub not-true : (a b : Bool) → a ≡ not b → a ≡ true → b ≡ false
 not-true a true is e = sym e ∙ is
 not-true a false is e = refl
@@ -58,9 +60,6 @@ not-false a false is e = sym e ∙ is
 pub popped : {A : Type 0} (old rest : List A) (o : Option A) (x : A) → old ≡ rest ++ option_to_list o → o ≡ Some x → old ≡ rest ++ x ∷ []
 popped old rest o x e is = e ∙ ap (λ p. rest ++ option_to_list p) is
 
-pub none-popped : {A : Type 0} (old rest : List A) (o : Option A) → old ≡ rest ++ option_to_list o → o ≡ None → length old ≡ length rest
-none-popped old rest o e is = ap length (e ∙ ap (λ p. rest ++ option_to_list p) is) ∙ (length-append rest [] ∙ omega arith)
-
 pub names-popped : (old rest : List (Bor (List ℕ))) (x : Bor (List ℕ)) → old ≡ rest ++ x ∷ [] → view_names old ≡ view_names rest ++ x.now ∷ []
 names-popped old rest x e = seen-push (λ (n : Bor (List ℕ)). n.now) rest old x e
 
@@ -72,6 +71,7 @@ goes-down m seen now x is new left rest made last e grown =
     let l : length left ≡ length rest + 1 = ap length e ∙ length-append rest (last ∷ []) in
     omega (arith, f, l, grown)
 
+-- there is less to do once one is taken away
 pub goes-on : {H A : Type 0} (m : HashMap (Bor (List ℕ)) (Vec (Bor (List ℕ)) Global) H) (seen now : Name → Bool) (x : Name) → ((n : Name) → now n ≡ cond (bytes_eq x n) true (seen n)) →
     (left rest : List A) (last : A) → left ≡ rest ++ last ∷ [] → weight now m.entries + length rest < weight seen m.entries + length left
 goes-on m seen now x is left rest last e =
@@ -96,6 +96,7 @@ pub empty-has : {H : Type 0} (s : HashSet (Bor (List ℕ)) H) → s.keys ≡ [] 
 unfolding has_name
 empty-has s none n = ap (list_any (λ k. bytes_eq n k.now)) none
 
+-- what a look-up tells
 pub found-by : {H : Type 0} (m : HashMap (Bor (List ℕ)) (Vec (Bor (List ℕ)) Global) H) (k : Name) → is_some (get_by (λ n. bytes_eq k n.now) m) ≡ is_some (spread_by m k)
 unfolding spread_by
 found-by m k = sym (some-map (λ v. view_names v.items) (get_by (λ n. bytes_eq k n.now) m))
