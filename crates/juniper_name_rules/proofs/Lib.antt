@@ -1,3 +1,4 @@
-mod NamesBefore
 mod Counted
+mod FieldRepeats
 mod Known
+mod NamesBefore

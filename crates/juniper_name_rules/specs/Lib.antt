@@ -1,1 +1,2 @@
 pub mod NamesBefore
+pub mod FieldNames

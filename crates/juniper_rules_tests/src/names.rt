@@ -2,7 +2,8 @@
 
 use juniper_language::{DefaultScalarValue, Definition, Document, parse_document_source};
 use juniper_name_rules::{
-    Earlier, has_unknown_directive, is_not_alone, repeats_argument, repeats_variable,
+    Earlier, has_unknown_directive, is_not_alone, repeats_argument, repeats_input_field,
+    repeats_variable,
 };
 use juniper_written::{argument_lists, written_in};
 use std::alloc::{AllocError, Global};
@@ -13,6 +14,12 @@ const ROWS: &str = "\
 { a(x: 1, y: 2, x: 3) } => argument;
 { a @skip(if: true, if: true) } => argument;
 { a { b(x: 1, x: 1) } } { c } => aloneargument;alone;
+{ a(x: {k: 1, l: {k: 2}, m: [{k: 3}, {k: 4}]}) } => ;
+{ a(x: {k: 1, l: 2, k: 1}) } => field;
+{ a { b(x: 1, y: [[], [{k: {l: 1, m: null, l: 1}}]]) } } => field;
+{ a @d(x: {k: $k, k: $k}) } => fielddirective;
+query Q($n: T = {k: 1, l: 1}, $m: [T] = [{k: 1}, {k: 1, k: 1}]) { a } => field;
+fragment F on T { a @skip(if: {k: E, k: E}) } => field;
 { a @what } => directive;
 query @specifiedBy(url: 1) @include(if: true) { a @deprecated ...F @skip(if: true) } => ;
 query Q($n: Int @Skip) { a } => directive;
@@ -73,6 +80,8 @@ fn find(
     let written = written_in(alloc, definition)?;
     let arguments = argument_lists(alloc, &written)?;
     tell(repeats_argument(alloc, &arguments)?, "argument", line)?;
+    let repeats = repeats_input_field(alloc, definition, &arguments)?;
+    tell(repeats, "field", line)?;
     tell(has_unknown_directive(&written), "directive", line)?;
     line.push_str(";")
 }
