@@ -1,5 +1,5 @@
 -- The operations of a document, counted, and whether one of them is alone.
-use Rattle.std.proofs.Common.{◌≡◌, ℕ, suc, ◌+◌, ◌<◌, ◌≤◌, arith, true, false, List, [], ◌∷◌, length, get_or, drop, map, Option, Some, None, option_map, refl, sym, ap, ◌∙◌}
+use Rattle.std.proofs.Common.{◌≡◌, ℕ, suc, ◌+◌, ◌<◌, ◌≤◌, arith, true, false, List, ◌∷◌, length, get_or, drop, map, Option, Some, None, option_map, refl, ap, ◌∙◌}
 use Rattle.std.specs.Option.{is_none, is_some}
 use Rattle.std.proofs.lemmas.List.{drop_all}
 use Rattle.graphql_spec.specs.Shown.{Shown}
@@ -7,7 +7,7 @@ use Rattle.graphql_spec.specs.Documents as spec
 use Rattle.graphql_spec.specs.Documents.{operations}
 use Rattle.juniper_position.specs.declared.position.Spanning.{Spanning}
 use Rattle.juniper_position.specs.declared.position.Span.{Span}
-use Rattle.juniper_syntax.specs.DocumentView.{view_definition, view_operation, view_fragment}
+use Rattle.juniper_syntax.specs.DocumentView.{view_definition}
 use Rattle.juniper_syntax.specs.declared.ast.Definition.{Definition}
 use Rattle.juniper_syntax.specs.declared.ast.Definition.TheVariants.{Operation, Fragment}
 use Rattle.juniper_syntax.specs.declared.ast.Operation.{Operation as OperationType}

@@ -1,5 +1,5 @@
 -- The variables that an operation defines.
-use Rattle.std.proofs.Common.{◌≡◌, Option, Some, None, option_map, map, refl, ap, ◌∙◌}
+use Rattle.std.proofs.Common.{◌≡◌, Option, Some, None, option_map, map, refl}
 use Rattle.graphql_spec.specs.Shown.{Shown}
 use Rattle.graphql_spec.specs.Documents as spec
 use Rattle.graphql_spec.specs.Documents.{variables_of}

@@ -1,4 +1,4 @@
-use Rattle.std.proofs.Common.{◌<◌, ◌≤◌, length, map, arith, sym, ap, ◌∙◌}
+use Rattle.std.proofs.Common.{◌<◌, ◌≤◌, length, map, arith, sym, ◌∙◌}
 use Rattle.graphql_spec.specs.Documents.{written}
 use Rattle.graphql_spec.specs.Written.{repeats}
 use Rattle.juniper_syntax.specs.DocumentView.{view_arguments}

@@ -1,8 +1,8 @@
 use Rattle.std.proofs.Common.{sym, ap, refl, ◌∙◌, ◌||◌}
-use Rattle.graphql_spec.specs.Written.{repeats, field_repeats, item_repeats, fields_repeat}
+use Rattle.graphql_spec.specs.Written.{field_repeats, item_repeats, fields_repeat}
 use Rattle.juniper_syntax.specs.InputView.{view_input, view_items, view_fields}
 use Rattle.juniper_syntax.proofs.Inputs.{view-Null, view-Scalar, view-Enum, view-Variable, view-List, view-Object}
-use Rattle.juniper_name_rules.specs.FieldNames.{names_of, values_repeat}
+use Rattle.juniper_name_rules.specs.FieldNames.{values_repeat}
 use Rattle.juniper_name_rules.proofs.FieldRepeats.{repeats-split, items_pass, items_stop, items_done, fields_pass, fields_stop, fields_done}
 use Rattle.juniper_name_rules.proofs.unique_input_field_names.+repeating.Goals as goal
 

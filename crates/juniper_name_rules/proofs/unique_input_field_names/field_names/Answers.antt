@@ -1,4 +1,4 @@
-use Rattle.std.proofs.Common.{◌++◌, [], ◌∷◌, ap, sym, ◌∙◌}
+use Rattle.std.proofs.Common.{◌++◌, [], ◌∷◌, ap, ◌∙◌}
 use Rattle.juniper_syntax.specs.InputView.{view_fields}
 use Rattle.juniper_syntax.proofs.Lists.{seen-push}
 use Rattle.juniper_written.specs.WrittenView.{view_names}

@@ -1,4 +1,4 @@
-use Rattle.std.proofs.Common.{◌<◌, ◌≤◌, length, arith, sym, ap, ◌∙◌}
+use Rattle.std.proofs.Common.{◌<◌, ◌≤◌, length, arith, sym, ◌∙◌}
 use Rattle.graphql_spec.specs.Documents.{written}
 use Rattle.std.specs.List.{list_any}
 use Rattle.juniper_name_rules.specs.FieldNames.{value_repeats_in}

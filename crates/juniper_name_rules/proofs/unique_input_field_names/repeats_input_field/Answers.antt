@@ -1,9 +1,8 @@
-use Rattle.std.proofs.Common.{ap, sym, ◌∙◌, ◌||◌, Bool, true, false}
+use Rattle.std.proofs.Common.{ap, sym, ◌∙◌, ◌||◌}
 use Rattle.std.specs.List.{list_any}
 use Rattle.graphql_spec.specs.Written.{default_values, defined_variables, field_repeats}
 use Rattle.juniper_syntax.specs.DocumentView.{view_definition}
 use Rattle.juniper_written.specs.WrittenView.{view_lists}
-use Rattle.juniper_name_rules.specs.FieldNames.{value_repeats_in}
 use Rattle.juniper_name_rules.proofs.FieldRepeats.{repeats-parts}
 use Rattle.juniper_name_rules.proofs.unique_input_field_names.repeats_input_field.Goals as goal
 

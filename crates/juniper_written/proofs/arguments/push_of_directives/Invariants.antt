@@ -1,5 +1,5 @@
 use Rattle.graphql_spec.specs.Documents.{written}
-use Rattle.juniper_syntax.specs.DocumentView.{view_arguments, view_directive}
+use Rattle.juniper_syntax.specs.DocumentView.{view_directive}
 use Rattle.juniper_written.specs.WrittenView.{view_list}
 use Rattle.juniper_written.proofs.Lists.{IsSeenSoFar}
 use Rattle.juniper_written.proofs.arguments.push_of_directives.Given as goal

@@ -1,4 +1,4 @@
-use Rattle.std.proofs.Common.{ap, ◌∙◌, Bool, not, true, false, refl, ◌≡◌}
+use Rattle.std.proofs.Common.{ap, Bool, not, true, false, ◌≡◌}
 use Rattle.juniper_written.specs.WrittenView.{has_name}
 use Rattle.juniper_written.proofs.names.is_seen.Goals as goal
 

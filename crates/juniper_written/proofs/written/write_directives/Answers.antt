@@ -1,8 +1,7 @@
-use Rattle.std.proofs.Common.{◌∙◌, ap}
 use Rattle.juniper_syntax.specs.DocumentView.{view_directive}
 use Rattle.juniper_syntax.proofs.Lists.{seen-push}
 use Rattle.juniper_written.specs.WrittenView.{view_directives_at}
-use Rattle.juniper_written.proofs.Lists.{seen-next, seen-all}
+use Rattle.juniper_written.proofs.Lists.{seen-next}
 use Rattle.juniper_written.proofs.written.write_directives.Goals as goal
 
 pub loop-directive-preserved : goal.loop-directive-preserved

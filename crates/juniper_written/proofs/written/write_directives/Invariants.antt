@@ -1,7 +1,3 @@
-use Rattle.std.specs.Borrow.{Bor}
-use Rattle.juniper_position.specs.declared.position.Spanning.{Spanning}
-use Rattle.juniper_position.specs.declared.position.Span.{Span}
-use Rattle.juniper_syntax.specs.declared.ast.Directive.{Directive}
 use Rattle.juniper_syntax.specs.DocumentView.{view_directive}
 use Rattle.juniper_written.specs.WrittenView.{view_directives_at}
 use Rattle.juniper_written.proofs.Lists.{IsSeenSoFar}

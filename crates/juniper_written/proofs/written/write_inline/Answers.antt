@@ -3,7 +3,7 @@ use Rattle.std.proofs.lemmas.List.{append-nil}
 use Rattle.juniper_syntax.proofs.Lists.{seen-push}
 use Rattle.juniper_syntax.specs.DocumentView.{view_word}
 use Rattle.juniper_written.specs.Parts.{condition_names}
-use Rattle.juniper_written.specs.WrittenView.{view_directives_at, view_inline, view_names, view_written}
+use Rattle.juniper_written.specs.WrittenView.{view_inline, view_names, view_written}
 use Rattle.juniper_written.proofs.Joining.{adds-inline-head}
 use Rattle.juniper_written.proofs.written.write_inline.Goals as goal
 use Rattle.juniper_written.proofs.written.write_inline.Goals.{in-Some+in_ok-push-in-Some, in-None}

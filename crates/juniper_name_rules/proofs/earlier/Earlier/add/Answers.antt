@@ -1,4 +1,4 @@
-use Rattle.std.proofs.Common.{◌++◌, ◌||◌, ◌∷◌, [], Some, None, option_map, ap, sym, ◌∙◌, refl}
+use Rattle.std.proofs.Common.{◌++◌, ◌||◌, ◌∷◌, [], option_map, ap, sym, ◌∙◌}
 use Rattle.std.specs.Option.{is_some}
 use Rattle.graphql_spec.specs.Documents.{fragments, word_name}
 use Rattle.graphql_spec.specs.Fragments.{fragment_of}
