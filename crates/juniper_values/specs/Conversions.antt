@@ -37,7 +37,7 @@ scalar_of (variable x) = None
 scalar_of (list vs) = None
 scalar_of (object ms) = None
 
--- an Int, a Boolean, a String (3.5.1, 3.5.5, 3.5.3)
+-- an Int, a Boolean, a String (3.5.1, 3.5.4, 3.5.3)
 abbrev pub int_of : Constant → Option ℤ
 int_of v = option_and_then shown_int (scalar_of v)
 

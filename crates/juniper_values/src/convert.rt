@@ -76,7 +76,7 @@ impl<S: ScalarValue> ToInputValue<S> for i32 {
     }
 }
 
-/// A Boolean (3.5.5).
+/// A Boolean (3.5.4).
 impl<S: ScalarValue> FromInputValue<S> for bool {
     ghost use Rattle.juniper_values.specs.Conversions.{GivesScalar};
 
