@@ -73,7 +73,7 @@ fn node_type(alloc: Global) -> Result<MetaType<DefaultScalarValue>, AllocError> 
     Ok(InterfaceMeta::new(alloc, name, fields).into_meta())
 }
 
-/// `type Query { first: T0 }`.
+/// The query type, with a field of the first object type.
 fn query_type(alloc: Global) -> Result<MetaType<DefaultScalarValue>, AllocError> {
     let name = String::from_str(alloc, "Query")?;
     let of_type = Type::Named(type_name(alloc, 0)?);
@@ -81,7 +81,8 @@ fn query_type(alloc: Global) -> Result<MetaType<DefaultScalarValue>, AllocError>
     Ok(ObjectMeta::new(alloc, name, fields).into_meta())
 }
 
-/// The object type of this number: `type T6 implements Node { id: ID!, parent: T3, others(first: Int = 10): [T2!]! }`.
+/// The object type of this number, which implements `Node`: its `id`, a `parent` of the type of half the number, and `others`
+/// of a list of the type of a third of it.
 fn object_type(alloc: Global, number: usize) -> Result<MetaType<DefaultScalarValue>, AllocError> {
     let name = type_name(alloc, number)?;
     let fields = vec![in alloc;
