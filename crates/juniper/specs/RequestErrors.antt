@@ -12,7 +12,7 @@ use Rattle.juniper_position.specs.declared.position.Span.{Span}
 use Rattle.juniper_position.specs.declared.position.Spanning.{Spanning}
 use Rattle.juniper.specs.declared.error.GraphQLError.{GraphQLError}
 use Rattle.juniper.specs.declared.error.GraphQLError.TheVariants as code
-use Rattle.juniper_rules.specs.RuleView.{view_rule_error}
+use Rattle.juniper_position.specs.RuleView.{view_rule_error}
 
 pub data RequestError : Type 0 where
   not_parsed : Spanned Refusal → RequestError

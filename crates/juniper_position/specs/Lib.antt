@@ -1,2 +1,3 @@
 pub mod Positions
 pub mod Refusals
+pub mod RuleView

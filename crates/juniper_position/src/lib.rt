@@ -1,8 +1,10 @@
-//! Places in a text, and the refusals of a text that says nothing.
+//! Places in a text, the refusals of a text that says nothing, and the errors of validation.
 #![tactic(auto)]
 
 pub mod error;
 pub mod position;
+pub mod rule;
 
 pub use error::{LexerError, ParseError};
 pub use position::{SourcePosition, Span, Spanning};
+pub use rule::RuleError;

@@ -6,13 +6,12 @@ ghost use Rattle.graphql_spec.specs.Executable.{is_executable};
 ghost use Rattle.graphql_spec.specs.FirstRules.{first_rule_errors, is_plain_operation, served_rule_errors, unsupported};
 ghost use Rattle.juniper_position.specs.Positions.{view_position};
 ghost use Rattle.juniper_syntax.specs.DocumentView.{view_definition, view_document, view_operation};
-ghost use Rattle.juniper_rules.specs.RuleView.{view_rule_error};
+ghost use Rattle.juniper_position.specs.RuleView.{view_rule_error};
 ghost use Rattle.juniper_rules.specs.PlainSelections.{head_seen, reported_at, type_errors_of};
 ghost use Rattle.juniper_schema.specs.SchemaView.{view_schema};
 
 use crate::arguments_of_correct_type::has_wrong_argument;
 use crate::calls::fields_in;
-use crate::error::RuleError;
 use crate::fields_on_correct_type::has_unknown_field;
 use crate::known_argument_names::has_unknown_argument;
 use crate::occurrences::Occurrences;
@@ -22,7 +21,7 @@ use crate::served::served_operation;
 use crate::unique_argument_names::repeats_argument;
 use juniper_schema::SchemaType;
 use juniper_syntax::{
-    Definition, Document, Operation, ScalarValue, SourcePosition, Span, Spanning,
+    Definition, Document, Operation, RuleError, ScalarValue, SourcePosition, Span, Spanning,
 };
 use std::alloc::{AllocError, Global};
 

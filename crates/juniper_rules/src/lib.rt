@@ -3,7 +3,6 @@
 
 mod arguments_of_correct_type;
 mod calls;
-mod error;
 mod fields_on_correct_type;
 mod first;
 mod known_argument_names;
@@ -13,7 +12,7 @@ mod provided_non_null_arguments;
 mod served;
 mod unique_argument_names;
 
-pub use error::RuleError;
 pub use first::validate;
+pub use juniper_syntax::RuleError;
 pub use occurrences::{Occurrences, response_key};
 pub use served::served_operation;

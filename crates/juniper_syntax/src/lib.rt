@@ -16,7 +16,7 @@ pub use ast::{
 };
 pub use input::{InputValue, Variables};
 pub use juniper_position::{
-    LexerError, ParseError, SourcePosition, Span, Spanning, error, position,
+    LexerError, ParseError, RuleError, SourcePosition, Span, Spanning, error, position, rule,
 };
 pub use scalar::{DefaultScalarValue, ScalarValue};
 pub use types::Type;

@@ -1,6 +1,6 @@
 use Rattle.std.proofs.Common.{map, ap, ◌∙◌}
 use Rattle.juniper_syntax.specs.DocumentView.{view_operation, view_selections}
-use Rattle.juniper_rules.specs.RuleView.{view_rule_error}
+use Rattle.juniper_position.specs.RuleView.{view_rule_error}
 use Rattle.juniper_rules.specs.PlainSelections.{head_seen, plain_heads}
 use Rattle.juniper_schema.specs.SchemaView.{view_schema}
 use Rattle.juniper_syntax.proofs.Lists.{none-seen, some-seen}

@@ -1,7 +1,7 @@
 use Rattle.std.proofs.Common.{◌≡◌, [], ◌∷◌, IfOk, map, codes, sym, ap, subst, ◌∙◌}
 use Rattle.graphql_spec.specs.FirstRules.{unsupported}
 use Rattle.juniper_syntax.specs.DocumentView.{view_definition}
-use Rattle.juniper_rules.specs.RuleView.{view_rule_error}
+use Rattle.juniper_position.specs.RuleView.{view_rule_error}
 use Rattle.juniper_rules.proofs.ServedDocuments.{nothing-unsupported, first-unsupported}
 use Rattle.juniper_rules.proofs.first.unsupported.Goals as goal
 

@@ -2,7 +2,7 @@ use Rattle.std.proofs.Common.{◌≡◌, false, IfOk, map, subst, sym, ◌∙◌
 use Rattle.graphql_spec.specs.ServedFields.{has_scalar_fields}
 use Rattle.juniper_syntax.specs.DocumentView.{view_document, view_operation}
 use Rattle.juniper_schema.specs.SchemaView.{view_schema}
-use Rattle.juniper_rules.specs.RuleView.{view_rule_error}
+use Rattle.juniper_position.specs.RuleView.{view_rule_error}
 use Rattle.juniper_rules.proofs.ServedDocuments.{served-errors, unserved-errors, other-schema-errors, only-is-plain}
 use Rattle.juniper_rules.proofs.first.validate.Goals as goal
 

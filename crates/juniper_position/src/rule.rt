@@ -2,9 +2,9 @@
 
 ghost use Rattle.std.specs.Prelude.{◌≡◌, IfOk, map, [], ◌∷◌};
 ghost use Rattle.juniper_position.specs.Positions.{view_position};
-ghost use Rattle.juniper_rules.specs.RuleView.{view_rule_error};
+ghost use Rattle.juniper_position.specs.RuleView.{view_rule_error};
 
-use juniper_syntax::SourcePosition;
+use crate::position::SourcePosition;
 use std::alloc::{AllocError, Global};
 use std::slice;
 
