@@ -1,0 +1,7 @@
+//! The fields and directives of a definition with the types that they stand on, and their arguments with the
+//! declarations that these should meet (sections 5.3 and 5.4 of the Specification).
+#![tactic(auto)]
+
+mod call;
+
+pub use call::Call;
