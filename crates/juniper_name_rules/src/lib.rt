@@ -11,7 +11,7 @@ mod unique_variable_names;
 
 pub use earlier::Earlier;
 pub use known_directives::has_unknown_directive;
-pub use lone_anonymous_operation::is_not_alone;
+pub use lone_anonymous_operation::{count_operations, is_not_alone};
 pub use unique_argument_names::repeats_argument;
 pub use unique_input_field_names::repeats_input_field;
 pub use unique_variable_names::repeats_variable;

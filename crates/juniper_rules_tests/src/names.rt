@@ -2,7 +2,7 @@
 
 use juniper_language::{DefaultScalarValue, Definition, Document, parse_document_source};
 use juniper_name_rules::{
-    Earlier, has_unknown_directive, is_not_alone, repeats_argument, repeats_input_field,
+    Earlier, count_operations, has_unknown_directive, is_not_alone, repeats_argument, repeats_input_field,
     repeats_variable,
 };
 use juniper_written::{argument_lists, written_in};
@@ -62,9 +62,14 @@ fn found_in(
 ) -> Result<String, AllocError> {
     let mut line = String::new(alloc);
     let mut earlier = Earlier::new(alloc);
+    let operation_count = count_operations(document);
     for definition in document {
         find_names(&earlier, definition, &mut line)?;
-        tell(is_not_alone(document, definition), "alone", &mut line)?;
+        tell(
+            is_not_alone(definition, operation_count),
+            "alone",
+            &mut line,
+        )?;
         find(alloc, definition, &mut line)?;
         earlier.add(definition)?;
     }

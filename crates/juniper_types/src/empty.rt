@@ -13,7 +13,7 @@ use std::alloc::{AllocError, Global};
 use std::marker::PhantomData;
 
 /// No mutation, beside a query of contexts `T` and nodes `N`: an object type without fields of its own.
-#[derive(Drop)]
+#[derive(Debug, Drop)]
 pub struct EmptyMutation<T, N> {
     query: PhantomData<(T, N)>,
 }

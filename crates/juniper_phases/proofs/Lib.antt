@@ -1,0 +1,3 @@
+pub mod AtEach
+pub mod KnownTypes
+pub mod Phases

@@ -1,0 +1,9 @@
+//! The rules of validation in their phases (section 5 of the Specification): names; types, which stand on these; and uses,
+//! which stand on both.
+#![tactic(auto)]
+
+mod known_type_names;
+mod names;
+mod report;
+
+pub use names::name_errors;

@@ -1,0 +1,101 @@
+//! The first phase: names, on which the other rules stand.
+
+ghost use Rattle.std.specs.Prelude.{◌≡◌, ◌++◌, Bool, IfOk, List, OnOk, map, []};
+ghost use Rattle.graphql_spec.specs.Documents as documents;
+ghost use Rattle.graphql_spec.specs.Rules as rules;
+ghost use Rattle.graphql_spec.specs.Rules.{at_each};
+ghost use Rattle.juniper_name_rules.specs.NamesBefore.{IsEarlier};
+ghost use Rattle.juniper_position.specs.RuleView.{view_rule_error};
+ghost use Rattle.juniper_schema.specs.SchemaView.{view_schema};
+ghost use Rattle.juniper_spreads.specs.SpreadsView.{AreFragmentsOf};
+ghost use Rattle.juniper_syntax.specs.DocumentView.{view_definition};
+ghost use Rattle.juniper_phases.specs.Operations.{OperationsOf};
+
+use crate::known_type_names::has_unknown_type;
+use crate::report::report;
+use juniper_name_rules::{
+    Earlier, count_operations, has_unknown_directive, is_not_alone, repeats_argument,
+    repeats_input_field, repeats_variable,
+};
+use juniper_schema::SchemaType;
+use juniper_spreads::FragmentsByName;
+use juniper_syntax::{Definition, RuleError, ScalarValue};
+use juniper_written::{argument_lists, written_in};
+use std::alloc::{AllocError, Global};
+
+/// What the rules on names find in a document with these fragments: an error for each rule that a definition violates, in
+/// the order of the definitions, and of the rules at each. An error where memory is refused.
+pub fn name_errors<'d, 'a, S: ScalarValue>(
+    alloc: Global,
+    schema: &SchemaType<S>,
+    document: &'d [Definition<'a, S>],
+    fragments: &FragmentsByName<'d, 'a, S>,
+) -> Result<Vec<RuleError>, AllocError>
+    ensures { IfOk result (λ es. (disabled : Bool) → AreFragmentsOf S.shown fragments.now (map (view_definition S.shown) document.now) → map view_rule_error es.items ≡ at_each (rules.name_errors (view_schema S.shown schema.now) disabled (map (view_definition S.shown) document.now)) [] (map (view_definition S.shown) document.now)) }
+{
+    let operation_count = count_operations(document);
+    let mut errors = Vec::new(alloc);
+    let mut earlier = Earlier::new(alloc);
+    for definition in document {
+        find_names(
+            alloc,
+            schema,
+            fragments,
+            operation_count,
+            &earlier,
+            definition,
+            &mut errors,
+        )?;
+        earlier.add(definition)?;
+    }
+    Ok(errors)
+}
+
+/// Adds what the rules on names find at a definition, behind these earlier ones.
+fn find_names<'d, 'a, S: ScalarValue>(
+    alloc: Global,
+    schema: &SchemaType<S>,
+    fragments: &FragmentsByName<'d, 'a, S>,
+    operation_count: usize,
+    earlier: &Earlier<'a>,
+    definition: &'d Definition<'a, S>,
+    errors: &mut Vec<RuleError>,
+) -> Result<(), AllocError>
+    ensures { OnOk result ((disabled : Bool) (d : documents.Document) (ds : List documents.Definition) → AreFragmentsOf S.shown fragments.now d → OperationsOf operation_count d → IsEarlier earlier.now ds → map view_rule_error errors.new.items ≡ map view_rule_error errors.old.items ++ rules.name_errors (view_schema S.shown schema.now) disabled d ds (view_definition S.shown definition.now)) }
+{
+    let written = written_in(alloc, definition)?;
+    let arguments = argument_lists(alloc, &written)?;
+    let spreads_itself = fragments.spreads_itself(alloc, definition, &written.spreads)?;
+    let repeats_variable = repeats_variable(alloc, definition)?;
+    let repeats_argument = repeats_argument(alloc, &arguments)?;
+    let repeats_input_field = repeats_input_field(alloc, definition, &arguments)?;
+    let findings = [
+        (
+            earlier.repeats_operation(definition),
+            "Operation name is not unique",
+        ),
+        (
+            is_not_alone(definition, operation_count),
+            "Anonymous operation is not alone",
+        ),
+        (
+            earlier.repeats_fragment(definition),
+            "Fragment name is not unique",
+        ),
+        (
+            fragments.spreads_unknown(&written.spreads),
+            "Unknown fragment",
+        ),
+        (spreads_itself, "Fragment spreads itself"),
+        (repeats_variable, "Variable name is not unique"),
+        (repeats_argument, "Argument name is not unique"),
+        (repeats_input_field, "Input field name is not unique"),
+        (has_unknown_directive(&written), "Unknown directive"),
+        (
+            has_unknown_type(schema, definition, &written),
+            "Unknown type",
+        ),
+    ];
+    report(alloc, errors, definition, &findings)?;
+    Ok(())
+}
