@@ -13,7 +13,7 @@ mod values;
 pub use juniper_syntax::{
     DefaultScalarValue, Definition, Directive, Document, Field, Fragment, FragmentSpread,
     Fragments, InlineFragment, InputValue, LexerError, Object, Operation, OperationType,
-    ParseError, ScalarValue, Selection, SourcePosition, Span, Spanning, Type, Value,
+    ParseError, RuleError, ScalarValue, Selection, SourcePosition, Span, Spanning, Type, Value,
     VariableDefinition, VariableDefinitions, Variables, ast, error, input, laws, position, scalar,
     types, value,
 };

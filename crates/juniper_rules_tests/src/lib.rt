@@ -6,6 +6,8 @@ mod listed;
 #[cfg(test)]
 mod names;
 #[cfg(test)]
+mod phases;
+#[cfg(test)]
 mod spreads;
 #[cfg(test)]
 mod written;
