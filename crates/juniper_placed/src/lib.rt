@@ -3,5 +3,7 @@
 #![tactic(auto)]
 
 mod call;
+mod placed;
 
 pub use call::Call;
+pub use placed::{Placed, PlacedParts, placed_in};
