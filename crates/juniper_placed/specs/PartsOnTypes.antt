@@ -2,10 +2,10 @@
 use Rattle.std.specs.Prelude.{cond, List, [], ◌∷◌, ◌++◌, Option, Some, None, option_map}
 use Rattle.graphql_spec.specs.Shown.{Name}
 use Rattle.graphql_spec.specs.Types.{innermost}
-use Rattle.graphql_spec.specs.Documents.{Directive, Head, Selections, Definition}
-use Rattle.graphql_spec.specs.Schema.{Schema, FieldDeclaration}
+use Rattle.graphql_spec.specs.Documents.{Arguments, Directive, Head, Selections, Definition, written}
+use Rattle.graphql_spec.specs.Schema.{Schema, FieldDeclaration, InputDeclaration}
 use Rattle.graphql_spec.specs.Fields.{field_of, type_named, is_composite}
-use Rattle.graphql_spec.specs.Placed.{Call, Placed, placed, placed_directives, placed_in, directives_placed, field_calls, directive_calls}
+use Rattle.graphql_spec.specs.Placed.{Call, Placed, directive_named, placed, placed_directives, placed_in, directives_placed, field_calls, directive_calls}
 
 -- the fields on their parent types, and the directives
 pub record Parts : Type 0 where
@@ -60,3 +60,18 @@ type_under s p (Some c) = cond (is_composite (type_named s c)) (Some c) None
 unfoldable pub parts_below : Schema → Option Name → Selections → Parts
 parts_below s None x = nothing
 parts_below s (Some q) x = parts_on s q x
+
+-- ## Calls; only private clauses cite what follows
+
+-- arguments with their declarations, where there are such
+unfoldable pub calls_declared : Option (List InputDeclaration) → Arguments → List Call
+calls_declared None as' = []
+calls_declared (Some ds) as' = record { declared = ds; given = written as' } ∷ []
+
+-- those of a field
+unfoldable pub calls_of_field : Placed → List Call
+calls_of_field x = calls_declared (option_map (λ d. d.arguments) x.declared) x.head.arguments
+
+-- those of a directive
+unfoldable pub calls_of_directive : Directive → List Call
+calls_of_directive d = calls_declared (option_map (λ x. x.arguments) (directive_named d.name.item)) d.arguments

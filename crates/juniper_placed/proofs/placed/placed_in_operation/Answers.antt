@@ -10,7 +10,20 @@ use Rattle.juniper_placed.proofs.Placing.{made, operation-placed, operation-abse
 use Rattle.juniper_placed.proofs.placed.placed_in_operation.Goals as goal
 
 pub returns-in_ok-place_selections-in-Some : goal.returns-in_ok-place_selections-in-Some
-returns-in_ok-place_selections-in-Some g c = ?
+returns-in_ok-place_selections-in-Some g c =
+    let shown = g.S.ScalarValue.shown in
+    let s = view_schema shown c.args.schema.now in
+    let o = view_operation shown c.args.operation.now in
+    let none = view_parts shown c.nothing_placed-placed.result in
+    let own = view_directives_at shown c.write_directives.new.into.items in
+    let ds = view_directives_at shown c.write_variables.new.into.items in
+    operation-placed s none c.nothing_placed-placed.ensures o c.in-Some.root.now (view_parts shown c.place_selections.new.placed) own ds
+    (sym (ap (option_map (λ n. n.now)) c.in-Some.is) ∙ c.root_name.ensures) c.in_ok-write_directives-in-Some.ensures
+    (c.in_ok-write_variables-in-Some.ensures ∙ ap (λ vs. own ++ flat_map (λ x. x.directives) vs) (variables-seen shown c.args.operation.now.item.variable_definitions o refl))
+    (c.in_ok-place_selections-in-Some.ensures ∙ ap (λ l. joined (made none.fields ds) (parts_on s c.in-Some.root.now (view_selections shown l))) c.as_slice.ensures.value)
 
 pub returns-in-None : goal.returns-in-None
-returns-in-None g c = ?
+returns-in-None g c =
+    let shown = g.S.ScalarValue.shown in
+    operation-absent (view_schema shown c.args.schema.now) (view_parts shown c.nothing_placed-placed.result) c.nothing_placed-placed.ensures (view_operation shown c.args.operation.now)
+    (sym (ap (option_map (λ n. n.now)) c.in-None.is) ∙ c.root_name.ensures)
