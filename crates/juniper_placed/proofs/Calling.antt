@@ -1,7 +1,6 @@
 -- The arguments of fields and directives, one after the other.
-use Rattle.std.proofs.Common.{◌≡◌, List, [], ◌∷◌, ◌++◌, Option, Some, None, option_map, map, refl, sym, ap, ◌∙◌}
+use Rattle.std.proofs.Common.{◌≡◌, List, [], ◌∷◌, ◌++◌, Option, Some, None, option_map, refl, sym, ap, ◌∙◌}
 use Rattle.std.specs.List.{flat_map}
-use Rattle.std.proofs.lemmas.List.{append_assoc}
 use Rattle.graphql_spec.specs.Documents.{Arguments, Directive, written}
 use Rattle.graphql_spec.specs.Schema.{Schema, FieldDeclaration, DirectiveDeclaration}
 use Rattle.graphql_spec.specs.Placed.{Call, Placed, directive_named, field_calls, directive_calls}

@@ -22,7 +22,6 @@ use std::alloc::{AllocError, Global};
 
 /// The arguments of the fields and then of the directives, with their declarations; those that are not declared are left
 /// out. An error where memory is refused.
-#[tactic(auto, unfolding(crate::specs::PartsOnTypes::calls_of))]
 pub fn calls<'d, 'a, S: ScalarValue>(
     alloc: Global,
     schema: &'d SchemaType<S>,
@@ -74,12 +73,13 @@ fn push_directive_calls<'d, 'a, S: ScalarValue>(
 }
 
 /// Adds arguments, where there are declarations for them.
+#[tactic(auto, unfolding(crate::specs::PartsOnTypes::calls_declared))]
 fn push_call<'d, 'a, S: ScalarValue>(
     declared: Option<&'d [Argument<S>]>,
     given: &'d Option<Spanning<Arguments<'a, S>, Span>>,
     calls: &mut Vec<Call<'d, 'a, 'd, S>>,
 ) -> Result<(), AllocError>
-    ensures { OnOk result (map (view_call S.shown) calls.new.items ≡ map (view_call S.shown) calls.old.items ++ calls_declared (option_map (λ ds. map (view_argument S.shown) ds.now) declared) (view_arguments S.shown given.now)) }
+    ensures { OnOk result (map (view_call S.shown) calls.new.items ≡ map (view_call S.shown) calls.old.items ++ calls_declared (option_map (λ ds. map (view_argument S.shown) ds.now) declared.entry) (view_arguments S.shown given.now)) }
 {
     match declared {
         Some(arguments) => {

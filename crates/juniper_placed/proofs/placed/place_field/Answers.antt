@@ -1,4 +1,4 @@
-use Rattle.std.proofs.Common.{◌++◌, ap, sym, refl, ◌∙◌, option_map}
+use Rattle.std.proofs.Common.{◌++◌, ap, sym, ◌∙◌, option_map}
 use Rattle.std.proofs.lemmas.List.{append-nil}
 use Rattle.juniper_meta.specs.MetaView as metas
 use Rattle.juniper_schema.specs.SchemaView.{view_schema}
