@@ -1,1 +1,3 @@
 pub mod CallView
+pub mod PartsOnTypes
+pub mod PlacedView

@@ -7,4 +7,4 @@ mod written;
 
 pub use arguments::{ArgumentLists, argument_lists};
 pub use names::{is_seen, repeats};
-pub use written::{Written, written_in};
+pub use written::{Written, write_directives, write_variables, written_in};

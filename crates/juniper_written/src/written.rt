@@ -169,8 +169,8 @@ fn write_inline<'d, 'a, S: ScalarValue>(
     Ok(())
 }
 
-/// Adds directives.
-fn write_directives<'d, 'a, S: ScalarValue>(
+/// Adds directives. An error where memory is refused.
+pub fn write_directives<'d, 'a, S: ScalarValue>(
     directives: &'d Option<Vec<Spanning<Directive<'a, S>, Span>>>,
     into: &mut Vec<&'d Spanning<Directive<'a, S>, Span>>,
 ) -> Result<(), AllocError>
@@ -187,8 +187,8 @@ fn write_directives<'d, 'a, S: ScalarValue>(
     }
 }
 
-/// Adds the directives of variables.
-fn write_variables<'d, 'a, S: ScalarValue>(
+/// Adds the directives of variables. An error where memory is refused.
+pub fn write_variables<'d, 'a, S: ScalarValue>(
     variables: &'d Option<Spanning<VariableDefinitions<'a, S>, Span>>,
     into: &mut Vec<&'d Spanning<Directive<'a, S>, Span>>,
 ) -> Result<(), AllocError>
