@@ -65,3 +65,6 @@ entries-set = is_set entries
 
 pub directives-set : IsSet (List DirectiveDeclaration)
 directives-set = is_set directives
+
+pub fields-set : IsSet (List FieldDeclaration)
+fields-set = is_set fields

@@ -102,7 +102,8 @@ impl<S: ScalarValue> FieldList<S> {
         items
     }
 
-    fn and(self, field: Field<S>) -> Result<Self, AllocError>
+    /// This field.
+    pub(crate) fn and(self, field: Field<S>) -> Result<Self, AllocError>
         ensures { IfOk result (λ l. view_list S.shown l ≡ view_list S.shown self ++ view_field S.shown field ∷ []) }
     {
         let FieldList { alloc, mut items } = self;

@@ -6,3 +6,4 @@ pub mod Executables
 pub mod TypeLevels
 pub mod Sorting
 pub mod Pushing
+pub mod MetaFields

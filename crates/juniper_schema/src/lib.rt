@@ -3,6 +3,7 @@
 
 mod built_ins;
 mod executable;
+mod fields;
 mod fits;
 mod lists;
 mod names;

@@ -2,36 +2,40 @@
 
 ghost use Rattle.std.specs.List.{list_any};
 ghost use Rattle.std.specs.Option.{option_and_then};
-ghost use Rattle.std.specs.Prelude.{◌≡◌, IfOk, IfSome, IsSome, MatchOption, None, map, option_map, string_bytes};
+ghost use Rattle.std.specs.Prelude.{◌≡◌, ◌∷◌, IfOk, IfSome, IsSome, MatchOption, None, map, option_map, string_bytes};
 ghost use Rattle.std.specs.Str.{bytes_eq};
 ghost use Rattle.graphql_spec.specs.BuiltIns as built;
 ghost use Rattle.graphql_spec.specs.Fields as fields;
-ghost use Rattle.graphql_spec.proofs.Sets.{directives-set, entries-set};
+ghost use Rattle.graphql_spec.proofs.Sets.{directives-set, entries-set, fields-set};
 ghost use Rattle.graphql_spec.specs.Types.{innermost};
-ghost use Rattle.juniper_meta.specs.MetaView.{shape_of, view_directive, view_meta};
+ghost use Rattle.juniper_meta.specs.MetaView.{shape_of, view_directive, view_field, view_meta};
 ghost use Rattle.juniper_syntax.specs.TypeView.{view_type};
 ghost use Rattle.juniper_meta.specs.MetaView.{own_entry};
 
 use crate::built_ins::with_built_ins;
 use crate::names::{contains, entry, find_meta};
 use crate::type_type::{TypeType, list_of, non_null};
-use juniper_builtins::{directives, introspection_types};
+use juniper_builtins::{directives, introspection_types, meta_fields};
+use juniper_meta::meta::Field;
 use juniper_meta::{DirectiveType, MetaType};
 use juniper_syntax::{ScalarValue, Type};
 use std::alloc::{AllocError, Global};
 use std::collections::HashMap;
 use std::convert::AsStr;
 
-/// A schema: its types by name, the types of introspection apart, its directives, and the names of its root types (3.3).
+/// A schema: its types by name, the types of introspection apart, its directives, the fields that types have beside the
+/// declared ones, and the names of its root types (3.3).
 #[derive(Debug, Drop)]
 pub struct SchemaType<S: ScalarValue> {
     pub(crate) types: HashMap<String, MetaType<S>>,
     pub(crate) introspection: Vec<MetaType<S>>,
     pub(crate) directives: Vec<DirectiveType<S>>,
+    pub(crate) meta_fields: Vec<Field<S>>,
     pub(crate) query_name: String,
     pub(crate) mutation_name: Option<String>,
     ghost introspected: { map (own_entry S.shown) introspection.items ≡ built.introspection_types } by { entries-set _ _ },
     ghost directed: { map (view_directive S.shown) directives.items ≡ built.directives } by { directives-set _ _ },
+    ghost fielded: { map (view_field S.shown) meta_fields.items ≡ fields.typename_field ∷ fields.root_fields } by { fields-set _ _ },
 }
 
 impl<S: ScalarValue> SchemaType<S> {
@@ -54,10 +58,12 @@ impl<S: ScalarValue> SchemaType<S> {
         let types = with_built_ins(alloc, types)?;
         let introspection = introspection_types(alloc)?;
         let directives = directives(alloc)?;
+        let meta_fields = meta_fields(alloc)?;
         Ok(SchemaType {
             types,
             introspection,
             directives,
+            meta_fields,
             query_name,
             mutation_name,
         })
@@ -115,6 +121,16 @@ impl<S: ScalarValue> SchemaType<S> {
         ensures { result.now ≡ (view_schema S.shown self.now).query }
     {
         self.query_name.as_str()
+    }
+
+    /// The name of the mutation type, where the schema has one.
+    pub fn mutation_name(&self) -> Option<&str>
+        ensures { option_map (λ n. n.now) result ≡ (view_schema S.shown self.now).mutation }
+    {
+        match &self.mutation_name {
+            Some(name) => Some(name.as_str()),
+            None => None,
+        }
     }
 
     /// Whether the first name is a subtype of the second: it is the same, or lists it as an interface, or is a member of it
