@@ -1,1 +1,5 @@
+mod ByName
 mod NamesIn
+mod Parts
+mod Ruling
+mod Tests

@@ -2,5 +2,17 @@
 //! Specification): part of the third phase.
 #![tactic(auto)]
 
+mod defined;
+mod introspection;
 mod names;
+mod no_undefined_variables;
+mod places;
+mod roots;
+mod uses;
 mod values;
+mod variables_in_allowed_position;
+
+pub use introspection::looks_at_schema;
+pub use no_undefined_variables::uses_undefined;
+pub use uses::{Use, Used, used_in};
+pub use variables_in_allowed_position::misuses_variable;

@@ -1,0 +1,81 @@
+//! What a definition uses of variables (section 5.8 of the Specification).
+
+ghost use Rattle.std.specs.Prelude.{◌≡◌, IfOk, map, option_map};
+ghost use Rattle.graphql_spec.specs.Placed.{calls};
+ghost use Rattle.graphql_spec.specs.Written.{argument_lists};
+ghost use Rattle.juniper_syntax.specs.DocumentView.{view_definition};
+ghost use Rattle.juniper_schema.specs.SchemaView.{view_schema};
+ghost use Rattle.juniper_written.specs.WrittenView.{has_name, view_lists};
+ghost use Rattle.juniper_placed.specs.CallView.{view_call};
+ghost use Rattle.juniper_use_rules.specs.UsesView.{fragment_name, is_reached_by, usage_of, view_used};
+
+use crate::names::names_in_lists;
+use crate::places::uses_in_calls;
+use juniper_placed::Call;
+use juniper_schema::SchemaType;
+use juniper_syntax::{Definition, ScalarValue, Type};
+use juniper_written::ArgumentLists;
+use std::alloc::{AllocError, Global};
+use std::collections::HashSet;
+
+/// A variable at a place (5.8.5).
+#[derive(Drop)]
+pub struct Use<'u> {
+    /// Its name.
+    pub variable: &'u str,
+    /// The type of the place.
+    pub place: &'u Type<String>,
+    /// Whether the place has a default.
+    pub has_default: bool,
+}
+
+/// What a definition uses of variables in its own arguments.
+#[derive(Drop)]
+pub struct Used<'u> {
+    /// The definition's name, where it is a fragment.
+    pub fragment: Option<&'u str>,
+    /// The names of the variables, in all arguments (5.8.3).
+    pub names: Vec<&'u str>,
+    /// The variables with their places, in the arguments that are declared (5.8.5).
+    pub uses: Vec<Use<'u>>,
+}
+
+/// What a definition uses, whose arguments are these, and those with their declarations these calls. An error where
+/// memory is refused.
+pub fn used_in<'u, S: ScalarValue>(
+    alloc: Global,
+    schema: &'u SchemaType<S>,
+    definition: &Definition<'u, S>,
+    arguments: &ArgumentLists<'u, '_, S>,
+    calls: &[Call<'u, '_, 'u, S>],
+) -> Result<Used<'u>, AllocError>
+    ensures { IfOk result (λ u. view_lists S.shown arguments.now ≡ argument_lists (view_definition S.shown definition.now) → map (view_call S.shown) calls.now ≡ calls (view_schema S.shown schema.now) (view_definition S.shown definition.now) → view_used u ≡ usage_of (view_schema S.shown schema.now) (view_definition S.shown definition.now)) }
+{
+    let names = names_in_lists(alloc, arguments)?;
+    let uses = uses_in_calls(alloc, schema, calls)?;
+    Ok(Used {
+        fragment: fragment_name(definition),
+        names,
+        uses,
+    })
+}
+
+/// The name of a fragment.
+fn fragment_name<'a, S: ScalarValue>(definition: &Definition<'a, S>) -> Option<&'a str>
+    ensures { option_map (λ n. n.now) result ≡ fragment_name (view_definition S.shown definition.now) }
+{
+    match definition {
+        Definition::Fragment(fragment) => Some(fragment.item.name.item),
+        Definition::Operation(_) => None,
+    }
+}
+
+/// Whether it is what a fragment of one of the names uses.
+pub(crate) fn is_reached(reached: &HashSet<&str>, used: &Used<'_>) -> bool
+    ensures { result ≡ is_reached_by (has_name reached.now) (view_used used.now) }
+{
+    match used.fragment {
+        Some(name) => reached.contains(name),
+        None => false,
+    }
+}

@@ -1,0 +1,183 @@
+//! VariablesInAllowedPosition: each variable that an operation uses, in itself or in fragments that it reaches, may stand
+//! where it stands (section 5.8.5 of the Specification).
+
+ghost use Rattle.std.specs.Prelude.{◌≡◌, ◌&&◌, ◌||◌, IfOk, map, not, option_map};
+ghost use Rattle.std.specs.List.{list_any};
+ghost use Rattle.graphql_spec.specs.Documents.{Document};
+ghost use Rattle.graphql_spec.specs.Rules as rules;
+ghost use Rattle.graphql_spec.specs.Types.{named, nullable, required};
+ghost use Rattle.graphql_spec.specs.VariableUses as spec;
+ghost use Rattle.graphql_spec.specs.VariableUses.{compatible};
+ghost use Rattle.juniper_position.specs.Positions.{view_spanning};
+ghost use Rattle.juniper_syntax.specs.DocumentView.{view_definition, view_variable};
+ghost use Rattle.juniper_syntax.specs.InputView.{view_input};
+ghost use Rattle.juniper_syntax.specs.TypeView as types;
+ghost use Rattle.juniper_meta.specs.MetaView.{view_type};
+ghost use Rattle.juniper_schema.specs.SchemaView.{view_schema};
+ghost use Rattle.juniper_written.specs.WrittenView.{has_name};
+ghost use Rattle.juniper_use_rules.specs.UsesView.{IsReachOf, allowed_by, definition_at, is_null, is_reached_by, usage_of, view_use, view_used, view_uses};
+
+use crate::defined::{Variable, VariablesByName, variables_by_name};
+use crate::roots::has_root;
+use crate::uses::{Use, Used, is_reached};
+use juniper_schema::SchemaType;
+use juniper_syntax::{Definition, InputValue, ScalarValue, Span, Spanning, Type};
+use std::alloc::{AllocError, Global};
+use std::collections::HashSet;
+
+/// Whether a definition is an operation that can be executed and uses, in itself or in fragments that it reaches, a
+/// variable where it may not stand. It uses `own`; `all` is what each definition of the document uses, and the names are
+/// those that it reaches. An error where memory is refused.
+pub fn misuses_variable<S: ScalarValue>(
+    alloc: Global,
+    schema: &SchemaType<S>,
+    definition: &Definition<'_, S>,
+    own: &Used<'_>,
+    all: &[Used<'_>],
+    reached: &HashSet<&str>,
+) -> Result<bool, AllocError>
+    ensures { IfOk result (λ b. (d : Document) → view_used own.now ≡ usage_of (view_schema S.shown schema.now) (view_definition S.shown definition.now) → map view_used all.now ≡ map (usage_of (view_schema S.shown schema.now)) d → IsReachOf reached.now d (view_definition S.shown definition.now) → b ≡ rules.misuses_variable (view_schema S.shown schema.now) d (view_definition S.shown definition.now)) }
+{
+    match definition {
+        Definition::Operation(operation) => {
+            if !has_root(schema, operation.item.operation_type) {
+                return Ok(false);
+            }
+            let defined = variables_by_name(alloc, &operation.item.variable_definitions)?;
+            Ok(misuses_one(&defined, &own.uses) || misuses_reached(&defined, all, reached))
+        }
+        Definition::Fragment(_) => Ok(false),
+    }
+}
+
+/// Whether a fragment of one of the names uses a variable where it may not stand.
+fn misuses_reached<S: ScalarValue>(
+    defined: &VariablesByName<'_, '_, S>,
+    all: &[Used<'_>],
+    reached: &HashSet<&str>,
+) -> bool
+    ensures { result ≡ list_any (λ u. is_reached_by (has_name reached.now) u && list_any (λ v. not (allowed_by (definition_at S.shown defined.now) v)) u.uses) (map view_used all.now) }
+{
+    for used in all {
+        if is_reached(reached, used) && misuses_one(defined, &used.uses) {
+            return true;
+        }
+    }
+    false
+}
+
+/// Whether one of the variables may not stand where it stands.
+fn misuses_one<S: ScalarValue>(defined: &VariablesByName<'_, '_, S>, uses: &[Use<'_>]) -> bool
+    ensures { result ≡ list_any (λ v. not (allowed_by (definition_at S.shown defined.now) v)) (view_uses uses.now) }
+{
+    for used in uses {
+        if !is_allowed(defined, used) {
+            return true;
+        }
+    }
+    false
+}
+
+/// Whether a variable may stand where it stands; one that is not defined may.
+fn is_allowed<S: ScalarValue>(defined: &VariablesByName<'_, '_, S>, used: &Use<'_>) -> bool
+    ensures { result ≡ allowed_by (definition_at S.shown defined.now) (view_use used.now) }
+{
+    match defined.get(used.variable) {
+        Some(variable) => may_stand(*variable, used),
+        None => true,
+    }
+}
+
+/// Whether a variable of this definition may stand there (IsVariableUsageAllowed). One that takes null may stand where
+/// null is not taken, if it or the place has a default.
+#[tactic(auto, unfolding(graphql_spec::specs::VariableUses::may_stand))]
+fn may_stand<S: ScalarValue>(variable: &Variable<'_, S>, used: &Use<'_>) -> bool
+    ensures { result ≡ spec.may_stand (view_variable S.shown variable.now) (view_use used.now) }
+{
+    let of_type = &variable.1.var_type.item;
+    let place = used.place;
+    if place.is_non_null() && !of_type.is_non_null() {
+        (has_real_default(&variable.1.default_value) || used.has_default)
+            && fits_nullable(of_type, place)
+    } else {
+        is_compatible(of_type, place)
+    }
+}
+
+/// Whether there is a default other than null.
+fn has_real_default<S: ScalarValue>(default: &Option<Spanning<InputValue<S>, Span>>) -> bool
+    ensures { result ≡ spec.has_real_default (option_map (view_spanning (view_input S.shown)) default.now) }
+{
+    match default {
+        Some(value) => !is_null(&value.item),
+        None => false,
+    }
+}
+
+/// Whether it is null.
+fn is_null<S: ScalarValue>(value: &InputValue<S>) -> bool
+    ensures { result ≡ is_null (view_input S.shown value.now) }
+{
+    match value {
+        InputValue::Null => true,
+        InputValue::Scalar(_) => false,
+        InputValue::Enum(_) => false,
+        InputValue::Variable(_) => false,
+        InputValue::List(_) => false,
+        InputValue::Object(_) => false,
+    }
+}
+
+/// Whether a variable of the first type fits a place of the second (AreTypesCompatible).
+fn is_compatible(variable: &Type<&str>, place: &Type<String>) -> bool
+    ensures { result ≡ compatible (types.view_type (λ n. n.now) variable.now) (view_type place.now) }
+{
+    is_safe(variable, place) && fits_nullable(variable, place)
+}
+
+/// Whether null is not taken by the variable, or is taken at the place.
+fn is_safe(variable: &Type<&str>, place: &Type<String>) -> bool
+    ensures { result ≡ (not (required (view_type place.now)) || required (types.view_type (λ n. n.now) variable.now)) }
+{
+    !place.is_non_null() || variable.is_non_null()
+}
+
+/// Whether the variable fits the place, if null were taken there.
+#[tactic(auto, unfolding(graphql_spec::specs::VariableUses::compatible, graphql_spec::specs::Types::nullable))]
+fn fits_nullable(variable: &Type<&str>, place: &Type<String>) -> bool
+    ensures { result ≡ compatible (types.view_type (λ n. n.now) variable.now) (nullable (view_type place.now)) }
+{
+    match variable {
+        Type::Named(name) => is_name(place, *name),
+        Type::NonNullNamed(name) => is_name(place, *name),
+        Type::List(inner, _) => match place {
+            Type::List(other, _) => is_safe(&**inner, &**other) && fits_nullable(&**inner, &**other),
+            Type::NonNullList(other, _) => {
+                is_safe(&**inner, &**other) && fits_nullable(&**inner, &**other)
+            }
+            Type::Named(_) => false,
+            Type::NonNullNamed(_) => false,
+        },
+        Type::NonNullList(inner, _) => match place {
+            Type::List(other, _) => is_safe(&**inner, &**other) && fits_nullable(&**inner, &**other),
+            Type::NonNullList(other, _) => {
+                is_safe(&**inner, &**other) && fits_nullable(&**inner, &**other)
+            }
+            Type::Named(_) => false,
+            Type::NonNullNamed(_) => false,
+        },
+    }
+}
+
+/// Whether the type is this name, non-null or not.
+#[tactic(auto, unfolding(graphql_spec::specs::VariableUses::compatible, graphql_spec::specs::Types::nullable))]
+fn is_name(place: &Type<String>, name: &str) -> bool
+    ensures { result ≡ compatible (named false name.now) (nullable (view_type place.now)) }
+{
+    match place {
+        Type::Named(other) => name == other.as_str(),
+        Type::NonNullNamed(other) => name == other.as_str(),
+        Type::List(_, _) => false,
+        Type::NonNullList(_, _) => false,
+    }
+}
