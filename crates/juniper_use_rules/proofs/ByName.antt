@@ -1,6 +1,6 @@
 -- The variables by name: a map to which the first of each name goes.
 use Rattle.std.proofs.Common.{◌≡◌, ℕ, ◌+◌, ◌<◌, ◌≤◌, Bool, true, false, cond, List, [], ◌∷◌, length, get_or, drop, map, Option, Some, None, option_map, is_some, Bor, refl, sym, ap, ◌∙◌, inl, inr, subst}
-use Rattle.std.specs.Option.{option_or}
+use Rattle.std.specs.Option.{option_or, option_copied}
 use Rattle.std.specs.HashMap.{HashMap, get_by}
 use Rattle.std.specs.Map.{lookup, update}
 use Rattle.std.specs.Str.{bytes_eq}
@@ -123,3 +123,13 @@ module _ {S : Type 0} (shown : S → Shown) where
     pub there-is : (m : HashMap (Bor (List ℕ)) (Bor Variable) H) (k : Name) → is_some (get_by (λ n. bytes_eq k n.now) m) ≡ is_some (definition_at shown m k)
     unfolding definition_at
     there-is m k = sym (some-map (λ (v : Bor Variable). view_variable shown v.now) (get_by (λ n. bytes_eq k n.now) m))
+
+    pub found-is : (m : HashMap (Bor (List ℕ)) (Bor Variable) H) (k : Name) (o : Option (Bor (Bor Variable))) (v : Bor (Bor Variable)) → option_copied o ≡ get_by (λ n. bytes_eq k n.now) m → o ≡ Some v →
+        Some (view_variable shown v.now.now) ≡ definition_at shown m k
+    unfolding definition_at
+    found-is m k o v e is = ap (λ p. option_map (λ (w : Bor Variable). view_variable shown w.now) (option_copied p)) (sym is) ∙ ap (option_map (λ (w : Bor Variable). view_variable shown w.now)) e
+
+    pub missing-is : (m : HashMap (Bor (List ℕ)) (Bor Variable) H) (k : Name) (o : Option (Bor (Bor Variable))) → option_copied o ≡ get_by (λ n. bytes_eq k n.now) m → o ≡ None →
+        None ≡ definition_at shown m k
+    unfolding definition_at
+    missing-is m k o e is = ap (λ p. option_map (λ (w : Bor Variable). view_variable shown w.now) (option_copied p)) (sym is) ∙ ap (option_map (λ (w : Bor Variable). view_variable shown w.now)) e

@@ -1,4 +1,5 @@
 mod ByName
+mod Defaults
 mod NamesIn
 mod Parts
 mod Ruling

@@ -38,7 +38,10 @@ pub fn uses_undefined<S: ScalarValue>(
                 return Ok(false);
             }
             let defined = variables_by_name(alloc, &operation.item.variable_definitions)?;
-            Ok(lacks_one(&defined, &own.names) || lacks_reached(&defined, all, reached))
+            if lacks_one(&defined, &own.names) {
+                return Ok(true);
+            }
+            Ok(lacks_reached(&defined, all, reached))
         }
         Definition::Fragment(_) => Ok(false),
     }
@@ -53,21 +56,39 @@ fn lacks_reached<S: ScalarValue>(
     ensures { result ≡ list_any (λ u. is_reached_by (has_name reached.now) u && list_any (λ n. not (is_some (definition_at S.shown defined.now n))) u.names) (map view_used all.now) }
 {
     for used in all {
-        if is_reached(reached, used) && lacks_one(defined, &used.names) {
+        if lacks_if_reached(defined, used, reached) {
             return true;
         }
     }
     false
 }
 
-/// Whether one of the names is not defined.
-fn lacks_one<S: ScalarValue>(defined: &VariablesByName<'_, '_, S>, names: &[&str]) -> bool
-    ensures { result ≡ list_any (λ n. not (is_some (definition_at S.shown defined.now n))) (view_names names.now) }
+/// Whether it is what a fragment of one of the names uses, and a variable in it is not defined.
+fn lacks_if_reached<S: ScalarValue>(
+    defined: &VariablesByName<'_, '_, S>,
+    used: &Used<'_>,
+    reached: &HashSet<&str>,
+) -> bool
+    ensures { result ≡ (is_reached_by (has_name reached.now) (view_used used.now) && list_any (λ n. not (is_some (definition_at S.shown defined.now n))) (view_names used.now.names.items)) }
 {
-    for name in names {
-        if !defined.contains_key(*name) {
+    is_reached(reached, used) && lacks_one(defined, &used.names)
+}
+
+/// Whether one of the names is not defined.
+fn lacks_one<S: ScalarValue>(defined: &VariablesByName<'_, '_, S>, names: &Vec<&str>) -> bool
+    ensures { result ≡ list_any (λ n. not (is_some (definition_at S.shown defined.now n))) (view_names names.now.items) }
+{
+    for index in 0..names.len() {
+        if is_undefined(defined, names[index]) {
             return true;
         }
     }
     false
+}
+
+/// Whether the name is not defined.
+fn is_undefined<S: ScalarValue>(defined: &VariablesByName<'_, '_, S>, name: &str) -> bool
+    ensures { result ≡ not (is_some (definition_at S.shown defined.now name.now)) }
+{
+    !defined.contains_key(name)
 }

@@ -1,11 +1,11 @@
 //! VariablesInAllowedPosition: each variable that an operation uses, in itself or in fragments that it reaches, may stand
 //! where it stands (section 5.8.5 of the Specification).
 
-ghost use Rattle.std.specs.Prelude.{◌≡◌, ◌&&◌, ◌||◌, IfOk, map, not, option_map};
+ghost use Rattle.std.specs.Prelude.{◌≡◌, ◌&&◌, IfOk, Option, false, map, not, option_map, true, ℕ};
 ghost use Rattle.std.specs.List.{list_any};
 ghost use Rattle.graphql_spec.specs.Documents.{Document};
 ghost use Rattle.graphql_spec.specs.Rules as rules;
-ghost use Rattle.graphql_spec.specs.Types.{named, nullable, required};
+ghost use Rattle.graphql_spec.specs.Types.{list_of, named, nullable};
 ghost use Rattle.graphql_spec.specs.VariableUses as spec;
 ghost use Rattle.graphql_spec.specs.VariableUses.{compatible};
 ghost use Rattle.juniper_position.specs.Positions.{view_spanning};
@@ -44,7 +44,10 @@ pub fn misuses_variable<S: ScalarValue>(
                 return Ok(false);
             }
             let defined = variables_by_name(alloc, &operation.item.variable_definitions)?;
-            Ok(misuses_one(&defined, &own.uses) || misuses_reached(&defined, all, reached))
+            if misuses_one(&defined, &own.uses) {
+                return Ok(true);
+            }
+            Ok(misuses_reached(&defined, all, reached))
         }
         Definition::Fragment(_) => Ok(false),
     }
@@ -59,11 +62,22 @@ fn misuses_reached<S: ScalarValue>(
     ensures { result ≡ list_any (λ u. is_reached_by (has_name reached.now) u && list_any (λ v. not (allowed_by (definition_at S.shown defined.now) v)) u.uses) (map view_used all.now) }
 {
     for used in all {
-        if is_reached(reached, used) && misuses_one(defined, &used.uses) {
+        if misuses_if_reached(defined, used, reached) {
             return true;
         }
     }
     false
+}
+
+/// Whether it is what a fragment of one of the names uses, and a variable in it may not stand where it stands.
+fn misuses_if_reached<S: ScalarValue>(
+    defined: &VariablesByName<'_, '_, S>,
+    used: &Used<'_>,
+    reached: &HashSet<&str>,
+) -> bool
+    ensures { result ≡ (is_reached_by (has_name reached.now) (view_used used.now) && list_any (λ v. not (allowed_by (definition_at S.shown defined.now) v)) (view_uses used.now.uses.items)) }
+{
+    is_reached(reached, used) && misuses_one(defined, &used.uses)
 }
 
 /// Whether one of the variables may not stand where it stands.
@@ -129,55 +143,69 @@ fn is_null<S: ScalarValue>(value: &InputValue<S>) -> bool
 }
 
 /// Whether a variable of the first type fits a place of the second (AreTypesCompatible).
+#[tactic(auto, unfolding(graphql_spec::specs::VariableUses::compatible))]
 fn is_compatible(variable: &Type<&str>, place: &Type<String>) -> bool
     ensures { result ≡ compatible (types.view_type (λ n. n.now) variable.now) (view_type place.now) }
 {
-    is_safe(variable, place) && fits_nullable(variable, place)
-}
-
-/// Whether null is not taken by the variable, or is taken at the place.
-fn is_safe(variable: &Type<&str>, place: &Type<String>) -> bool
-    ensures { result ≡ (not (required (view_type place.now)) || required (types.view_type (λ n. n.now) variable.now)) }
-{
-    !place.is_non_null() || variable.is_non_null()
-}
-
-/// Whether the variable fits the place, if null were taken there.
-#[tactic(auto, unfolding(graphql_spec::specs::VariableUses::compatible, graphql_spec::specs::Types::nullable))]
-fn fits_nullable(variable: &Type<&str>, place: &Type<String>) -> bool
-    ensures { result ≡ compatible (types.view_type (λ n. n.now) variable.now) (nullable (view_type place.now)) }
-{
-    match variable {
-        Type::Named(name) => is_name(place, *name),
-        Type::NonNullNamed(name) => is_name(place, *name),
-        Type::List(inner, _) => match place {
-            Type::List(other, _) => is_safe(&**inner, &**other) && fits_nullable(&**inner, &**other),
-            Type::NonNullList(other, _) => {
-                is_safe(&**inner, &**other) && fits_nullable(&**inner, &**other)
-            }
-            Type::Named(_) => false,
-            Type::NonNullNamed(_) => false,
+    match place {
+        Type::Named(name) => is_name(variable, name.as_str()),
+        Type::NonNullNamed(name) => is_non_null_name(variable, name.as_str()),
+        Type::List(inner, _) => match variable {
+            Type::List(own, _) => is_compatible(&**own, &**inner),
+            Type::NonNullList(own, _) => is_compatible(&**own, &**inner),
+            Type::Named(_) | Type::NonNullNamed(_) => false,
         },
-        Type::NonNullList(inner, _) => match place {
-            Type::List(other, _) => is_safe(&**inner, &**other) && fits_nullable(&**inner, &**other),
-            Type::NonNullList(other, _) => {
-                is_safe(&**inner, &**other) && fits_nullable(&**inner, &**other)
-            }
-            Type::Named(_) => false,
-            Type::NonNullNamed(_) => false,
+        Type::NonNullList(inner, _) => match variable {
+            Type::NonNullList(own, _) => is_compatible(&**own, &**inner),
+            Type::List(_, _) | Type::Named(_) | Type::NonNullNamed(_) => false,
         },
     }
 }
 
-/// Whether the type is this name, non-null or not.
+/// Whether it fits the place, if null is taken there too.
 #[tactic(auto, unfolding(graphql_spec::specs::VariableUses::compatible, graphql_spec::specs::Types::nullable))]
-fn is_name(place: &Type<String>, name: &str) -> bool
-    ensures { result ≡ compatible (named false name.now) (nullable (view_type place.now)) }
+fn fits_nullable(variable: &Type<&str>, place: &Type<String>) -> bool
+    ensures { result ≡ compatible (types.view_type (λ n. n.now) variable.now) (nullable (view_type place.now)) }
 {
     match place {
-        Type::Named(other) => name == other.as_str(),
-        Type::NonNullNamed(other) => name == other.as_str(),
-        Type::List(_, _) => false,
-        Type::NonNullList(_, _) => false,
+        Type::Named(name) => is_name(variable, name.as_str()),
+        Type::NonNullNamed(name) => is_name(variable, name.as_str()),
+        Type::List(inner, _) => is_list_for(variable, &**inner),
+        Type::NonNullList(inner, _) => is_list_for(variable, &**inner),
+    }
+}
+
+/// Whether the type is a list, non-null or not, whose items fit a place of this type.
+#[tactic(auto, unfolding(graphql_spec::specs::VariableUses::compatible))]
+fn is_list_for(variable: &Type<&str>, inner: &Type<String>) -> bool
+    ensures { (size : Option ℕ) → result ≡ compatible (types.view_type (λ n. n.now) variable.now) (list_of false size (view_type inner.now)) }
+{
+    match variable {
+        Type::List(own, _) => is_compatible(&**own, inner),
+        Type::NonNullList(own, _) => is_compatible(&**own, inner),
+        Type::Named(_) | Type::NonNullNamed(_) => false,
+    }
+}
+
+/// Whether the type is this name, non-null or not.
+#[tactic(auto, unfolding(graphql_spec::specs::VariableUses::compatible))]
+fn is_name(variable: &Type<&str>, name: &str) -> bool
+    ensures { result ≡ compatible (types.view_type (λ n. n.now) variable.now) (named false name.now) }
+{
+    match variable {
+        Type::Named(own) => *own == name,
+        Type::NonNullNamed(own) => *own == name,
+        Type::List(_, _) | Type::NonNullList(_, _) => false,
+    }
+}
+
+/// Whether the type is this name, non-null.
+#[tactic(auto, unfolding(graphql_spec::specs::VariableUses::compatible))]
+fn is_non_null_name(variable: &Type<&str>, name: &str) -> bool
+    ensures { result ≡ compatible (types.view_type (λ n. n.now) variable.now) (named true name.now) }
+{
+    match variable {
+        Type::NonNullNamed(own) => *own == name,
+        Type::Named(_) | Type::List(_, _) | Type::NonNullList(_, _) => false,
     }
 }

@@ -1,21 +1,27 @@
-use Rattle.std.proofs.Common.{Bool, not, is_some, ap, sym, ◌∙◌}
+use Rattle.std.proofs.Common.{◌<◌, ◌≤◌, length, arith, not, is_some, sym, ◌∙◌}
 use Rattle.juniper_written.proofs.Deciding.{open-first, open-next, one-passes, none-passes}
 use Rattle.juniper_use_rules.specs.UsesView.{definition_at}
-use Rattle.juniper_use_rules.proofs.ByName.{there-is}
 use Rattle.juniper_use_rules.proofs.no_undefined_variables.lacks_one.Goals as goal
 
-pub loop-name-init : goal.loop-name-init
-loop-name-init g c = open-first (λ n. n.now) (λ n. not (is_some (definition_at g.S.ScalarValue.shown c.args.defined.now n))) c.args.names.now
+pub loop-index-init : goal.loop-index-init
+loop-index-init g c = open-first (λ n. n.now) (λ n. not (is_some (definition_at g.S.ScalarValue.shown c.args.defined.now n))) c.args.names.now.items
 
-pub loop-name-preserved : goal.loop-name-preserved
-loop-name-preserved g c =
-    let shown = g.S.ScalarValue.shown in
-    let e : Bool = c.if-not-contains_key.false in
-    let f : Bool = c.contains_key.ensures in
-    ?
+pub loop-index-preserved : goal.loop-index-preserved
+loop-index-preserved g c =
+    let ns = c.args.names.now in
+    let below : c.loop-index.index < length ns.items = omega (arith, c.loop-index-test.true, c.len-index-end.ensures, ns.ok.0) in
+    open-next (λ n. n.now) (λ n. not (is_some (definition_at g.S.ScalarValue.shown c.args.defined.now n))) ns.items c.loop-index.index c.index.result.now below c.index.ensures
+    (sym c.is_undefined.ensures ∙ c.if-is_undefined.false) c.loop-index.invariant
 
-pub returns-then-not-contains_key : goal.returns-then-not-contains_key
-returns-then-not-contains_key g c =
-    let shown = g.S.ScalarValue.shown in
-    let e : Bool = c.if-not-contains_key.true in
-    ?
+pub returns-then-is_undefined : goal.returns-then-is_undefined
+returns-then-is_undefined g c =
+    let ns = c.args.names.now in
+    let below : c.loop-index.index < length ns.items = omega (arith, c.loop-index-test.true, c.len-index-end.ensures, ns.ok.0) in
+    one-passes (λ n. n.now) (λ n. not (is_some (definition_at g.S.ScalarValue.shown c.args.defined.now n))) ns.items c.loop-index.index c.index.result.now below c.index.ensures
+    (sym c.is_undefined.ensures ∙ c.if-is_undefined.true) c.loop-index.invariant
+
+pub returns : goal.returns
+returns g c =
+    let ns = c.args.names.now in
+    let past : length ns.items ≤ c.loop-index.index = omega (arith, c.loop-index-test.false, c.len-index-end.ensures, ns.ok.0) in
+    none-passes (λ n. n.now) (λ n. not (is_some (definition_at g.S.ScalarValue.shown c.args.defined.now n))) ns.items c.loop-index.index past c.loop-index.invariant
