@@ -2,5 +2,6 @@ mod ByName
 mod Defaults
 mod NamesIn
 mod Parts
+mod PlacesIn
 mod Ruling
 mod Tests

@@ -1,5 +1,5 @@
 -- What an operation has in itself and in the fragments that it reaches, definition by definition.
-use Rattle.std.proofs.Common.{◌≡◌, Bool, true, false, ◌&&◌, ◌||◌, cond, filter, List, [], ◌∷◌, ◌++◌, map, refl, sym, ap, ap₂, ◌∙◌, inl, inr}
+use Rattle.std.proofs.Common.{◌≡◌, Bool, true, false, ◌&&◌, ◌||◌, cond, filter, List, [], ◌∷◌, ◌++◌, map, Option, refl, sym, ap, ap₂, ◌∙◌, inl, inr}
 use Rattle.std.specs.List.{list_any, flat_map}
 use Rattle.std.proofs.lemmas.Bool.{cases_Bool}
 use Rattle.std.proofs.lemmas.List.Folds.{list_any-append}
@@ -7,7 +7,7 @@ use Rattle.graphql_spec.specs.Shown.{Name}
 use Rattle.graphql_spec.specs.Documents.{Document, Definition, Operation, operation, fragment, fragments}
 use Rattle.graphql_spec.specs.Fragments.{spreads}
 use Rattle.graphql_spec.specs.Schema.{Schema}
-use Rattle.graphql_spec.specs.VariableUses.{as_definitions, is_reached, reached, parts}
+use Rattle.graphql_spec.specs.VariableUses.{Use, as_definitions, is_reached, reached, parts}
 use Rattle.juniper_use_rules.specs.UsesView.{Usage, usage_of, fragment_name, is_reached_by}
 
 module _ {B : Type 0} (F : Definition → List B) (test : B → Bool) (reach : Name → Bool) where
@@ -43,3 +43,10 @@ any-part F test reach s pick is d o own all at_own at_all at_reach =
     (ap (list_any (λ u. is_reached_by reach u && list_any test (pick u))) at_all ∙ (any-used F test reach s pick is d
     ∙ (sym (any-reached F test reach d) ∙ ap (λ r. list_any test (flat_map F (as_definitions (filter (λ f. r f.name.item) (fragments d))))) same)))
     ∙ sym (list_any-append test (F (operation o)) (flat_map F (as_definitions (filter (λ f. is_reached (fragments d) (spreads o.selections) f.name.item) (fragments d)))))
+
+-- usages of the same parts
+abbrev made : Option Name → List Name → List Use → Usage
+made f ns us = record { fragment = f; names = ns; uses = us }
+
+pub same-usage : (f f' : Option Name) (ns ns' : List Name) (us us' : List Use) → f ≡ f' → ns ≡ ns' → us ≡ us' → made f ns us ≡ made f' ns' us'
+same-usage f f' ns ns' us us' p q r = ap (λ x. made x ns us) p ∙ (ap (λ x. made f' x us) q ∙ ap (λ x. made f' ns' x) r)

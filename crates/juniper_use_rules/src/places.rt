@@ -64,7 +64,7 @@ fn push_declared<'u, S: ScalarValue>(
     declared: Option<&'u Argument<S>>,
     uses: &mut Vec<Use<'u>>,
 ) -> Result<(), AllocError>
-    ensures { OnOk result (view_uses uses.new.items ≡ view_uses uses.old.items ++ at_declared (option_map (λ a. view_argument S.shown a.now) declared) (λ t b. uses_at (view_schema S.shown schema.now) (view_input S.shown value.now) t b)) }
+    ensures { OnOk result (view_uses uses.new.items ≡ view_uses uses.old.items ++ at_declared (option_map (λ a. view_argument S.shown a.now) declared.entry) (λ t b. uses_at (view_schema S.shown schema.now) (view_input S.shown value.now) t b)) }
 {
     match declared {
         Some(argument) => {

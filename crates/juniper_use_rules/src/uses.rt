@@ -1,7 +1,7 @@
 //! What a definition uses of variables (section 5.8 of the Specification).
 
 ghost use Rattle.std.specs.Prelude.{◌≡◌, IfOk, map, option_map};
-ghost use Rattle.graphql_spec.specs.Placed.{calls};
+ghost use Rattle.graphql_spec.specs.Placed as placed;
 ghost use Rattle.graphql_spec.specs.Written.{argument_lists};
 ghost use Rattle.juniper_syntax.specs.DocumentView.{view_definition};
 ghost use Rattle.juniper_schema.specs.SchemaView.{view_schema};
@@ -49,7 +49,7 @@ pub fn used_in<'u, S: ScalarValue>(
     arguments: &ArgumentLists<'u, '_, S>,
     calls: &[Call<'u, '_, 'u, S>],
 ) -> Result<Used<'u>, AllocError>
-    ensures { IfOk result (λ u. view_lists S.shown arguments.now ≡ argument_lists (view_definition S.shown definition.now) → map (view_call S.shown) calls.now ≡ calls (view_schema S.shown schema.now) (view_definition S.shown definition.now) → view_used u ≡ usage_of (view_schema S.shown schema.now) (view_definition S.shown definition.now)) }
+    ensures { IfOk result (λ u. view_lists S.shown arguments.now ≡ argument_lists (view_definition S.shown definition.now) → map (view_call S.shown) calls.now ≡ placed.calls (view_schema S.shown schema.now) (view_definition S.shown definition.now) → view_used u ≡ usage_of (view_schema S.shown schema.now) (view_definition S.shown definition.now)) }
 {
     let names = names_in_lists(alloc, arguments)?;
     let uses = uses_in_calls(alloc, schema, calls)?;
