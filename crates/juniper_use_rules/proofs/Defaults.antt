@@ -1,10 +1,8 @@
 -- Defaults other than null.
-use Rattle.std.proofs.Common.{◌≡◌, Bool, true, false, not, ◌&&◌, ◌||◌, Some, refl}
-use Rattle.std.specs.Str.{bytes_eq}
+use Rattle.std.proofs.Common.{◌≡◌, Bool, true, false, not, Some, refl}
 use Rattle.graphql_spec.specs.Positions.{Spanned}
 use Rattle.graphql_spec.specs.Inputs.{Input, null, scalar, enumerated, variable, list, object}
-use Rattle.graphql_spec.specs.Types.{TypeRef, named, list_of, required, nullable}
-use Rattle.graphql_spec.specs.VariableUses.{compatible, has_real_default}
+use Rattle.graphql_spec.specs.VariableUses.{has_real_default}
 use Rattle.juniper_use_rules.specs.UsesView.{is_null}
 
 by_cases : (v : Input) → not (is_null v) ≡ elim v as (λ x. Bool) [ null ↦ false | _ ↦ true ]

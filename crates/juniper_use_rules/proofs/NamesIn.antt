@@ -1,5 +1,5 @@
 -- The names of variables in values, item by item and field by field.
-use Rattle.std.proofs.Common.{◌≡◌, List, [], ◌∷◌, ◌++◌, String, Global, refl, sym, ap, ◌∙◌}
+use Rattle.std.proofs.Common.{◌≡◌, List, [], ◌∷◌, ◌++◌, String, Global, refl, ap}
 use Rattle.std.specs.List.{flat_map}
 use Rattle.graphql_spec.specs.Shown.{Shown, Name}
 use Rattle.graphql_spec.specs.VariableUses.{variables_in, variables_in_items, variables_in_fields}

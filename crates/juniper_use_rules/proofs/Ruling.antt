@@ -1,13 +1,12 @@
 -- The rules on the uses of variables, by what each definition uses.
-use Rattle.std.proofs.Common.{◌≡◌, Bool, true, false, not, ◌&&◌, ◌||◌, List, map, Option, is_some, refl, sym, ap, ap₂, ◌∙◌}
-use Rattle.std.specs.List.{list_any, list_all, flat_map}
+use Rattle.std.proofs.Common.{◌≡◌, Bool, true, false, not, ◌&&◌, ◌||◌, List, map, Option, is_some, refl, sym, ap, ◌∙◌}
+use Rattle.std.specs.List.{list_any, flat_map}
 use Rattle.graphql_spec.specs.Shown.{Name}
 use Rattle.graphql_spec.specs.Documents.{Document, Definition, Operation, VariableDefinition, operation, fragment, fragments, variables_of}
 use Rattle.graphql_spec.specs.Fragments.{spreads}
 use Rattle.graphql_spec.specs.Placed.{calls}
 use Rattle.graphql_spec.specs.Rules.{has_root, uses_undefined, misuses_variable}
 use Rattle.graphql_spec.specs.Schema.{Schema}
-use Rattle.graphql_spec.specs.VariableUses as spec
 use Rattle.graphql_spec.specs.VariableUses.{is_reached, parts, names_used, definition_of, all_defined, uses_in_call, uses, allowed, all_allowed}
 use Rattle.juniper_use_rules.specs.UsesView.{Usage, usage_of, is_reached_by, allowed_by}
 use Rattle.juniper_use_rules.proofs.Parts.{any-part}

@@ -1,6 +1,6 @@
 use Rattle.std.proofs.Common.{◌&&◌, ap, sym, ◌∙◌}
 use Rattle.std.specs.List.{list_any}
-use Rattle.graphql_spec.specs.Rules.{can_look, is_introspection, looks_at_schema}
+use Rattle.graphql_spec.specs.Rules.{is_introspection, looks_at_schema}
 use Rattle.graphql_spec.specs.Written.{heads, selections_of}
 use Rattle.juniper_syntax.specs.DocumentView.{view_definition}
 use Rattle.juniper_schema.specs.SchemaView.{view_schema}

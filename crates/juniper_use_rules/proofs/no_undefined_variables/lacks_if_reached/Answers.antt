@@ -1,7 +1,7 @@
 use Rattle.std.proofs.Common.{not, ◌&&◌, is_some, ap, sym, ◌∙◌}
 use Rattle.std.specs.List.{list_any}
-use Rattle.juniper_written.specs.WrittenView.{has_name, view_names}
-use Rattle.juniper_use_rules.specs.UsesView.{definition_at, is_reached_by, view_used}
+use Rattle.juniper_written.specs.WrittenView.{view_names}
+use Rattle.juniper_use_rules.specs.UsesView.{definition_at}
 use Rattle.juniper_use_rules.proofs.no_undefined_variables.lacks_if_reached.Goals as goal
 
 pub returns-then-is_reached : goal.returns-then-is_reached

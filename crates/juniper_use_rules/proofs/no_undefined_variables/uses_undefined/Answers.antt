@@ -4,7 +4,7 @@ use Rattle.graphql_spec.specs.Rules.{has_root}
 use Rattle.graphql_spec.specs.VariableUses.{definition_of}
 use Rattle.juniper_syntax.specs.DocumentView.{view_definition, view_fragment, view_operation}
 use Rattle.juniper_schema.specs.SchemaView.{view_schema}
-use Rattle.juniper_written.specs.WrittenView.{has_name, view_names}
+use Rattle.juniper_written.specs.WrittenView.{has_name}
 use Rattle.juniper_written.proofs.Variables.{variables-seen}
 use Rattle.juniper_use_rules.specs.UsesView.{definition_at, is_reached_by, view_used}
 use Rattle.juniper_use_rules.proofs.Ruling.{rootless-undefined, undefined-is, fragment-undefined}

@@ -1,9 +1,9 @@
 use denote.Param.Weighed.{at_most}
-use Rattle.std.proofs.Common.{◌≡◌, ◌≤◌, ◌∷◌, ◌++◌, [], get_or, map, Option, option_map, is_some, Bor, String, string_bytes, refl, sym, ap, ◌∙◌, arith, rules}
+use Rattle.std.proofs.Common.{◌≡◌, ◌≤◌, ◌++◌, get_or, map, option_map, string_bytes, refl, sym, ap, ◌∙◌, arith, rules}
 use Rattle.std.proofs.lemmas.List.{append-nil}
 use Rattle.graphql_spec.specs.Fields.{declaration_in}
 use Rattle.graphql_spec.specs.Inputs.{variable}
-use Rattle.graphql_spec.specs.VariableUses.{Use, at_declared, input_fields, item_type, uses_at, uses_in_fields, uses_in_items}
+use Rattle.graphql_spec.specs.VariableUses.{at_declared, item_type, uses_at, uses_in_fields, uses_in_items}
 use Rattle.juniper_syntax.specs.InputView.{view_input, view_items, view_fields}
 use Rattle.juniper_syntax.proofs.Inputs.{view-Null, view-Scalar, view-Enum, view-Variable, view-List, view-Object}
 use Rattle.juniper_syntax.proofs.input.InputValue.TheLaws.{the_size}

@@ -1,4 +1,4 @@
-use Rattle.std.proofs.Common.{Bool, Option, None, Some, true, ap, ◌∙◌}
+use Rattle.std.proofs.Common.{None, Some, true, ap, ◌∙◌}
 use Rattle.graphql_spec.specs.VariableUses.{may_stand}
 use Rattle.juniper_use_rules.specs.UsesView.{allowed_by, view_use}
 use Rattle.juniper_use_rules.proofs.ByName.{found-is, missing-is}

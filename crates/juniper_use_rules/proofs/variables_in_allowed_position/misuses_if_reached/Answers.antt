@@ -1,7 +1,6 @@
 use Rattle.std.proofs.Common.{not, ◌&&◌, ap, sym, ◌∙◌}
 use Rattle.std.specs.List.{list_any}
-use Rattle.juniper_written.specs.WrittenView.{has_name}
-use Rattle.juniper_use_rules.specs.UsesView.{allowed_by, definition_at, is_reached_by, view_used, view_uses}
+use Rattle.juniper_use_rules.specs.UsesView.{allowed_by, definition_at, view_uses}
 use Rattle.juniper_use_rules.proofs.variables_in_allowed_position.misuses_if_reached.Goals as goal
 
 pub returns-then-is_reached : goal.returns-then-is_reached
