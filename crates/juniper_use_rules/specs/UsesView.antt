@@ -1,5 +1,5 @@
 -- What definitions use of variables, and how it is seen (5.8).
-use Rattle.std.specs.Prelude.{◌≡◌, ℕ, Bool, true, false, List, map, Option, Some, None, option_map}
+use Rattle.std.specs.Prelude.{◌≡◌, ℕ, Bool, true, false, List, [], ◌∷◌, map, Option, Some, None, option_map}
 use Rattle.std.specs.Borrow.{Bor}
 use Rattle.std.specs.HashMap.{HashMap, get_by}
 use Rattle.std.specs.HashSet.{HashSet}
@@ -13,7 +13,7 @@ use Rattle.graphql_spec.specs.Inputs.{Input, null}
 use Rattle.graphql_spec.specs.Placed.{calls}
 use Rattle.graphql_spec.specs.Schema.{Schema}
 use Rattle.graphql_spec.specs.VariableUses as uses
-use Rattle.graphql_spec.specs.VariableUses.{is_reached, names_used, uses_in_call, may_stand}
+use Rattle.graphql_spec.specs.VariableUses.{as_definitions, is_reached, names_used, uses_in_call, may_stand}
 use Rattle.juniper_position.specs.declared.position.Spanning.{Spanning}
 use Rattle.juniper_position.specs.declared.position.Span.{Span}
 use Rattle.juniper_syntax.specs.DocumentView.{view_variable}
@@ -55,7 +55,23 @@ view_uses = map view_use
 abbrev pub view_used : Used → Usage
 view_used u = record { fragment = option_map (λ n. n.now) u.fragment; names = view_names u.names.items; uses = view_uses u.uses.items }
 
+abbrev pub view_used_at : List (Bor Used) → List Usage
+view_used_at = map (λ u. view_used u.now)
+
+-- they are what the fragments of the document use, in order
+abbrev pub AreUsesOfFragments : Schema → List (Bor Used) → Document → Type 0
+AreUsesOfFragments s us d = view_used_at us ≡ map (usage_of s) (as_definitions (fragments d))
+
 -- ## Only private clauses cite what follows
+
+-- it, where there is a name
+abbrev pub where_named : Option Name → Usage → List Usage
+where_named None u = []
+where_named (Some n) u = u ∷ []
+
+-- it, where it is what a fragment uses
+abbrev pub of_fragment : Usage → List Usage
+of_fragment u = where_named u.fragment u
 
 -- the definition of a variable that the map has at a name
 unfoldable pub definition_at : {S H : Type 0} → (S → Shown) → HashMap (Bor (List ℕ)) (Bor (Spanning (Bor (List ℕ)) Span × VariableDefinition S)) H → Name → Option spec.VariableDefinition

@@ -14,5 +14,5 @@ mod variables_in_allowed_position;
 
 pub use introspection::looks_at_schema;
 pub use no_undefined_variables::uses_undefined;
-pub use uses::{Use, Used, used_in};
+pub use uses::{Use, Used, used_in, uses_of_fragments};
 pub use variables_in_allowed_position::misuses_variable;

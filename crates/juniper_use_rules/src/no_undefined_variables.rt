@@ -1,7 +1,7 @@
 //! NoUndefinedVariables: an operation defines each variable that it uses, in itself or in fragments that it reaches
 //! (section 5.8.3 of the Specification).
 
-ghost use Rattle.std.specs.Prelude.{◌≡◌, ◌&&◌, IfOk, map, not};
+ghost use Rattle.std.specs.Prelude.{◌≡◌, ◌&&◌, IfOk, not};
 ghost use Rattle.std.specs.List.{list_any};
 ghost use Rattle.std.specs.Option.{is_some};
 ghost use Rattle.graphql_spec.specs.Documents.{Document};
@@ -9,7 +9,7 @@ ghost use Rattle.graphql_spec.specs.Rules as rules;
 ghost use Rattle.juniper_syntax.specs.DocumentView.{view_definition};
 ghost use Rattle.juniper_schema.specs.SchemaView.{view_schema};
 ghost use Rattle.juniper_written.specs.WrittenView.{has_name, view_names};
-ghost use Rattle.juniper_use_rules.specs.UsesView.{IsReachOf, definition_at, is_reached_by, usage_of, view_used};
+ghost use Rattle.juniper_use_rules.specs.UsesView.{AreUsesOfFragments, IsReachOf, definition_at, is_reached_by, usage_of, view_used, view_used_at};
 
 use crate::defined::{VariablesByName, variables_by_name};
 use crate::roots::has_root;
@@ -20,17 +20,17 @@ use std::alloc::{AllocError, Global};
 use std::collections::HashSet;
 
 /// Whether a definition is an operation that can be executed and uses, in itself or in fragments that it reaches, a
-/// variable that it does not define. It uses `own`; `all` is what each definition of the document uses, and the names are
-/// those that it reaches. An error where memory is refused.
+/// variable that it does not define. It uses `own`; there is what each fragment of the document uses, and the names that
+/// the operation reaches. An error where memory is refused.
 pub fn uses_undefined<S: ScalarValue>(
     alloc: Global,
     schema: &SchemaType<S>,
     definition: &Definition<'_, S>,
     own: &Used<'_>,
-    all: &[Used<'_>],
+    fragments: &Vec<&Used<'_>>,
     reached: &HashSet<&str>,
 ) -> Result<bool, AllocError>
-    ensures { IfOk result (λ b. (d : Document) → view_used own.now ≡ usage_of (view_schema S.shown schema.now) (view_definition S.shown definition.now) → map view_used all.now ≡ map (usage_of (view_schema S.shown schema.now)) d → IsReachOf reached.now d (view_definition S.shown definition.now) → b ≡ rules.uses_undefined (view_schema S.shown schema.now) d (view_definition S.shown definition.now)) }
+    ensures { IfOk result (λ b. (d : Document) → view_used own.now ≡ usage_of (view_schema S.shown schema.now) (view_definition S.shown definition.now) → AreUsesOfFragments (view_schema S.shown schema.now) fragments.now.items d → IsReachOf reached.now d (view_definition S.shown definition.now) → b ≡ rules.uses_undefined (view_schema S.shown schema.now) d (view_definition S.shown definition.now)) }
 {
     match definition {
         Definition::Operation(operation) => {
@@ -41,7 +41,7 @@ pub fn uses_undefined<S: ScalarValue>(
             if lacks_one(&defined, &own.names) {
                 return Ok(true);
             }
-            Ok(lacks_reached(&defined, all, reached))
+            Ok(lacks_reached(&defined, fragments, reached))
         }
         Definition::Fragment(_) => Ok(false),
     }
@@ -50,12 +50,13 @@ pub fn uses_undefined<S: ScalarValue>(
 /// Whether a fragment of one of the names uses a variable that is not defined.
 fn lacks_reached<S: ScalarValue>(
     defined: &VariablesByName<'_, '_, S>,
-    all: &[Used<'_>],
+    fragments: &Vec<&Used<'_>>,
     reached: &HashSet<&str>,
 ) -> bool
-    ensures { result ≡ list_any (λ u. is_reached_by (has_name reached.now) u && list_any (λ n. not (is_some (definition_at S.shown defined.now n))) u.names) (map view_used all.now) }
+    ensures { result ≡ list_any (λ u. is_reached_by (has_name reached.now) u && list_any (λ n. not (is_some (definition_at S.shown defined.now n))) u.names) (view_used_at fragments.now.items) }
 {
-    for used in all {
+    for index in 0..fragments.len() {
+        let used = fragments[index];
         if lacks_if_reached(defined, used, reached) {
             return true;
         }

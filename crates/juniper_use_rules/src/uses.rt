@@ -1,13 +1,15 @@
 //! What a definition uses of variables (section 5.8 of the Specification).
 
-ghost use Rattle.std.specs.Prelude.{◌≡◌, IfOk, map, option_map};
+ghost use Rattle.std.specs.Prelude.{◌≡◌, ◌++◌, IfOk, OnOk, map, option_map};
+ghost use Rattle.graphql_spec.specs.Documents.{Document};
 ghost use Rattle.graphql_spec.specs.Placed as placed;
+ghost use Rattle.graphql_spec.specs.Schema.{Schema};
 ghost use Rattle.graphql_spec.specs.Written.{argument_lists};
 ghost use Rattle.juniper_syntax.specs.DocumentView.{view_definition};
 ghost use Rattle.juniper_schema.specs.SchemaView.{view_schema};
 ghost use Rattle.juniper_written.specs.WrittenView.{has_name, view_lists};
 ghost use Rattle.juniper_placed.specs.CallView.{view_call};
-ghost use Rattle.juniper_use_rules.specs.UsesView.{fragment_name, is_reached_by, usage_of, view_used};
+ghost use Rattle.juniper_use_rules.specs.UsesView.{AreUsesOfFragments, fragment_name, is_reached_by, of_fragment, usage_of, view_used, view_used_at};
 
 use crate::names::names_in_lists;
 use crate::places::uses_in_calls;
@@ -58,6 +60,36 @@ pub fn used_in<'u, S: ScalarValue>(
         names,
         uses,
     })
+}
+
+/// Of what the definitions of a document use, what its fragments use, in order. An error where memory is refused.
+pub fn uses_of_fragments<'r, 'u>(
+    alloc: Global,
+    all: &'r [Used<'u>],
+) -> Result<Vec<&'r Used<'u>>, AllocError>
+    ensures { IfOk result (λ us. (s : Schema) (d : Document) → map view_used all.now ≡ map (usage_of s) d → AreUsesOfFragments s us.items d) }
+{
+    let mut fragments = Vec::new(alloc);
+    for used in all {
+        push_fragment(used, &mut fragments)?;
+    }
+    Ok(fragments)
+}
+
+/// Adds what a definition uses, where it is a fragment.
+fn push_fragment<'r, 'u>(
+    used: &'r Used<'u>,
+    fragments: &mut Vec<&'r Used<'u>>,
+) -> Result<(), AllocError>
+    ensures { OnOk result (view_used_at fragments.new.items ≡ view_used_at fragments.old.items ++ of_fragment (view_used used.now)) }
+{
+    match used.fragment {
+        Some(_) => {
+            fragments.push(used)?;
+            Ok(())
+        }
+        None => Ok(()),
+    }
 }
 
 /// The name of a fragment.

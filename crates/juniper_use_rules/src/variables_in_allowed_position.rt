@@ -15,7 +15,7 @@ ghost use Rattle.juniper_syntax.specs.TypeView as types;
 ghost use Rattle.juniper_meta.specs.MetaView.{view_type};
 ghost use Rattle.juniper_schema.specs.SchemaView.{view_schema};
 ghost use Rattle.juniper_written.specs.WrittenView.{has_name};
-ghost use Rattle.juniper_use_rules.specs.UsesView.{IsReachOf, allowed_by, definition_at, is_null, is_reached_by, usage_of, view_use, view_used, view_uses};
+ghost use Rattle.juniper_use_rules.specs.UsesView.{AreUsesOfFragments, IsReachOf, allowed_by, definition_at, is_null, is_reached_by, usage_of, view_use, view_used, view_used_at, view_uses};
 
 use crate::defined::{Variable, VariablesByName, variables_by_name};
 use crate::roots::has_root;
@@ -26,17 +26,17 @@ use std::alloc::{AllocError, Global};
 use std::collections::HashSet;
 
 /// Whether a definition is an operation that can be executed and uses, in itself or in fragments that it reaches, a
-/// variable where it may not stand. It uses `own`; `all` is what each definition of the document uses, and the names are
-/// those that it reaches. An error where memory is refused.
+/// variable where it may not stand. It uses `own`; there is what each fragment of the document uses, and the names that
+/// the operation reaches. An error where memory is refused.
 pub fn misuses_variable<S: ScalarValue>(
     alloc: Global,
     schema: &SchemaType<S>,
     definition: &Definition<'_, S>,
     own: &Used<'_>,
-    all: &[Used<'_>],
+    fragments: &Vec<&Used<'_>>,
     reached: &HashSet<&str>,
 ) -> Result<bool, AllocError>
-    ensures { IfOk result (λ b. (d : Document) → view_used own.now ≡ usage_of (view_schema S.shown schema.now) (view_definition S.shown definition.now) → map view_used all.now ≡ map (usage_of (view_schema S.shown schema.now)) d → IsReachOf reached.now d (view_definition S.shown definition.now) → b ≡ rules.misuses_variable (view_schema S.shown schema.now) d (view_definition S.shown definition.now)) }
+    ensures { IfOk result (λ b. (d : Document) → view_used own.now ≡ usage_of (view_schema S.shown schema.now) (view_definition S.shown definition.now) → AreUsesOfFragments (view_schema S.shown schema.now) fragments.now.items d → IsReachOf reached.now d (view_definition S.shown definition.now) → b ≡ rules.misuses_variable (view_schema S.shown schema.now) d (view_definition S.shown definition.now)) }
 {
     match definition {
         Definition::Operation(operation) => {
@@ -47,7 +47,7 @@ pub fn misuses_variable<S: ScalarValue>(
             if misuses_one(&defined, &own.uses) {
                 return Ok(true);
             }
-            Ok(misuses_reached(&defined, all, reached))
+            Ok(misuses_reached(&defined, fragments, reached))
         }
         Definition::Fragment(_) => Ok(false),
     }
@@ -56,12 +56,13 @@ pub fn misuses_variable<S: ScalarValue>(
 /// Whether a fragment of one of the names uses a variable where it may not stand.
 fn misuses_reached<S: ScalarValue>(
     defined: &VariablesByName<'_, '_, S>,
-    all: &[Used<'_>],
+    fragments: &Vec<&Used<'_>>,
     reached: &HashSet<&str>,
 ) -> bool
-    ensures { result ≡ list_any (λ u. is_reached_by (has_name reached.now) u && list_any (λ v. not (allowed_by (definition_at S.shown defined.now) v)) u.uses) (map view_used all.now) }
+    ensures { result ≡ list_any (λ u. is_reached_by (has_name reached.now) u && list_any (λ v. not (allowed_by (definition_at S.shown defined.now) v)) u.uses) (view_used_at fragments.now.items) }
 {
-    for used in all {
+    for index in 0..fragments.len() {
+        let used = fragments[index];
         if misuses_if_reached(defined, used, reached) {
             return true;
         }

@@ -1,28 +1,35 @@
-use Rattle.std.proofs.Common.{not, ◌&&◌, sym, ◌∙◌}
+use Rattle.std.proofs.Common.{◌<◌, ◌≤◌, length, arith, not, ◌&&◌, sym, ◌∙◌}
 use Rattle.std.specs.List.{list_any}
 use Rattle.juniper_written.specs.WrittenView.{has_name}
 use Rattle.juniper_written.proofs.Deciding.{open-first, open-next, one-passes, none-passes}
 use Rattle.juniper_use_rules.specs.UsesView.{allowed_by, definition_at, is_reached_by, view_used}
 use Rattle.juniper_use_rules.proofs.variables_in_allowed_position.misuses_reached.Goals as goal
 
-pub loop-used-init : goal.loop-used-init
-loop-used-init g c =
+pub loop-index-init : goal.loop-index-init
+loop-index-init g c =
     let shown = g.S.ScalarValue.shown in
-    open-first view_used (λ u. is_reached_by (has_name c.args.reached.now) u && list_any (λ v. not (allowed_by (definition_at shown c.args.defined.now) v)) u.uses) c.args.all.now
+    let fs = c.args.fragments.now in
+    open-first (λ u. view_used u.now) (λ u. is_reached_by (has_name c.args.reached.now) u && list_any (λ v. not (allowed_by (definition_at shown c.args.defined.now) v)) u.uses) fs.items
 
-pub loop-used-preserved : goal.loop-used-preserved
-loop-used-preserved g c =
+pub loop-index-preserved : goal.loop-index-preserved
+loop-index-preserved g c =
     let shown = g.S.ScalarValue.shown in
-    open-next view_used (λ u. is_reached_by (has_name c.args.reached.now) u && list_any (λ v. not (allowed_by (definition_at shown c.args.defined.now) v)) u.uses) c.args.all.now c.loop-used.used-index c.used-item.result c.loop-used-test.true c.used-item.is
-    (sym c.misuses_if_reached.ensures ∙ c.if-misuses_if_reached.false) c.loop-used.invariant
+    let fs = c.args.fragments.now in
+    let below : c.loop-index.index < length fs.items = omega (arith, c.loop-index-test.true, c.len-index-end.ensures, fs.ok.0) in
+    open-next (λ u. view_used u.now) (λ u. is_reached_by (has_name c.args.reached.now) u && list_any (λ v. not (allowed_by (definition_at shown c.args.defined.now) v)) u.uses) fs.items c.loop-index.index c.index-used.result.now below c.index-used.ensures
+    (sym c.misuses_if_reached.ensures ∙ c.if-misuses_if_reached.false) c.loop-index.invariant
 
 pub returns-then-misuses_if_reached : goal.returns-then-misuses_if_reached
 returns-then-misuses_if_reached g c =
     let shown = g.S.ScalarValue.shown in
-    one-passes view_used (λ u. is_reached_by (has_name c.args.reached.now) u && list_any (λ v. not (allowed_by (definition_at shown c.args.defined.now) v)) u.uses) c.args.all.now c.loop-used.used-index c.used-item.result c.loop-used-test.true c.used-item.is
-    (sym c.misuses_if_reached.ensures ∙ c.if-misuses_if_reached.true) c.loop-used.invariant
+    let fs = c.args.fragments.now in
+    let below : c.loop-index.index < length fs.items = omega (arith, c.loop-index-test.true, c.len-index-end.ensures, fs.ok.0) in
+    one-passes (λ u. view_used u.now) (λ u. is_reached_by (has_name c.args.reached.now) u && list_any (λ v. not (allowed_by (definition_at shown c.args.defined.now) v)) u.uses) fs.items c.loop-index.index c.index-used.result.now below c.index-used.ensures
+    (sym c.misuses_if_reached.ensures ∙ c.if-misuses_if_reached.true) c.loop-index.invariant
 
 pub returns : goal.returns
 returns g c =
     let shown = g.S.ScalarValue.shown in
-    none-passes view_used (λ u. is_reached_by (has_name c.args.reached.now) u && list_any (λ v. not (allowed_by (definition_at shown c.args.defined.now) v)) u.uses) c.args.all.now c.loop-used.used-index c.loop-used-test.false c.loop-used.invariant
+    let fs = c.args.fragments.now in
+    let past : length fs.items ≤ c.loop-index.index = omega (arith, c.loop-index-test.false, c.len-index-end.ensures, fs.ok.0) in
+    none-passes (λ u. view_used u.now) (λ u. is_reached_by (has_name c.args.reached.now) u && list_any (λ v. not (allowed_by (definition_at shown c.args.defined.now) v)) u.uses) fs.items c.loop-index.index past c.loop-index.invariant
