@@ -1,9 +1,9 @@
 -- What definitions use of variables, and how it is seen (5.8).
-use Rattle.std.specs.Prelude.{◌≡◌, ℕ, Bool, true, false, List, [], ◌∷◌, map, Option, Some, None, option_map}
+use Rattle.std.specs.Prelude.{◌≡◌, ◌&&◌, ℕ, Bool, true, false, not, List, [], ◌∷◌, map, Option, Some, None, is_some, option_map}
 use Rattle.std.specs.Borrow.{Bor}
 use Rattle.std.specs.HashMap.{HashMap, get_by}
 use Rattle.std.specs.HashSet.{HashSet}
-use Rattle.std.specs.List.{flat_map}
+use Rattle.std.specs.List.{flat_map, list_any}
 use Rattle.std.specs.Str.{bytes_eq}
 use Rattle.graphql_spec.specs.Shown.{Shown, Name}
 use Rattle.graphql_spec.specs.Documents as spec
@@ -89,6 +89,22 @@ has_such test (Some n) = test n
 -- it is what a fragment of a reached name uses
 abbrev pub is_reached_by : (Name → Bool) → Usage → Bool
 is_reached_by reached u = has_such reached u.fragment
+
+-- a variable of the name is not defined
+abbrev pub is_unknown : (Name → Option spec.VariableDefinition) → Name → Bool
+is_unknown defined n = not (is_some (defined n))
+
+-- a variable may not stand where it stands
+abbrev pub is_misused : (Name → Option spec.VariableDefinition) → uses.Use → Bool
+is_misused defined u = not (allowed_by defined u)
+
+-- what a fragment of a reached name uses is not all defined
+abbrev pub reaches_unknown : (Name → Bool) → (Name → Option spec.VariableDefinition) → Usage → Bool
+reaches_unknown reached defined u = is_reached_by reached u && list_any (is_unknown defined) u.names
+
+-- what a fragment of a reached name uses may not all stand where it stands
+abbrev pub reaches_misused : (Name → Bool) → (Name → Option spec.VariableDefinition) → Usage → Bool
+reaches_misused reached defined u = is_reached_by reached u && list_any (is_misused defined) u.uses
 
 -- the value null
 unfoldable pub is_null : Input → Bool

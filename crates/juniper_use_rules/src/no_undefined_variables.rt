@@ -1,15 +1,14 @@
 //! NoUndefinedVariables: an operation defines each variable that it uses, in itself or in fragments that it reaches
 //! (section 5.8.3 of the Specification).
 
-ghost use Rattle.std.specs.Prelude.{◌≡◌, ◌&&◌, IfOk, not};
+ghost use Rattle.std.specs.Prelude.{◌≡◌, IfOk};
 ghost use Rattle.std.specs.List.{list_any};
-ghost use Rattle.std.specs.Option.{is_some};
 ghost use Rattle.graphql_spec.specs.Documents.{Document};
 ghost use Rattle.graphql_spec.specs.Rules as rules;
 ghost use Rattle.juniper_syntax.specs.DocumentView.{view_definition};
 ghost use Rattle.juniper_schema.specs.SchemaView.{view_schema};
 ghost use Rattle.juniper_written.specs.WrittenView.{has_name, view_names};
-ghost use Rattle.juniper_use_rules.specs.UsesView.{AreUsesOfFragments, IsReachOf, definition_at, is_reached_by, usage_of, view_used, view_used_at};
+ghost use Rattle.juniper_use_rules.specs.UsesView.{AreUsesOfFragments, IsReachOf, definition_at, is_unknown, reaches_unknown, usage_of, view_used, view_used_at};
 
 use crate::defined::{VariablesByName, variables_by_name};
 use crate::roots::has_root;
@@ -20,8 +19,8 @@ use std::alloc::{AllocError, Global};
 use std::collections::HashSet;
 
 /// Whether a definition is an operation that can be executed and uses, in itself or in fragments that it reaches, a
-/// variable that it does not define. It uses `own`; there is what each fragment of the document uses, and the names that
-/// the operation reaches. An error where memory is refused.
+/// variable that it does not define. `own` is what the definition uses, `fragments` what each fragment of the document
+/// uses, and `reached` has the names that an operation reaches. An error where memory is refused.
 pub fn uses_undefined<S: ScalarValue>(
     alloc: Global,
     schema: &SchemaType<S>,
@@ -53,7 +52,7 @@ fn lacks_reached<S: ScalarValue>(
     fragments: &Vec<&Used<'_>>,
     reached: &HashSet<&str>,
 ) -> bool
-    ensures { result ≡ list_any (λ u. is_reached_by (has_name reached.now) u && list_any (λ n. not (is_some (definition_at S.shown defined.now n))) u.names) (view_used_at fragments.now.items) }
+    ensures { result ≡ list_any (reaches_unknown (has_name reached.now) (definition_at S.shown defined.now)) (view_used_at fragments.now.items) }
 {
     for index in 0..fragments.len() {
         let used = fragments[index];
@@ -70,14 +69,14 @@ fn lacks_if_reached<S: ScalarValue>(
     used: &Used<'_>,
     reached: &HashSet<&str>,
 ) -> bool
-    ensures { result ≡ (is_reached_by (has_name reached.now) (view_used used.now) && list_any (λ n. not (is_some (definition_at S.shown defined.now n))) (view_names used.now.names.items)) }
+    ensures { result ≡ reaches_unknown (has_name reached.now) (definition_at S.shown defined.now) (view_used used.now) }
 {
     is_reached(reached, used) && lacks_one(defined, &used.names)
 }
 
 /// Whether one of the names is not defined.
 fn lacks_one<S: ScalarValue>(defined: &VariablesByName<'_, '_, S>, names: &Vec<&str>) -> bool
-    ensures { result ≡ list_any (λ n. not (is_some (definition_at S.shown defined.now n))) (view_names names.now.items) }
+    ensures { result ≡ list_any (is_unknown (definition_at S.shown defined.now)) (view_names names.now.items) }
 {
     for index in 0..names.len() {
         if is_undefined(defined, names[index]) {
@@ -89,7 +88,7 @@ fn lacks_one<S: ScalarValue>(defined: &VariablesByName<'_, '_, S>, names: &Vec<&
 
 /// Whether the name is not defined.
 fn is_undefined<S: ScalarValue>(defined: &VariablesByName<'_, '_, S>, name: &str) -> bool
-    ensures { result ≡ not (is_some (definition_at S.shown defined.now name.now)) }
+    ensures { result ≡ is_unknown (definition_at S.shown defined.now) name.now }
 {
     !defined.contains_key(name)
 }

@@ -1,7 +1,7 @@
-//! VariablesInAllowedPosition: each variable that an operation uses, in itself or in fragments that it reaches, may stand
-//! where it stands (section 5.8.5 of the Specification).
+//! VariablesInAllowedPosition: each variable that an operation uses, in itself or in fragments that it reaches, may
+//! stand where it stands (section 5.8.5 of the Specification).
 
-ghost use Rattle.std.specs.Prelude.{◌≡◌, ◌&&◌, IfOk, Option, false, map, not, option_map, true, ℕ};
+ghost use Rattle.std.specs.Prelude.{◌≡◌, IfOk, Option, false, option_map, true, ℕ};
 ghost use Rattle.std.specs.List.{list_any};
 ghost use Rattle.graphql_spec.specs.Documents.{Document};
 ghost use Rattle.graphql_spec.specs.Rules as rules;
@@ -15,7 +15,7 @@ ghost use Rattle.juniper_syntax.specs.TypeView as types;
 ghost use Rattle.juniper_meta.specs.MetaView.{view_type};
 ghost use Rattle.juniper_schema.specs.SchemaView.{view_schema};
 ghost use Rattle.juniper_written.specs.WrittenView.{has_name};
-ghost use Rattle.juniper_use_rules.specs.UsesView.{AreUsesOfFragments, IsReachOf, allowed_by, definition_at, is_null, is_reached_by, usage_of, view_use, view_used, view_used_at, view_uses};
+ghost use Rattle.juniper_use_rules.specs.UsesView.{AreUsesOfFragments, IsReachOf, allowed_by, definition_at, is_misused, is_null, reaches_misused, usage_of, view_use, view_used, view_used_at, view_uses};
 
 use crate::defined::{Variable, VariablesByName, variables_by_name};
 use crate::roots::has_root;
@@ -26,8 +26,8 @@ use std::alloc::{AllocError, Global};
 use std::collections::HashSet;
 
 /// Whether a definition is an operation that can be executed and uses, in itself or in fragments that it reaches, a
-/// variable where it may not stand. It uses `own`; there is what each fragment of the document uses, and the names that
-/// the operation reaches. An error where memory is refused.
+/// variable where it may not stand. `own` is what the definition uses, `fragments` what each fragment of the document
+/// uses, and `reached` has the names that an operation reaches. An error where memory is refused.
 pub fn misuses_variable<S: ScalarValue>(
     alloc: Global,
     schema: &SchemaType<S>,
@@ -59,7 +59,7 @@ fn misuses_reached<S: ScalarValue>(
     fragments: &Vec<&Used<'_>>,
     reached: &HashSet<&str>,
 ) -> bool
-    ensures { result ≡ list_any (λ u. is_reached_by (has_name reached.now) u && list_any (λ v. not (allowed_by (definition_at S.shown defined.now) v)) u.uses) (view_used_at fragments.now.items) }
+    ensures { result ≡ list_any (reaches_misused (has_name reached.now) (definition_at S.shown defined.now)) (view_used_at fragments.now.items) }
 {
     for index in 0..fragments.len() {
         let used = fragments[index];
@@ -76,14 +76,14 @@ fn misuses_if_reached<S: ScalarValue>(
     used: &Used<'_>,
     reached: &HashSet<&str>,
 ) -> bool
-    ensures { result ≡ (is_reached_by (has_name reached.now) (view_used used.now) && list_any (λ v. not (allowed_by (definition_at S.shown defined.now) v)) (view_uses used.now.uses.items)) }
+    ensures { result ≡ reaches_misused (has_name reached.now) (definition_at S.shown defined.now) (view_used used.now) }
 {
     is_reached(reached, used) && misuses_one(defined, &used.uses)
 }
 
 /// Whether one of the variables may not stand where it stands.
 fn misuses_one<S: ScalarValue>(defined: &VariablesByName<'_, '_, S>, uses: &[Use<'_>]) -> bool
-    ensures { result ≡ list_any (λ v. not (allowed_by (definition_at S.shown defined.now) v)) (view_uses uses.now) }
+    ensures { result ≡ list_any (is_misused (definition_at S.shown defined.now)) (view_uses uses.now) }
 {
     for used in uses {
         if !is_allowed(defined, used) {

@@ -1,7 +1,6 @@
-use Rattle.std.proofs.Common.{not, is_some}
 use Rattle.juniper_written.proofs.Deciding.{IsOpen}
-use Rattle.juniper_use_rules.specs.UsesView.{definition_at}
+use Rattle.juniper_use_rules.specs.UsesView.{definition_at, is_unknown}
 use Rattle.juniper_use_rules.proofs.no_undefined_variables.lacks_one.Given as goal
 
 abbrev pub invariant-loop-index : goal.invariant-loop-index
-invariant-loop-index g l = IsOpen (λ n. n.now) (λ n. not (is_some (definition_at g.S.ScalarValue.shown l.defined n))) l.names.items l.index
+invariant-loop-index g l = IsOpen (λ n. n.now) (is_unknown (definition_at g.S.ScalarValue.shown l.defined)) l.names.items l.index

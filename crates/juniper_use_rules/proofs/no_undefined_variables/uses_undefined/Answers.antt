@@ -1,4 +1,4 @@
-use Rattle.std.proofs.Common.{not, is_some, ◌&&◌, ◌||◌, refl, ap, sym, ◌∙◌}
+use Rattle.std.proofs.Common.{◌||◌, refl, ap, sym, ◌∙◌}
 use Rattle.std.specs.List.{list_any}
 use Rattle.graphql_spec.specs.Rules.{has_root}
 use Rattle.graphql_spec.specs.VariableUses.{definition_of}
@@ -6,7 +6,7 @@ use Rattle.juniper_syntax.specs.DocumentView.{view_definition, view_fragment, vi
 use Rattle.juniper_schema.specs.SchemaView.{view_schema}
 use Rattle.juniper_written.specs.WrittenView.{has_name}
 use Rattle.juniper_written.proofs.Variables.{variables-seen}
-use Rattle.juniper_use_rules.specs.UsesView.{definition_at, is_reached_by, view_used, view_used_at}
+use Rattle.juniper_use_rules.specs.UsesView.{definition_at, reaches_unknown, view_used, view_used_at}
 use Rattle.juniper_use_rules.proofs.Ruling.{rootless-undefined, undefined-is, fragment-undefined}
 use Rattle.juniper_use_rules.proofs.no_undefined_variables.uses_undefined.Goals as goal
 
@@ -26,7 +26,7 @@ returns-then-lacks_one g c = λ d own us reach.
     let s = view_schema shown c.args.schema.now in
     let x = view_definition shown c.args.definition.now in
     let o = view_operation shown c.in-Operation.operation in
-    ap (λ b. b || list_any (λ u. is_reached_by (has_name c.args.reached.now) u && list_any (λ n. not (is_some (definition_at shown c.in_ok-defined-in-Operation.defined n))) u.names) (view_used_at c.args.fragments.now.items))
+    ap (λ b. b || list_any (reaches_unknown (has_name c.args.reached.now) (definition_at shown c.in_ok-defined-in-Operation.defined)) (view_used_at c.args.fragments.now.items))
     (sym c.if-lacks_one.true ∙ c.lacks_one.ensures)
     ∙ undefined-is s d x o (ap (view_definition shown) c.in-Operation.is) (view_used c.args.own.now) (view_used_at c.args.fragments.now.items) (has_name c.args.reached.now) (definition_at shown c.in_ok-defined-in-Operation.defined)
     (sym c.has_root.ensures ∙ c.if-not-has_root.false) own us (reach o (ap (view_definition shown) c.in-Operation.is))
@@ -39,7 +39,7 @@ returns-else-lacks_one g c = λ d own us reach.
     let s = view_schema shown c.args.schema.now in
     let x = view_definition shown c.args.definition.now in
     let o = view_operation shown c.in-Operation.operation in
-    let more = list_any (λ u. is_reached_by (has_name c.args.reached.now) u && list_any (λ n. not (is_some (definition_at shown c.in_ok-defined-in-Operation.defined n))) u.names) (view_used_at c.args.fragments.now.items) in
+    let more = list_any (reaches_unknown (has_name c.args.reached.now) (definition_at shown c.in_ok-defined-in-Operation.defined)) (view_used_at c.args.fragments.now.items) in
     c.lacks_reached.ensures
     ∙ (ap (λ b. b || more) (sym c.if-lacks_one.false ∙ c.lacks_one.ensures)
     ∙ undefined-is s d x o (ap (view_definition shown) c.in-Operation.is) (view_used c.args.own.now) (view_used_at c.args.fragments.now.items) (has_name c.args.reached.now) (definition_at shown c.in_ok-defined-in-Operation.defined)
