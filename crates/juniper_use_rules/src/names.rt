@@ -15,10 +15,10 @@ use juniper_written::ArgumentLists;
 use std::alloc::{AllocError, Global};
 
 /// The names of the variables in arguments, in the order in which they are written. An error where memory is refused.
-pub(crate) fn names_in_lists<'d, S: ScalarValue>(
+pub(crate) fn names_in_lists<'u, 'd: 'u, 'a, S: ScalarValue>(
     alloc: Global,
-    arguments: &ArgumentLists<'d, '_, S>,
-) -> Result<Vec<&'d str>, AllocError>
+    arguments: &ArgumentLists<'d, 'a, S>,
+) -> Result<Vec<&'u str>, AllocError>
     ensures { IfOk result (λ ns. view_names ns.items ≡ flat_map (flat_map (λ a. variables_in a.value.item)) (view_lists S.shown arguments.now)) }
 {
     let mut names = Vec::new(alloc);

@@ -16,14 +16,15 @@ use crate::values::{InputField, value_of};
 use juniper_meta::meta::{Argument, find_argument};
 use juniper_placed::Call;
 use juniper_schema::SchemaType;
+use juniper_syntax::ast::Arguments;
 use juniper_syntax::{InputValue, ScalarValue, Span, Spanning, Type};
 use std::alloc::{AllocError, Global};
 
 /// The variables in arguments with the places at which they stand. An error where memory is refused.
-pub(crate) fn uses_in_calls<'u, S: ScalarValue>(
+pub(crate) fn uses_in_calls<'u, 'd: 'u, 'a, 's: 'u, S: ScalarValue>(
     alloc: Global,
     schema: &'u SchemaType<S>,
-    calls: &[Call<'u, '_, 'u, S>],
+    calls: &[Call<'d, 'a, 's, S>],
 ) -> Result<Vec<Use<'u>>, AllocError>
     ensures { IfOk result (λ us. view_uses us.items ≡ flat_map (uses_in_call (view_schema S.shown schema.now)) (map (view_call S.shown) calls.now)) }
 {
@@ -35,15 +36,15 @@ pub(crate) fn uses_in_calls<'u, S: ScalarValue>(
 }
 
 /// Adds the variables in the arguments of one field or directive.
-fn push_of_call<'u, S: ScalarValue>(
+fn push_of_call<'u, 'd: 'u, 'a, 's: 'u, S: ScalarValue>(
     schema: &'u SchemaType<S>,
-    call: &Call<'u, '_, 'u, S>,
+    call: &Call<'d, 'a, 's, S>,
     uses: &mut Vec<Use<'u>>,
 ) -> Result<(), AllocError>
     ensures { OnOk result (view_uses uses.new.items ≡ view_uses uses.old.items ++ uses_in_call (view_schema S.shown schema.now) (view_call S.shown call.now)) }
 {
-    let declared = call.declared;
-    let given = call.given;
+    let declared: &'u [Argument<S>] = call.declared;
+    let given: &'u Option<Spanning<Arguments<'a, S>, Span>> = call.given;
     match given {
         Some(arguments) => {
             for argument in &arguments.item.items {

@@ -44,12 +44,12 @@ pub struct Used<'u> {
 
 /// What a definition uses, whose arguments are these, and those with their declarations these calls. An error where
 /// memory is refused.
-pub fn used_in<'u, S: ScalarValue>(
+pub fn used_in<'u, 'd: 'u, 'a: 'u, 's: 'u, S: ScalarValue>(
     alloc: Global,
     schema: &'u SchemaType<S>,
-    definition: &Definition<'u, S>,
-    arguments: &ArgumentLists<'u, '_, S>,
-    calls: &[Call<'u, '_, 'u, S>],
+    definition: &Definition<'a, S>,
+    arguments: &ArgumentLists<'d, 'a, S>,
+    calls: &[Call<'d, 'a, 's, S>],
 ) -> Result<Used<'u>, AllocError>
     ensures { IfOk result (λ u. view_lists S.shown arguments.now ≡ argument_lists (view_definition S.shown definition.now) → map (view_call S.shown) calls.now ≡ placed.calls (view_schema S.shown schema.now) (view_definition S.shown definition.now) → view_used u ≡ usage_of (view_schema S.shown schema.now) (view_definition S.shown definition.now)) }
 {
@@ -93,7 +93,7 @@ fn push_fragment<'r, 'u>(
 }
 
 /// The name of a fragment.
-fn fragment_name<'a, S: ScalarValue>(definition: &Definition<'a, S>) -> Option<&'a str>
+fn fragment_name<'u, 'a: 'u, S: ScalarValue>(definition: &Definition<'a, S>) -> Option<&'u str>
     ensures { option_map (λ n. n.now) result ≡ fragment_name (view_definition S.shown definition.now) }
 {
     match definition {
