@@ -1,0 +1,7 @@
+mod ByName
+mod Defaults
+mod NamesIn
+mod Parts
+mod PlacesIn
+mod Ruling
+mod Tests
