@@ -8,6 +8,10 @@ mod names;
 #[cfg(test)]
 mod phases;
 #[cfg(test)]
+mod schema;
+#[cfg(test)]
 mod spreads;
+#[cfg(test)]
+mod uses;
 #[cfg(test)]
 mod written;

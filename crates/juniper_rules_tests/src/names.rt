@@ -2,8 +2,8 @@
 
 use juniper_language::{DefaultScalarValue, Definition, Document, parse_document_source};
 use juniper_name_rules::{
-    Earlier, count_operations, has_unknown_directive, is_not_alone, repeats_argument, repeats_input_field,
-    repeats_variable,
+    Earlier, count_operations, has_unknown_directive, is_not_alone, repeats_argument,
+    repeats_input_field, repeats_variable,
 };
 use juniper_written::{argument_lists, written_in};
 use std::alloc::{AllocError, Global};

@@ -1,14 +1,10 @@
 //! The lists of errors, phase by phase, worked out by hand: each error with the place where its definition starts.
 
-use juniper_language::{
-    DefaultScalarValue, Document, RuleError, Type, parse_document_source,
-};
+use crate::schema::schema;
+use juniper_language::{DefaultScalarValue, Document, RuleError, parse_document_source};
 use juniper_phases::name_errors;
-use juniper_schema::meta::Field;
-use juniper_schema::{ObjectMeta, SchemaType};
 use juniper_spreads::fragments_by_name;
 use std::alloc::{AllocError, Global};
-use std::collections::HashMap;
 use std::test::Fail;
 
 /// A text, `=>`, and its errors, each a message, `@` and a place in bytes.
@@ -18,20 +14,9 @@ query A { id } query A { x } => Operation name is not unique@15;
 { id } { id } => Anonymous operation is not alone@0; Anonymous operation is not alone@7;
 query Q($n: Hero) { ... on Villain { id } } => Unknown type@0;
 query Q($n: [__Type!]!) { ... on String { id } } =>
-query Q($n: String, $n: Int) { id @skip @what } => Variable name is not unique@0; Unknown directive@0; Unknown type@0;
+query Q($n: String, $n: Hero) { id @skip @what } => Variable name is not unique@0; Unknown directive@0; Unknown type@0;
 { ...F } fragment F on Query { ...F } => Fragment spreads itself@9;
 { ...G } fragment F on Query { id(a: {k: 1, k: 2}, a: 3) } fragment F on None { id } => Unknown fragment@0; Argument name is not unique@9; Input field name is not unique@9; Fragment name is not unique@59; Unknown type@59;";
-
-/// A schema of the type `Query { id: String }`, with `String` and `Boolean`.
-fn schema(alloc: Global) -> Result<SchemaType<DefaultScalarValue>, AllocError> {
-    let mut fields = Vec::new(alloc);
-    let of_type = Type::Named(String::from_str(alloc, "String")?);
-    fields.push(Field::new(String::from_str(alloc, "id")?, of_type))?;
-    let query = ObjectMeta::new(alloc, String::from_str(alloc, "Query")?, fields);
-    let mut types = HashMap::new(alloc);
-    types.insert(String::from_str(alloc, "Query")?, query.into_meta())?;
-    SchemaType::new(alloc, types, String::from_str(alloc, "Query")?, None)
-}
 
 /// The first row that says something else than what is found.
 fn first_other<'r>(alloc: Global, rows: &'r str) -> Result<Option<&'r str>, AllocError> {
