@@ -1,36 +1,38 @@
--- The arguments of fields and directives, one after the other.
-use Rattle.std.proofs.Common.{◌≡◌, List, [], ◌∷◌, ◌++◌, Option, Some, None, option_map, refl, sym, ap, ◌∙◌}
+-- The calls of fields and directives, one after the other.
+use Rattle.std.proofs.Common.{◌≡◌, List, [], ◌∷◌, ◌++◌, Option, Some, None, refl, sym, ap, ap₂, ◌∙◌}
+use Rattle.std.proofs.lemmas.List.{append-nil}
 use Rattle.std.specs.List.{flat_map}
-use Rattle.graphql_spec.specs.Documents.{Arguments, Directive, written}
-use Rattle.graphql_spec.specs.Schema.{Schema, FieldDeclaration, DirectiveDeclaration}
-use Rattle.graphql_spec.specs.Placed.{Call, Placed, directive_named, field_calls, directive_calls}
-use Rattle.juniper_placed.specs.PartsOnTypes.{Parts, calls_of, calls_declared, calls_of_field, calls_of_directive}
+use Rattle.graphql_spec.specs.Documents.{Directive}
+use Rattle.graphql_spec.specs.Schema.{Schema}
+use Rattle.graphql_spec.specs.Placed.{Placed, Call, field_calls, directive_calls, directive_named}
+use Rattle.juniper_placed.specs.Placing.{Parts, calls_of, call_of_field, call_of_directive, field_call, directive_call, list_of}
 
-one-field : (o : Option FieldDeclaration) (given : Arguments) (rest : List Call) →
-    elim o [ None ↦ rest | Some d ↦ record { declared = d.arguments; given = written given } ∷ rest ] ≡ calls_declared (option_map (λ d. d.arguments) o) given ++ rest
-unfolding calls_declared
-one-field None given rest = refl
-one-field (Some d) given rest = refl
+maybe-first : {A B : Type 0} (f : A → B) (xs : List B) (o : Option A) → elim o [ None ↦ xs | Some d ↦ f d ∷ xs ] ≡ list_of f o ++ xs
+unfolding list_of
+maybe-first f xs None = refl
+maybe-first f xs (Some d) = refl
 
-one-directive : (o : Option DirectiveDeclaration) (given : Arguments) (rest : List Call) →
-    elim o [ None ↦ rest | Some d ↦ record { declared = d.arguments; given = written given } ∷ rest ] ≡ calls_declared (option_map (λ d. d.arguments) o) given ++ rest
-unfolding calls_declared
-one-directive None given rest = refl
-one-directive (Some d) given rest = refl
+fields-flat : (s : Schema) (xs : List Placed) → field_calls s xs ≡ flat_map call_of_field xs
+unfolding field_calls call_of_field
+fields-flat s [] = refl
+fields-flat s (x ∷ xs) = maybe-first (field_call x.head) (field_calls s xs) x.declared ∙ ap (λ l. call_of_field x ++ l) (fields-flat s xs)
 
-pub of-fields : (s : Schema) (xs : List Placed) → field_calls s xs ≡ flat_map calls_of_field xs
-unfolding field_calls calls_of_field
-of-fields s [] = refl
-of-fields s (x ∷ xs) = one-field x.declared x.head.arguments (field_calls s xs) ∙ ap (λ l. calls_of_field x ++ l) (of-fields s xs)
-
-pub of-directives : (ds : List Directive) → directive_calls ds ≡ flat_map calls_of_directive ds
-unfolding directive_calls calls_of_directive
-of-directives [] = refl
-of-directives (d ∷ ds) = one-directive (directive_named d.name.item) d.arguments (directive_calls ds) ∙ ap (λ l. calls_of_directive d ++ l) (of-directives ds)
+directives-flat : (xs : List Directive) → directive_calls xs ≡ flat_map call_of_directive xs
+unfolding directive_calls call_of_directive
+directives-flat [] = refl
+directives-flat (x ∷ xs) = maybe-first (directive_call x) (directive_calls xs) (directive_named x.name.item) ∙ ap (λ l. call_of_directive x ++ l) (directives-flat xs)
 
 -- those of the fields, then those of the directives
-pub both-calls : (s : Schema) (p : Parts) (none first all : List Call) → none ≡ [] → first ≡ none ++ flat_map calls_of_field p.fields → all ≡ first ++ flat_map calls_of_directive p.directives → all ≡ calls_of s p
+pub all-calls : (s : Schema) (p : Parts) (none first all : List Call) → none ≡ [] → first ≡ none ++ flat_map call_of_field p.fields → all ≡ first ++ flat_map call_of_directive p.directives → all ≡ calls_of s p
 unfolding calls_of
-both-calls s p none first all start fields directives =
-    directives ∙ (ap (λ l. l ++ flat_map calls_of_directive p.directives) (fields ∙ (ap (λ l. l ++ flat_map calls_of_field p.fields) start ∙ sym (of-fields s p.fields)))
-    ∙ ap (λ l. field_calls s p.fields ++ l) (sym (of-directives p.directives)))
+all-calls s p none first all is one two =
+    two ∙ ap₂ (λ a b. a ++ b) (one ∙ (ap (λ l. l ++ flat_map call_of_field p.fields) is ∙ sym (fields-flat s p.fields))) (sym (directives-flat p.directives))
+
+-- one more, where there is something
+pub adds-some : {A B : Type 0} (f : A → B) (o : Option A) (x : A) (old new : List B) → o ≡ Some x → new ≡ old ++ f x ∷ [] → new ≡ old ++ list_of f o
+unfolding list_of
+adds-some f o x old new is e = e ∙ ap (λ y. old ++ list_of f y) (sym is)
+
+pub adds-none : {A B : Type 0} (f : A → B) (o : Option A) (old : List B) → o ≡ None → old ≡ old ++ list_of f o
+unfolding list_of
+adds-none f o old is = sym (append-nil old) ∙ ap (λ y. old ++ list_of f y) (sym is)

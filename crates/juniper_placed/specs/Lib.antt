@@ -1,3 +1,3 @@
 pub mod CallView
-pub mod PartsOnTypes
 pub mod PlacedView
+pub mod Placing

@@ -2,10 +2,10 @@
 //! declarations that these should meet (sections 5.3 and 5.4 of the Specification).
 #![tactic(auto)]
 
-mod arguments;
 mod call;
+mod call_list;
 mod placed;
 
-pub use arguments::calls;
 pub use call::Call;
+pub use call_list::calls;
 pub use placed::{Placed, PlacedParts, placed_in};

@@ -1,49 +1,48 @@
-//! The fields and directives of a definition, with the types that they stand on (sections 5.3 and 5.4 of the
-//! Specification).
+//! The fields and directives of a definition, on the types that they stand on (sections 5.3 and 5.4 of the Specification).
 
-ghost use Rattle.std.specs.Prelude.{◌≡◌, IfOk, OnOk, [], option_map};
+ghost use Rattle.std.specs.Prelude.{◌≡◌, ◌++◌, IfOk, OnOk, option_map, []};
+ghost use Rattle.std.specs.List.{flat_map};
 ghost use Rattle.graphql_spec.specs.Documents.{Selections, word_name};
 ghost use Rattle.graphql_spec.specs.Documents as documents;
-ghost use Rattle.graphql_spec.specs.Fields as fields;
+ghost use Rattle.graphql_spec.specs.Fields.{field_of, type_named, is_composite};
 ghost use Rattle.graphql_spec.specs.Placed.{root_type};
-ghost use Rattle.juniper_syntax.specs.DocumentView.{put_selection, view_definition, view_directives, view_fragment, view_kind, view_operation, view_selections, view_word};
+ghost use Rattle.juniper_meta.specs.MetaView as metas;
 ghost use Rattle.juniper_schema.specs.SchemaView.{view_schema};
-ghost use Rattle.juniper_written.specs.WrittenView.{view_field};
-ghost use Rattle.juniper_placed.specs.PartsOnTypes.{joined, nothing, parts_of, parts_of_field, parts_on, type_under, type_within};
-ghost use Rattle.juniper_placed.specs.PlacedView.{view_parts};
+ghost use Rattle.juniper_syntax.specs.DocumentView.{put_selection, view_definition, view_fragment, view_kind, view_operation, view_selections};
+ghost use Rattle.juniper_written.specs.WrittenView.{view_field, view_inline};
+ghost use Rattle.juniper_placed.specs.Placing.{directive_parts, field_parts, joined, parts_in, parts_of, parts_on, type_below, type_inside};
+ghost use Rattle.juniper_placed.specs.PlacedView.{view_parts, view_placed};
 
-use juniper_meta::meta;
-use juniper_schema::SchemaType;
+use juniper_schema::{SchemaType, meta};
 use juniper_syntax::{
-    Definition, Directive, Field, Fragment, Operation, OperationType, ScalarValue, Selection, Span,
-    Spanning,
+    Definition, Directive, Field, Fragment, InlineFragment, Operation, OperationType, ScalarValue,
+    Selection, Span, Spanning,
 };
 use juniper_written::{write_directives, write_variables};
 use std::alloc::{AllocError, Global};
 
-/// A field on its parent type, with its declaration where the type has one (5.3.1).
+/// A field on its parent type (5.3.1).
 #[derive(Drop)]
 pub struct Placed<'d, 'a, S: ScalarValue> {
     /// The name of the type.
     pub parent: &'d str,
-    /// The field.
+    /// The field as it is written.
     pub field: &'d Spanning<Field<'a, S>, Span>,
-    /// Its declaration.
+    /// Its declaration, where the type has one.
     pub declared: Option<&'d meta::Field<S>>,
 }
 
-/// The fields and directives of a definition that stand on known types, each in document order.
+/// What is written in a definition on types that are known, each in document order.
 #[derive(Drop)]
 pub struct PlacedParts<'d, 'a, S: ScalarValue> {
-    /// The fields, but none below a field that its parent type lacks, nor inside a condition that is not composite.
+    /// The fields, but for those below an unknown field, or in a condition that is no object, interface or union.
     pub fields: Vec<Placed<'d, 'a, S>>,
-    /// The directives: first those of the definition and its variables, then those of the same selections, without those
-    /// of a field that its parent type lacks.
+    /// The directives (2.12), but for those of unknown fields, and of what is left out above.
     pub directives: Vec<&'d Spanning<Directive<'a, S>, Span>>,
 }
 
-/// The fields and directives of a definition with the types that they stand on; one walk, with one or two look-ups by name
-/// at each selection. An error where memory is refused.
+/// The fields and directives of a definition on their types: none of an operation whose root type is absent. An error where
+/// memory is refused.
 pub fn placed_in<'d, 'a, S: ScalarValue>(
     alloc: Global,
     schema: &'d SchemaType<S>,
@@ -57,7 +56,7 @@ pub fn placed_in<'d, 'a, S: ScalarValue>(
     }
 }
 
-/// Those of an operation; none where its root type is absent.
+/// The fields and directives of an operation.
 fn placed_in_operation<'d, 'a, S: ScalarValue>(
     alloc: Global,
     schema: &'d SchemaType<S>,
@@ -82,7 +81,7 @@ fn placed_in_operation<'d, 'a, S: ScalarValue>(
     }
 }
 
-/// Those of a fragment; its own directives alone where its condition is not composite.
+/// The fields and directives of a fragment.
 fn placed_in_fragment<'d, 'a, S: ScalarValue>(
     alloc: Global,
     schema: &'d SchemaType<S>,
@@ -93,21 +92,22 @@ fn placed_in_fragment<'d, 'a, S: ScalarValue>(
     let mut placed = nothing_placed(alloc);
     write_directives(&fragment.item.directives, &mut placed.directives)?;
     let condition = fragment.item.type_condition.item;
-    if !is_composite(schema, condition) {
-        return Ok(placed);
+    if is_composite(schema, condition) {
+        place_selections(
+            schema,
+            condition,
+            fragment.item.selection_set.as_slice(),
+            &mut placed,
+        )?;
+        Ok(placed)
+    } else {
+        Ok(placed)
     }
-    place_selections(
-        schema,
-        condition,
-        fragment.item.selection_set.as_slice(),
-        &mut placed,
-    )?;
-    Ok(placed)
 }
 
 /// Nothing yet.
 fn nothing_placed<'d, 'a, S: ScalarValue>(alloc: Global) -> PlacedParts<'d, 'a, S>
-    ensures { view_parts S.shown result ≡ nothing }
+    ensures { view_parts S.shown result ≡ record { fields = []; directives = [] } }
 {
     PlacedParts {
         fields: Vec::new(alloc),
@@ -115,13 +115,15 @@ fn nothing_placed<'d, 'a, S: ScalarValue>(alloc: Global) -> PlacedParts<'d, 'a, 
     }
 }
 
-/// The name of the type that an operation's selections stand on (3.3.1); `None` for subscriptions, and for mutations where
-/// the schema has none.
+/// The name of the type that an operation's selections stand on (3.3.1).
 #[tactic(auto, unfolding(graphql_spec::specs::Placed::root_type))]
-fn root_name<'d, S: ScalarValue>(schema: &'d SchemaType<S>, kind: OperationType) -> Option<&'d str>
-    ensures { option_map (λ n. n.now) result ≡ root_type (view_schema S.shown schema.now) (view_kind kind) }
+fn root_name<'d, S: ScalarValue>(
+    schema: &'d SchemaType<S>,
+    operation_type: OperationType,
+) -> Option<&'d str>
+    ensures { option_map (λ n. n.now) result ≡ root_type (view_schema S.shown schema.now) (view_kind operation_type) }
 {
-    match kind {
+    match operation_type {
         OperationType::Query => Some(schema.query_name()),
         OperationType::Mutation => schema.mutation_name(),
         OperationType::Subscription => None,
@@ -136,7 +138,7 @@ fn place_selections<'d, 'a, S: ScalarValue>(
     selections: &'d [Selection<'a, S>],
     placed: &mut PlacedParts<'d, 'a, S>,
 ) -> Result<(), AllocError>
-    ensures { OnOk result (view_parts S.shown placed.new ≡ joined (view_parts S.shown placed.old) (parts_on (view_schema S.shown schema.now) parent.now (view_selections S.shown selections.now))) }
+    ensures { OnOk result (view_parts S.shown placed.new ≡ joined (view_parts S.shown placed.old) (parts_in (view_schema S.shown schema.now) parent.now (view_selections S.shown selections.now))) }
 {
     for selection in selections {
         place_selection(schema, parent, selection, placed)?;
@@ -152,15 +154,15 @@ fn place_selection<'d, 'a, S: ScalarValue>(
     selection: &'d Selection<'a, S>,
     placed: &mut PlacedParts<'d, 'a, S>,
 ) -> Result<(), AllocError>
-    ensures { OnOk result ((rest : Selections) → joined (view_parts S.shown placed.new) (parts_on (view_schema S.shown schema.now) parent.now rest) ≡ joined (view_parts S.shown placed.old) (parts_on (view_schema S.shown schema.now) parent.now (put_selection S.shown selection.now rest))) }
+    ensures { OnOk result ((rest : Selections) → joined (view_parts S.shown placed.new) (parts_in (view_schema S.shown schema.now) parent.now rest) ≡ joined (view_parts S.shown placed.old) (parts_in (view_schema S.shown schema.now) parent.now (put_selection S.shown selection.now rest))) }
 {
     match selection {
         Selection::Field(field) => {
-            let within = place_field(schema, parent, field, placed)?;
-            match within {
-                Some(type_name) => match &field.item.selection_set {
-                    Some(below) => {
-                        place_selections(schema, type_name, below, placed)?;
+            let below = place_field(schema, parent, field, placed)?;
+            match below {
+                Some(inner) => match &field.item.selection_set {
+                    Some(selections) => {
+                        place_selections(schema, inner, selections, placed)?;
                         Ok(())
                     }
                     None => Ok(()),
@@ -174,9 +176,9 @@ fn place_selection<'d, 'a, S: ScalarValue>(
         }
         Selection::InlineFragment(inline) => {
             write_directives(&inline.item.directives, &mut placed.directives)?;
-            match type_under(schema, parent, &inline.item.type_condition) {
-                Some(type_name) => {
-                    place_selections(schema, type_name, &inline.item.selection_set, placed)?;
+            match type_inside(schema, parent, inline) {
+                Some(inner) => {
+                    place_selections(schema, inner, &inline.item.selection_set, placed)?;
                     Ok(())
                 }
                 None => Ok(()),
@@ -185,44 +187,44 @@ fn place_selection<'d, 'a, S: ScalarValue>(
     }
 }
 
-/// Adds a field, without what stands below it, and answers the name of its type where its parent type has it.
+/// Adds a field, without what stands below it, and gives the name of the type that this stands on, where the field is known.
 fn place_field<'d, 'a, S: ScalarValue>(
     schema: &'d SchemaType<S>,
     parent: &'d str,
     field: &'d Spanning<Field<'a, S>, Span>,
     placed: &mut PlacedParts<'d, 'a, S>,
 ) -> Result<Option<&'d str>, AllocError>
-    ensures within { IfOk result (λ t. option_map (λ n. n.now) t ≡ type_within (view_schema S.shown schema.now) parent.now (view_field S.shown field.now)) }
-    ensures parts { OnOk result (view_parts S.shown placed.new ≡ joined (view_parts S.shown placed.old) (parts_of_field (view_schema S.shown schema.now) parent.now (view_field S.shown field.now))) }
+    ensures below { IfOk result (λ q. option_map (λ n. n.now) q ≡ type_below (field_of (view_schema S.shown schema.now) parent.now (view_field S.shown field.now).name.item)) }
+    ensures added { OnOk result (view_parts S.shown placed.new ≡ joined (view_parts S.shown placed.old) (field_parts (view_schema S.shown schema.now) parent.now (view_field S.shown field.now))) }
 {
-    let declared = schema.field_of(parent, field.item.name.item);
+    let found = schema.field_of(parent, field.item.name.item);
     placed.fields.push(Placed {
         parent,
         field,
-        declared,
+        declared: found,
     })?;
-    match declared {
-        Some(declaration) => {
+    match found {
+        Some(declared) => {
             write_directives(&field.item.directives, &mut placed.directives)?;
-            Ok(Some(declaration.field_type.innermost_name()))
+            Ok(Some(declared.field_type.innermost_name()))
         }
         None => Ok(None),
     }
 }
 
-/// The type that the selections under a condition stand on; `None` where it is not composite.
-#[tactic(auto, unfolding(crate::specs::PartsOnTypes::type_under, graphql_spec::specs::Documents::word_name))]
-fn type_under<'d, 'a, S: ScalarValue>(
+/// The name of the type inside an inline fragment: that of its condition, if this is an object, interface or union; of one
+/// without condition it is the type around it.
+fn type_inside<'d, 'a, S: ScalarValue>(
     schema: &'d SchemaType<S>,
     parent: &'d str,
-    condition: &'d Option<Spanning<&'a str, Span>>,
+    inline: &'d Spanning<InlineFragment<'a, S>, Span>,
 ) -> Option<&'d str>
-    ensures { option_map (λ n. n.now) result ≡ type_under (view_schema S.shown schema.now) parent.now (word_name (option_map view_word condition.now)) }
+    ensures { option_map (λ n. n.now) result ≡ type_inside (view_schema S.shown schema.now) parent.now (word_name (view_inline S.shown inline.now).condition) }
 {
-    match condition {
-        Some(name) => {
-            if is_composite(schema, name.item) {
-                Some(name.item)
+    match &inline.item.type_condition {
+        Some(condition) => {
+            if is_composite(schema, condition.item) {
+                Some(condition.item)
             } else {
                 None
             }
@@ -231,10 +233,9 @@ fn type_under<'d, 'a, S: ScalarValue>(
     }
 }
 
-/// Whether the type of this name is an object, an interface or a union (3.6 to 3.8).
-#[tactic(auto, unfolding(graphql_spec::specs::Fields::is_composite))]
+/// Whether an object, an interface or a union is declared at this name (3.6, 3.7, 3.8).
 fn is_composite<S: ScalarValue>(schema: &SchemaType<S>, name: &str) -> bool
-    ensures { result ≡ fields.is_composite (fields.type_named (view_schema S.shown schema.now) name.now) }
+    ensures { result ≡ is_composite (type_named (view_schema S.shown schema.now) name.now) }
 {
     match schema.concrete_type_by_name(name) {
         Some(meta) => meta.is_composite(),

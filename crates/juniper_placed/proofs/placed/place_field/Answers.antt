@@ -1,41 +1,44 @@
-use Rattle.std.proofs.Common.{◌++◌, ap, sym, ◌∙◌, option_map}
-use Rattle.std.proofs.lemmas.List.{append-nil}
+use Rattle.std.proofs.Common.{ap, sym, ◌∙◌, ◌++◌, ◌∷◌, [], option_map, Some}
+use Rattle.graphql_spec.specs.Documents.{Head}
+use Rattle.juniper_syntax.proofs.Lists.{seen-push}
 use Rattle.juniper_meta.specs.MetaView as metas
 use Rattle.juniper_schema.specs.SchemaView.{view_schema}
-use Rattle.juniper_syntax.proofs.Lists.{seen-push}
 use Rattle.juniper_written.specs.WrittenView.{view_field}
-use Rattle.juniper_placed.specs.PartsOnTypes.{directives_of_field}
+use Rattle.juniper_placed.specs.Placing.{type_below}
 use Rattle.juniper_placed.specs.PlacedView.{view_parts, view_placed}
-use Rattle.juniper_placed.proofs.Placing.{adds-head, within-some, within-none}
+use Rattle.juniper_placed.proofs.Placing.{adds-known, adds-unknown}
 use Rattle.juniper_placed.proofs.placed.place_field.Goals as goal
 
-pub returns-in_ok-write_directives-in-Some-clause-within : goal.returns-in_ok-write_directives-in-Some-clause-within
-returns-in_ok-write_directives-in-Some-clause-within g c =
+pub returns-in_ok-write_directives-in-Some-clause-below : goal.returns-in_ok-write_directives-in-Some-clause-below
+unfolding type_below
+returns-in_ok-write_directives-in-Some-clause-below g c =
     let shown = g.S.ScalarValue.shown in
-    within-some (λ f. metas.view_field shown f.now) (view_schema shown c.args.schema.now) c.args.parent.now (view_field shown c.args.field.now) c.field_of-declared.result c.in-Some.declaration
-    c.innermost_name.result.now c.field_of-declared.ensures c.in-Some.is c.innermost_name.ensures
+    ap Some c.innermost_name.ensures
+    ∙ (ap (λ o. type_below (option_map (λ f. metas.view_field shown f.now) o)) (sym c.in-Some.is) ∙ ap type_below c.field_of-found.ensures)
 
-pub returns-in_ok-write_directives-in-Some-clause-parts : goal.returns-in_ok-write_directives-in-Some-clause-parts
-unfolding directives_of_field
-returns-in_ok-write_directives-in-Some-clause-parts g c =
+pub returns-in-None-clause-below : goal.returns-in-None-clause-below
+unfolding type_below
+returns-in-None-clause-below g c =
+    let shown = g.S.ScalarValue.shown in
+    ap (λ o. type_below (option_map (λ f. metas.view_field shown f.now) o)) (sym c.in-None.is) ∙ ap type_below c.field_of-found.ensures
+
+pub returns-in_ok-write_directives-in-Some-clause-added : goal.returns-in_ok-write_directives-in-Some-clause-added
+returns-in_ok-write_directives-in-Some-clause-added g c =
     let shown = g.S.ScalarValue.shown in
     let old = view_parts shown c.args.placed.now in
-    let h = view_field shown c.args.field.now in
-    adds-head (view_schema shown c.args.schema.now) c.args.parent.now old h (option_map (λ f. metas.view_field shown f.now) c.field_of-declared.result) _ _ c.field_of-declared.ensures
-    (seen-push (view_placed shown) c.args.placed.now.fields.items c.push.new.self.items _ c.in_ok-push.ensures.items)
-    (c.in_ok-write_directives-in-Some.ensures ∙ ap (λ o. old.directives ++ directives_of_field (option_map (λ f. metas.view_field shown f.now) o) h) (sym c.in-Some.is))
+    let head : Head = view_field shown c.args.field.now in
+    adds-known (view_schema shown c.args.schema.now) c.args.parent.now old head (metas.view_field shown c.in-Some.declared.now) _ _
+    (sym c.field_of-found.ensures ∙ ap (option_map (λ f. metas.view_field shown f.now)) c.in-Some.is)
+    (seen-push (view_placed shown) c.args.placed.now.fields.items c.push.new.self.items _ c.in_ok-push.ensures.items
+    ∙ ap (λ o. old.fields ++ record { parent = c.args.parent.now; head = head; declared = o } ∷ []) c.field_of-found.ensures)
+    c.in_ok-write_directives-in-Some.ensures
 
-pub returns-in-None-clause-within : goal.returns-in-None-clause-within
-returns-in-None-clause-within g c =
-    let shown = g.S.ScalarValue.shown in
-    within-none (λ f. metas.view_field shown f.now) (view_schema shown c.args.schema.now) c.args.parent.now (view_field shown c.args.field.now) c.field_of-declared.result c.field_of-declared.ensures c.in-None.is
-
-pub returns-in-None-clause-parts : goal.returns-in-None-clause-parts
-unfolding directives_of_field
-returns-in-None-clause-parts g c =
+pub returns-in-None-clause-added : goal.returns-in-None-clause-added
+returns-in-None-clause-added g c =
     let shown = g.S.ScalarValue.shown in
     let old = view_parts shown c.args.placed.now in
-    let h = view_field shown c.args.field.now in
-    adds-head (view_schema shown c.args.schema.now) c.args.parent.now old h (option_map (λ f. metas.view_field shown f.now) c.field_of-declared.result) _ _ c.field_of-declared.ensures
-    (seen-push (view_placed shown) c.args.placed.now.fields.items c.push.new.self.items _ c.in_ok-push.ensures.items)
-    (sym (append-nil old.directives) ∙ ap (λ o. old.directives ++ directives_of_field (option_map (λ f. metas.view_field shown f.now) o) h) (sym c.in-None.is))
+    let head : Head = view_field shown c.args.field.now in
+    adds-unknown (view_schema shown c.args.schema.now) c.args.parent.now old head _
+    (sym c.field_of-found.ensures ∙ ap (option_map (λ f. metas.view_field shown f.now)) c.in-None.is)
+    (seen-push (view_placed shown) c.args.placed.now.fields.items c.push.new.self.items _ c.in_ok-push.ensures.items
+    ∙ ap (λ o. old.fields ++ record { parent = c.args.parent.now; head = head; declared = o } ∷ []) c.field_of-found.ensures)

@@ -1,0 +1,11 @@
+use Rattle.std.proofs.Common.{ap}
+use Rattle.juniper_schema.specs.SchemaView.{view_schema}
+use Rattle.juniper_placed.specs.CallView.{view_calls}
+use Rattle.juniper_placed.specs.PlacedView.{view_parts}
+use Rattle.juniper_placed.proofs.Calling.{all-calls}
+use Rattle.juniper_placed.proofs.call_list.calls.Goals as goal
+
+pub returns : goal.returns
+returns g c =
+    let shown = g.S.ScalarValue.shown in
+    all-calls (view_schema shown c.args.schema.now) (view_parts shown c.args.parts.now) _ _ _ (ap (view_calls shown) c.new-calls.ensures.items) c.in_ok-push_of_fields.ensures c.in_ok-push_of_directives.ensures

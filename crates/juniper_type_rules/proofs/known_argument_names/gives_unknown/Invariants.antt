@@ -1,0 +1,12 @@
+use Rattle.std.proofs.Common.{map}
+use Rattle.std.specs.Option.{is_none}
+use Rattle.graphql_spec.specs.Fields.{declaration_in}
+use Rattle.juniper_meta.specs.MetaView as metas
+use Rattle.juniper_syntax.specs.DocumentView.{view_argument}
+use Rattle.juniper_written.proofs.Deciding.{IsOpen}
+use Rattle.juniper_type_rules.proofs.known_argument_names.gives_unknown.Given as goal
+
+abbrev pub invariant-loop-argument : goal.invariant-loop-argument
+invariant-loop-argument g l =
+    let shown = g.S.ScalarValue.shown in
+    IsOpen (view_argument shown) (λ a. is_none (declaration_in (map (metas.view_argument shown) l.declared) a.name.item)) l.argument-items l.argument-index
