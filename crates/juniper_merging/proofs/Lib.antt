@@ -1,0 +1,3 @@
+pub mod Searching
+mod Taking
+mod Grouping

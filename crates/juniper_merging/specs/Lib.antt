@@ -1,0 +1,2 @@
+pub mod MergingGraph
+pub mod SearchView
