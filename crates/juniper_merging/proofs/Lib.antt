@@ -1,3 +1,5 @@
 pub mod Searching
 mod Taking
 mod Grouping
+mod Looking
+mod Passing

@@ -155,7 +155,7 @@ fn look_at(vertices: &[Vertex<'_>], pair: Pair, search: &mut Search) -> Result<b
             if !agree(pair.must_merge, x, y) {
                 return Ok(false);
             }
-            if x.below.is_empty() && y.below.is_empty() {
+            if selects_nothing(x) && selects_nothing(y) {
                 return Ok(true);
             }
             if is_new(search, pair)? {
@@ -190,6 +190,15 @@ fn put_pair(
     ensures added { OnOk result ((i j : ℕ) → has_pair set.new i j ≡ cond (nat_eq first i && nat_eq second j) true (has_pair set.old i j)) }
 {
     Ok(set.insert((first, second))?)
+}
+
+/// Whether the field selects nothing.
+#[tactic(auto, unfolding(crate::specs::MergingGraph::view_vertex))]
+fn selects_nothing(vertex: &Vertex<'_>) -> bool
+    ensures { result ≡ true → (view_vertex vertex.now).below ≡ [] }
+{
+    let below: &[usize] = &vertex.below;
+    below.is_empty()
 }
 
 /// Whether two fields agree, whatever they select.
