@@ -1,7 +1,7 @@
 -- What a map of groups has at a response key.
 use Rattle.std.specs.Prelude.{ℕ, Bool, true, false, cond, List, [], ◌∷◌, ◌≡◌, Option, Some, None, Vec}
 use Rattle.std.specs.Borrow.{Bor}
-use Rattle.std.specs.Map.{update}
+use Rattle.std.specs.Map.{lookup, update}
 use Rattle.std.specs.HashMap.{HashMap, get_by}
 use Rattle.std.specs.HashMap as hash
 use Rattle.std.specs.Str.{bytes_eq}
@@ -21,3 +21,8 @@ pub group-put : {H : Type 0} (m n : HashMap (Bor (List ℕ)) (Vec ℕ Global) H)
 unfolding group_in
 group-put m n key w u k =
     ap numbers_of (hash_map_updates_str key m n w u k) ∙ elim (cases_Bool (bytes_eq key k)) [ inl q ↦ rw q refl | inr q ↦ rw q refl ]
+
+-- an empty map has no groups
+pub empty-groups : {H : Type 0} (m : HashMap (Bor (List ℕ)) (Vec ℕ Global) H) → m.entries ≡ [] → (k : Name) → group_in m k ≡ []
+unfolding group_in numbers_of
+empty-groups m none k = ap (λ es. numbers_of (lookup (λ (n : Bor (List ℕ)). bytes_eq k n.now) es)) none

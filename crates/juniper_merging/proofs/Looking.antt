@@ -10,7 +10,7 @@ use Rattle.std.proofs.lemmas.Option.{slice_get_within, slice_get-map, slice_get_
 use Rattle.std.proofs.Common.{refl, sym, ap, ◌∙◌, inl, inr, subst, arith}
 use Rattle.graphql_spec.specs.Laws.{In}
 use Rattle.juniper_merging.specs.declared.graph.Vertex.{Vertex}
-use Rattle.juniper_merging.specs.MergingGraph.{FieldAt, view_vertex, agree, agree_at, meet_at, below_both}
+use Rattle.juniper_merging.specs.MergingGraph.{FieldAt, view_vertex, agree, agree_at, can_meet, meet_at, below_both}
 use Rattle.juniper_merging.specs.SearchView.{was_seen, Takes, unseen, work, pair_fits, pairs_below, pairs_of, pairs_after, pairs_with, Looks, IsVisited, Fails}
 use Rattle.juniper_merging.specs.declared.search.Pair.{Pair}
 use Rattle.juniper_merging.specs.declared.search.Search.{Search}
@@ -128,3 +128,13 @@ module _ (vs : List FieldAt) where
               omega (arith, h, l);
           fails = λ f. absurd (both_ways true f refl);
         }
+
+module _ (vs : List FieldAt) (p : Pair) where
+  pub below-is : (x y : FieldAt) (m : Bool) (is : List ℕ) → slice_get vs p.first ≡ Some x → slice_get vs p.second ≡ Some y → m ≡ (p.must_merge && can_meet x y) → is ≡ x.below ++ y.below → pairs_of vs m is ≡ pairs_below vs p
+  unfolding pairs_below meet_at below_both
+  below-is x y m is f s e g = rw f (rw s (ap (λ n. pairs_of vs n is) e ∙ ap (pairs_of vs (p.must_merge && can_meet x y)) g))
+
+  pub looks-nowhere : (a : Search) → (slice_get vs p.first ≡ None) ⊎ ((x : FieldAt) × (slice_get vs p.first ≡ Some x) × (slice_get vs p.second ≡ None)) → Looks vs (pairs_below vs p) a a true
+  unfolding pairs_below below_both pairs_of pairs_after
+  looks-nowhere a (inl e) = rw e (looks-none vs a)
+  looks-nowhere a (inr (x, f, e)) = rw f (rw e (looks-none vs a))

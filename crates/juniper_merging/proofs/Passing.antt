@@ -90,3 +90,8 @@ module _ (vs : List FieldAt) where
   pub partners-are : (x : FieldAt) (j : ℕ) (before : List ℕ) (f : Name → List ℕ) (group : List ℕ) → slice_get vs j ≡ Some x → ((k : Name) → f k ≡ with_key_at vs k before) → group ≡ f x.key → group ≡ partners vs (slice_get vs j) before
   unfolding partners
   partners-are x j before f group some is e = rw some (e ∙ is x.key)
+
+-- a number that has no field stands in no pair
+pub no-partners : (vs : List FieldAt) (m : Bool) (j : ℕ) (before : List ℕ) (more : List Pair) → slice_get vs j ≡ None → pairs_with vs m j (partners vs (slice_get vs j) before) ++ more ≡ more
+unfolding pairs_with partners
+no-partners vs m j before more none = rw none refl
