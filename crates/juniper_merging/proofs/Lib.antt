@@ -3,3 +3,4 @@ mod Taking
 mod Grouping
 mod Looking
 mod Passing
+mod Depths

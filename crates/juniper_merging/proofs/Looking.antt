@@ -1,17 +1,17 @@
 -- What it means to look at one pair.
-use Rattle.std.specs.Prelude.{ℕ, zero, suc, Bool, true, false, not, ◌&&◌, cond, List, [], ◌∷◌, ◌++◌, ◌≡◌, ◌⊎◌, ◌≤◌, ◌<◌, ◌+◌, Option, Some, None, length, map, option_map, Vec}
+use Rattle.std.specs.Prelude.{ℕ, Bool, true, false, not, ◌&&◌, List, [], ◌∷◌, ◌++◌, ◌≡◌, ◌⊎◌, ◌≤◌, ◌<◌, ◌+◌, Option, Some, None, length, map, option_map, Vec}
 use Rattle.std.specs.Borrow.{Bor}
 use Rattle.std.specs.List.{slice_get, HoldsAt}
 use Rattle.std.specs.Option.{MatchOption}
 use Rattle.std.specs.declared.alloc.Global.{Global}
-use Rattle.std.proofs.lemmas.Bool.{cases_Bool, and_parts, both_ways}
+use Rattle.std.proofs.lemmas.Bool.{both_ways}
 use Rattle.std.proofs.lemmas.List.{length-append}
 use Rattle.std.proofs.lemmas.Option.{slice_get_within, slice_get-map, slice_get_read, slice_get_past, MatchOption-at_some, MatchOption-at_none}
 use Rattle.std.proofs.Common.{refl, sym, ap, ◌∙◌, inl, inr, subst, arith}
 use Rattle.graphql_spec.specs.Laws.{In}
 use Rattle.juniper_merging.specs.declared.graph.Vertex.{Vertex}
 use Rattle.juniper_merging.specs.MergingGraph.{FieldAt, view_vertex, agree, agree_at, can_meet, meet_at, below_both}
-use Rattle.juniper_merging.specs.SearchView.{was_seen, Takes, unseen, work, pair_fits, pairs_below, pairs_of, pairs_after, pairs_with, Looks, IsVisited, Fails}
+use Rattle.juniper_merging.specs.SearchView.{was_seen, Takes, work, pair_fits, pairs_below, pairs_of, pairs_after, Looks, IsVisited}
 use Rattle.juniper_merging.specs.declared.search.Pair.{Pair}
 use Rattle.juniper_merging.specs.declared.search.Search.{Search}
 use Rattle.juniper_merging.proofs.Searching.{visited-none, visited-both, visited-old, visited-new}

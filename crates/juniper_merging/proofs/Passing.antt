@@ -1,17 +1,14 @@
 -- A loop that looks at several pairs, a few at each turn.
-use Rattle.std.specs.Prelude.{ℕ, zero, suc, Bool, true, false, cond, List, [], ◌∷◌, ◌++◌, ◌≡◌, ◌<◌, ◌≤◌, ◌+◌, Option, Some, None, length, map, drop, get_or, Vec}
-use Rattle.std.specs.HashMap.{HashMap}
-use Rattle.std.specs.Borrow.{Bor}
+use Rattle.std.specs.Prelude.{ℕ, Bool, true, false, cond, List, [], ◌∷◌, ◌++◌, ◌≡◌, ◌<◌, ◌≤◌, ◌+◌, Some, None, length, map, drop, get_or}
 use Rattle.std.specs.List.{slice_get}
 use Rattle.std.specs.Str.{bytes_eq}
-use Rattle.std.specs.declared.alloc.Global.{Global}
 use Rattle.std.proofs.lemmas.Bool.{cases_Bool}
 use Rattle.std.proofs.lemmas.List.{append_assoc, append-nil, drop_all, drop_more}
-use Rattle.std.proofs.Common.{refl, sym, ap, ◌∙◌, inl, inr, subst, arith}
+use Rattle.std.proofs.Common.{refl, sym, ap, ◌∙◌, inl, inr, subst}
 use Rattle.graphql_spec.specs.Shown.{Name}
-use Rattle.graphql_spec.proofs.Lists.{same_true, same_refl}
+use Rattle.graphql_spec.proofs.Lists.{same_true}
 use Rattle.juniper_merging.specs.MergingGraph.{FieldAt}
-use Rattle.juniper_merging.specs.SearchView.{Looks, group_in, has_key, partners, with_key_at, pairs_with, pairs_after, pairs_of}
+use Rattle.juniper_merging.specs.SearchView.{Looks, has_key, partners, with_key_at, pairs_with, pairs_after}
 use Rattle.juniper_merging.specs.declared.search.Pair.{Pair}
 use Rattle.juniper_merging.specs.declared.search.Search.{Search}
 use Rattle.juniper_merging.proofs.Looking.{looks-none, looks-both, looks-fail}

@@ -1,6 +1,5 @@
 -- What it means that a pair is put into the set of those that were seen, and how much is left to do then.
-use Rattle.std.specs.Prelude.{ℕ, zero, suc, Bool, true, false, not, ◌&&◌, cond, List, [], ◌∷◌, ◌++◌, ◌≡◌, ◌⊎◌, ◌≤◌, ◌<◌, ◌+◌, nat_eq, length}
-use Rattle.std.specs.HashSet.{HashSet}
+use Rattle.std.specs.Prelude.{ℕ, zero, suc, Bool, true, false, not, ◌&&◌, cond, ◌≡◌, ◌⊎◌, ◌≤◌, ◌<◌, nat_eq}
 use Rattle.std.proofs.lemmas.Bool.{cases_Bool, and_parts}
 use Rattle.std.proofs.Common.{refl, sym, ap, ◌∙◌, inl, inr, subst, arith, rules}
 use Rattle.juniper_merging.specs.SearchView.{has_pair, was_seen, Takes, unseen_at, unseen_beside, unseen}

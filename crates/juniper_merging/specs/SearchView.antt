@@ -1,6 +1,6 @@
 -- The search over pairs of fields; only private clauses cite what stands here.
-use Rattle.std.specs.Prelude.{ℕ, zero, suc, Bool, true, false, not, ◌&&◌, ◌||◌, List, [], ◌∷◌, ◌++◌, Option, Some, None, option_map, nat_eq, map, cond, length, ◌≡◌, ◌⊎◌, ◌≤◌, ◌+◌, Vec}
-use Rattle.std.specs.List.{slice_get, list_any, list_all}
+use Rattle.std.specs.Prelude.{ℕ, zero, suc, Bool, true, false, not, ◌&&◌, List, [], ◌∷◌, ◌++◌, Option, Some, None, nat_eq, map, cond, length, ◌≡◌, ◌⊎◌, ◌≤◌, ◌+◌, Vec}
+use Rattle.std.specs.List.{slice_get, list_any}
 use Rattle.std.specs.Str.{bytes_eq}
 use Rattle.std.specs.Borrow.{Bor}
 use Rattle.std.specs.HashMap.{HashMap, get_by}

@@ -1,5 +1,4 @@
-use Rattle.std.proofs.Common.{◌≡◌, ◌++◌, ◌&&◌, List, Bool, Some, None, inl, inr, map, refl, sym, ap, ◌∙◌, subst, rules}
-use Rattle.std.specs.List.{slice_get}
+use Rattle.std.proofs.Common.{◌≡◌, ◌++◌, ◌&&◌, inl, inr, map, sym, ap, ◌∙◌, subst, rules}
 use Rattle.juniper_merging.specs.MergingGraph.{view_vertex, can_meet}
 use Rattle.juniper_merging.specs.SearchView.{Looks}
 use Rattle.juniper_merging.proofs.Looking.{found-at, missing-at, vertex-some, vertex-none, below-is, looks-nowhere}

@@ -1,6 +1,5 @@
 use Rattle.std.proofs.Common.{refl}
-use Rattle.juniper_merging.proofs.Searching.{visited-none, search-ends, search-next, search-fails}
-use Rattle.juniper_merging.proofs.Taking.{takes-merge, takes-shape, less, fewer}
+use Rattle.juniper_merging.proofs.Taking.{takes-merge, takes-shape}
 use Rattle.juniper_merging.proofs.search.is_new.Goals as goal
 
 pub returns-in_ok-is_new : goal.returns-in_ok-is_new

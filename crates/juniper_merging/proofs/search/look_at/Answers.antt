@@ -1,4 +1,4 @@
-use Rattle.std.proofs.Common.{◌≡◌, Bool, Some, None, [], inl, inr, refl, sym, ap, ◌∙◌, map, rules}
+use Rattle.std.proofs.Common.{◌≡◌, Some, None, sym, ◌∙◌, map}
 use Rattle.std.specs.List.{slice_get}
 use Rattle.juniper_merging.specs.MergingGraph.{view_vertex}
 use Rattle.juniper_merging.proofs.Looking.{found-at, missing-at, vertex-some, vertex-none, looks-differ, looks-none-below, looks-old, looks-new, looks-first-missing, looks-second-missing}

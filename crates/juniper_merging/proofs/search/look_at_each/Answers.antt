@@ -1,4 +1,4 @@
-use Rattle.std.proofs.Common.{◌≡◌, ◌∷◌, ◌+◌, [], ℕ, List, get_or, map, drop, refl, sym, subst}
+use Rattle.std.proofs.Common.{◌∷◌, ◌+◌, [], get_or, map, drop, sym, subst}
 use Rattle.std.proofs.lemmas.Grind.{get_or_default_zero}
 use Rattle.juniper_merging.specs.MergingGraph.{view_vertex}
 use Rattle.juniper_merging.specs.SearchView.{Looks, pairs_with}

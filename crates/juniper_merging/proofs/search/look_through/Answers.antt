@@ -1,10 +1,9 @@
-use Rattle.std.proofs.Common.{◌≡◌, ◌∷◌, ◌++◌, ◌+◌, [], ℕ, List, Some, None, true, false, get_or, map, drop, refl, sym, ap, ◌∙◌, subst}
+use Rattle.std.proofs.Common.{◌≡◌, ◌∷◌, ◌++◌, ◌+◌, [], Some, None, true, false, get_or, map, drop, refl, sym, ap, ◌∙◌, subst}
 use Rattle.std.specs.List.{slice_get}
 use Rattle.std.proofs.lemmas.Grind.{get_or_default_zero}
 use Rattle.graphql_spec.specs.Shown.{Name}
-use Rattle.juniper_merging.specs.MergingGraph.{FieldAt, view_vertex}
-use Rattle.juniper_merging.specs.SearchView.{Looks, group_in, numbers_of, partners, pairs_with, pairs_after, pairs_of, with_key_at}
-use Rattle.juniper_merging.specs.declared.search.Search.{Search}
+use Rattle.juniper_merging.specs.MergingGraph.{view_vertex}
+use Rattle.juniper_merging.specs.SearchView.{Looks, group_in, partners, pairs_with, pairs_after, pairs_of, with_key_at}
 use Rattle.juniper_merging.proofs.Looking.{found-at, missing-at, vertex-some, vertex-none, looks-none}
 use Rattle.juniper_merging.proofs.Passing.{IsLooked, looked-first, looked-next, looked-fails, looked-all, turn-left, no-turn-left, groups-skip, groups-put, no-groups, no-partners, partners-are}
 use Rattle.juniper_merging.proofs.Grouping.{empty-groups}
@@ -52,12 +51,11 @@ loop-second-preserved c =
           let group : w.deref.result.now ≡ partners vs (slice_get vs j) i.0 = partners-are vs (view_vertex x) j i.0 (group_in c.loop-second.groups) w.deref.result.now some i.1 (w.deref.ensures.value ∙ w.group_of-group.ensures.numbers) in
           let grown : w.push.new.self.items ≡ group_in c.loop-second.groups x.key.now ++ j ∷ [] = w.in_ok-push.ensures.items ∙ ap (λ l. l ++ j ∷ []) w.group_of-group.ensures.numbers in
           let groups : (k : Name) → group_in w.put_group.new.groups k ≡ with_key_at vs k (i.0 ++ j ∷ []) = groups-put vs j (view_vertex x) i.0 w.push.new.self.items (group_in c.loop-second.groups) (group_in w.group_of-group.new.groups) (group_in w.put_group.new.groups)
-              some i.1 grown w.group_of-group.ensures.taken w.in_ok-put_group.ensures in
+          some i.1 grown w.group_of-group.ensures.taken w.in_ok-put_group.ensures in
           let looked : IsLooked vs (pairs_of vs m set) (pairs_after vs m (i.0 ++ j ∷ []) (drop (n + 1) set)) c.args.search.now w.look_at_each.new.search = looked-next vs (pairs_of vs m set) (pairs_after vs m i.0 (drop n set))
-              (pairs_with vs m j (partners vs (slice_get vs j) i.0)) (pairs_after vs m (i.0 ++ j ∷ []) (drop (n + 1) set)) c.args.search.now c.loop-second.search w.look_at_each.new.search i.2 turn
-              (subst (λ g. Looks vs (pairs_with vs m j g) c.loop-second.search w.look_at_each.new.search true) group
-              (subst (λ b. Looks vs (pairs_with vs m j w.deref.result.now) c.loop-second.search w.look_at_each.new.search b) w.if-not-branch.false w.in_ok-look_at_each.ensures)) in
-          (
+          (pairs_with vs m j (partners vs (slice_get vs j) i.0)) (pairs_after vs m (i.0 ++ j ∷ []) (drop (n + 1) set)) c.args.search.now c.loop-second.search w.look_at_each.new.search i.2 turn
+          (subst (λ g. Looks vs (pairs_with vs m j g) c.loop-second.search w.look_at_each.new.search true) group
+          (subst (λ b. Looks vs (pairs_with vs m j w.deref.result.now) c.loop-second.search w.look_at_each.new.search b) w.if-not-branch.false w.in_ok-look_at_each.ensures)) in (
             i.0 ++ j ∷ [],
             λ k. ap (λ g. group_in g k) w.groups-is ∙ groups k,
             subst (λ s. IsLooked vs (pairs_of vs m set) (pairs_after vs m (i.0 ++ j ∷ []) (drop (n + 1) set)) c.args.search.now s) (sym w.search-is) looked,
@@ -65,8 +63,7 @@ loop-second-preserved c =
       | in_default w ↦
           let none : slice_get vs j ≡ None = vertex-none c.args.vertices.now j (missing-at c.args.vertices.now j c.get.result c.get.ensures.lookup.3 w.in_default.is) in
           let looked : IsLooked vs (pairs_of vs m set) (pairs_after vs m (i.0 ++ j ∷ []) (drop (n + 1) set)) c.args.search.now c.loop-second.search = looked-next vs (pairs_of vs m set) (pairs_after vs m i.0 (drop n set))
-              [] (pairs_after vs m (i.0 ++ j ∷ []) (drop (n + 1) set)) c.args.search.now c.loop-second.search c.loop-second.search i.2 (turn ∙ no-partners vs m j i.0 _ none) (looks-none vs c.loop-second.search) in
-          (
+          [] (pairs_after vs m (i.0 ++ j ∷ []) (drop (n + 1) set)) c.args.search.now c.loop-second.search c.loop-second.search i.2 (turn ∙ no-partners vs m j i.0 _ none) (looks-none vs c.loop-second.search) in (
             i.0 ++ j ∷ [],
             λ k. ap (λ g. group_in g k) w.groups-is ∙ groups-skip vs j i.0 (group_in c.loop-second.groups) none i.1 k,
             subst (λ s. IsLooked vs (pairs_of vs m set) (pairs_after vs m (i.0 ++ j ∷ []) (drop (n + 1) set)) c.args.search.now s) (sym w.search-is) looked,
