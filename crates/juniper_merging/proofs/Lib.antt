@@ -4,3 +4,5 @@ mod Grouping
 mod Looking
 mod Passing
 mod Depths
+mod Places
+mod Telling

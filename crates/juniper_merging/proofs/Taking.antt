@@ -6,10 +6,10 @@ use Rattle.juniper_merging.specs.SearchView.{has_pair, was_seen, Takes, unseen_a
 use Rattle.juniper_merging.specs.declared.search.Pair.{Pair}
 use Rattle.juniper_merging.specs.declared.search.Search.{Search}
 
-itself : (n : ℕ) → nat_eq n n ≡ true
+pub itself : (n : ℕ) → nat_eq n n ≡ true
 itself n = search rules
 
-same-number : (m n : ℕ) → nat_eq m n ≡ true → m ≡ n
+pub same-number : (m n : ℕ) → nat_eq m n ≡ true → m ≡ n
 same-number m n e = search rules
 
 module _ (p : Pair) (has now : ℕ → ℕ → Bool) (added : (i j : ℕ) → now i j ≡ cond (nat_eq p.first i && nat_eq p.second j) true (has i j)) where

@@ -3,7 +3,9 @@
 #![tactic(auto)]
 
 mod graph;
+mod laws;
 mod search;
 
 pub use graph::Vertex;
+pub use laws::numbers_tell;
 pub use search::set_merges;
