@@ -9,10 +9,7 @@ ghost use Rattle.juniper_syntax.specs.DocumentView.{view_definition};
 use juniper_syntax::{Definition, ScalarValue};
 
 /// Whether a definition is an operation without name beside another operation, in a document of so many operations.
-pub fn is_not_alone<S: ScalarValue>(
-    definition: &Definition<'_, S>,
-    operation_count: usize,
-) -> bool
+pub fn is_not_alone<S: ScalarValue>(definition: &Definition<'_, S>, operation_count: usize) -> bool
     ensures { (d : documents.Document) → operation_count ≡ length (operations d) → result ≡ rules.is_not_alone d (view_definition S.shown definition.now) }
 {
     match definition {

@@ -1,3 +1,2 @@
 pub mod AtEach
-pub mod KnownTypes
 pub mod Phases

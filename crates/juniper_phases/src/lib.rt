@@ -2,7 +2,6 @@
 //! which stand on both.
 #![tactic(auto)]
 
-mod known_type_names;
 mod names;
 mod report;
 

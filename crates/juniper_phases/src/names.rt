@@ -11,7 +11,6 @@ ghost use Rattle.juniper_spreads.specs.SpreadsView.{AreFragmentsOf};
 ghost use Rattle.juniper_syntax.specs.DocumentView.{view_definition};
 ghost use Rattle.juniper_phases.specs.Operations.{OperationsOf};
 
-use crate::known_type_names::has_unknown_type;
 use crate::report::report;
 use juniper_name_rules::{
     Earlier, count_operations, has_unknown_directive, is_not_alone, repeats_argument,
@@ -20,6 +19,7 @@ use juniper_name_rules::{
 use juniper_schema::SchemaType;
 use juniper_spreads::FragmentsByName;
 use juniper_syntax::{Definition, RuleError, ScalarValue};
+use juniper_type_rules::has_unknown_type;
 use juniper_written::{argument_lists, written_in};
 use std::alloc::{AllocError, Global};
 
@@ -92,7 +92,7 @@ fn find_names<'d, 'a, S: ScalarValue>(
         (repeats_input_field, "Input field name is not unique"),
         (has_unknown_directive(&written), "Unknown directive"),
         (
-            has_unknown_type(schema, definition, &written),
+            has_unknown_type(schema, &written, definition),
             "Unknown type",
         ),
     ];

@@ -1,7 +1,7 @@
 //! What the rules on uses of variables and on introspection find, worked out by hand.
 
 use crate::schema::{Scalar, schema};
-use juniper_language::{Definition, Document, parse_document_source};
+use juniper_language::{Definition, parse_document_source};
 use juniper_placed::{calls, placed_in};
 use juniper_schema::SchemaType;
 use juniper_spreads::{FragmentsByName, fragments_by_name};
@@ -55,10 +55,10 @@ fn found(alloc: Global, schema: &SchemaType<Scalar>, text: &str) -> Result<Strin
     }
 }
 
-fn found_in(
+fn found_in<'d, 'a>(
     alloc: Global,
-    schema: &SchemaType<Scalar>,
-    document: &Document<'_, Scalar>,
+    schema: &'d SchemaType<Scalar>,
+    document: &'d [Definition<'a, Scalar>],
 ) -> Result<String, AllocError> {
     let by_name = fragments_by_name(alloc, document)?;
     let mut all = Vec::new(alloc);
@@ -67,18 +67,20 @@ fn found_in(
     }
     let fragments = uses_of_fragments(alloc, &all)?;
     let mut line = String::new(alloc);
-    for (definition, own) in document.iter().zip(all.iter()) {
-        find(
-            alloc, schema, &by_name, definition, own, &fragments, &mut line,
-        )?;
+    for (index, definition) in document.iter().enumerate() {
+        if let Some(own) = all.get(index) {
+            find(
+                alloc, schema, &by_name, definition, own, &fragments, &mut line,
+            )?;
+        }
     }
     Ok(line)
 }
 
-fn used<'u>(
+fn used<'u, 'd: 'u, 'a: 'u>(
     alloc: Global,
-    schema: &'u SchemaType<Scalar>,
-    definition: &'u Definition<'u, Scalar>,
+    schema: &'d SchemaType<Scalar>,
+    definition: &'d Definition<'a, Scalar>,
 ) -> Result<Used<'u>, AllocError> {
     let written = written_in(alloc, definition)?;
     let lists = argument_lists(alloc, &written)?;
@@ -92,13 +94,13 @@ fn used<'u>(
     )
 }
 
-fn find(
+fn find<'d, 'a, 'u>(
     alloc: Global,
     schema: &SchemaType<Scalar>,
-    by_name: &FragmentsByName<'_, '_, Scalar>,
-    definition: &Definition<'_, Scalar>,
-    own: &Used<'_>,
-    fragments: &Vec<&Used<'_>>,
+    by_name: &FragmentsByName<'d, 'a, Scalar>,
+    definition: &'d Definition<'a, Scalar>,
+    own: &Used<'u>,
+    fragments: &Vec<&Used<'u>>,
     line: &mut String,
 ) -> Result<(), AllocError> {
     let written = written_in(alloc, definition)?;

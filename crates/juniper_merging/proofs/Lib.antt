@@ -1,0 +1,8 @@
+pub mod Searching
+mod Taking
+mod Grouping
+mod Looking
+mod Passing
+mod Depths
+mod Places
+mod Telling

@@ -1,0 +1,3 @@
+pub mod MergingGraph
+pub mod SearchView
+pub mod Standing

@@ -1,0 +1,19 @@
+//! Written fields as vertices of a graph.
+
+/// A written field on its parent type. Equal `shape`s say that two declared types agree (SameResponseShape, section
+/// 5.3.2), and equal `call`s that two fields have one name and the same arguments.
+#[derive(Drop)]
+pub struct Vertex<'a> {
+    /// The response key.
+    pub key: &'a str,
+    /// The name of the parent type.
+    pub parent: &'a str,
+    /// Whether the parent type is an object type.
+    pub on_object: bool,
+    /// The number of the declared type.
+    pub shape: usize,
+    /// The number of the field's name with its arguments.
+    pub call: usize,
+    /// The fields that it selects, fragments put in.
+    pub below: Vec<usize>,
+}

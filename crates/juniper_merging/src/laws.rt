@@ -1,0 +1,8 @@
+//! What the graph says of the fields that its vertices stand for.
+
+ghost use Rattle.juniper_merging.specs.Standing.{NumbersTell};
+
+/// Numbers that stand for the fields of a selection set tell whether each two of these can be merged (section 5.3.2).
+pub fn numbers_tell()
+    ensures { NumbersTell }
+{}

@@ -1,0 +1,11 @@
+//! Which written fields can be merged (section 5.3.2 of the Specification): a search over pairs of fields, each looked at
+//! a few times, however often fragments are spread.
+#![tactic(auto)]
+
+mod graph;
+mod laws;
+mod search;
+
+pub use graph::Vertex;
+pub use laws::numbers_tell;
+pub use search::set_merges;
