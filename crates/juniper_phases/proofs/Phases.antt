@@ -1,7 +1,7 @@
 -- What is found at a definition, rule by rule.
 use Rattle.std.proofs.Common.{◌≡◌, Bool, List, [], ◌∷◌, ◌++◌, codes, sym, append-nil, append_assoc, ◌∙◌}
 use Rattle.graphql_spec.specs.Documents.{Definition, Document}
-use Rattle.graphql_spec.specs.Rules.{RuleError, has_unknown_directive, has_unknown_type, is_not_alone, name_errors, repeats_argument, repeats_fragment, repeats_input_field, repeats_operation, repeats_variable, reported, spreads_itself, spreads_unknown}
+use Rattle.graphql_spec.specs.Rules.{RuleError, has_other_condition, has_other_variable, has_unknown_argument, has_unknown_directive, has_unknown_field, has_unknown_type, has_wrong_argument, has_wrong_default, has_wrong_set, is_not_alone, lacks_argument, name_errors, repeats_argument, repeats_fragment, repeats_input_field, repeats_operation, repeats_variable, reported, spreads_itself, spreads_unknown, type_errors}
 use Rattle.graphql_spec.specs.Schema.{Schema}
 
 -- lists one behind the other, taken from the left and from the right
@@ -44,3 +44,27 @@ names-found s disabled d earlier x a b c e f g h i j k p1 p2 p3 p4 p5 p6 p7 p8 p
     ∷ reported (repeats_input_field x) (codes "Input field name is not unique") x
     ∷ reported (has_unknown_directive x) (codes "Unknown directive") x
     ∷ reported (has_unknown_type s x) (codes "Unknown type") x ∷ []))
+
+-- the rules on types
+pub types-found : (s : Schema) (disabled : Bool) (d : Document) (earlier : List Definition) (x : Definition) (a b c e f g h i : Bool) →
+    a ≡ has_other_condition s x → b ≡ has_other_variable s x → c ≡ has_unknown_field s x → e ≡ has_wrong_set s x →
+    f ≡ has_unknown_argument s x → g ≡ lacks_argument s x → h ≡ has_wrong_argument s x → i ≡ has_wrong_default s x →
+    reported a (codes "Fragment on a type without fields") x
+    ++ (reported b (codes "Variable is not of an input type") x
+    ++ (reported c (codes "Unknown field") x
+    ++ (reported e (codes "Selection set does not fit the field") x
+    ++ (reported f (codes "Unknown argument") x
+    ++ (reported g (codes "Argument is missing") x
+    ++ (reported h (codes "Argument does not fit its type") x
+    ++ (reported i (codes "Default value does not fit its type") x ++ [])))))))
+    ≡ type_errors s disabled d earlier x
+unfolding type_errors
+types-found s disabled d earlier x a b c e f g h i p1 p2 p3 p4 p5 p6 p7 p8 = rw (p1, p2, p3, p4, p5, p6, p7, p8)
+    (same-list (reported (has_other_condition s x) (codes "Fragment on a type without fields") x) (
+    reported (has_other_variable s x) (codes "Variable is not of an input type") x
+    ∷ reported (has_unknown_field s x) (codes "Unknown field") x
+    ∷ reported (has_wrong_set s x) (codes "Selection set does not fit the field") x
+    ∷ reported (has_unknown_argument s x) (codes "Unknown argument") x
+    ∷ reported (lacks_argument s x) (codes "Argument is missing") x
+    ∷ reported (has_wrong_argument s x) (codes "Argument does not fit its type") x
+    ∷ reported (has_wrong_default s x) (codes "Default value does not fit its type") x ∷ []))

@@ -4,5 +4,7 @@
 
 mod names;
 mod report;
+mod types;
 
 pub use names::name_errors;
+pub use types::type_errors;
