@@ -6,3 +6,5 @@ mod Passing
 mod Depths
 mod Places
 mod Telling
+mod Settling
+mod Whole

@@ -1,14 +1,16 @@
 -- When the vertices of a graph stand for the fields of selections, each for one field however often fragments are spread.
-use Rattle.std.specs.Prelude.{ℕ, zero, suc, ◌&&◌, List, [], ◌∷◌, Some, nat_eq, ◌≡◌, ◌⊎◌}
+use Rattle.std.specs.Prelude.{ℕ, zero, suc, Bool, true, false, ◌&&◌, List, [], ◌∷◌, Some, nat_eq, ◌≡◌, ◌⊎◌}
 use Rattle.std.specs.List.{slice_get}
 use Rattle.std.specs.Str.{bytes_eq}
-use Rattle.graphql_spec.specs.Documents.{Head, written, response_key}
+use Rattle.graphql_spec.specs.Shown.{Name}
+use Rattle.graphql_spec.specs.Documents.{Fragment, Head, Selections, written, response_key}
+use Rattle.graphql_spec.specs.Fragments.{expand}
 use Rattle.graphql_spec.specs.Constants.{same_members}
 use Rattle.graphql_spec.specs.Arguments.{written_meaning}
 use Rattle.graphql_spec.specs.Schema.{Schema}
 use Rattle.graphql_spec.specs.Fields.{type_named, is_object, field_of, declared_type}
-use Rattle.graphql_spec.specs.Overlap.{Field}
-use Rattle.graphql_spec.specs.Merging.{fields_at, types_agree, each_pair, merge}
+use Rattle.graphql_spec.specs.Overlap.{Field, fields}
+use Rattle.graphql_spec.specs.Merging.{fields_at, types_agree, each_pair, merge, set_merges}
 use Rattle.graphql_spec.specs.Laws.{In}
 use Rattle.juniper_merging.specs.MergingGraph.{FieldAt, set_merges_at}
 
@@ -49,3 +51,9 @@ module _ (s : Schema) (vs : List FieldAt) (heads : ℕ → Head) where
 abbrev pub NumbersTell : Type 0
 NumbersTell = (s : Schema) (vs : List FieldAt) (heads : ℕ → Head) → AreNumbered s vs heads → (n : ℕ) (xs : List Field) (is : List ℕ) → AreAlike (StandsFor s vs heads n) xs is →
     each_pair (merge s n) xs ≡ set_merges_at vs n is
+
+-- so an answer that holds for every depth, or fails for some, is whether a set merges, its fragments put in
+abbrev pub SetsTell : Type 0
+SetsTell = (s : Schema) (vs : List FieldAt) (heads : ℕ → Head) → AreNumbered s vs heads → (fs : List Fragment) (p : Name) (set : Selections) (is : List ℕ) →
+    ((n : ℕ) → AreAlike (StandsFor s vs heads n) (fields p (expand (λ d. true) fs set)) is) →
+    (b : Bool) → (b ≡ true → (n : ℕ) → set_merges_at vs n is ≡ true) → (b ≡ false → (n : ℕ) × (set_merges_at vs n is ≡ false)) → b ≡ set_merges s fs p set

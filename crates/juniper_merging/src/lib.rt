@@ -7,5 +7,5 @@ mod laws;
 mod search;
 
 pub use graph::Vertex;
-pub use laws::numbers_tell;
+pub use laws::{numbers_tell, sets_tell};
 pub use search::set_merges;
