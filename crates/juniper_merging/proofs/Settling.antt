@@ -1,8 +1,8 @@
 -- Looking deeper than selections lie changes nothing, and what merges to a depth merges to each smaller one (5.3.2).
 use Rattle.std.specs.Prelude.{ℕ, zero, suc, Bool, true, false, not, ◌&&◌, ◌||◌, List, [], ◌∷◌, ◌++◌, ◌≡◌, ◌≤◌, max}
 use Rattle.std.specs.List.{list_all}
-use Rattle.std.proofs.lemmas.Bool.{and_parts, cases_Bool}
-use Rattle.std.proofs.Common.{refl, sym, ap, ◌∙◌, inl, inr, subst, arith}
+use Rattle.std.proofs.lemmas.Bool.{and_parts}
+use Rattle.std.proofs.Common.{refl, sym, inl, inr, subst, arith}
 use Rattle.graphql_spec.specs.Shown.{Name}
 use Rattle.graphql_spec.specs.Types.{innermost}
 use Rattle.graphql_spec.specs.Selections.{Forest, end, field, under, depth}
@@ -144,7 +144,7 @@ module _ (s : Schema) where
       let f = shallow-both (suc n) x y k l in
       and-both (shapes_agree s (suc m) x y) (not (may_meet s x y) || (C && each_pair (merge s m) F)) (shapes-more (suc n) (suc m) x y k l p.0)
       (inside-less (may_meet s x y) C (each_pair (merge s n) F) (each_pair (merge s m) F)
-        (pairs-from (merge s n) (merge s m) F (λ z w i j. let a = f z i in let b = f w j in merge-more n m z w (omega (arith, a)) (omega (arith, b)))) p.1)
+      (pairs-from (merge s n) (merge s m) F (λ z w i j. let a = f z i in let b = f w j in merge-more n m z w (omega (arith, a)) (omega (arith, b)))) p.1)
 
   -- a set that merges to its own depth merges to every depth
   pub settled : (p : Name) (t : Forest) → each_pair (merge s (depth t)) (fields p t) ≡ true → (n : ℕ) → each_pair (merge s n) (fields p t) ≡ true

@@ -175,6 +175,10 @@ and-right false b = refl
 and-right true true = refl
 and-right true false = refl
 
+when-keyed : (k l a b : Bool) → k ≡ l → (k ≡ true → a ≡ b) → (not k || a) ≡ (not l || b)
+when-keyed true l a b e h = h refl ∙ ap (λ c. not c || b) e
+when-keyed false l a b e h = ap (λ c. not c || b) e
+
 module _ (s : Schema) (vs : List FieldAt) (heads : ℕ → Head) (numbered : AreNumbered s vs heads) where
   abbrev Stands : ℕ → Field → ℕ → Type 0
   Stands n x i = StandsFor s vs heads n x i
@@ -184,14 +188,18 @@ module _ (s : Schema) (vs : List FieldAt) (heads : ℕ → Head) (numbered : Are
   stands-at (suc n) x i r = (r.0, r.1)
 
   module _ (x y : Field) (i j : ℕ) (v w : FieldAt) (a : IsAt s vs heads x i v) (b : IsAt s vs heads y j w) where
-    types-same : types_agree s (type_at s x) (type_at s y) ≡ nat_eq v.shape w.shape
+    one-key : same_key x y ≡ true → bytes_eq v.key w.key ≡ true
+    unfolding same_key
+    one-key k = (λ t. bytes_eq (a.key t) (b.key t)) ∙ k
+
+    types-same : same_key x y ≡ true → types_agree s (type_at s x) (type_at s y) ≡ nat_eq v.shape w.shape
     unfolding type_at
-    types-same = sym (numbered.shapes i j v w a.there b.there
+    types-same k = sym (numbered.shapes i j v w a.there b.there (one-key k)
         ∙ (λ t. types_agree s (declared_type (field_of s (a.parent t) (a.head t).name.item)) (declared_type (field_of s (b.parent t) (b.head t).name.item))))
 
-    calls-same : (same_name x y && same_arguments x y) ≡ nat_eq v.call w.call
+    calls-same : same_key x y ≡ true → (same_name x y && same_arguments x y) ≡ nat_eq v.call w.call
     unfolding same_name same_arguments
-    calls-same = sym (numbered.calls i j v w a.there b.there
+    calls-same k = sym (numbered.calls i j v w a.there b.there (one-key k)
         ∙ (λ t. bytes_eq (a.head t).name.item (b.head t).name.item && same_members (written_meaning (written (a.head t).arguments)) (written_meaning (written (b.head t).arguments))))
 
     meets-same : may_meet s x y ≡ can_meet v w
@@ -202,36 +210,36 @@ module _ (s : Schema) (vs : List FieldAt) (heads : ℕ → Head) (numbered : Are
     unfolding same_key same_key_at
     keys-same = sym ((λ t. same_key_at (a.there t) (b.there t)) ∙ (λ t. bytes_eq (a.key t) (b.key t)))
 
-  pairs-same : (n : ℕ) (m : Bool) (R : Field → Field → Bool) → ((x y : Field) → R x y ≡ R y x) → ((x y : Field) (i j : ℕ) → Stands n x i → Stands n y j → R x y ≡ merge_at vs n m i j) →
+  pairs-same : (n : ℕ) (m : Bool) (R : Field → Field → Bool) → ((x y : Field) → R x y ≡ R y x) → ((x y : Field) (i j : ℕ) → same_key x y ≡ true → Stands n x i → Stands n y j → R x y ≡ merge_at vs n m i j) →
       (xs : List Field) (is : List ℕ) → AreAlike (Stands n) xs is → each_pair R xs ≡ each_pair_at vs (merge_at vs n m) is
   unfolding each_pair each_pair_at
   pairs-same n m R turn same xs is alike = alike-two (Stands n) (λ x y. not (same_key x y) || R x y) (λ i j. not (same_key_at (slice_get vs i) (slice_get vs j)) || merge_at vs n m i j)
       (keyed-turn s R turn) (keyed-at-turn vs (merge_at vs n m) (merge-at-turn vs n m))
-      (λ x y i j p q. let a = stands-at n x i p in let b = stands-at n y j q in λ t. not (keys-same x y i j a.0 b.0 a.1 b.1 t) || same x y i j p q t)
+      (λ x y i j p q. let a = stands-at n x i p in let b = stands-at n y j q in when-keyed (same_key x y) (same_key_at (slice_get vs i) (slice_get vs j)) (R x y) (merge_at vs n m i j) (keys-same x y i j a.0 b.0 a.1 b.1) (λ k. same x y i j k p q))
       xs is alike
 
-  pub shapes-tell : (n : ℕ) (x y : Field) (i j : ℕ) → Stands n x i → Stands n y j → shapes_agree s n x y ≡ merge_at vs n false i j
+  pub shapes-tell : (n : ℕ) (x y : Field) (i j : ℕ) → same_key x y ≡ true → Stands n x i → Stands n y j → shapes_agree s n x y ≡ merge_at vs n false i j
   unfolding shapes_agree agree
-  shapes-tell zero x y i j a b = types-same x y i j a.0 b.0 a.1 b.1 ∙ (sym (and-true (nat_eq a.0.shape b.0.shape)) ∙ sym (found-alone vs false i j a.0 b.0 a.1.there b.1.there))
-  shapes-tell (suc n) x y i j a b =
+  shapes-tell zero x y i j k a b = types-same x y i j a.0 b.0 a.1 b.1 k ∙ (sym (and-true (nat_eq a.0.shape b.0.shape)) ∙ sym (found-alone vs false i j a.0 b.0 a.1.there b.1.there))
+  shapes-tell (suc n) x y i j k a b =
       let below = pairs-same n false (shapes_agree s n) (shapes-turn s n) (shapes-tell n) (fields_at s x ++ fields_at s y) (a.0.below ++ b.0.below) (alike-both (Stands n) (fields_at s x) (fields_at s y) a.0.below b.0.below a.2 b.2) in
-      (λ t. types-same x y i j a.0 b.0 a.1 b.1 t && below t)
+      (λ t. types-same x y i j a.0 b.0 a.1 b.1 k t && below t)
       ∙ (ap (λ c. c && each_pair_at vs (merge_at vs n false) (a.0.below ++ b.0.below)) (sym (and-true (nat_eq a.0.shape b.0.shape)))
       ∙ sym (found-pair vs n false i j a.0 b.0 a.1.there b.1.there))
 
-  pub merge-tells : (n : ℕ) (x y : Field) (i j : ℕ) → Stands n x i → Stands n y j → merge s n x y ≡ merge_at vs n true i j
+  pub merge-tells : (n : ℕ) (x y : Field) (i j : ℕ) → same_key x y ≡ true → Stands n x i → Stands n y j → merge s n x y ≡ merge_at vs n true i j
   unfolding merge shapes_agree agree
-  merge-tells zero x y i j a b =
-      (λ t. types-same x y i j a.0 b.0 a.1 b.1 t && (not (meets-same x y i j a.0 b.0 a.1 b.1 t) || calls-same x y i j a.0 b.0 a.1 b.1 t))
+  merge-tells zero x y i j k a b =
+      (λ t. types-same x y i j a.0 b.0 a.1 b.1 k t && (not (meets-same x y i j a.0 b.0 a.1 b.1 t) || calls-same x y i j a.0 b.0 a.1 b.1 k t))
       ∙ sym (found-alone vs true i j a.0 b.0 a.1.there b.1.there)
-  merge-tells (suc n) x y i j a b =
+  merge-tells (suc n) x y i j k a b =
       let alike = alike-both (Stands n) (fields_at s x) (fields_at s y) a.0.below b.0.below a.2 b.2 in
       let shapes = pairs-same n false (shapes_agree s n) (shapes-turn s n) (shapes-tell n) (fields_at s x ++ fields_at s y) (a.0.below ++ b.0.below) alike in
       let merges = pairs-same n true (merge s n) (merge-turn s n) (merge-tells n) (fields_at s x ++ fields_at s y) (a.0.below ++ b.0.below) alike in
       let F = fields_at s x ++ fields_at s y in
       let K = nat_eq a.0.shape b.0.shape in
       let C = nat_eq a.0.call b.0.call in
-      (λ t. (types-same x y i j a.0 b.0 a.1 b.1 t && each_pair (shapes_agree s n) F) && (not (meets-same x y i j a.0 b.0 a.1 b.1 t) || (calls-same x y i j a.0 b.0 a.1 b.1 t && each_pair (merge s n) F)))
+      (λ t. (types-same x y i j a.0 b.0 a.1 b.1 k t && each_pair (shapes_agree s n) F) && (not (meets-same x y i j a.0 b.0 a.1 b.1 t) || (calls-same x y i j a.0 b.0 a.1 b.1 k t && each_pair (merge s n) F)))
       ∙ (choose (can_meet a.0 b.0) K C (each_pair (shapes_agree s n) F) (each_pair (merge s n) F) (λ m. each_pair_at vs (merge_at vs n m) (a.0.below ++ b.0.below)) (pairs-shapes s n F) shapes merges
       ∙ sym (found-pair vs n true i j a.0 b.0 a.1.there b.1.there))
     where

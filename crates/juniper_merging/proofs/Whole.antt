@@ -1,16 +1,14 @@
 -- What the search answers is whether a set merges.
-use Rattle.std.specs.Prelude.{ℕ, Bool, true, false, List, ◌≡◌}
+use Rattle.std.specs.Prelude.{ℕ, true, false, ◌≡◌}
 use Rattle.std.proofs.lemmas.Bool.{cases_Bool}
 use Rattle.std.proofs.Common.{refl, sym, ◌∙◌, inl, inr}
 use Rattle.graphql_spec.specs.Shown.{Name}
-use Rattle.graphql_spec.specs.Documents.{Fragment, Head, Selections}
 use Rattle.graphql_spec.specs.Fragments.{expand}
 use Rattle.graphql_spec.specs.Selections.{Forest, depth}
 use Rattle.graphql_spec.specs.Schema.{Schema}
 use Rattle.graphql_spec.specs.Overlap.{fields}
 use Rattle.graphql_spec.specs.Merging.{each_pair, merge, set_merges}
-use Rattle.juniper_merging.specs.MergingGraph.{FieldAt, set_merges_at}
-use Rattle.juniper_merging.specs.Standing.{AreAlike, AreNumbered, SetsTell, StandsFor}
+use Rattle.juniper_merging.specs.Standing.{SetsTell}
 use Rattle.juniper_merging.proofs.Settling.{settled}
 use Rattle.juniper_merging.proofs.Telling.{tells}
 
