@@ -4,7 +4,9 @@ mod Grouping
 mod Looking
 mod Passing
 mod Depths
-mod Places
+pub mod Places
 mod Telling
 mod Settling
 mod Whole
+pub mod Keeping
+pub mod Growing

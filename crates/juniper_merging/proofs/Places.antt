@@ -32,17 +32,17 @@ module _ {A : Type 0} where
   two-from R [] f = refl
   two-from R (z ∷ zs) f = and_from (list_all (R z) zs) (each_two R zs) (all-from (R z) zs (λ y i. f z y (inl (refl, i)))) (two-from R zs (λ x y b. f x y (inr (inr b))))
 
-  both-first : (x y : A) (xs ys : List A) → Both x y xs → Both x y (xs ++ ys)
+  pub both-first : (x y : A) (xs ys : List A) → Both x y xs → Both x y (xs ++ ys)
   both-first x y [] ys b = absurd b
   both-first x y (z ∷ xs) ys (inl (q, i)) = inl (q, in_first y xs ys i)
   both-first x y (z ∷ xs) ys (inr (inl (q, i))) = inr (inl (q, in_first x xs ys i))
   both-first x y (z ∷ xs) ys (inr (inr b)) = inr (inr (both-first x y xs ys b))
 
-  both-second : (x y : A) (xs ys : List A) → Both x y ys → Both x y (xs ++ ys)
+  pub both-second : (x y : A) (xs ys : List A) → Both x y ys → Both x y (xs ++ ys)
   both-second x y [] ys b = b
   both-second x y (z ∷ xs) ys b = inr (inr (both-second x y xs ys b))
 
-  both-across : (x y : A) (xs ys : List A) → In x xs → In y ys → Both x y (xs ++ ys)
+  pub both-across : (x y : A) (xs ys : List A) → In x xs → In y ys → Both x y (xs ++ ys)
   both-across x y [] ys i j = absurd i
   both-across x y (z ∷ xs) ys (inl q) j = inl (q, in_second y xs ys j)
   both-across x y (z ∷ xs) ys (inr i) j = inr (inr (both-across x y xs ys i j))
@@ -53,7 +53,7 @@ module _ {A : Type 0} where
   both-turned x y (z ∷ xs) (inr (inl b)) = inl b
   both-turned x y (z ∷ xs) (inr (inr b)) = inr (inr (both-turned x y xs b))
 
-  both-parts : (x y : A) (xs ys : List A) → Both x y (xs ++ ys) → Both x y xs ⊎ (Both x y ys ⊎ ((In x xs × In y ys) ⊎ (In y xs × In x ys)))
+  pub both-parts : (x y : A) (xs ys : List A) → Both x y (xs ++ ys) → Both x y xs ⊎ (Both x y ys ⊎ ((In x xs × In y ys) ⊎ (In y xs × In x ys)))
   both-parts x y [] ys b = inr (inl b)
   both-parts x y (z ∷ xs) ys (inl (q, i)) = elim (in_append y xs ys i) [ inl j ↦ inl (inl (q, j)) | inr j ↦ inr (inr (inl (inl q, j))) ]
   both-parts x y (z ∷ xs) ys (inr (inl (q, i))) = elim (in_append x xs ys i) [ inl j ↦ inl (inr (inl (q, j))) | inr j ↦ inr (inr (inr (inl q, j))) ]

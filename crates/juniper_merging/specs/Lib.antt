@@ -1,3 +1,4 @@
 pub mod MergingGraph
 pub mod SearchView
 pub mod Standing
+pub mod Kept

@@ -4,8 +4,10 @@
 
 mod graph;
 mod laws;
+mod numbers;
 mod search;
 
 pub use graph::Vertex;
 pub use laws::{numbers_tell, sets_tell};
+pub use numbers::Numbers;
 pub use search::set_merges;
