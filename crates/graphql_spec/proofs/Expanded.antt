@@ -68,19 +68,19 @@ module _ (fs : List Fragment) where
   abbrev pub whole : Selections → Forest
   whole set = expand (λ y. true) fs set
 
-  whole-field : (h : Head) (below rest : Selections) → whole (Selections.field h below rest) ≡ field h (whole below) (whole rest)
+  pub whole-field : (h : Head) (below rest : Selections) → whole (Selections.field h below rest) ≡ field h (whole below) (whole rest)
   whole-field h below rest = expand-field (λ y. true) fs h below rest ∙ ap (λ z. cond z (field h (whole below) (whole rest)) (whole rest)) (admits-all h.directives)
 
-  whole-inline : (x : Inline) (below rest : Selections) → whole (Selections.inline x below rest) ≡ under (asked x.condition) (whole below) (whole rest)
+  pub whole-inline : (x : Inline) (below rest : Selections) → whole (Selections.inline x below rest) ≡ under (asked x.condition) (whole below) (whole rest)
   whole-inline x below rest = expand-inline (λ y. true) fs x below rest ∙ ap (λ z. cond z (under (asked x.condition) (whole below) (whole rest)) (whole rest)) (admits-all x.directives)
 
-  whole-spread : HasNoCycle fs → (x : Spread) (rest : Selections) → whole (Selections.spread x rest) ≡ put_under (filled (expand (λ y. true) fs) (fragment_of fs x.name.item)) (whole rest)
+  pub whole-spread : HasNoCycle fs → (x : Spread) (rest : Selections) → whole (Selections.spread x rest) ≡ put_under (filled (expand (λ y. true) fs) (fragment_of fs x.name.item)) (whole rest)
   whole-spread c x rest = expand-spread (λ y. true) fs c x rest
       ∙ ap (λ z. cond z (put_under (filled (expand (λ y. true) fs) (fragment_of fs x.name.item)) (whole rest)) (whole rest)) (admits-all x.directives)
 
 -- ## The whole is right
 
-asked-is : (o : Option Word) (p : Name) → condition_or p (asked o) ≡ name_or o p
+pub asked-is : (o : Option Word) (p : Name) → condition_or p (asked o) ≡ name_or o p
 unfolding condition_or asked name_or
 asked-is None p = refl
 asked-is (Some w) p = refl

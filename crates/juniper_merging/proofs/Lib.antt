@@ -10,3 +10,4 @@ mod Settling
 mod Whole
 pub mod Keeping
 pub mod Growing
+pub mod Covering
