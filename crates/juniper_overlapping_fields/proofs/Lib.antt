@@ -1,0 +1,2 @@
+mod MemberMaps
+pub mod SameMeanings
