@@ -6,7 +6,7 @@ use Rattle.std.proofs.lemmas.Cmp.{nat_list_cmp_total, tied_itself}
 use Rattle.graphql_spec.specs.Shown.{Name}
 use Rattle.graphql_spec.specs.Constants.{Constant, Members, no_members, member, insert, find, same_constant, same_members}
 use Rattle.graphql_spec.proofs.Lists.{same_refl, same_true}
-use Rattle.graphql_spec.proofs.Members.{order, one_text, find-insert}
+use Rattle.graphql_spec.proofs.Members.{order, one_text}
 
 -- ## Sorted members
 
@@ -149,4 +149,3 @@ all-same (member k u us) (member l v vs) s t same = go (order k l) refl (all-sam
         and_from (bytes_eq k l) (same_constant u v && same_members us vs) (subst (λ z. bytes_eq k z ≡ true) key (same_refl k))
         (and_from (same_constant u v) (same_members us vs) (both-there (find k (member k u us)) (find k (member k v vs)) u v (same' k) (find-head k u us) (find-head k v vs))
         (again (rest-same k u v us vs s.0 above same')))
-

@@ -1,10 +1,10 @@
 -- Values that are the same mean the same, where no object has two fields of one key.
-use Rattle.std.proofs.Common.{◌≡◌, Bool, true, false, ◌&&◌, ◌||◌, Option, Some, None, option_map, cond, bytes_eq, refl, sym, ap, ◌∙◌, inl, inr, subst, Ordering, Equal}
-use Rattle.std.proofs.lemmas.Bool.{cases_Bool, and_parts, and_from, or_parts, both_ways}
+use Rattle.std.proofs.Common.{◌≡◌, Bool, true, false, ◌&&◌, ◌||◌, Option, Some, None, option_map, cond, bytes_eq, refl, sym, ap, ◌∙◌, inl, inr, subst, Equal}
+use Rattle.std.proofs.lemmas.Bool.{cases_Bool, and_parts, and_from, or_parts}
 use Rattle.graphql_spec.specs.Shown.{Name}
 use Rattle.graphql_spec.specs.Inputs as inputs
 use Rattle.graphql_spec.specs.Inputs.{Input, InputItems, InputFields, no_fields, input_field}
-use Rattle.graphql_spec.specs.Constants.{Constant, Members, no_members, member, insert, find, meaning, meanings, members, same_constant, same_constants, same_members}
+use Rattle.graphql_spec.specs.Constants.{insert, find, meaning, meanings, members, same_constant, same_constants, same_members}
 use Rattle.graphql_spec.specs.Fits.{has_field}
 use Rattle.graphql_spec.specs.Written.{field_repeats, item_repeats, fields_repeat}
 use Rattle.graphql_spec.proofs.Lists.{same_refl, same_true}
