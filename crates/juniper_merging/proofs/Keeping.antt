@@ -1,10 +1,10 @@
 -- A number that stands in a list twice may be left out when it comes again.
-use Rattle.std.specs.Prelude.{ℕ, Bool, true, false, not, ◌⊎◌, List, [], ◌∷◌, ◌++◌, ◌≡◌, cond, nat_eq}
+use Rattle.std.specs.Prelude.{ℕ, suc, Bool, true, false, not, ◌+◌, ◌⊎◌, List, [], ◌∷◌, ◌++◌, ◌≡◌, cond, nat_eq}
 use Rattle.std.proofs.lemmas.Bool.{cases_Bool}
-use Rattle.std.proofs.Common.{refl, sym, ◌∙◌, inl, inr, subst}
+use Rattle.std.proofs.Common.{arith, refl, sym, ◌∙◌, inl, inr, subst}
 use Rattle.graphql_spec.specs.Laws.{In}
 use Rattle.graphql_spec.proofs.Grouping.{in_append, in_first, in_second}
-use Rattle.juniper_merging.specs.Kept.{IsKept}
+use Rattle.juniper_merging.specs.Kept.{IsKept, count_of, marks}
 use Rattle.juniper_merging.specs.Standing.{AreAlike, Both}
 use Rattle.juniper_merging.proofs.Places.{alike-both, both-across, both-first, both-parts, both-turned}
 use Rattle.juniper_merging.proofs.Taking.{same-number}
@@ -74,24 +74,61 @@ module _ (k : ℕ) (has now : ℕ → Bool) (added : (i : ℕ) → now i ≡ con
     | inr q ↦ inr (rw q at h)
   ]
 
+-- one more at the end
+count-last : (i k : ℕ) (ks : List ℕ) → count_of i (ks ++ k ∷ []) ≡ count_of i ks + cond (nat_eq k i) 1 0
+unfolding count_of
+count-last i k [] = go (nat_eq k i)
+  where
+    go : (b : Bool) → cond b 1 0 ≡ 0 + cond b 1 0
+    go true = refl
+    go false = refl
+count-last i k (j ∷ ks) = go (nat_eq j i) (count-last i k ks)
+  where
+    go : (b : Bool) → count_of i (ks ++ k ∷ []) ≡ count_of i ks + cond (nat_eq k i) 1 0 → cond b (suc (count_of i (ks ++ k ∷ []))) (count_of i (ks ++ k ∷ [])) ≡ cond b (suc (count_of i ks)) (count_of i ks) + cond (nat_eq k i) 1 0
+    go true e = omega (arith, e)
+    go false e = e
+
+-- a mark that is set anew counts one more
+marked-first : (k i : ℕ) (once twice : ℕ → Bool) → once k ≡ false → marks (cond (nat_eq k i) true (once i)) (twice i) ≡ marks (once i) (twice i) + cond (nat_eq k i) 1 0
+unfolding marks
+marked-first k i once twice fresh = elim (cases_Bool (nat_eq k i)) [
+  | inl q ↦ (let o : once i ≡ false = subst (λ j. once j ≡ false) (same-number k i q) fresh in rw (q, o) (omega arith))
+  | inr q ↦ rw (q) (omega arith)
+]
+
+marked-again : (k i : ℕ) (once twice : ℕ → Bool) → once k ≡ true → twice k ≡ false → marks (cond (nat_eq k i) true (once i)) (cond (nat_eq k i) true (twice i)) ≡ marks (once i) (twice i) + cond (nat_eq k i) 1 0
+unfolding marks
+marked-again k i once twice there fresh = elim (cases_Bool (nat_eq k i)) [
+  | inl q ↦ (let o : once i ≡ true = subst (λ j. once j ≡ true) (same-number k i q) there in let t : twice i ≡ false = subst (λ j. twice j ≡ false) (same-number k i q) fresh in rw (q, o, t) (omega arith))
+  | inr q ↦ rw (q) (omega arith)
+]
+
+marked-more : (k i : ℕ) (once twice : ℕ → Bool) → once k ≡ true → twice k ≡ true → marks (cond (nat_eq k i) true (once i)) (cond (nat_eq k i) true (twice i)) ≡ marks (once i) (twice i)
+unfolding marks
+marked-more k i once twice there both = elim (cases_Bool (nat_eq k i)) [
+  | inl q ↦ (let o : once i ≡ true = subst (λ j. once j ≡ true) (same-number k i q) there in let t : twice i ≡ true = subst (λ j. twice j ≡ true) (same-number k i q) both in rw (q, o, t) refl)
+  | inr q ↦ rw (q) refl
+]
+
 module _ (k : ℕ) (once twice : ℕ → Bool) (kept all : List ℕ) (is : IsKept once twice kept all) where
   here-now : In k (kept ++ k ∷ [])
   here-now = in_second k kept (k ∷ []) (inl refl)
 
   -- it comes for the first time
-  pub comes-first : (now : ℕ → Bool) → ((i : ℕ) → now i ≡ cond (nat_eq k i) true (once i)) → IsKept now twice (kept ++ k ∷ []) (all ++ k ∷ [])
-  comes-first now added = record {
+  pub comes-first : once k ≡ false → (now : ℕ → Bool) → ((i : ℕ) → now i ≡ cond (nat_eq k i) true (once i)) → IsKept now twice (kept ++ k ∷ []) (all ++ k ∷ [])
+  comes-first fresh now added = record {
     alike = alike-both (λ x i. x ≡ i) all (k ∷ []) kept (k ∷ []) is.alike (one-alike k);
     first = λ i e. elim (now-only k once now added i e) [
       | inl q ↦ subst (λ j. In j (kept ++ k ∷ [])) (sym q) here-now
       | inr h ↦ in_first i kept (k ∷ []) (is.first i h)
     ];
     second = λ i e. both-first i i kept (k ∷ []) (is.second i e);
+    few = λ i. count-last i k kept ∙ (ap (λ n. n + cond (nat_eq k i) 1 0) (is.few i) ∙ (sym (marked-first k i once twice fresh) ∙ ap (λ b. marks b (twice i)) (sym (added i))));
   }
 
   -- it comes for the second time
-  pub comes-again : once k ≡ true → (now then : ℕ → Bool) → ((i : ℕ) → now i ≡ cond (nat_eq k i) true (once i)) → ((i : ℕ) → then i ≡ cond (nat_eq k i) true (twice i)) → IsKept now then (kept ++ k ∷ []) (all ++ k ∷ [])
-  comes-again there now then added again = record {
+  pub comes-again : once k ≡ true → twice k ≡ false → (now then : ℕ → Bool) → ((i : ℕ) → now i ≡ cond (nat_eq k i) true (once i)) → ((i : ℕ) → then i ≡ cond (nat_eq k i) true (twice i)) → IsKept now then (kept ++ k ∷ []) (all ++ k ∷ [])
+  comes-again there fresh now then added again = record {
     alike = alike-both (λ x i. x ≡ i) all (k ∷ []) kept (k ∷ []) is.alike (one-alike k);
     first = λ i e. elim (now-only k once now added i e) [
       | inl q ↦ subst (λ j. In j (kept ++ k ∷ [])) (sym q) here-now
@@ -101,6 +138,7 @@ module _ (k : ℕ) (once twice : ℕ → Bool) (kept all : List ℕ) (is : IsKep
       | inl q ↦ subst (λ j. Both j j (kept ++ k ∷ [])) (sym q) (both-across k k kept (k ∷ []) (is.first k there) (inl refl))
       | inr h ↦ both-first i i kept (k ∷ []) (is.second i h)
     ];
+    few = λ i. count-last i k kept ∙ (ap (λ n. n + cond (nat_eq k i) 1 0) (is.few i) ∙ (sym (marked-again k i once twice there fresh) ∙ sym (λ t. marks (added i t) (again i t))));
   }
 
   -- it stands there twice
@@ -115,17 +153,24 @@ module _ (k : ℕ) (once twice : ℕ → Bool) (kept all : List ℕ) (is : IsKep
       | inl q ↦ subst (λ j. Both j j kept) (sym q) (is.second k both)
       | inr h ↦ is.second i h
     ];
+    few = λ i. is.few i ∙ (sym (marked-more k i once twice there both) ∙ sym (λ t. marks (added i t) (again i t)));
   }
 
 pub none-kept : (once twice : ℕ → Bool) (kept : List ℕ) → kept ≡ [] → ((i : ℕ) → once i ≡ false) → ((i : ℕ) → twice i ≡ false) → IsKept once twice kept []
+unfolding count_of marks
 none-kept once twice kept none f g = record {
   alike = subst (λ l. Alike [] l) (sym none) none-alike;
   first = λ i e. never (sym e ∙ f i);
   second = λ i e. never (sym e ∙ g i);
+  few = λ i. rw (none, f i, g i) refl;
 }
   where
     never : {A : Type 0} → true ≡ false → A
     never e = cc
+
+pub is-new : (b : Bool) → not b ≡ true → b ≡ false
+is-new true e = cc
+is-new false e = refl
 
 pub was-there : (b : Bool) → not b ≡ false → b ≡ true
 was-there true e = refl
