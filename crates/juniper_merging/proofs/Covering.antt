@@ -11,8 +11,8 @@ use Rattle.graphql_spec.specs.Overlap.{condition_or, fields}
 use Rattle.graphql_spec.specs.Merging.{fields_at, type_at}
 use Rattle.graphql_spec.proofs.Expanded.{asked-is, whole-field, whole-inline, whole-spread}
 use Rattle.juniper_merging.specs.MergingGraph.{FieldAt}
-use Rattle.juniper_merging.specs.Standing.{AreAlike, IsAt, StandsFor}
-use Rattle.juniper_merging.proofs.Growing.{Grows, alike-kept, alike-more, stands-more}
+use Rattle.juniper_merging.specs.Standing.{AreAlike, Covers, Grows, IsAt, StandsFor}
+use Rattle.juniper_merging.proofs.Growing.{alike-kept, alike-more, stands-more}
 use Rattle.juniper_merging.proofs.Places.{alike-both}
 
 nothing-alike : {A B : Type 0} (S : A → B → Type 0) → AreAlike S [] []
@@ -27,18 +27,14 @@ alone-alike S x i s = record {
 }
 
 module _ (s : Schema) (vs : List FieldAt) (heads : ℕ → Head) (fs : List Fragment) where
-  -- to each depth the numbers stand for the fields that the selections hold on the type p
-  abbrev pub Covers : Name → Selections → List ℕ → Type 0
-  Covers p set is = (n : ℕ) → AreAlike (StandsFor s vs heads n) (fields p (expand (λ y. true) fs set)) is
-
-  pub covers-end : (p : Name) → Covers p end []
+  pub covers-end : (p : Name) → Covers s vs heads fs p end []
   unfolding fields expand Rattle.graphql_spec.specs.Fragments.plain
   covers-end p n = nothing-alike (StandsFor s vs heads n)
 
   -- a field, and then others
   pub covers-field : (p : Name) (h : Head) (below rest : Selections) (i : ℕ) (v : FieldAt) (is : List ℕ) →
       IsAt s vs heads (record { parent = p; occurrence = record { head = h; below = expand (λ y. true) fs below } }) i v →
-      Covers (innermost (declared_type (field_of s p h.name.item))) below v.below → Covers p rest is → Covers p (field h below rest) (i ∷ is)
+      Covers s vs heads fs (innermost (declared_type (field_of s p h.name.item))) below v.below → Covers s vs heads fs p rest is → Covers s vs heads fs p (field h below rest) (i ∷ is)
   unfolding fields fields_at type_at
   covers-field p h below rest i v is here inside others n =
       subst (λ t. AreAlike (StandsFor s vs heads n) (fields p t) (i ∷ is)) (sym (whole-field fs h below rest))
@@ -50,20 +46,20 @@ module _ (s : Schema) (vs : List FieldAt) (heads : ℕ → Head) (fs : List Frag
 
   -- what a spread fragment holds, and then others
   pub covers-spread : HasNoCycle fs → (p : Name) (x : Spread) (rest : Selections) (f : Fragment) (js is : List ℕ) → fragment_of fs x.name.item ≡ Some f →
-      Covers f.condition.item f.selections js → Covers p rest is → Covers p (spread x rest) (js ++ is)
+      Covers s vs heads fs f.condition.item f.selections js → Covers s vs heads fs p rest is → Covers s vs heads fs p (spread x rest) (js ++ is)
   unfolding fields put_under filled condition_or
   covers-spread c p x rest f js is found inside others n =
       subst (λ t. AreAlike (StandsFor s vs heads n) (fields p t) (js ++ is)) (sym (whole-spread fs c x rest ∙ ap (λ o. put_under (filled (expand (λ y. true) fs) o) (expand (λ y. true) fs rest)) found))
       (alike-both (StandsFor s vs heads n) (fields f.condition.item (expand (λ y. true) fs f.selections)) (fields p (expand (λ y. true) fs rest)) js is (inside n) (others n))
 
   -- a spread of no fragment holds nothing
-  pub covers-nothing : HasNoCycle fs → (p : Name) (x : Spread) (rest : Selections) (is : List ℕ) → fragment_of fs x.name.item ≡ None → Covers p rest is → Covers p (spread x rest) is
+  pub covers-nothing : HasNoCycle fs → (p : Name) (x : Spread) (rest : Selections) (is : List ℕ) → fragment_of fs x.name.item ≡ None → Covers s vs heads fs p rest is → Covers s vs heads fs p (spread x rest) is
   unfolding put_under filled
   covers-nothing c p x rest is found others n =
       subst (λ t. AreAlike (StandsFor s vs heads n) (fields p t) is) (sym (whole-spread fs c x rest ∙ ap (λ o. put_under (filled (expand (λ y. true) fs) o) (expand (λ y. true) fs rest)) found)) (others n)
 
   -- what an inline fragment holds, and then others
-  pub covers-inline : (p : Name) (x : Inline) (below rest : Selections) (js is : List ℕ) → Covers (name_or x.condition p) below js → Covers p rest is → Covers p (inline x below rest) (js ++ is)
+  pub covers-inline : (p : Name) (x : Inline) (below rest : Selections) (js is : List ℕ) → Covers s vs heads fs (name_or x.condition p) below js → Covers s vs heads fs p rest is → Covers s vs heads fs p (inline x below rest) (js ++ is)
   unfolding fields
   covers-inline p x below rest js is inside others n =
       subst (λ t. AreAlike (StandsFor s vs heads n) (fields p t) (js ++ is)) (sym (whole-inline fs x below rest))
@@ -71,7 +67,7 @@ module _ (s : Schema) (vs : List FieldAt) (heads : ℕ → Head) (fs : List Frag
       (subst (λ q. AreAlike (StandsFor s vs heads n) (fields q (expand (λ y. true) fs below)) js) (sym (asked-is x.condition p)) (inside n)) (others n))
 
   -- each at most twice
-  pub covers-kept : (p : Name) (set : Selections) (all kept : List ℕ) → Covers p set all → AreAlike (λ x i. x ≡ i) all kept → Covers p set kept
+  pub covers-kept : (p : Name) (set : Selections) (all kept : List ℕ) → Covers s vs heads fs p set all → AreAlike (λ x i. x ≡ i) all kept → Covers s vs heads fs p set kept
   covers-kept p set all kept a k n = alike-kept (StandsFor s vs heads n) (fields p (expand (λ y. true) fs set)) all kept (a n) k
 
 -- so they do in each graph that has these vertices

@@ -6,7 +6,7 @@ use Rattle.graphql_spec.specs.Documents.{Head}
 use Rattle.graphql_spec.specs.Schema.{Schema}
 use Rattle.graphql_spec.specs.Overlap.{Field}
 use Rattle.juniper_merging.specs.MergingGraph.{FieldAt}
-use Rattle.juniper_merging.specs.Standing.{AreAlike, IsAt, StandsFor}
+use Rattle.juniper_merging.specs.Standing.{AreAlike, Grows, IsAt, StandsFor}
 
 -- lists that are alike by one relation are so by each that it gives
 pub alike-more : {A B : Type 0} (S T : A → B → Type 0) → ((x : A) (i : B) → S x i → T x i) → (xs : List A) (is : List B) → AreAlike S xs is → AreAlike T xs is
@@ -25,11 +25,6 @@ alike-kept S xs all kept a k = record {
   two = λ x y b. let r = a.two x y b in let t = k.two r.0 r.1 r.4 in (t.0, t.1, subst (S x) t.2 r.2, subst (S y) t.3 r.3, t.4);
   two_back = λ m n b. let t = k.two_back m n b in let r = a.two_back t.0 t.1 t.4 in (r.0, r.1, subst (S r.0) t.2 r.2, subst (S r.1) t.3 r.3, r.4);
 }
-
--- the one graph has the vertices of the other, with the same words
-pub record Grows (vs ws : List FieldAt) (heads more : ℕ → Head) : Type 0 where
-  pub kept : (i : ℕ) (v : FieldAt) → slice_get vs i ≡ Some v → slice_get ws i ≡ Some v
-  pub words : (i : ℕ) (v : FieldAt) → slice_get vs i ≡ Some v → heads i ≡ more i
 
 module _ (s : Schema) (vs ws : List FieldAt) (heads more : ℕ → Head) (g : Grows vs ws heads more) where
   at-more : (x : Field) (i : ℕ) (v : FieldAt) → IsAt s vs heads x i v → IsAt s ws more x i v

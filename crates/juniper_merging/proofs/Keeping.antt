@@ -1,7 +1,7 @@
 -- A number that stands in a list twice may be left out when it comes again.
 use Rattle.std.specs.Prelude.{ℕ, suc, Bool, true, false, not, ◌+◌, ◌⊎◌, List, [], ◌∷◌, ◌++◌, ◌≡◌, cond, nat_eq}
 use Rattle.std.proofs.lemmas.Bool.{cases_Bool}
-use Rattle.std.proofs.Common.{arith, refl, sym, ◌∙◌, inl, inr, subst}
+use Rattle.std.proofs.Common.{ap, arith, refl, sym, ◌∙◌, inl, inr, subst}
 use Rattle.graphql_spec.specs.Laws.{In}
 use Rattle.graphql_spec.proofs.Grouping.{in_append, in_first, in_second}
 use Rattle.juniper_merging.specs.Kept.{IsKept, count_of, marks}

@@ -47,6 +47,15 @@ module _ (s : Schema) (vs : List FieldAt) (heads : ℕ → Head) where
   StandsFor zero x i = (v : FieldAt) × IsAt x i v
   StandsFor (suc n) x i = (v : FieldAt) × IsAt x i v × AreAlike (StandsFor n) (fields_at s x) v.below
 
+  -- to each depth the numbers stand for the fields that the selections hold on the type p, fragments put in
+  abbrev pub Covers : List Fragment → Name → Selections → List ℕ → Type 0
+  Covers fs p set is = (n : ℕ) → AreAlike (StandsFor n) (fields p (expand (λ d. true) fs set)) is
+
+-- the one graph has the vertices of the other, with the same words
+pub record Grows (vs ws : List FieldAt) (heads more : ℕ → Head) : Type 0 where
+  pub kept : (i : ℕ) (v : FieldAt) → slice_get vs i ≡ Some v → slice_get ws i ≡ Some v
+  pub words : (i : ℕ) (v : FieldAt) → slice_get vs i ≡ Some v → heads i ≡ more i
+
 -- numbers that stand for the fields of a set tell whether these can be merged, to each depth
 abbrev pub NumbersTell : Type 0
 NumbersTell = (s : Schema) (vs : List FieldAt) (heads : ℕ → Head) → AreNumbered s vs heads → (n : ℕ) (xs : List Field) (is : List ℕ) → AreAlike (StandsFor s vs heads n) xs is →
@@ -55,5 +64,4 @@ NumbersTell = (s : Schema) (vs : List FieldAt) (heads : ℕ → Head) → AreNum
 -- so an answer that holds for every depth, or fails for some, is whether a set merges, its fragments put in
 abbrev pub SetsTell : Type 0
 SetsTell = (s : Schema) (vs : List FieldAt) (heads : ℕ → Head) → AreNumbered s vs heads → (fs : List Fragment) (p : Name) (set : Selections) (is : List ℕ) →
-    ((n : ℕ) → AreAlike (StandsFor s vs heads n) (fields p (expand (λ d. true) fs set)) is) →
-    (b : Bool) → (b ≡ true → (n : ℕ) → set_merges_at vs n is ≡ true) → (b ≡ false → (n : ℕ) × (set_merges_at vs n is ≡ false)) → b ≡ set_merges s fs p set
+    Covers s vs heads fs p set is → (b : Bool) → (b ≡ true → (n : ℕ) → set_merges_at vs n is ≡ true) → (b ≡ false → (n : ℕ) × (set_merges_at vs n is ≡ false)) → b ≡ set_merges s fs p set
