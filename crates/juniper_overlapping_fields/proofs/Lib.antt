@@ -1,2 +1,3 @@
+pub mod Alike
 mod MemberMaps
 pub mod SameMeanings
