@@ -1,3 +1,6 @@
 pub mod Alike
 mod MemberMaps
+mod NamedValues
+mod SameArguments
+mod SameItems
 pub mod SameMeanings
