@@ -1,0 +1,6 @@
+//! The fields of a document as vertices of a graph, and the rule that stands on it (section 5.3.2 of the Specification).
+#![tactic(auto)]
+
+mod graph;
+
+pub use graph::FieldGraph;
