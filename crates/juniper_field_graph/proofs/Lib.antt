@@ -1,0 +1,4 @@
+mod Leading
+mod Readiness
+mod Steps
+mod Holding

@@ -1,6 +1,7 @@
 //! The fields of a document as vertices of a graph, and the rule that stands on it (section 5.3.2 of the Specification).
 #![tactic(auto)]
 
+mod gathering;
 mod graph;
 
 pub use graph::FieldGraph;
