@@ -2,3 +2,4 @@ mod Leading
 mod Readiness
 mod Steps
 mod Holding
+mod HeldFragments

@@ -1,6 +1,6 @@
 -- Numbers that stand for the fields of selections, and for those of the sets that are written in them; only private clauses
 -- cite what stands here.
-use Rattle.std.specs.Prelude.{ℕ, false, List, [], ◌∷◌, ◌++◌, Option, Some, None, option_map, map, Vec, ◌≡◌, ◌⊎◌}
+use Rattle.std.specs.Prelude.{ℕ, Bool, cond, false, List, [], ◌∷◌, ◌++◌, Option, Some, None, option_map, map, Vec, ◌≡◌, ◌⊎◌}
 use Rattle.std.specs.Borrow.{Bor}
 use Rattle.std.specs.HashMap.{HashMap, get_by}
 use Rattle.std.specs.Str.{bytes_eq}
@@ -71,3 +71,34 @@ module _ {S : Type 0} (shown : S → Shown) (s : Schema) (fs : List Fragment) wh
     pub added : then ≡ sets ++ ms
     pub stands : Covers s (vertices_of shown new) (heads_of shown new) fs p set n
     pub covered : AreCovered s fs (vertices_of shown new) (heads_of shown new) (sets_from s p set) ms
+
+module _ (s : Schema) (fs : List Fragment) (vs : List FieldAt) (words : ℕ → Head) where
+  -- numbers at a name stand for what its fragment holds; and the fragments before have some
+  pub record AreHeld (held : Name → Option (List ℕ)) (before : List Fragment) : Type 0 where
+    pub right : (k : Name) (js : List ℕ) → held k ≡ Some js → (f : Fragment) × (fragment_of fs k ≡ Some f) × Covers s vs words fs f.condition.item f.selections js
+    pub there : (f : Fragment) → In f before → (js : List ℕ) × (held f.name.item ≡ Some js)
+
+-- no field of the fragments that names find has an argument twice
+abbrev pub AreWritten : List Fragment → Type 0
+AreWritten fs = (k : Name) (f : Fragment) → fragment_of fs k ≡ Some f → (h : Head) → In h (heads f.selections) → arguments_repeat (written h.arguments) ≡ false
+
+module _ {S : Type 0} (shown : S → Shown) (s : Schema) (fs : List Fragment) where
+  -- a fragment is held beside those before it
+  pub record IsHeld (old new : FieldGraph S) (held more : Name → Option (List ℕ)) (f : Fragment) : Type 0 where
+    pub graph : IsGraphOf shown s new
+    pub grows : Grows (vertices_of shown old) (vertices_of shown new) (heads_of shown old) (heads_of shown new)
+    pub numbers : List ℕ
+    pub added : (k : Name) → more k ≡ cond (bytes_eq f.name.item k) (Some numbers) (held k)
+    pub covered : Covers s (vertices_of shown new) (heads_of shown new) fs f.condition.item f.selections numbers
+
+  -- all fragments that a name finds are known
+  pub record AllKnown (old new : FieldGraph S) (held : Name → Option (List ℕ)) : Type 0 where
+    pub graph : IsGraphOf shown s new
+    pub grows : Grows (vertices_of shown old) (vertices_of shown new) (heads_of shown old) (heads_of shown new)
+    pub known : (k : Name) → IsKnown s fs (vertices_of shown new) (heads_of shown new) held k
+
+  -- it was found whether something merges, and the graph grew
+  pub record IsJudged (old new : FieldGraph S) (merges b : Bool) : Type 0 where
+    pub graph : IsGraphOf shown s new
+    pub grows : Grows (vertices_of shown old) (vertices_of shown new) (heads_of shown old) (heads_of shown new)
+    pub found : b ≡ merges

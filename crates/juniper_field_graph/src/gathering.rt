@@ -25,13 +25,13 @@ use std::collections::HashMap;
 
 /// What is known before selections are gathered.
 #[derive(Drop)]
-pub(crate) struct Known<'d, S: ScalarValue> {
+pub(crate) struct Known<'d, 'k, S: ScalarValue> {
     /// The schema.
     pub(crate) schema: &'d SchemaType<S>,
     /// The type of a field that is not declared.
     pub(crate) undeclared: &'d Type<String>,
     /// The fields that each fragment holds, by its name.
-    pub(crate) fragments: HashMap<&'d str, Vec<usize>>,
+    pub(crate) fragments: &'k HashMap<&'d str, Vec<usize>>,
 }
 
 /// What is gathered.
@@ -47,13 +47,13 @@ pub(crate) struct Gathered<'d, 'a, S: ScalarValue> {
 #[cycle(gathering)]
 pub(crate) fn gather_set<'d, 'a, S: ScalarValue>(
     alloc: Global,
-    known: &Known<'d, S>,
+    known: &Known<'d, '_, S>,
     parent: &'d str,
     selections: &'d [Selection<'a, S>],
     gathered: &mut Gathered<'d, 'a, S>,
 ) -> Result<Vec<usize>, AllocError>
     ensures { IfOk result (λ v. (fs : List SpecFragment) → HasNoCycle fs → view_type known.now.undeclared.now ≡ fields.declared_type None → IsGraphOf S.shown (view_schema S.shown known.now.schema.now) gathered.old.graph
-        → IsReadyIn S.shown (view_schema S.shown known.now.schema.now) fs gathered.old.graph (numbers_at known.now.fragments) (view_selections S.shown selections.now)
+        → IsReadyIn S.shown (view_schema S.shown known.now.schema.now) fs gathered.old.graph (numbers_at known.now.fragments.now) (view_selections S.shown selections.now)
         → IsSetGathered S.shown (view_schema S.shown known.now.schema.now) fs gathered.old.graph gathered.new.graph (view_sets gathered.old.sets) (view_sets gathered.new.sets) parent.now (view_selections S.shown selections.now) v.items) }
 {
     let mut numbers = Numbers::new(alloc);
@@ -68,14 +68,14 @@ pub(crate) fn gather_set<'d, 'a, S: ScalarValue>(
 #[cycle(gathering)]
 fn gather_selection<'d, 'a, S: ScalarValue>(
     alloc: Global,
-    known: &Known<'d, S>,
+    known: &Known<'d, '_, S>,
     parent: &'d str,
     selection: &'d Selection<'a, S>,
     numbers: &mut Numbers,
     gathered: &mut Gathered<'d, 'a, S>,
 ) -> Result<(), AllocError>
     ensures { OnOk result ((fs : List SpecFragment) → HasNoCycle fs → view_type known.now.undeclared.now ≡ fields.declared_type None → IsGraphOf S.shown (view_schema S.shown known.now.schema.now) gathered.old.graph
-        → (rest : Selections) → IsReadyIn S.shown (view_schema S.shown known.now.schema.now) fs gathered.old.graph (numbers_at known.now.fragments) (put_selection S.shown selection.now rest)
+        → (rest : Selections) → IsReadyIn S.shown (view_schema S.shown known.now.schema.now) fs gathered.old.graph (numbers_at known.now.fragments.now) (put_selection S.shown selection.now rest)
         → IsGathered S.shown (view_schema S.shown known.now.schema.now) fs gathered.old.graph gathered.new.graph (view_sets gathered.old.sets) (view_sets gathered.new.sets) numbers.old numbers.new parent.now rest (put_selection S.shown selection.now rest)) }
 {
     match selection {
@@ -98,7 +98,8 @@ fn gather_selection<'d, 'a, S: ScalarValue>(
             }
         }
         Selection::FragmentSpread(spread) => {
-            match known.fragments.get(spread.item.name.item) {
+            let fragments = known.fragments;
+            match fragments.get(spread.item.name.item) {
                 Some(held) => {
                     numbers.extend(held)?;
                     Ok(())
@@ -118,7 +119,7 @@ fn gather_selection<'d, 'a, S: ScalarValue>(
 /// Puts a field, which selects these fields, to the graph, and to the numbers.
 fn put_field<'d, 'a, S: ScalarValue>(
     alloc: Global,
-    known: &Known<'d, S>,
+    known: &Known<'d, '_, S>,
     parent: &'d str,
     field: &'d Spanning<Field<'a, S>, Span>,
     declared_type: &'d Type<String>,
@@ -140,7 +141,7 @@ fn put_field<'d, 'a, S: ScalarValue>(
 /// The declared type of a field on its parent type.
 #[tactic(auto, unfolding(graphql_spec::specs::Fields::declared_type))]
 fn declared_type<'d, S: ScalarValue>(
-    known: &Known<'d, S>,
+    known: &Known<'d, '_, S>,
     parent: &str,
     name: &str,
 ) -> &'d Type<String>
