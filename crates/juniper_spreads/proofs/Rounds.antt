@@ -70,12 +70,15 @@ module _ {T : Type 0} (taken : T → Name → Bool) (ready : (Name → Bool) →
       ])
     ]);
     fewer = let f = r.fewer in let n = length-append left (x ∷ []) in omega (arith, f, n);
-    stuck = λ e. let n = length-append left (x ∷ []) in let s = r.stuck (omega (arith, n, e)) in (is ∙ s.0, λ k h. elim (or_cases (has (x ∷ rest) k) (not (ready (taken start) k)) (s.1 k h)) [
-      | inl m ↦ either k x rest m
-          (λ q. or_right (has rest k) (not (ready (taken start) k)) (ap not (subst (λ j. ready (taken start) j ≡ false) (sym q) (subst (λ t. ready (taken t) x ≡ false) s.0 un))))
-          (λ l. or_left (has rest k) (not (ready (taken start) k)) l)
-      | inr u ↦ or_right (has rest k) (not (ready (taken start) k)) u
-    ]);
+    stuck = λ e. let n = length-append left (x ∷ []) in let s = r.stuck (omega (arith, n, e)) in (
+      is ∙ s.0,
+      λ k h. elim (or_cases (has (x ∷ rest) k) (not (ready (taken start) k)) (s.1 k h)) [
+        | inl m ↦ either k x rest m
+            (λ q. or_right (has rest k) (not (ready (taken start) k)) (ap not (subst (λ j. ready (taken start) j ≡ false) (sym q) (subst (λ t. ready (taken t) x ≡ false) s.0 un))))
+            (λ l. or_left (has rest k) (not (ready (taken start) k)) l)
+        | inr u ↦ or_right (has rest k) (not (ready (taken start) k)) u
+      ],
+    );
   }
 
   no-more : (b c : Bool) → (b || (c || false)) ≡ true → (b || c) ≡ true

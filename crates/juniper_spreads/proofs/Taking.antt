@@ -8,7 +8,7 @@ use Rattle.std.proofs.lemmas.List.{append-nil, append_assoc}
 use Rattle.std.proofs.Common.{refl, sym, ap, ◌∙◌, inl, inr, subst}
 use Rattle.graphql_spec.specs.Shown.{Name}
 use Rattle.graphql_spec.specs.Documents.{Fragment}
-use Rattle.graphql_spec.specs.Fragments.{deep, deep_in, fragment_of, spreads, spreads_in}
+use Rattle.graphql_spec.specs.Fragments.{HasNoCycle, deep, deep_in, fragment_of, spreads, spreads_in}
 use Rattle.graphql_spec.specs.Laws.{In}
 use Rattle.juniper_spreads.specs.Order.{AreInOrder, Follow, Follows, IsInOrder, IsTaken, StandBehind, StandsBehind, found, put}
 use Rattle.juniper_spreads.proofs.Names.{has, same, itself, true_false, either, any_from, next}
@@ -96,7 +96,7 @@ module _ (fs : List Fragment) where
   pub taken-ends : (taken : Name → Bool) (order : List Name) → IsTaken fs taken order → IsStuck taken → AreInOrder fs order
   taken-ends taken order t stuck = record {
     behind = t.behind;
-    all = λ none k known. sym (t.same k) ∙ true_from_ne_false (taken k) (λ left. true_false (deep fs (length fs) k) (stuck-deep taken stuck (length fs) k known left) (none k));
+    all = λ k known ends. sym (t.same k) ∙ true_from_ne_false (taken k) (λ left. true_false (deep fs (length fs) k) (stuck-deep taken stuck (length fs) k known left) ends);
   }
 
   -- ## The fragments of names
@@ -143,7 +143,6 @@ module _ (fs : List Fragment) where
   found-last [] k = refl
   found-last (j ∷ ks) k = ap (put fs (fragment_of fs j)) (found-last ks k) ∙ put-append (fragment_of fs j) (found fs ks) (put fs (fragment_of fs k) [])
 
-
   one-stands : (before : List Name) (k : Name) (f : Fragment) → Follows fs before k → fragment_of fs k ≡ Some f → StandsBehind fs (found fs before) f
   unfolding spreads_in
   one-stands before k f w e = record {
@@ -166,7 +165,7 @@ module _ (fs : List Fragment) where
   -- the fragments of names in an order are in that order
   pub found-in-order : (order : List Name) → AreInOrder fs order → IsInOrder fs (found fs order)
   unfolding found
-  found-in-order order a = record { behind = stand [] order a.behind; all = λ none k g e. found-in order k g (a.all none k (ap is_some e)) e }
+  found-in-order order a = record { behind = stand [] order a.behind; all = λ k f e ends. found-in order k f (a.all k (ap is_some e) ends) e }
 
   -- each fragment of an order stands behind those that it spreads, wherever it stands
   stands-from : (start before : List Fragment) (f : Fragment) (after : List Fragment) → StandBehind fs start (before ++ f ∷ after) → StandsBehind fs (start ++ before) f
@@ -175,3 +174,7 @@ module _ (fs : List Fragment) where
 
   pub stands-at : (before : List Fragment) (f : Fragment) (after : List Fragment) → IsInOrder fs (before ++ f ∷ after) → StandsBehind fs before f
   stands-at before f after o = stands-from [] before f after o.behind
+
+  -- where no fragment reaches itself all stand there
+  pub all-stand : (order : List Fragment) → IsInOrder fs order → HasNoCycle fs → (k : Name) (f : Fragment) → fragment_of fs k ≡ Some f → In f order
+  all-stand order o none k f e = o.all k f e (none k)

@@ -1,5 +1,5 @@
 -- Fragments in an order in which each stands behind those that it spreads (5.5.2.2).
-use Rattle.std.specs.Prelude.{ℕ, Bool, true, false, not, ◌||◌, List, [], ◌∷◌, ◌++◌, Option, Some, None, is_some, Vec, ◌≡◌}
+use Rattle.std.specs.Prelude.{ℕ, Bool, true, false, not, ◌||◌, List, [], ◌∷◌, ◌++◌, length, Option, Some, None, is_some, Vec, ◌≡◌}
 use Rattle.std.specs.Borrow.{Bor}
 use Rattle.std.specs.HashMap.{HashMap}
 use Rattle.std.specs.List.{list_all}
@@ -8,7 +8,7 @@ use Rattle.std.specs.Str.{bytes_eq}
 use Rattle.std.specs.declared.alloc.Global.{Global}
 use Rattle.graphql_spec.specs.Shown.{Name}
 use Rattle.graphql_spec.specs.Documents.{Fragment}
-use Rattle.graphql_spec.specs.Fragments.{HasNoCycle, fragment_of, spreads, spreads_in}
+use Rattle.graphql_spec.specs.Fragments.{deep, fragment_of, spreads, spreads_in}
 use Rattle.graphql_spec.specs.Laws.{In}
 use Rattle.juniper_spreads.specs.SpreadsView.{names_or_none, spread_by}
 
@@ -24,10 +24,11 @@ module _ (fs : List Fragment) where
   StandBehind before [] = Unit {0}
   StandBehind before (f ∷ rest) = StandsBehind before f × StandBehind (before ++ f ∷ []) rest
 
-  -- each fragment of the list stands behind those that it spreads; where none reaches itself, all stand there
+  -- each fragment of the list stands behind those that it spreads, and all stand there but those that lead to a cycle: from
+  -- these a chain of spreads is longer than the list of fragments
   pub record IsInOrder (order : List Fragment) : Type 0 where
     pub behind : StandBehind [] order
-    pub all : HasNoCycle fs → (k : Name) (g : Fragment) → fragment_of fs k ≡ Some g → In g order
+    pub all : (k : Name) (f : Fragment) → fragment_of fs k ≡ Some f → deep fs (length fs) k ≡ false → In f order
 
 -- ## Only private clauses cite what follows
 
@@ -55,10 +56,11 @@ module _ (fs : List Fragment) where
     pub behind : Follow [] order
     pub same : (k : Name) → taken k ≡ is_among order k
 
-  -- names each of which stands behind those that its fragment spreads; where none reaches itself, all fragments' are there
+  -- each name of the list stands behind those that its fragment spreads, and those of all fragments but the ones that lead
+  -- to a cycle stand there
   pub record AreInOrder (order : List Name) : Type 0 where
     pub behind : Follow [] order
-    pub all : HasNoCycle fs → (k : Name) → is_some (fragment_of fs k) ≡ true → is_among order k ≡ true
+    pub all : (k : Name) → is_some (fragment_of fs k) ≡ true → deep fs (length fs) k ≡ false → is_among order k ≡ true
 
   -- before the others, if it is there
   unfoldable pub put : Option Fragment → List Fragment → List Fragment

@@ -103,11 +103,7 @@ fn is_in_order<'a>(
 }
 
 /// Whether the fragments that a fragment spreads are done.
-pub(crate) fn are_done<'a>(
-    spreads: &SpreadsByName<'a>,
-    name: &str,
-    done: &HashSet<&'a str>,
-) -> bool
+pub(crate) fn are_done<'a>(spreads: &SpreadsByName<'a>, name: &str, done: &HashSet<&'a str>) -> bool
     ensures { result ≡ list_all (λ n. has_name done.now n || not (is_some (spread_by spreads.now n))) (names_or_none (spread_by spreads.now name.now)) }
 {
     match spreads.get(name) {

@@ -17,9 +17,9 @@ use std::alloc::{AllocError, Global};
 use std::collections::HashSet;
 
 impl<'d, 'a, S: ScalarValue> FragmentsByName<'d, 'a, S> {
-    /// The fragments in an order in which each stands once, behind those that it spreads; where none reaches itself
-    /// (5.5.2.2) these are all. Of those of one name it is the first. The time grows with the number of spreads. An
-    /// error where memory is refused.
+    /// The fragments in an order in which each stands once, behind those that it spreads; of those of one name it is
+    /// the first. All stand there but those that lead to a cycle (5.5.2.2). The time grows with the number of spreads.
+    /// An error where memory is refused.
     pub fn in_order(
         &self,
         alloc: Global,
@@ -30,7 +30,7 @@ impl<'d, 'a, S: ScalarValue> FragmentsByName<'d, 'a, S> {
         self.fragments_of(alloc, &names)
     }
 
-    /// The fragments of the names.
+    /// The fragments of the names, in their order.
     fn fragments_of(
         &self,
         alloc: Global,
@@ -49,16 +49,18 @@ impl<'d, 'a, S: ScalarValue> FragmentsByName<'d, 'a, S> {
     }
 }
 
-/// The names of fragments that are taken, in the order in which they were.
+/// The names that are taken.
 #[derive(Drop)]
 struct Taken<'a> {
-    /// In their order.
+    /// In the order in which they were.
     order: Vec<&'a str>,
-    /// The same names.
+    /// The same as a set.
     names: HashSet<&'a str>,
 }
 
-/// The names of the fragments, each behind those that it spreads: all, where none reaches itself.
+/// The names of the fragments, each behind those that it spreads: all but those that lead to a cycle. A walk leaves the
+/// fragments in such an order, so that the first round takes them all; as that is not proved, rounds over what is left
+/// follow until one takes none.
 fn names_in_order<'a>(
     alloc: Global,
     spreads: &SpreadsByName<'a>,
@@ -81,7 +83,7 @@ fn names_in_order<'a>(
     }
 }
 
-/// The names of the fragments.
+/// The names of all fragments.
 fn names_of<'a>(alloc: Global, spreads: &SpreadsByName<'a>) -> Result<Vec<&'a str>, AllocError>
     ensures { IfOk result (λ r. r.items ≡ keys spreads.now) }
 {

@@ -37,6 +37,8 @@ loop-left-smaller c =
 pub loop-left-preserved : goal.loop-left-preserved
 loop-left-preserved c = λ fs are.
     let i = c.loop-left.invariant fs are in
-    let left : c.deref-in-loop-left.result.now ≡ c.loop-left.left.items = c.deref-in-loop-left.ensures.value in
-    (c.in_ok-kept.ensures.taken fs are i.0, rounds-go-on c.args.spreads.now fs are (has_name c.loop-left.taken.names) (has_name c.take_ready-in-loop-left.new.self.names) (view_names c.loop-left.left.items)
-    (view_names c.in_ok-kept.kept.items) i.1 c.in_ok-kept.ensures.stays (λ k e. c.in_ok-kept.ensures.left k (ap (λ l. is_among (view_names l) k) left ∙ e)))
+    let left : c.deref-in-loop-left.result.now ≡ c.loop-left.left.items = c.deref-in-loop-left.ensures.value in (
+      c.in_ok-kept.ensures.taken fs are i.0,
+      rounds-go-on c.args.spreads.now fs are (has_name c.loop-left.taken.names) (has_name c.take_ready-in-loop-left.new.self.names) (view_names c.loop-left.left.items)
+          (view_names c.in_ok-kept.kept.items) i.1 c.in_ok-kept.ensures.stays (λ k e. c.in_ok-kept.ensures.left k (ap (λ l. is_among (view_names l) k) left ∙ e)),
+    )

@@ -33,16 +33,18 @@ loop-name-preserved c =
     let none : Bor (List ℕ) = record { ref_ptr = (0, 0); now = [] } in
     let x = get_or c.args.names.now i none in
     let rest = view_names (drop (i + 1) c.args.names.now) in
-    let round = round-seen taken ready start names now left c.args.names.now i none c.loop-name-test.true c.loop-name.invariant.1 in
-    (λ fs are t. c.in_ok-take.ensures.taken fs are (c.loop-name.invariant.0 fs are t), elim c.if-not-branch.branch [
-      | then-not-branch+in_ok-push w ↦
-          let more : c.if-not-branch.left.items ≡ c.loop-name.left.items ++ x ∷ [] = search rules in
-          let out = c.in_ok-take.ensures.not_ready w.if-not-branch.true in
-          subst (λ l. IsRound taken ready start names new l rest (i + 1)) (sym (seen-push (λ n. n.now) c.loop-name.left.items c.if-not-branch.left.items x more)) (round-left taken ready start names now new left rest i x.now round out.0 out.1)
-      | else-not-branch w ↦
-          subst (λ l. IsRound taken ready start names new (view_names l.items) rest (i + 1)) (sym w.left-is)
-          (round-taken taken ready start names now new left rest i x.now round c.in_ok-take.ensures.stays (sym c.in_ok-take.ensures.is ∙ w.if-not-branch.false))
-    ])
+    let round = round-seen taken ready start names now left c.args.names.now i none c.loop-name-test.true c.loop-name.invariant.1 in (
+      λ fs are t. c.in_ok-take.ensures.taken fs are (c.loop-name.invariant.0 fs are t),
+      elim c.if-not-branch.branch [
+        | then-not-branch+in_ok-push w ↦
+            let more : c.if-not-branch.left.items ≡ c.loop-name.left.items ++ x ∷ [] = search rules in
+            let out = c.in_ok-take.ensures.not_ready w.if-not-branch.true in
+            subst (λ l. IsRound taken ready start names new l rest (i + 1)) (sym (seen-push (λ n. n.now) c.loop-name.left.items c.if-not-branch.left.items x more)) (round-left taken ready start names now new left rest i x.now round out.0 out.1)
+        | else-not-branch w ↦
+            subst (λ l. IsRound taken ready start names new (view_names l.items) rest (i + 1)) (sym w.left-is)
+            (round-taken taken ready start names now new left rest i x.now round c.in_ok-take.ensures.stays (sym c.in_ok-take.ensures.is ∙ w.if-not-branch.false))
+      ],
+    )
 
 pub returns-clause-taken : goal.returns-clause-taken
 returns-clause-taken c = c.loop-name.invariant.0
