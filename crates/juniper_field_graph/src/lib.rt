@@ -3,5 +3,7 @@
 
 mod gathering;
 mod graph;
+mod overlapping_fields_can_be_merged;
 
 pub use graph::FieldGraph;
+pub use overlapping_fields_can_be_merged::cannot_merge;
