@@ -3,3 +3,8 @@ mod Readiness
 mod Steps
 mod Holding
 mod HeldFragments
+mod HoldingSteps
+mod Taken
+mod Judging
+mod JudgingSteps
+mod WrittenOnce

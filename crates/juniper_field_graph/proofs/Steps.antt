@@ -176,7 +176,7 @@ module _ {S : Type 0} (shown : S → Shown) (s : Schema) (fs : List Fragment) (e
       let ready : IsReadyIn shown s fs now held (put_selection shown x rest) = subst (IsReadyIn shown s fs now held) e a.1 in
       let b = step rest ready in (
         gathered-further shown s fs old now new sets then last n m k p rest (put_selection shown x rest) (view_selections shown selections)
-        (subst (λ t. IsGathered shown s fs old now sets then n m p t (view_selections shown selections)) e a.0) b,
+            (subst (λ t. IsGathered shown s fs old now sets then n m p t (view_selections shown selections)) e a.0) b,
         ready-more s fs (vertices_of shown now) (vertices_of shown new) (heads_of shown now) (heads_of shown new) b.grows held rest (rest-ready now x rest ready),
       )
 

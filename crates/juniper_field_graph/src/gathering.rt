@@ -17,9 +17,7 @@ ghost use Rattle.juniper_field_graph.specs.GraphView.{IsGraphOf, IsPushed};
 use crate::graph::FieldGraph;
 use juniper_merging::Numbers;
 use juniper_schema::SchemaType;
-use juniper_syntax::{
-    Field, InlineFragment, ScalarValue, Selection, Span, Spanning, Type,
-};
+use juniper_syntax::{Field, InlineFragment, ScalarValue, Selection, Span, Spanning, Type};
 use std::alloc::{AllocError, Global};
 use std::collections::HashMap;
 
@@ -86,13 +84,31 @@ fn gather_selection<'d, 'a, S: ScalarValue>(
                     let inner = declared_type.innermost_name();
                     let below = gather_set(alloc, known, inner, selections, gathered)?;
                     let graph = &mut gathered.graph;
-                    put_field(alloc, known, parent, field, declared_type, below, graph, numbers)?;
+                    put_field(
+                        alloc,
+                        known,
+                        parent,
+                        field,
+                        declared_type,
+                        below,
+                        graph,
+                        numbers,
+                    )?;
                     Ok(())
                 }
                 None => {
                     let below = Vec::new(alloc);
                     let graph = &mut gathered.graph;
-                    put_field(alloc, known, parent, field, declared_type, below, graph, numbers)?;
+                    put_field(
+                        alloc,
+                        known,
+                        parent,
+                        field,
+                        declared_type,
+                        below,
+                        graph,
+                        numbers,
+                    )?;
                     Ok(())
                 }
             }
@@ -131,7 +147,7 @@ fn put_field<'d, 'a, S: ScalarValue>(
         → view_type declared_type.now ≡ fields.declared_type (field_of (view_schema S.shown known.now.schema.now) parent.now (view_field S.shown field.now).name.item)
         → arguments_repeat (written (view_field S.shown field.now).arguments) ≡ false
         → (i : ℕ) × IsPushed S.shown (view_schema S.shown known.now.schema.now) graph.old graph.new parent.now (view_field S.shown field.now) below.items i
-            × ((all : List ℕ) → IsSetOf numbers.old all → IsSetOf numbers.new (all ++ i ∷ []))) }
+        × ((all : List ℕ) → IsSetOf numbers.old all → IsSetOf numbers.new (all ++ i ∷ []))) }
 {
     let number = graph.push(alloc, known.schema, parent, field, declared_type, below)?;
     numbers.push(number)?;

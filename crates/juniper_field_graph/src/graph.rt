@@ -74,7 +74,10 @@ impl<'d, 'a, S: ScalarValue> FieldGraph<'d, 'a, S> {
             call: number,
             below,
         })?;
-        self.fields.push(WrittenField { field, declared_type })?;
+        self.fields.push(WrittenField {
+            field,
+            declared_type,
+        })?;
         Ok(number)
     }
 }

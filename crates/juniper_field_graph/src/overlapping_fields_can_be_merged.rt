@@ -48,7 +48,7 @@ pub fn cannot_merge<'d, 'a, S: ScalarValue>(
         → at_each (rules.name_errors (view_schema S.shown schema.now) disabled (map (view_definition S.shown) document.now)) [] (map (view_definition S.shown) document.now) ≡ []
         → found.items ≡ map (rules.cannot_merge (view_schema S.shown schema.now) (map (view_definition S.shown) document.now)) (map (view_definition S.shown) document.now)) }
 {
-    let undeclared = Type::Named(String::new(alloc));
+    let undeclared = undeclared(alloc);
     let found = judge_all(alloc, schema, &undeclared, document, fragments)?;
     Ok(found)
 }
@@ -76,6 +76,14 @@ fn judge_all<'u, 'd: 'u, 'a: 'u, S: ScalarValue>(
     };
     let found = judge_each(alloc, &known, document, &mut gathered)?;
     Ok(found)
+}
+
+/// The type of a field that is not declared.
+#[tactic(auto, unfolding(graphql_spec::specs::Fields::declared_type))]
+fn undeclared(alloc: Global) -> Type<String>
+    ensures { view_type result ≡ fields.declared_type None }
+{
+    Type::Named(String::new(alloc))
 }
 
 /// Nothing yet.
@@ -211,11 +219,12 @@ fn sets_merge<'d, 'a, S: ScalarValue>(
     ensures { IfOk result (λ b. (fs : List documents.Fragment) → HasNoCycle fs → view_type known.now.undeclared.now ≡ fields.declared_type None → IsGraphOf S.shown (view_schema S.shown known.now.schema.now) gathered.old.graph
         → IsReadyIn S.shown (view_schema S.shown known.now.schema.now) fs gathered.old.graph (numbers_at known.now.fragments.now) (view_selections S.shown selections.now)
         → IsJudged S.shown (view_schema S.shown known.now.schema.now) fs gathered.old.graph gathered.new.graph
-            (list_all (λ x. merging.set_merges (view_schema S.shown known.now.schema.now) fs x.parent x.selections) (sets_from (view_schema S.shown known.now.schema.now) parent.now (view_selections S.shown selections.now))) b) }
+        (list_all (λ x. merging.set_merges (view_schema S.shown known.now.schema.now) fs x.parent x.selections) (sets_from (view_schema S.shown known.now.schema.now) parent.now (view_selections S.shown selections.now))) b) }
 {
     gathered.sets.clear();
     drop(gather_set(alloc, known, parent, selections, gathered)?);
-    all_merge(alloc, &gathered.graph.vertices, &gathered.sets)
+    let merge = all_merge(alloc, &gathered.graph.vertices, &gathered.sets)?;
+    Ok(merge)
 }
 
 /// Whether each set of vertices can be merged.

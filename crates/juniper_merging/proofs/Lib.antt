@@ -7,7 +7,7 @@ mod Depths
 pub mod Places
 mod Telling
 mod Settling
-mod Whole
+pub mod Whole
 pub mod Keeping
 pub mod Growing
 pub mod Covering
