@@ -1,0 +1,4 @@
+mod Choosing
+mod Numbering
+mod Pushing
+mod Graphs

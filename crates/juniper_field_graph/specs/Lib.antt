@@ -1,1 +1,2 @@
 pub mod GraphView
+pub mod KindsView
