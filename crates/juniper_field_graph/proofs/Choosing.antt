@@ -32,18 +32,18 @@ module _ (number : FieldAt → ℕ) (vs : List FieldAt) (test : ℕ → Bool) (k
   abbrev pub IsLeft : ℕ → Type 0
   IsLeft n = find test (drop n ks) ≡ find test ks
 
-  pub kind-passed : (n : ℕ) → n < length ks → test (get_or ks n 0) ≡ false → IsLeft n → IsLeft (n + 1)
-  kind-passed n l t i = sym (ap (find test) (drop_more ks n 0 l) ∙ passed (drop (n + 1) ks)) ∙ i
+  pub kind-passed : (n : ℕ) (b : Bool) → n < length ks → b ≡ test (get_or ks n 0) → b ≡ false → IsLeft n → IsLeft (n + 1)
+  kind-passed n b l told no' i = sym (ap (find test) (drop_more ks n 0 l) ∙ passed (drop (n + 1) ks)) ∙ i
     where
       passed : (rest : List ℕ) → find test (get_or ks n 0 ∷ rest) ≡ find test rest
-      passed rest = rw t refl
+      passed rest = let t : test (get_or ks n 0) ≡ false = sym told ∙ no' in rw t refl
 
-  pub kind-taken : (n : ℕ) → n < length ks → test (get_or ks n 0) ≡ true → IsLeft n → number_or number (length vs) (slice_get vs (get_or ks n 0)) ≡ number_among number vs test ks
+  pub kind-taken : (n : ℕ) (b : Bool) → n < length ks → b ≡ test (get_or ks n 0) → b ≡ true → IsLeft n → number_or number (length vs) (slice_get vs (get_or ks n 0)) ≡ number_among number vs test ks
   unfolding number_among first_alike
-  kind-taken n l t i = ap (λ o. number_or number (length vs) (first_alike vs o)) (sym (ap (find test) (drop_more ks n 0 l) ∙ taken (drop (n + 1) ks)) ∙ i)
+  kind-taken n b l told yes' i = ap (λ o. number_or number (length vs) (first_alike vs o)) (sym (ap (find test) (drop_more ks n 0 l) ∙ taken (drop (n + 1) ks)) ∙ i)
     where
       taken : (rest : List ℕ) → find test (get_or ks n 0 ∷ rest) ≡ Some (get_or ks n 0)
-      taken rest = rw t refl
+      taken rest = let t : test (get_or ks n 0) ≡ true = sym told ∙ yes' in rw t refl
 
   pub kind-missing : (n : ℕ) → length ks ≤ n → IsLeft n → length vs ≡ number_among number vs test ks
   unfolding number_among first_alike number_or

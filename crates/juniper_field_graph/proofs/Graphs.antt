@@ -17,7 +17,7 @@ use Rattle.juniper_merging.proofs.Grouping.{empty-groups}
 use Rattle.juniper_meta.specs.MetaView.{view_type}
 use Rattle.juniper_written.specs.WrittenView.{view_field}
 use Rattle.juniper_field_graph.specs.GraphView.{IsGraphOf, IsPushed, head_or_none, heads_of, vertices_of, written_of}
-use Rattle.juniper_field_graph.specs.KindsView.{AreKept, IsOnce, has_call, has_type, heads_in, number_among, types_in}
+use Rattle.juniper_field_graph.specs.KindsView.{AreKept, IsOnce, IsOwn, has_call, has_type, heads_in, number_among, types_in}
 use Rattle.juniper_field_graph.specs.declared.graph.FieldGraph.{FieldGraph}
 use Rattle.juniper_field_graph.specs.declared.graph.WrittenField.{WrittenField}
 use Rattle.juniper_field_graph.proofs.Numbering.{last-is}
@@ -42,6 +42,7 @@ module _ {S : Type 0} (shown : S → Shown) (s : Schema) where
           types = λ i v e. none-at (vertices_of shown g) bare i v e;
           once = λ i h e. none-at (written_of shown g) headless i h e;
           keyed = λ k r i. absurd (subst (In r) (empty-groups g.kinds kindless k) i);
+          own = λ k r i v e. none-at (vertices_of shown g) bare r v e;
           shapes = λ i v e. none-at (vertices_of shown g) bare i v e;
           calls = λ i v e. none-at (vertices_of shown g) bare i v e;
           below = λ i v e. none-at (vertices_of shown g) bare i v e;
@@ -59,17 +60,22 @@ module _ {S : Type 0} (shown : S → Shown) (s : Schema) where
 
   module _ (old new : FieldGraph S) (v : Vertex) (f : WrittenField S) (g : IsGraphOf shown s old) (made : IsMade old v f) (n : ℕ) (is : n ≡ length (vertices_of shown old))
       (vertices : new.vertices.items ≡ old.vertices.items ++ v ∷ []) (fields : new.fields.items ≡ old.fields.items ++ f ∷ [])
-      (added : IsAdded v.key.now n (group_in old.kinds) (group_in new.kinds)) (own-shape : v.shape ≡ n → In n (group_in new.kinds v.key.now)) (own-call : v.call ≡ n → In n (group_in new.kinds v.key.now)) where
+      (added : IsAdded (IsOwn n (view_vertex v)) v.key.now n (group_in old.kinds) (group_in new.kinds)) (own-shape : v.shape ≡ n → In n (group_in new.kinds v.key.now)) (own-call : v.call ≡ n → In n (group_in new.kinds v.key.now)) where
     abbrev vs : List FieldAt
     vs = vertices_of shown old
+
     abbrev ts : List TypeRef
     ts = types_in shown old.fields.items
+
     abbrev hs : List Head
     hs = written_of shown old
+
     abbrev x : FieldAt
     x = view_vertex v
+
     abbrev t : TypeRef
     t = view_type f.declared_type.now
+
     abbrev h : Head
     h = view_field shown f.field.now
 
@@ -82,9 +88,9 @@ module _ {S : Type 0} (shown : S → Shown) (s : Schema) where
     heads-are : written_of shown new ≡ hs ++ h ∷ []
     heads-are = ap (heads_in shown) fields ∙ map-append (λ (f : WrittenField S). view_field shown f.field.now) old.fields.items (f ∷ [])
 
-    added' : IsAdded x.key (length vs) (group_in old.kinds) (group_in new.kinds)
+    added' : IsAdded (IsOwn (length vs) x) x.key (length vs) (group_in old.kinds) (group_in new.kinds)
     unfolding view_vertex
-    added' = subst (λ m. IsAdded v.key.now m (group_in old.kinds) (group_in new.kinds)) is added
+    added' = subst (λ m. IsAdded (IsOwn m x) v.key.now m (group_in old.kinds) (group_in new.kinds)) is added
 
     own-shape' : x.shape ≡ length vs → In (length vs) (group_in new.kinds x.key)
     unfolding view_vertex

@@ -40,7 +40,7 @@ old-or-last (z ∷ xs) x (suc i) y e = elim (old-or-last xs x i y e) [ inl f ↦
 number-turned : (m n : ℕ) → nat_eq m n ≡ nat_eq n m
 number-turned m n = search rules
 
-number-itself : (n : ℕ) → nat_eq n n ≡ true
+pub number-itself : (n : ℕ) → nat_eq n n ≡ true
 number-itself n = search rules
 
 number-below : (m n : ℕ) → m < n → nat_eq m n ≡ false
@@ -96,6 +96,7 @@ module _ {T : Type 0} (E : T → T → Bool) (itself : (t : T) → E t t ≡ tru
     where
       with-last : (i : ℕ) (v : FieldAt) → slice_get vs i ≡ Some v → bytes_eq v.key x.key ≡ true → nat_eq (number v) (number x) ≡ E (more i v) (more (length vs) x)
       with-last i v f e = new i v f (same_true v.key x.key e) ∙ ap (λ z. E z (more (length vs) x)) (kept i v f)
+
       go : (slice_get vs i ≡ Some v) ⊎ ((i ≡ length vs) × (v ≡ x)) → (slice_get vs j ≡ Some w) ⊎ ((j ≡ length vs) × (w ≡ x)) → nat_eq (number v) (number w) ≡ E (more i v) (more j w)
       go (inl a) (inl b) = tells i j v w a b e ∙ (ap (λ z. E z (things j w)) (kept i v a) ∙ ap (E (more i v)) (kept j w b))
       go (inl a) (inr (p, q)) = rw (p, q) (with-last i v a (rw q at e))

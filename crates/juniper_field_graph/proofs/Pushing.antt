@@ -1,10 +1,10 @@
 -- A graph that is given one vertex more.
-use Rattle.std.specs.Prelude.{ℕ, zero, suc, Bool, true, false, List, [], ◌∷◌, ◌++◌, ◌≡◌, ◌⊎◌, ◌<◌, ◌+◌, Option, Some, None, length, nat_eq, cond}
+use Rattle.std.specs.Prelude.{ℕ, zero, suc, Bool, true, false, ◌||◌, List, [], ◌∷◌, ◌++◌, ◌≡◌, ◌⊎◌, ◌<◌, ◌+◌, Option, Some, None, length, nat_eq, cond}
 use Rattle.std.specs.List.{slice_get}
 use Rattle.std.specs.Str.{bytes_eq}
-use Rattle.std.proofs.lemmas.Bool.{cases_Bool}
+use Rattle.std.proofs.lemmas.Bool.{both_ways, cases_Bool, or_parts}
 use Rattle.std.proofs.lemmas.List.{length-append}
-use Rattle.std.proofs.Common.{refl, sym, ap, ◌∙◌, inl, inr, subst, arith}
+use Rattle.std.proofs.Common.{refl, sym, ap, ◌∙◌, inl, inr, subst, arith, rules}
 use Rattle.graphql_spec.specs.Shown.{Name}
 use Rattle.graphql_spec.specs.Types.{TypeRef}
 use Rattle.graphql_spec.specs.Documents.{Head, written}
@@ -21,45 +21,60 @@ use Rattle.juniper_merging.specs.Standing.{AreNumbered, Grows}
 use Rattle.juniper_overlapping_fields.proofs.Alike.{types-same, types-turned, types-across, calls-itself, calls-turned, calls-across}
 use Rattle.juniper_overlapping_fields.proofs.Alike as alike
 use Rattle.juniper_field_graph.specs.GraphView.{head_or_none}
-use Rattle.juniper_field_graph.specs.KindsView.{AreKept, HasKind, IsOnce, has_call, has_type, number_among}
-use Rattle.juniper_field_graph.proofs.Numbering.{chosen, last-is, old-or-last, stays, tells-chosen, tells-more}
+use Rattle.juniper_field_graph.specs.KindsView.{AreKept, HasKind, IsOnce, IsOwn, has_call, has_type, number_among}
+use Rattle.juniper_field_graph.proofs.Numbering.{chosen, last-is, number-itself, old-or-last, stays, tells-chosen, tells-more}
 
 -- ## Kinds
 
--- a number is added to the kinds of a key, or nothing is
-pub record IsAdded (key : Name) (n : ℕ) (old new : Name → List ℕ) : Type 0 where
+-- a number is added to the kinds of a key, for which C holds, or nothing is
+pub record IsAdded (C : Type 0) (key : Name) (n : ℕ) (old new : Name → List ℕ) : Type 0 where
   pub grown : (k : Name) (r : ℕ) → In r (old k) → In r (new k)
-  pub only : (k : Name) (r : ℕ) → In r (new k) → In r (old k) ⊎ ((k ≡ key) × (r ≡ n))
+  pub only : (k : Name) (r : ℕ) → In r (new k) → In r (old k) ⊎ ((k ≡ key) × (r ≡ n) × C)
 
-pub put-back : (old mid new : Name → List ℕ) (key : Name) (ks ls : List ℕ) (n : ℕ) → ks ≡ old key → ((k : Name) → mid k ≡ cond (bytes_eq key k) [] (old k)) → ((k : Name) → new k ≡ cond (bytes_eq key k) ls (mid k)) →
-    (ls ≡ ks ++ n ∷ []) ⊎ (ls ≡ ks) → IsAdded key n old new
-put-back old mid new key ks ls n is taken put added = record {
+pub put-back : {C : Type 0} (old mid new : Name → List ℕ) (key : Name) (ks ls : List ℕ) (n : ℕ) → ks ≡ old key → ((k : Name) → mid k ≡ cond (bytes_eq key k) [] (old k)) → ((k : Name) → new k ≡ cond (bytes_eq key k) ls (mid k)) →
+    ((ls ≡ ks ++ n ∷ []) × C) ⊎ (ls ≡ ks) → IsAdded C key n old new
+put-back {C} old mid new key ks ls n is taken put added = record {
   grown = λ k r i. elim (cases_Bool (bytes_eq key k)) [
     | inl e ↦ subst (In r) (sym (here k e)) (more added r (subst (In r) (old-here k e) i))
     | inr e ↦ subst (In r) (sym (there k e)) i
   ];
   only = λ k r i. elim (cases_Bool (bytes_eq key k)) [
-    | inl e ↦ elim (less added r (subst (In r) (here k e) i)) [ inl j ↦ inl (subst (In r) (sym (old-here k e)) j) | inr f ↦ inr (sym (same_true key k e), f) ]
+    | inl e ↦ elim (less added r (subst (In r) (here k e) i)) [ inl j ↦ inl (subst (In r) (sym (old-here k e)) j) | inr f ↦ inr (sym (same_true key k e), f.0, f.1) ]
     | inr e ↦ inl (subst (In r) (there k e) i)
   ];
 }
   where
     here : (k : Name) → bytes_eq key k ≡ true → new k ≡ ls
     here k e = put k ∙ (rw e refl)
+
     there : (k : Name) → bytes_eq key k ≡ false → new k ≡ old k
     there k e = put k ∙ (rw e (taken k ∙ (rw e refl)))
+
     old-here : (k : Name) → bytes_eq key k ≡ true → old k ≡ ks
     old-here k e = ap old (sym (same_true key k e)) ∙ sym is
-    more : (ls ≡ ks ++ n ∷ []) ⊎ (ls ≡ ks) → (r : ℕ) → In r ks → In r ls
-    more (inl e) r i = subst (In r) (sym e) (in_first r ks (n ∷ []) i)
+
+    more : ((ls ≡ ks ++ n ∷ []) × C) ⊎ (ls ≡ ks) → (r : ℕ) → In r ks → In r ls
+    more (inl e) r i = subst (In r) (sym e.0) (in_first r ks (n ∷ []) i)
     more (inr e) r i = subst (In r) (sym e) i
-    less : (ls ≡ ks ++ n ∷ []) ⊎ (ls ≡ ks) → (r : ℕ) → In r ls → In r ks ⊎ (r ≡ n)
-    less (inl e) r i = elim (in_append r ks (n ∷ []) (subst (In r) e i)) [ inl j ↦ inl j | inr (inl f) ↦ inr f | inr (inr j) ↦ absurd j ]
+
+    less : ((ls ≡ ks ++ n ∷ []) × C) ⊎ (ls ≡ ks) → (r : ℕ) → In r ls → In r ks ⊎ ((r ≡ n) × C)
+    less (inl e) r i = elim (in_append r ks (n ∷ []) (subst (In r) e.0 i)) [ inl j ↦ inl j | inr (inl f) ↦ inr (f, e.1) | inr (inr j) ↦ absurd j ]
     less (inr e) r i = inl (subst (In r) e i)
 
 -- a number that was put at the end of a key's kinds stands there
 pub put-last : (mid new : Name → List ℕ) (key : Name) (ks ls : List ℕ) (n : ℕ) → ((k : Name) → new k ≡ cond (bytes_eq key k) ls (mid k)) → ls ≡ ks ++ n ∷ [] → In n (new key)
 put-last mid new key ks ls n put e = subst (In n) (sym (put key ∙ (rw (same_refl key) e))) (in_second n ks (n ∷ []) (inl refl))
+
+-- whether a vertex has a number of its own
+pub is-own : (x : FieldAt) (n : ℕ) (b : Bool) → b ≡ (nat_eq x.shape n || nat_eq x.call n) → b ≡ true → IsOwn n x
+is-own x n b told yes' = elim (cases_Bool (nat_eq x.shape n)) [
+  | inl e ↦ inl (search rules)
+  | inr e ↦ (let f : nat_eq x.call n ≡ true = rw e at (sym told ∙ yes') in inr (search rules))
+]
+
+pub not-own : (x : FieldAt) (n : ℕ) (b : Bool) → b ≡ (nat_eq x.shape n || nat_eq x.call n) → b ≡ false → IsOwn n x → ⊥
+not-own x n b told no' (inl e) = let f : (nat_eq n n || nat_eq x.call n) ≡ false = subst (λ m. (nat_eq m n || nat_eq x.call n) ≡ false) e (sym told ∙ no') in both_ways true (rw (number-itself n) at f) refl
+not-own x n b told no' (inr e) = let f : (nat_eq x.shape n || nat_eq n n) ≡ false = subst (λ m. (nat_eq x.shape n || nat_eq m n) ≡ false) e (sym told ∙ no') in both_ways (nat_eq n n) (or_parts (nat_eq x.shape n) (nat_eq n n) f).1 (number-itself n)
 
 -- ## Lists of one length
 
@@ -76,10 +91,9 @@ head_in hs i = head_or_none (slice_get hs i)
 
 module _ (s : Schema) (vs : List FieldAt) (ts : List TypeRef) (hs : List Head) (kinds more : Name → List ℕ) (x : FieldAt) (t : TypeRef) (h : Head)
     (numbered : AreNumbered s vs (head_in hs)) (kept : AreKept s vs ts hs (head_in hs) kinds) (typed : t ≡ declared_type (field_of s x.parent h.name.item)) (once : IsOnce h)
-    (added : IsAdded x.key (length vs) kinds more)
+    (added : IsAdded (IsOwn (length vs) x) x.key (length vs) kinds more)
     (shape : x.shape ≡ number_among (λ v. v.shape) vs (λ r. has_type s t (slice_get ts r)) (kinds x.key)) (own-shape : x.shape ≡ length vs → In (length vs) (more x.key))
     (call : x.call ≡ number_among (λ v. v.call) vs (λ r. has_call h (slice_get hs r)) (kinds x.key)) (own-call : x.call ≡ length vs → In (length vs) (more x.key)) where
-
   abbrev type_of : (ℕ → Head) → ℕ → FieldAt → TypeRef
   type_of heads i v = declared_type (field_of s v.parent (heads i).name.item)
 
@@ -159,7 +173,11 @@ module _ (s : Schema) (vs : List FieldAt) (ts : List TypeRef) (hs : List Head) (
     once = λ i g e. elim (old-or-last hs h i g e) [ inl f ↦ kept.once i g f | inr (p, q) ↦ subst IsOnce (sym q) once ];
     keyed = λ k r i. elim (added.only k r i) [
       | inl j ↦ (let (v, there, e) = kept.keyed k r j in (v, stays vs x r v there, e))
-      | inr (p, q) ↦ (x, subst (λ m. slice_get (vs ++ x ∷ []) m ≡ Some x) (sym q) last-there, sym p)
+      | inr (p, q, o) ↦ (x, subst (λ m. slice_get (vs ++ x ∷ []) m ≡ Some x) (sym q) last-there, sym p)
+    ];
+    own = λ k r i v e. elim (added.only k r i) [
+      | inl j ↦ (let (w, there, is) = kept.keyed k r j in kept.own k r j v (there ∙ (sym (stays vs x r w there) ∙ e)))
+      | inr (p, q, o) ↦ (let f : Some x ≡ Some v = sym last-there ∙ subst (λ m. slice_get (vs ++ x ∷ []) m ≡ Some v) q e in let g : x ≡ v = cc in subst (λ m. IsOwn m v) (sym q) (subst (IsOwn (length vs)) g o))
     ];
     shapes = has-kind (λ v. v.shape) (λ r. has_type s t (slice_get ts r)) shape own-shape kept.shapes;
     calls = has-kind (λ v. v.call) (λ r. has_call h (slice_get hs r)) call own-call kept.calls;

@@ -1,4 +1,4 @@
--- How a new vertex gets its numbers; only private clauses cite what stands here.
+-- How a new vertex gets its numbers, and what a graph keeps for this.
 use Rattle.std.specs.Prelude.{ℕ, Bool, false, ◌&&◌, cond, List, [], ◌∷◌, ◌++◌, Option, Some, None, map, length, ◌≡◌, ◌⊎◌, ◌<◌}
 use Rattle.std.specs.List.{slice_get, find}
 use Rattle.std.specs.Str.{bytes_eq}
@@ -56,17 +56,23 @@ first_alike vs (Some r) = slice_get vs r
 unfoldable pub number_among : (FieldAt → ℕ) → List FieldAt → (ℕ → Bool) → List ℕ → ℕ
 number_among number vs alike kinds = number_or number (length vs) (first_alike vs (find alike kinds))
 
+-- the vertex of this number is the first of its shape or of its call
+abbrev pub IsOwn : ℕ → FieldAt → Type 0
+IsOwn n v = (v.shape ≡ n) ⊎ (v.call ≡ n)
+
 -- one of these kinds has the number of v
 abbrev pub HasKind : (FieldAt → ℕ) → List FieldAt → List ℕ → FieldAt → Type 0
 HasKind number vs kinds v = (r : ℕ) × (w : FieldAt) × In r kinds × (slice_get vs r ≡ Some w) × (number w ≡ number v)
 
--- each vertex has its field's declared type, and kinds are vertices of their response key, one for each number there
+-- each vertex has its field's declared type; kinds are vertices of their response key, one for each number there, and each has
+-- a number of its own
 pub record AreKept (s : Schema) (vs : List FieldAt) (ts : List TypeRef) (hs : List Head) (heads : ℕ → Head) (kinds : Name → List ℕ) : Type 0 where
   pub typed : length ts ≡ length vs
   pub headed : length hs ≡ length vs
   pub types : (i : ℕ) (v : FieldAt) → slice_get vs i ≡ Some v → slice_get ts i ≡ Some (declared_type (field_of s v.parent (heads i).name.item))
   pub once : (i : ℕ) (h : Head) → slice_get hs i ≡ Some h → IsOnce h
   pub keyed : (k : Name) (r : ℕ) → In r (kinds k) → (v : FieldAt) × (slice_get vs r ≡ Some v) × (v.key ≡ k)
+  pub own : (k : Name) (r : ℕ) → In r (kinds k) → (v : FieldAt) → slice_get vs r ≡ Some v → IsOwn r v
   pub shapes : (i : ℕ) (v : FieldAt) → slice_get vs i ≡ Some v → HasKind (λ w. w.shape) vs (kinds v.key) v
   pub calls : (i : ℕ) (v : FieldAt) → slice_get vs i ≡ Some v → HasKind (λ w. w.call) vs (kinds v.key) v
   pub below : (i : ℕ) (v : FieldAt) → slice_get vs i ≡ Some v → (v.shape < length vs) × (v.call < length vs)

@@ -1,6 +1,6 @@
 //! A graph of written fields.
 
-ghost use Rattle.std.specs.Prelude.{◌≡◌, ℕ, IfOk, List, OnOk, Some, cond, false, length, map, []};
+ghost use Rattle.std.specs.Prelude.{◌≡◌, ◌||◌, ℕ, IfOk, List, OnOk, Some, cond, false, length, map, nat_eq, []};
 ghost use Rattle.std.specs.List.{find, slice_get};
 ghost use Rattle.std.specs.Str.{bytes_eq};
 ghost use Rattle.graphql_spec.specs.Documents as documents;
@@ -123,8 +123,7 @@ fn names_object<S: ScalarValue>(schema: &SchemaType<S>, name: &str) -> bool
 
 /// Whether the shape or the call is a new vertex's own number.
 fn is_own(number: usize, shape: usize, call: usize) -> bool
-    ensures shape { result ≡ false → shape ≡ number → ⊥ }
-    ensures call { result ≡ false → call ≡ number → ⊥ }
+    ensures { result ≡ (nat_eq shape number || nat_eq call number) }
 {
     shape == number || call == number
 }

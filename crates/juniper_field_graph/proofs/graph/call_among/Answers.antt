@@ -12,7 +12,7 @@ loop-kind-preserved g c once own =
     let shown = g.S.ScalarValue.shown in
     let vs = map view_vertex c.args.vertices.now in
     let test : ℕ → Bool = λ r. has_call (view_field shown c.args.field.now) (slice_get (heads_in shown c.args.fields.now) r) in
-    kind-passed (λ v. v.call) vs test c.args.kinds.now c.loop-kind.kind-index c.loop-kind-test.true (sym (c.has_call.ensures once own) ∙ c.if-has_call.false) (c.loop-kind.invariant once own)
+    kind-passed (λ v. v.call) vs test c.args.kinds.now c.loop-kind.kind-index c.has_call.result c.loop-kind-test.true (c.has_call.ensures once own) c.if-has_call.false (c.loop-kind.invariant once own)
 
 pub returns-then-has_call : goal.returns-then-has_call
 returns-then-has_call g c once own =
@@ -21,7 +21,7 @@ returns-then-has_call g c once own =
     let test : ℕ → Bool = λ r. has_call (view_field shown c.args.field.now) (slice_get (heads_in shown c.args.fields.now) r) in
     let n = c.loop-kind.kind-index in
     c.call_at.ensures ∙ (ap (λ m. number_or (λ v. v.call) m (slice_get vs (get_or c.args.kinds.now n 0))) (sym (length-map c.args.vertices.now view_vertex))
-    ∙ kind-taken (λ v. v.call) vs test c.args.kinds.now n c.loop-kind-test.true (sym (c.has_call.ensures once own) ∙ c.if-has_call.true) (c.loop-kind.invariant once own))
+    ∙ kind-taken (λ v. v.call) vs test c.args.kinds.now n c.has_call.result c.loop-kind-test.true (c.has_call.ensures once own) c.if-has_call.true (c.loop-kind.invariant once own))
 
 pub returns : goal.returns
 returns g c once own =

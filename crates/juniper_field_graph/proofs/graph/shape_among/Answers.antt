@@ -13,7 +13,7 @@ loop-kind-preserved g c =
     let shown = g.S.ScalarValue.shown in
     let vs = map view_vertex c.args.vertices.now in
     let test : ℕ → Bool = λ r. has_type (view_schema shown c.args.schema.now) (view_type c.args.declared_type.now) (slice_get (types_in shown c.args.fields.now) r) in
-    kind-passed (λ v. v.shape) vs test c.args.kinds.now c.loop-kind.kind-index c.loop-kind-test.true (sym c.has_type.ensures ∙ c.if-has_type.false) c.loop-kind.invariant
+    kind-passed (λ v. v.shape) vs test c.args.kinds.now c.loop-kind.kind-index c.has_type.result c.loop-kind-test.true c.has_type.ensures c.if-has_type.false c.loop-kind.invariant
 
 pub returns-then-has_type : goal.returns-then-has_type
 returns-then-has_type g c =
@@ -22,7 +22,7 @@ returns-then-has_type g c =
     let test : ℕ → Bool = λ r. has_type (view_schema shown c.args.schema.now) (view_type c.args.declared_type.now) (slice_get (types_in shown c.args.fields.now) r) in
     let n = c.loop-kind.kind-index in
     c.shape_at.ensures ∙ (ap (λ m. number_or (λ v. v.shape) m (slice_get vs (get_or c.args.kinds.now n 0))) (sym (length-map c.args.vertices.now view_vertex))
-    ∙ kind-taken (λ v. v.shape) vs test c.args.kinds.now n c.loop-kind-test.true (sym c.has_type.ensures ∙ c.if-has_type.true) c.loop-kind.invariant)
+    ∙ kind-taken (λ v. v.shape) vs test c.args.kinds.now n c.has_type.result c.loop-kind-test.true c.has_type.ensures c.if-has_type.true c.loop-kind.invariant)
 
 pub returns : goal.returns
 returns g c =
