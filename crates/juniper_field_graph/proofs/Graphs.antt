@@ -1,7 +1,7 @@
 -- An empty graph, and one with a vertex more.
 use Rattle.std.specs.Prelude.{ℕ, false, List, [], ◌∷◌, ◌++◌, ◌≡◌, Some, length, map}
 use Rattle.std.specs.List.{slice_get}
-use Rattle.std.proofs.lemmas.List.{map-append}
+use Rattle.std.proofs.lemmas.List.{length-map, map-append}
 use Rattle.std.proofs.Common.{refl, sym, ap, ◌∙◌, subst}
 use Rattle.graphql_spec.specs.Shown.{Shown, Name}
 use Rattle.graphql_spec.specs.Types.{TypeRef}
@@ -58,7 +58,7 @@ module _ {S : Type 0} (shown : S → Shown) (s : Schema) where
     pub shape : v.shape ≡ number_among (λ w. w.shape) (vertices_of shown old) (λ r. has_type s (view_type f.declared_type.now) (slice_get (types_in shown old.fields.items) r)) (group_in old.kinds v.key.now)
     pub call : v.call ≡ number_among (λ w. w.call) (vertices_of shown old) (λ r. has_call (view_field shown f.field.now) (slice_get (written_of shown old) r)) (group_in old.kinds v.key.now)
 
-  module _ (old new : FieldGraph S) (v : Vertex) (f : WrittenField S) (g : IsGraphOf shown s old) (made : IsMade old v f) (n : ℕ) (is : n ≡ length (vertices_of shown old))
+  module _ (old new : FieldGraph S) (v : Vertex) (f : WrittenField S) (g : IsGraphOf shown s old) (made : IsMade old v f) (n : ℕ) (count : n ≡ length old.vertices.items)
       (vertices : new.vertices.items ≡ old.vertices.items ++ v ∷ []) (fields : new.fields.items ≡ old.fields.items ++ f ∷ [])
       (added : IsAdded (IsOwn n (view_vertex v)) v.key.now n (group_in old.kinds) (group_in new.kinds)) (own-shape : v.shape ≡ n → In n (group_in new.kinds v.key.now)) (own-call : v.call ≡ n → In n (group_in new.kinds v.key.now)) where
     abbrev vs : List FieldAt
@@ -78,6 +78,9 @@ module _ {S : Type 0} (shown : S → Shown) (s : Schema) where
 
     abbrev h : Head
     h = view_field shown f.field.now
+
+    is : n ≡ length vs
+    is = count ∙ sym (length-map old.vertices.items view_vertex)
 
     vertices-are : vertices_of shown new ≡ vs ++ x ∷ []
     vertices-are = ap (map view_vertex) vertices ∙ map-append view_vertex old.vertices.items (v ∷ [])

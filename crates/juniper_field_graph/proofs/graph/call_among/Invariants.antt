@@ -1,7 +1,6 @@
 use Rattle.std.specs.List.{slice_get}
-use Rattle.std.proofs.Common.{ℕ, map, Some, ◌≡◌}
+use Rattle.std.proofs.Common.{ℕ, Some, ◌≡◌}
 use Rattle.graphql_spec.specs.Documents.{Head}
-use Rattle.juniper_merging.specs.MergingGraph.{view_vertex}
 use Rattle.juniper_written.specs.WrittenView.{view_field}
 use Rattle.juniper_field_graph.specs.KindsView.{IsOnce, has_call, heads_in}
 use Rattle.juniper_field_graph.proofs.Choosing.{IsLeft}
@@ -12,4 +11,4 @@ abbrev pub invariant-loop-kind : goal.invariant-loop-kind
 invariant-loop-kind g l =
     let shown = g.S.ScalarValue.shown in
     ((i : ℕ) (h : Head) → slice_get (heads_in shown l.fields) i ≡ Some h → IsOnce h) → IsOnce (view_field shown l.field) →
-    IsLeft (λ v. v.call) (map view_vertex l.vertices) (λ r. has_call (view_field shown l.field) (slice_get (heads_in shown l.fields) r)) l.kinds l.kind-index
+    IsLeft (λ r. has_call (view_field shown l.field) (slice_get (heads_in shown l.fields) r)) l.kinds l.kind-index

@@ -1,6 +1,5 @@
 use Rattle.std.specs.List.{slice_get}
-use Rattle.std.proofs.Common.{map}
-use Rattle.juniper_merging.specs.MergingGraph.{view_vertex}
+use Rattle.std.proofs.Common.{ℕ}
 use Rattle.juniper_meta.specs.MetaView.{view_type}
 use Rattle.juniper_schema.specs.SchemaView.{view_schema}
 use Rattle.juniper_field_graph.specs.KindsView.{has_type, types_in}
@@ -11,4 +10,4 @@ use Rattle.juniper_field_graph.proofs.graph.shape_among.Given as goal
 abbrev pub invariant-loop-kind : goal.invariant-loop-kind
 invariant-loop-kind g l =
     let shown = g.S.ScalarValue.shown in
-    IsLeft (λ v. v.shape) (map view_vertex l.vertices) (λ r. has_type (view_schema shown l.schema) (view_type l.declared_type) (slice_get (types_in shown l.fields) r)) l.kinds l.kind-index
+    IsLeft (λ r. has_type (view_schema shown l.schema) (view_type l.declared_type) (slice_get (types_in shown l.fields) r)) l.kinds l.kind-index

@@ -1,6 +1,5 @@
 use Rattle.std.specs.List.{slice_get}
 use Rattle.std.proofs.Common.{ℕ, List, Some, ◌≡◌, ◌⊎◌, ◌++◌, ◌∷◌, [], length, map, sym, ap, ◌∙◌, inl, inr, subst, arith}
-use Rattle.std.proofs.lemmas.List.{length-map}
 use Rattle.graphql_spec.specs.Laws.{In}
 use Rattle.graphql_spec.specs.Schema.{Schema}
 use Rattle.juniper_merging.specs.MergingGraph.{view_vertex}
@@ -34,12 +33,12 @@ returns g c graph typed once =
     let vs = map view_vertex old.vertices.items in
     let v : Vertex = record { key = c.response_key-key.result; parent = c.args.parent; on_object = c.names_object.result; shape = c.shape_among-shape.result; call = c.call_among-call.result; below = c.args.below } in
     let shape : v.shape ≡ number_among (λ w. w.shape) vs (λ r. has_type s t (slice_get (types_in shown old.fields.items) r)) (group_in old.kinds key) =
-    among-same (λ w. w.shape) (has_type s t) (map view_vertex c.deref.result.now) vs (types_in shown c.deref-2.result.now) (types_in shown old.fields.items) c.deref-3.result.now (group_in old.kinds key) c.shape_among-shape.result
-    (ap (map view_vertex) c.deref.ensures.value) (ap (types_in shown) c.deref-2.ensures.value) (c.deref-3.ensures.value ∙ c.take_kinds-kinds.ensures.numbers) c.shape_among-shape.ensures
+    among-same (λ w. w.shape) (has_type s t) (map view_vertex c.deref.result.now) vs (types_in shown c.deref-2.result.now) (types_in shown old.fields.items) c.deref-3.result.now ks (group_in old.kinds key) c.shape_among-shape.result
+    (ap (map view_vertex) c.deref.ensures.value) (ap (types_in shown) c.deref-2.ensures.value) c.deref-3.ensures.value c.take_kinds-kinds.ensures.numbers c.shape_among-shape.ensures
     in
     let call : v.call ≡ number_among (λ w. w.call) vs (λ r. has_call h (slice_get (heads_in shown old.fields.items) r)) (group_in old.kinds key) =
-    among-same (λ w. w.call) (has_call h) (map view_vertex c.deref-4.result.now) vs (heads_in shown c.deref-5.result.now) (heads_in shown old.fields.items) c.deref-6.result.now (group_in old.kinds key) c.call_among-call.result
-    (ap (map view_vertex) c.deref-4.ensures.value) (ap (heads_in shown) c.deref-5.ensures.value) (c.deref-6.ensures.value ∙ c.take_kinds-kinds.ensures.numbers)
+    among-same (λ w. w.call) (has_call h) (map view_vertex c.deref-4.result.now) vs (heads_in shown c.deref-5.result.now) (heads_in shown old.fields.items) c.deref-6.result.now ks (group_in old.kinds key) c.call_among-call.result
+    (ap (map view_vertex) c.deref-4.ensures.value) (ap (heads_in shown) c.deref-5.ensures.value) c.deref-6.ensures.value c.take_kinds-kinds.ensures.numbers
     (c.call_among-call.ensures (λ i f e. graph.kept.once i f (subst (λ fs. slice_get (heads_in shown fs) i ≡ Some f) c.deref-5.ensures.value e)) once)
     in
     let made : IsMade shown s old v (record { field = c.args.field; declared_type = c.args.declared_type }) = record {
@@ -58,6 +57,6 @@ returns g c graph typed once =
       | then-is_own+in_ok-push w ↦ put-last mid now key ks ls n c.in_ok-put_kinds.ensures (ap (λ z. z.items) w.kinds-is ∙ w.in_ok-push.ensures.items)
       | else-is_own w ↦ absurd (not-own (view_vertex v) n c.is_own.result c.is_own.ensures w.if-is_own.false o)
     ] in
-    pushed shown s old _ v (record { field = c.args.field; declared_type = c.args.declared_type }) graph made n (count ∙ sym (length-map old.vertices.items view_vertex))
+    pushed shown s old _ v (record { field = c.args.field; declared_type = c.args.declared_type }) graph made n count
     c.in_ok-push-2.ensures.items c.in_ok-push-3.ensures.items
     (put-back (group_in old.kinds) mid now key ks ls n c.take_kinds-kinds.ensures.numbers c.take_kinds-kinds.ensures.taken c.in_ok-put_kinds.ensures added) (λ e. own (inl e)) (λ e. own (inr e))
