@@ -40,7 +40,8 @@ module _ (test : ℕ → Bool) (ks : List ℕ) where
       passed rest = let t : test (get_or ks n 0) ≡ false = sym told ∙ no' in rw t refl
 
   module _ (number : FieldAt → ℕ) (vertices : List Vertex) where
-    pub kind-taken : (n : ℕ) (b : Bool) (m : ℕ) → n < length ks → b ≡ test (get_or ks n 0) → b ≡ true → m ≡ number_or number (length vertices) (slice_get (map view_vertex vertices) (get_or ks n 0)) → IsLeft n →
+    pub kind-taken : (n : ℕ) (b : Bool) (m : ℕ) → n < length ks → b ≡ test (get_or ks n 0) → b ≡ true →
+        m ≡ number_or number (length vertices) (slice_get (map view_vertex vertices) (get_or ks n 0)) → IsLeft n →
         m ≡ number_among number (map view_vertex vertices) test ks
     unfolding number_among first_alike
     kind-taken n b m l told yes' is i =

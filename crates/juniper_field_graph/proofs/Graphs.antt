@@ -55,12 +55,14 @@ module _ {S : Type 0} (shown : S → Shown) (s : Schema) where
     pub once : IsOnce (view_field shown f.field.now)
     pub key : v.key.now ≡ response_key (view_field shown f.field.now)
     pub on_object : v.on_object ≡ is_object (type_named s v.parent.now)
-    pub shape : v.shape ≡ number_among (λ w. w.shape) (vertices_of shown old) (λ r. has_type s (view_type f.declared_type.now) (slice_get (types_in shown old.fields.items) r)) (group_in old.kinds v.key.now)
+    pub shape : v.shape ≡ number_among (λ w. w.shape) (vertices_of shown old) (λ r. has_type s (view_type f.declared_type.now) (slice_get (types_in shown old.fields.items) r))
+        (group_in old.kinds v.key.now)
     pub call : v.call ≡ number_among (λ w. w.call) (vertices_of shown old) (λ r. has_call (view_field shown f.field.now) (slice_get (written_of shown old) r)) (group_in old.kinds v.key.now)
 
   module _ (old new : FieldGraph S) (v : Vertex) (f : WrittenField S) (g : IsGraphOf shown s old) (made : IsMade old v f) (n : ℕ) (count : n ≡ length old.vertices.items)
       (vertices : new.vertices.items ≡ old.vertices.items ++ v ∷ []) (fields : new.fields.items ≡ old.fields.items ++ f ∷ [])
-      (added : IsAdded (IsOwn n (view_vertex v)) v.key.now n (group_in old.kinds) (group_in new.kinds)) (own-shape : v.shape ≡ n → In n (group_in new.kinds v.key.now)) (own-call : v.call ≡ n → In n (group_in new.kinds v.key.now)) where
+      (added : IsAdded (IsOwn n (view_vertex v)) v.key.now n (group_in old.kinds) (group_in new.kinds))
+      (own-shape : v.shape ≡ n → In n (group_in new.kinds v.key.now)) (own-call : v.call ≡ n → In n (group_in new.kinds v.key.now)) where
     abbrev vs : List FieldAt
     vs = vertices_of shown old
 

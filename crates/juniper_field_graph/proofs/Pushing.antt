@@ -31,7 +31,8 @@ pub record IsAdded (C : Type 0) (key : Name) (n : ℕ) (old new : Name → List 
   pub grown : (k : Name) (r : ℕ) → In r (old k) → In r (new k)
   pub only : (k : Name) (r : ℕ) → In r (new k) → In r (old k) ⊎ ((k ≡ key) × (r ≡ n) × C)
 
-pub put-back : {C : Type 0} (old mid new : Name → List ℕ) (key : Name) (ks ls : List ℕ) (n : ℕ) → ks ≡ old key → ((k : Name) → mid k ≡ cond (bytes_eq key k) [] (old k)) → ((k : Name) → new k ≡ cond (bytes_eq key k) ls (mid k)) →
+pub put-back : {C : Type 0} (old mid new : Name → List ℕ) (key : Name) (ks ls : List ℕ) (n : ℕ) → ks ≡ old key →
+    ((k : Name) → mid k ≡ cond (bytes_eq key k) [] (old k)) → ((k : Name) → new k ≡ cond (bytes_eq key k) ls (mid k)) →
     ((ls ≡ ks ++ n ∷ []) × C) ⊎ (ls ≡ ks) → IsAdded C key n old new
 put-back {C} old mid new key ks ls n is taken put added = record {
   grown = λ k r i. elim (cases_Bool (bytes_eq key k)) [
@@ -73,8 +74,12 @@ is-own x n b told yes' = elim (cases_Bool (nat_eq x.shape n)) [
 ]
 
 pub not-own : (x : FieldAt) (n : ℕ) (b : Bool) → b ≡ (nat_eq x.shape n || nat_eq x.call n) → b ≡ false → IsOwn n x → ⊥
-not-own x n b told no' (inl e) = let f : (nat_eq n n || nat_eq x.call n) ≡ false = subst (λ m. (nat_eq m n || nat_eq x.call n) ≡ false) e (sym told ∙ no') in both_ways true (rw (number-itself n) at f) refl
-not-own x n b told no' (inr e) = let f : (nat_eq x.shape n || nat_eq n n) ≡ false = subst (λ m. (nat_eq x.shape n || nat_eq m n) ≡ false) e (sym told ∙ no') in both_ways (nat_eq n n) (or_parts (nat_eq x.shape n) (nat_eq n n) f).1 (number-itself n)
+not-own x n b told no' (inl e) =
+    let f : (nat_eq n n || nat_eq x.call n) ≡ false = subst (λ m. (nat_eq m n || nat_eq x.call n) ≡ false) e (sym told ∙ no') in
+    both_ways true (rw (number-itself n) at f) refl
+not-own x n b told no' (inr e) =
+    let f : (nat_eq x.shape n || nat_eq n n) ≡ false = subst (λ m. (nat_eq x.shape n || nat_eq m n) ≡ false) e (sym told ∙ no') in
+    both_ways (nat_eq n n) (or_parts (nat_eq x.shape n) (nat_eq n n) f).1 (number-itself n)
 
 -- ## Lists of one length
 
@@ -130,8 +135,8 @@ module _ (s : Schema) (vs : List FieldAt) (ts : List TypeRef) (hs : List Head) (
         ∙ ap (types_agree s (type_of (head_in hs) i v)) (typed ∙ ap (λ (g : Head). declared_type (field_of s x.parent g.name.item)) (sym head-last)));
     calls = tells-more alike.same_call calls-itself calls-turned calls-across (λ v. v.call) vs x (call_of (head_in hs)) (call_of now)
         (λ i v e. ap (λ (g : Head). (g.name.item, written_meaning (written g.arguments))) (head-kept i v e)) numbered.calls
-        (λ i v e k. tells-chosen alike.same_call calls-itself calls-turned calls-across (λ v. v.call) vs (call_of (head_in hs)) (λ r. has_call h (slice_get hs r)) (kinds x.key) x.key (h.name.item, written_meaning (written h.arguments))
-        numbered.calls (kept.keyed x.key) call-told x.call call i v e k (kept.below i v e).1 (subst (λ z. HasKind (λ v. v.call) vs (kinds z) v) k (kept.calls i v e))
+        (λ i v e k. tells-chosen alike.same_call calls-itself calls-turned calls-across (λ v. v.call) vs (call_of (head_in hs)) (λ r. has_call h (slice_get hs r)) (kinds x.key) x.key
+        (h.name.item, written_meaning (written h.arguments)) numbered.calls (kept.keyed x.key) call-told x.call call i v e k (kept.below i v e).1 (subst (λ z. HasKind (λ v. v.call) vs (kinds z) v) k (kept.calls i v e))
         ∙ ap (λ (g : Head). alike.same_call (call_of (head_in hs) i v) (g.name.item, written_meaning (written g.arguments))) (sym head-last));
   }
 
@@ -177,11 +182,15 @@ module _ (s : Schema) (vs : List FieldAt) (ts : List TypeRef) (hs : List Head) (
     ];
     own = λ k r i v e. elim (added.only k r i) [
       | inl j ↦ (let (w, there, is) = kept.keyed k r j in kept.own k r j v (there ∙ (sym (stays vs x r w there) ∙ e)))
-      | inr (p, q, o) ↦ (let f : Some x ≡ Some v = sym last-there ∙ subst (λ m. slice_get (vs ++ x ∷ []) m ≡ Some v) q e in let g : x ≡ v = cc in subst (λ m. IsOwn m v) (sym q) (subst (IsOwn (length vs)) g o))
+      | inr (p, q, o) ↦ (let f : Some x ≡ Some v = sym last-there ∙ subst (λ m. slice_get (vs ++ x ∷ []) m ≡ Some v) q e in let g : x ≡ v = cc in
+          subst (λ m. IsOwn m v) (sym q) (subst (IsOwn (length vs)) g o))
     ];
     shapes = has-kind (λ v. v.shape) (λ r. has_type s t (slice_get ts r)) shape own-shape kept.shapes;
     calls = has-kind (λ v. v.call) (λ r. has_call h (slice_get hs r)) call own-call kept.calls;
-    below = λ i v e. (stays-below (λ v. v.shape) (λ r. has_type s t (slice_get ts r)) shape (λ j w f. (kept.below j w f).0) i v e, stays-below (λ v. v.call) (λ r. has_call h (slice_get hs r)) call (λ j w f. (kept.below j w f).1) i v e);
+    below = λ i v e. (
+      stays-below (λ v. v.shape) (λ r. has_type s t (slice_get ts r)) shape (λ j w f. (kept.below j w f).0) i v e,
+      stays-below (λ v. v.call) (λ r. has_call h (slice_get hs r)) call (λ j w f. (kept.below j w f).1) i v e,
+    );
   }
 
   pub has-grown : Grows vs (vs ++ x ∷ []) (head_in hs) now

@@ -163,7 +163,8 @@ fn shape_among<S: ScalarValue>(
     kinds: &[usize],
     declared_type: &Type<String>,
 ) -> usize
-    ensures { result ≡ number_among (λ v. v.shape) (map view_vertex vertices.now) (λ r. kinds_view.has_type (view_schema S.shown schema.now) (view_type declared_type.now) (slice_get (types_in S.shown fields.now) r)) kinds.now }
+    ensures { result ≡ number_among (λ v. v.shape) (map view_vertex vertices.now)
+        (λ r. kinds_view.has_type (view_schema S.shown schema.now) (view_type declared_type.now) (slice_get (types_in S.shown fields.now) r)) kinds.now }
 {
     for kind in kinds {
         if has_type(schema, fields, *kind, declared_type) {

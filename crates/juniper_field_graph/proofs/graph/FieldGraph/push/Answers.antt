@@ -31,14 +31,21 @@ returns g c graph typed once =
     let mid = group_in c.take_kinds-kinds.new.kinds in
     let now = group_in c.put_kinds.new.kinds in
     let vs = map view_vertex old.vertices.items in
-    let v : Vertex = record { key = c.response_key-key.result; parent = c.args.parent; on_object = c.names_object.result; shape = c.shape_among-shape.result; call = c.call_among-call.result; below = c.args.below } in
+    let v : Vertex = record {
+      key = c.response_key-key.result;
+      parent = c.args.parent;
+      on_object = c.names_object.result;
+      shape = c.shape_among-shape.result;
+      call = c.call_among-call.result;
+      below = c.args.below;
+    } in
     let shape : v.shape ≡ number_among (λ w. w.shape) vs (λ r. has_type s t (slice_get (types_in shown old.fields.items) r)) (group_in old.kinds key) =
-    among-same (λ w. w.shape) (has_type s t) (map view_vertex c.deref.result.now) vs (types_in shown c.deref-2.result.now) (types_in shown old.fields.items) c.deref-3.result.now ks (group_in old.kinds key) c.shape_among-shape.result
-    (ap (map view_vertex) c.deref.ensures.value) (ap (types_in shown) c.deref-2.ensures.value) c.deref-3.ensures.value c.take_kinds-kinds.ensures.numbers c.shape_among-shape.ensures
+    among-same (λ w. w.shape) (has_type s t) (map view_vertex c.deref.result.now) vs (types_in shown c.deref-2.result.now) (types_in shown old.fields.items) c.deref-3.result.now ks
+    (group_in old.kinds key) c.shape_among-shape.result (ap (map view_vertex) c.deref.ensures.value) (ap (types_in shown) c.deref-2.ensures.value) c.deref-3.ensures.value c.take_kinds-kinds.ensures.numbers c.shape_among-shape.ensures
     in
     let call : v.call ≡ number_among (λ w. w.call) vs (λ r. has_call h (slice_get (heads_in shown old.fields.items) r)) (group_in old.kinds key) =
-    among-same (λ w. w.call) (has_call h) (map view_vertex c.deref-4.result.now) vs (heads_in shown c.deref-5.result.now) (heads_in shown old.fields.items) c.deref-6.result.now ks (group_in old.kinds key) c.call_among-call.result
-    (ap (map view_vertex) c.deref-4.ensures.value) (ap (heads_in shown) c.deref-5.ensures.value) c.deref-6.ensures.value c.take_kinds-kinds.ensures.numbers
+    among-same (λ w. w.call) (has_call h) (map view_vertex c.deref-4.result.now) vs (heads_in shown c.deref-5.result.now) (heads_in shown old.fields.items) c.deref-6.result.now ks
+    (group_in old.kinds key) c.call_among-call.result (ap (map view_vertex) c.deref-4.ensures.value) (ap (heads_in shown) c.deref-5.ensures.value) c.deref-6.ensures.value c.take_kinds-kinds.ensures.numbers
     (c.call_among-call.ensures (λ i f e. graph.kept.once i f (subst (λ fs. slice_get (heads_in shown fs) i ≡ Some f) c.deref-5.ensures.value e)) once)
     in
     let made : IsMade shown s old v (record { field = c.args.field; declared_type = c.args.declared_type }) = record {
