@@ -46,9 +46,13 @@ module _ (s : Schema) where
   abbrev leaf : Name → Bool
   leaf a = is_leaf (type_named s a)
 
+  -- neither is a leaf's, or they are the same
+  abbrev names_agree : Name → Name → Bool
+  names_agree a b = not (leaf a || leaf b) || bytes_eq a b
+
   pub types-same : (t : TypeRef) → types_agree s t t ≡ true
   unfolding types_agree
-  types-same (named r a) = and_from (same_bool r r) (not (leaf a || leaf a) || bytes_eq a a) (both-itself r) (rw (same_refl a) (or-last (not (leaf a || leaf a))))
+  types-same (named r a) = and_from (same_bool r r) (names_agree a a) (both-itself r) (rw (same_refl a) (or-last (not (leaf a || leaf a))))
   types-same (list_of r size t) = and_from (same_bool r r) (types_agree s t t) (both-itself r) (types-same t)
 
   pub types-turned : (t u : TypeRef) → types_agree s t u ≡ types_agree s u t
@@ -58,13 +62,13 @@ module _ (s : Schema) where
   types-turned (named r a) (list_of q size u) = refl
   types-turned (list_of r size t) (named q b) = refl
 
-  leaves-across : (a b c : Name) → (not (leaf a || leaf b) || bytes_eq a b) ≡ true → (not (leaf a || leaf c) || bytes_eq a c) ≡ (not (leaf b || leaf c) || bytes_eq b c)
-  leaves-across a b c e = elim (cases_Bool (bytes_eq a b)) [
-    | inl f ↦ ap (λ z. not (leaf z || leaf c) || bytes_eq z c) (same_true a b f)
+  names-across : (a b c : Name) → names_agree a b ≡ true → names_agree a c ≡ names_agree b c
+  names-across a b c e = elim (cases_Bool (bytes_eq a b)) [
+    | inl f ↦ ap (λ z. names_agree z c) (same_true a b f)
     | inr f ↦ apart (leaf a) refl (leaf b) refl f e
   ]
     where
-      apart : (x : Bool) → leaf a ≡ x → (y : Bool) → leaf b ≡ y → bytes_eq a b ≡ false → (not (leaf a || leaf b) || bytes_eq a b) ≡ true → (not (leaf a || leaf c) || bytes_eq a c) ≡ (not (leaf b || leaf c) || bytes_eq b c)
+      apart : (x : Bool) → leaf a ≡ x → (y : Bool) → leaf b ≡ y → bytes_eq a b ≡ false → names_agree a b ≡ true → names_agree a c ≡ names_agree b c
       apart true p y q f g = absurd (both_ways (bytes_eq a b) f (rw p at g))
       apart false p true q f g = absurd (both_ways (bytes_eq a b) f (rw (p, q) at g))
       apart false p false q f g = rw (p, q) (ends (leaf c) refl)
@@ -82,8 +86,8 @@ module _ (s : Schema) where
   pub types-across : (t u w : TypeRef) → types_agree s t u ≡ true → types_agree s u w ≡ types_agree s t w
   unfolding types_agree
   types-across (named r a) (named q b) (named p c) e =
-      let f = and_parts (same_bool r q) (not (leaf a || leaf b) || bytes_eq a b) e in
-      ap₂ (λ x y. same_bool x p && y) (sym (both-same r q f.0)) (sym (leaves-across a b c f.1))
+      let f = and_parts (same_bool r q) (names_agree a b) e in
+      ap₂ (λ x y. same_bool x p && y) (sym (both-same r q f.0)) (sym (names-across a b c f.1))
   types-across (list_of r size t) (list_of q size' u) (list_of p size'' w) e =
       let f = and_parts (same_bool r q) (types_agree s t u) e in
       ap₂ (λ x y. same_bool x p && y) (sym (both-same r q f.0)) (types-across t u w f.1)

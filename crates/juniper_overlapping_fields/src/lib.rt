@@ -1,5 +1,5 @@
-//! Fields that overlap: whether their types agree, and whether they have one name and the same arguments (section 5.3.2 of
-//! the Specification).
+//! Fields that overlap: whether their types agree, and whether they have one name and the same arguments (section 5.3.2
+//! of the Specification).
 #![tactic(auto)]
 
 mod agreeing_types;

@@ -11,7 +11,7 @@ use std::convert::AsStr;
 /// A value and its name, each with its place.
 pub(crate) type Named<N, S> = (Spanning<N, Span>, Spanning<InputValue<S>, Span>);
 
-/// The value of the first of this name.
+/// The first value of this name, where there is one.
 pub(crate) fn value_at<'b, N: AsStr, S: ScalarValue>(
     values: &'b [Named<N, S>],
     name: &str,

@@ -16,8 +16,9 @@ use crate::same_values::is_matched;
 use juniper_syntax::ast::Arguments;
 use juniper_syntax::{Field, ScalarValue, Span, Spanning};
 
-/// Whether two fields have one name, and the same arguments up to places, the order of arguments and that of object fields
-/// (FieldsInSetCanMerge, section 5.3.2). An argument or object field that is written twice is said nothing of.
+/// Whether two fields have one name, and the same arguments up to places, the order of arguments and that of object
+/// fields (FieldsInSetCanMerge, section 5.3.2). Nothing is said of a field that writes an argument or object field
+/// twice.
 pub fn same_call<S: ScalarValue>(
     first: &Spanning<Field<'_, S>, Span>,
     second: &Spanning<Field<'_, S>, Span>,

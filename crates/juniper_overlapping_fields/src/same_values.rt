@@ -10,7 +10,8 @@ ghost use Rattle.juniper_overlapping_fields.specs.SameValues.{passes};
 use crate::named_values::{Named, all_named, value_at};
 use juniper_syntax::{InputValue, ScalarValue, Span, Spanning};
 
-/// Whether two values are the same up to places and the order of object fields, where no object has two fields of one name.
+/// Whether two values are the same up to places and the order of object fields, where no object has two fields of one
+/// name (2.9).
 #[cycle(same)]
 #[tactic(auto, using(juniper_syntax::proofs::Inputs::input_views), unfolding(crate::specs::SameValues::same_value))]
 pub(crate) fn same_value<S: ScalarValue>(first: &InputValue<S>, second: &InputValue<S>) -> bool
@@ -102,7 +103,10 @@ fn same_fields<S: ScalarValue>(fields: &[Named<String, S>], others: &[Named<Stri
 
 /// Whether there is a second value, and it is the same.
 #[cycle(same)]
-pub(crate) fn is_matched<S: ScalarValue>(first: &InputValue<S>, second: Option<&InputValue<S>>) -> bool
+pub(crate) fn is_matched<S: ScalarValue>(
+    first: &InputValue<S>,
+    second: Option<&InputValue<S>>,
+) -> bool
     ensures { result ≡ passes (λ w. same.same_value (view_input S.shown first.now) w) (option_map (λ v. view_input S.shown v.now) second.entry) }
 {
     match second {

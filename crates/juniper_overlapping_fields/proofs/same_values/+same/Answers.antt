@@ -1,4 +1,4 @@
-use Rattle.std.proofs.Common.{◌≡◌, ◌&&◌, ◌<◌, ◌≤◌, length, Bool, option_map, string_bytes, true, false, sym, ap, refl, ◌∙◌, arith}
+use Rattle.std.proofs.Common.{◌≤◌, length, option_map, string_bytes, sym, ap, refl, ◌∙◌, arith}
 use Rattle.graphql_spec.specs.Inputs as inputs
 use Rattle.juniper_syntax.specs.InputView.{view_fields, view_input}
 use Rattle.juniper_syntax.proofs.Inputs.{view-Object}
