@@ -1,16 +1,16 @@
 -- An empty graph, and one with a vertex more.
-use Rattle.std.specs.Prelude.{ℕ, false, List, [], ◌∷◌, ◌++◌, ◌≡◌, Some, length, map}
+use Rattle.std.specs.Prelude.{ℕ, List, [], ◌∷◌, ◌++◌, ◌≡◌, Some, length, map}
 use Rattle.std.specs.List.{slice_get}
 use Rattle.std.proofs.lemmas.List.{length-map, map-append}
 use Rattle.std.proofs.Common.{refl, sym, ap, ◌∙◌, subst}
-use Rattle.graphql_spec.specs.Shown.{Shown, Name}
+use Rattle.graphql_spec.specs.Shown.{Shown}
 use Rattle.graphql_spec.specs.Types.{TypeRef}
 use Rattle.graphql_spec.specs.Documents.{Head, response_key}
 use Rattle.graphql_spec.specs.Schema.{Schema}
 use Rattle.graphql_spec.specs.Fields.{declared_type, field_of, is_object, type_named}
 use Rattle.graphql_spec.specs.Laws.{In}
 use Rattle.juniper_merging.specs.MergingGraph.{FieldAt, view_vertex}
-use Rattle.juniper_merging.specs.Standing.{AreNumbered, Grows, IsAt}
+use Rattle.juniper_merging.specs.Standing.{AreNumbered, Grows}
 use Rattle.juniper_merging.specs.SearchView.{group_in}
 use Rattle.juniper_merging.specs.declared.graph.Vertex.{Vertex}
 use Rattle.juniper_merging.proofs.Grouping.{empty-groups}
@@ -21,7 +21,7 @@ use Rattle.juniper_field_graph.specs.KindsView.{AreKept, IsOnce, IsOwn, has_call
 use Rattle.juniper_field_graph.specs.declared.graph.FieldGraph.{FieldGraph}
 use Rattle.juniper_field_graph.specs.declared.graph.WrittenField.{WrittenField}
 use Rattle.juniper_field_graph.proofs.Numbering.{last-is}
-use Rattle.juniper_field_graph.proofs.Pushing.{IsAdded, has-grown, head-last, head_in, still-kept, still-numbered}
+use Rattle.juniper_field_graph.proofs.Pushing.{IsAdded, has-grown, head_in, still-kept, still-numbered}
 
 none-at : {A B : Type 0} (xs : List A) → xs ≡ [] → (i : ℕ) (x : A) → slice_get xs i ≡ Some x → B
 none-at xs none i x e = let f : slice_get [] i ≡ Some x = subst (λ ys. slice_get ys i ≡ Some x) none e in cc

@@ -9,7 +9,6 @@ use Rattle.graphql_spec.specs.Overlap.{Field}
 use Rattle.juniper_merging.specs.MergingGraph.{FieldAt, view_vertex}
 use Rattle.juniper_merging.specs.Standing.{AreNumbered, Grows, IsAt}
 use Rattle.juniper_merging.specs.SearchView.{group_in}
-use Rattle.juniper_written.specs.WrittenView.{view_field}
 use Rattle.juniper_field_graph.specs.KindsView.{AreKept, heads_in, types_in}
 use Rattle.juniper_field_graph.specs.declared.graph.FieldGraph.{FieldGraph}
 

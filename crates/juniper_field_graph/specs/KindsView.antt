@@ -1,5 +1,5 @@
 -- How a new vertex gets its numbers, and what a graph keeps for this.
-use Rattle.std.specs.Prelude.{ℕ, Bool, false, ◌&&◌, cond, List, [], ◌∷◌, ◌++◌, Option, Some, None, map, length, ◌≡◌, ◌⊎◌, ◌<◌}
+use Rattle.std.specs.Prelude.{ℕ, Bool, false, ◌&&◌, List, Option, Some, None, map, length, ◌≡◌, ◌⊎◌, ◌<◌}
 use Rattle.std.specs.List.{slice_get, find}
 use Rattle.std.specs.Str.{bytes_eq}
 use Rattle.graphql_spec.specs.Shown.{Shown, Name}

@@ -1,5 +1,4 @@
 use Rattle.std.specs.List.{slice_get}
-use Rattle.std.proofs.Common.{ℕ}
 use Rattle.juniper_meta.specs.MetaView.{view_type}
 use Rattle.juniper_schema.specs.SchemaView.{view_schema}
 use Rattle.juniper_field_graph.specs.KindsView.{has_type, types_in}

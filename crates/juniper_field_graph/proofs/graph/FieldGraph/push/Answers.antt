@@ -1,5 +1,5 @@
 use Rattle.std.specs.List.{slice_get}
-use Rattle.std.proofs.Common.{ℕ, List, Some, ◌≡◌, ◌⊎◌, ◌++◌, ◌∷◌, [], length, map, sym, ap, ◌∙◌, inl, inr, subst, arith}
+use Rattle.std.proofs.Common.{ℕ, List, Some, ◌≡◌, ◌⊎◌, ◌++◌, ◌∷◌, [], length, map, ap, ◌∙◌, inl, inr, subst, arith}
 use Rattle.graphql_spec.specs.Laws.{In}
 use Rattle.graphql_spec.specs.Schema.{Schema}
 use Rattle.juniper_merging.specs.MergingGraph.{view_vertex}
