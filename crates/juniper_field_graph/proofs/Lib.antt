@@ -8,3 +8,7 @@ mod Taken
 mod Judging
 mod JudgingSteps
 mod WrittenOnce
+mod Choosing
+mod Numbering
+mod Pushing
+mod Graphs

@@ -8,7 +8,8 @@ use Rattle.graphql_spec.specs.Schema.{Schema}
 use Rattle.graphql_spec.specs.Overlap.{Field}
 use Rattle.juniper_merging.specs.MergingGraph.{FieldAt, view_vertex}
 use Rattle.juniper_merging.specs.Standing.{AreNumbered, Grows, IsAt}
-use Rattle.juniper_written.specs.WrittenView.{view_field}
+use Rattle.juniper_merging.specs.SearchView.{group_in}
+use Rattle.juniper_field_graph.specs.KindsView.{AreKept, heads_in, types_in}
 use Rattle.juniper_field_graph.specs.declared.graph.FieldGraph.{FieldGraph}
 
 -- a place, and a field of no name there; each number of a graph has a field
@@ -29,7 +30,7 @@ module _ {S : Type 0} (shown : S → Shown) where
 
   -- the fields that they stand for
   abbrev pub written_of : FieldGraph S → List Head
-  written_of g = map (λ f. view_field shown f.field.now) g.fields.items
+  written_of g = heads_in shown g.fields.items
 
   abbrev pub heads_of : FieldGraph S → ℕ → Head
   heads_of g i = head_or_none (slice_get (written_of g) i)
@@ -37,6 +38,7 @@ module _ {S : Type 0} (shown : S → Shown) where
   -- equal numbers say that types agree, and that names and arguments are the same
   pub record IsGraphOf (s : Schema) (g : FieldGraph S) : Type 0 where
     pub numbered : AreNumbered s (vertices_of g) (heads_of g)
+    pub kept : AreKept s (vertices_of g) (types_in shown g.fields.items) (written_of g) (heads_of g) (group_in g.kinds)
 
   -- a field on the type p, which selects the fields of these numbers, now stands at i
   pub record IsPushed (s : Schema) (old new : FieldGraph S) (p : Name) (h : Head) (below : List ℕ) (i : ℕ) : Type 0 where

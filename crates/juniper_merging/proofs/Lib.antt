@@ -1,6 +1,6 @@
 pub mod Searching
 mod Taking
-mod Grouping
+pub mod Grouping
 mod Looking
 mod Passing
 mod Depths

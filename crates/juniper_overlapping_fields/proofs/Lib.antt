@@ -1,2 +1,6 @@
+pub mod Alike
 mod MemberMaps
+mod NamedValues
+mod SameArguments
+mod SameItems
 pub mod SameMeanings

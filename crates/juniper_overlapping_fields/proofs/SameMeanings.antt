@@ -192,3 +192,7 @@ mutual
       let r = or_parts (has_field k rest) (field_repeats v || fields_repeat rest) n in
       let t = or_parts (field_repeats v) (fields_repeat rest) r.1 in
       ((λ w f. value-told v w t.0 (found-once k gs w m f)), each-told rest gs t.1 m)
+
+-- the fields of two objects
+pub object-told : (fs gs : InputFields) → fields_repeat fs ≡ false → fields_repeat gs ≡ false → (same_fields fs gs && all_keyed gs fs) ≡ same_members (members fs) (members gs)
+object-told fs gs n m = fields-told fs gs n m (each-told fs gs n m)

@@ -1,1 +1,2 @@
+pub mod NamedValues
 pub mod SameValues
