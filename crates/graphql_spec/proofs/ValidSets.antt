@@ -63,7 +63,7 @@ no-list-repeats (l ∷ ls) n v =
     or_from (arguments_repeat l) (list_any arguments_repeat ls) (none-repeats l p.0 q.0) (no-list-repeats ls p.1 q.1)
 
 -- no field of the definition has an argument, or an object in one a field, twice
-no-head-repeats : (x : Definition) → repeats_argument x ≡ false → repeats_input_field x ≡ false → list_any (λ h. arguments_repeat (written h.arguments)) (heads (selections_of x)) ≡ false
+pub no-head-repeats : (x : Definition) → repeats_argument x ≡ false → repeats_input_field x ≡ false → list_any (λ h. arguments_repeat (written h.arguments)) (heads (selections_of x)) ≡ false
 unfolding repeats_argument repeats_input_field values_in argument_lists
 no-head-repeats x n v =
     let fields' = map (λ h. written h.arguments) (heads (selections_of x)) in

@@ -27,7 +27,7 @@ alike-kept S xs all kept a k = record {
 }
 
 module _ (s : Schema) (vs ws : List FieldAt) (heads more : ℕ → Head) (g : Grows vs ws heads more) where
-  at-more : (x : Field) (i : ℕ) (v : FieldAt) → IsAt s vs heads x i v → IsAt s ws more x i v
+  pub at-more : (x : Field) (i : ℕ) (v : FieldAt) → IsAt s vs heads x i v → IsAt s ws more x i v
   at-more x i v a = record {
     there = g.kept i v a.there;
     head = sym (g.words i v a.there) ∙ a.head;

@@ -1,13 +1,13 @@
 pub mod Searching
 mod Taking
-mod Grouping
+pub mod Grouping
 mod Looking
 mod Passing
 mod Depths
 pub mod Places
 mod Telling
 mod Settling
-mod Whole
+pub mod Whole
 pub mod Keeping
 pub mod Growing
 pub mod Covering

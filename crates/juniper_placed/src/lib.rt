@@ -8,4 +8,4 @@ mod placed;
 
 pub use call::Call;
 pub use call_list::calls;
-pub use placed::{Placed, PlacedParts, placed_in};
+pub use placed::{Placed, PlacedParts, placed_in, root_name};

@@ -117,7 +117,7 @@ fn nothing_placed<'d, 'a, S: ScalarValue>(alloc: Global) -> PlacedParts<'d, 'a, 
 
 /// The name of the type that an operation's selections stand on (3.3.1).
 #[tactic(auto, unfolding(graphql_spec::specs::Placed::root_type))]
-fn root_name<'d, S: ScalarValue>(
+pub fn root_name<'d, S: ScalarValue>(
     schema: &'d SchemaType<S>,
     operation_type: OperationType,
 ) -> Option<&'d str>

@@ -2,6 +2,8 @@
 #![tactic(auto)]
 
 #[cfg(test)]
+mod graph;
+#[cfg(test)]
 mod listed;
 #[cfg(test)]
 mod names;

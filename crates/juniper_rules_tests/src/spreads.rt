@@ -6,16 +6,18 @@ use juniper_written::written_in;
 use std::alloc::{AllocError, Global};
 use std::test::Fail;
 
-/// A text; and of each definition `u` where it spreads what is unknown, `i` where it spreads itself, `f` where it is the
-/// first fragment of its name, and how many names its spreads lead to.
+/// A text; of each definition `u` where it spreads what is unknown, `i` where it spreads itself, `f` where it is the
+/// first fragment of its name, and how many names its spreads lead to; and the fragments in an order in which each stands
+/// behind those that it spreads.
 const ROWS: &str = "\
 { a } => 0;
 { ...X } => u1;
-{ a { ...A ... on T { b { ...A } } } } fragment A on T { c } => 1;f0;
+{ a { ...A ... on T { b { ...A } } } } fragment A on T { c } => 1;f0; A
 { ...A } fragment A on T { a { ...A } } => 1;if1;
-fragment A on T { ...E ...B } fragment B on T { ...A } fragment C on T { ...A ...C } fragment D on T { ...A ...X } fragment E on T { a } => if3;if3;if4;uf4;f0;
-fragment A on T { ...B ...C } fragment B on T { ...C } fragment C on T { ...D ...D } fragment D on T { a } fragment C on T { ...B } => f3;f2;f1;f0;i3;
-query A { ...A } fragment A on T { ...B } fragment A on T { a } => 2;uf1;0;
+fragment A on T { ...E ...B } fragment B on T { ...A } fragment C on T { ...A ...C } fragment D on T { ...A ...X } fragment E on T { a } => if3;if3;if4;uf4;f0; E
+fragment A on T { ...B ...C } fragment B on T { ...C } fragment C on T { ...D ...D } fragment D on T { a } fragment C on T { ...B } => f3;f2;f1;f0;i3; D C B A
+fragment D on T { ...X } fragment C on T { ...D } fragment B on T { a { ...C } ...D } fragment A on T { ...B ...C } => uf1;f2;f3;f4; D C B A
+query A { ...A } fragment A on T { ...B } fragment A on T { a } => 2;uf1;0; A
 query Q { a } fragment F on T { ...G } fragment G on T { ...F } => 0;if2;if2;";
 
 /// The first row of whose text something else is found.
@@ -50,6 +52,10 @@ fn found_in(
     let mut line = String::new(alloc);
     for definition in document {
         find(alloc, &known, definition, &mut line)?;
+    }
+    for fragment in known.in_order(alloc)? {
+        let name = fragment.item.name.item;
+        write!(line, " {name}")?;
     }
     Ok(line)
 }

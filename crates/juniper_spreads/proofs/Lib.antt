@@ -6,3 +6,5 @@ mod Orders
 mod Looking
 mod ByName
 mod Ruling
+pub mod Taking
+mod Rounds

@@ -10,7 +10,7 @@ use Rattle.graphql_spec.specs.Fragments.{fragment_of, reaches}
 use Rattle.juniper_spreads.specs.SpreadsView.{NoneReachesItself}
 use Rattle.juniper_spreads.proofs.Names.{has, same, true_false, either, name_where, next, spreads_known}
 
-all_at : (f : Name → Bool) (ks : List Name) → list_all f ks ≡ true → (k : Name) → has ks k ≡ true → f k ≡ true
+pub all_at : (f : Name → Bool) (ks : List Name) → list_all f ks ≡ true → (k : Name) → has ks k ≡ true → f k ≡ true
 all_at f [] a k e = true_false false e refl
 all_at f (j ∷ ks) a k e = let p = and_parts (f j) (list_all f ks) a in either k j ks e (λ q. subst (λ z. f z ≡ true) (sym q) p.0) (λ q. all_at f ks p.1 k q)
 

@@ -1,1 +1,2 @@
 pub mod SpreadsView
+pub mod Order

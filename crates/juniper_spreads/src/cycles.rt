@@ -32,7 +32,10 @@ pub fn has_no_cycle<'a>(alloc: Global, spreads: &SpreadsByName<'a>) -> Result<bo
 
 /// The fragments in the order in which a walk through their spreads leaves them. Nothing rests on this order: it is
 /// tested.
-fn walk_order<'a>(alloc: Global, spreads: &SpreadsByName<'a>) -> Result<Vec<&'a str>, AllocError> {
+pub(crate) fn walk_order<'a>(
+    alloc: Global,
+    spreads: &SpreadsByName<'a>,
+) -> Result<Vec<&'a str>, AllocError> {
     let mut order = Vec::new(alloc);
     let mut entered = HashSet::new(alloc);
     let mut steps = first_steps(alloc, spreads)?;
@@ -100,7 +103,7 @@ fn is_in_order<'a>(
 }
 
 /// Whether the fragments that a fragment spreads are done.
-fn are_done<'a>(spreads: &SpreadsByName<'a>, name: &str, done: &HashSet<&'a str>) -> bool
+pub(crate) fn are_done<'a>(spreads: &SpreadsByName<'a>, name: &str, done: &HashSet<&'a str>) -> bool
     ensures { result ≡ list_all (λ n. has_name done.now n || not (is_some (spread_by spreads.now n))) (names_or_none (spread_by spreads.now name.now)) }
 {
     match spreads.get(name) {

@@ -4,6 +4,7 @@
 
 mod by_name;
 mod cycles;
+mod ordered;
 mod reach;
 mod rules;
 

@@ -1,0 +1,144 @@
+-- An empty graph, and one with a vertex more.
+use Rattle.std.specs.Prelude.{ℕ, List, [], ◌∷◌, ◌++◌, ◌≡◌, Some, length, map}
+use Rattle.std.specs.List.{slice_get}
+use Rattle.std.proofs.lemmas.List.{length-map, map-append}
+use Rattle.std.proofs.Common.{refl, sym, ap, ◌∙◌, subst}
+use Rattle.graphql_spec.specs.Shown.{Shown}
+use Rattle.graphql_spec.specs.Types.{TypeRef}
+use Rattle.graphql_spec.specs.Documents.{Head, response_key}
+use Rattle.graphql_spec.specs.Schema.{Schema}
+use Rattle.graphql_spec.specs.Fields.{declared_type, field_of, is_object, type_named}
+use Rattle.graphql_spec.specs.Laws.{In}
+use Rattle.juniper_merging.specs.MergingGraph.{FieldAt, view_vertex}
+use Rattle.juniper_merging.specs.Standing.{AreNumbered, Grows}
+use Rattle.juniper_merging.specs.SearchView.{group_in}
+use Rattle.juniper_merging.specs.declared.graph.Vertex.{Vertex}
+use Rattle.juniper_merging.proofs.Grouping.{empty-groups}
+use Rattle.juniper_meta.specs.MetaView.{view_type}
+use Rattle.juniper_written.specs.WrittenView.{view_field}
+use Rattle.juniper_field_graph.specs.GraphView.{IsGraphOf, IsPushed, head_or_none, heads_of, vertices_of, written_of}
+use Rattle.juniper_field_graph.specs.KindsView.{AreKept, IsOnce, IsOwn, has_call, has_type, heads_in, number_among, types_in}
+use Rattle.juniper_field_graph.specs.declared.graph.FieldGraph.{FieldGraph}
+use Rattle.juniper_field_graph.specs.declared.graph.WrittenField.{WrittenField}
+use Rattle.juniper_field_graph.proofs.Numbering.{last-is}
+use Rattle.juniper_field_graph.proofs.Pushing.{IsAdded, has-grown, head_in, still-kept, still-numbered}
+
+none-at : {A B : Type 0} (xs : List A) → xs ≡ [] → (i : ℕ) (x : A) → slice_get xs i ≡ Some x → B
+none-at xs none i x e = let f : slice_get [] i ≡ Some x = subst (λ ys. slice_get ys i ≡ Some x) none e in cc
+
+module _ {S : Type 0} (shown : S → Shown) (s : Schema) where
+  pub empty-graph : (g : FieldGraph S) → g.vertices.items ≡ [] → g.fields.items ≡ [] → g.kinds.entries ≡ [] → IsGraphOf shown s g
+  empty-graph g none fieldless kindless =
+      let bare : vertices_of shown g ≡ [] = ap (map view_vertex) none in
+      let headless : written_of shown g ≡ [] = ap (heads_in shown) fieldless in
+      record {
+        numbered = record {
+          shapes = λ i j v w e f k. none-at (vertices_of shown g) bare i v e;
+          calls = λ i j v w e f k. none-at (vertices_of shown g) bare i v e;
+        };
+        kept = record {
+          typed = rw (none, fieldless) refl;
+          headed = rw (none, fieldless) refl;
+          types = λ i v e. none-at (vertices_of shown g) bare i v e;
+          once = λ i h e. none-at (written_of shown g) headless i h e;
+          keyed = λ k r i. absurd (subst (In r) (empty-groups g.kinds kindless k) i);
+          own = λ k r i v e. none-at (vertices_of shown g) bare r v e;
+          shapes = λ i v e. none-at (vertices_of shown g) bare i v e;
+          calls = λ i v e. none-at (vertices_of shown g) bare i v e;
+          below = λ i v e. none-at (vertices_of shown g) bare i v e;
+        };
+      }
+
+  -- the field's vertex is put at the end, with its numbers
+  pub record IsMade (old : FieldGraph S) (v : Vertex) (f : WrittenField S) : Type 0 where
+    pub typed : view_type f.declared_type.now ≡ declared_type (field_of s v.parent.now (view_field shown f.field.now).name.item)
+    pub once : IsOnce (view_field shown f.field.now)
+    pub key : v.key.now ≡ response_key (view_field shown f.field.now)
+    pub on_object : v.on_object ≡ is_object (type_named s v.parent.now)
+    pub shape : v.shape ≡ number_among (λ w. w.shape) (vertices_of shown old) (λ r. has_type s (view_type f.declared_type.now) (slice_get (types_in shown old.fields.items) r))
+        (group_in old.kinds v.key.now)
+    pub call : v.call ≡ number_among (λ w. w.call) (vertices_of shown old) (λ r. has_call (view_field shown f.field.now) (slice_get (written_of shown old) r)) (group_in old.kinds v.key.now)
+
+  module _ (old new : FieldGraph S) (v : Vertex) (f : WrittenField S) (g : IsGraphOf shown s old) (made : IsMade old v f) (n : ℕ) (count : n ≡ length old.vertices.items)
+      (vertices : new.vertices.items ≡ old.vertices.items ++ v ∷ []) (fields : new.fields.items ≡ old.fields.items ++ f ∷ [])
+      (added : IsAdded (IsOwn n (view_vertex v)) v.key.now n (group_in old.kinds) (group_in new.kinds))
+      (own-shape : v.shape ≡ n → In n (group_in new.kinds v.key.now)) (own-call : v.call ≡ n → In n (group_in new.kinds v.key.now)) where
+    abbrev vs : List FieldAt
+    vs = vertices_of shown old
+
+    abbrev ts : List TypeRef
+    ts = types_in shown old.fields.items
+
+    abbrev hs : List Head
+    hs = written_of shown old
+
+    abbrev x : FieldAt
+    x = view_vertex v
+
+    abbrev t : TypeRef
+    t = view_type f.declared_type.now
+
+    abbrev h : Head
+    h = view_field shown f.field.now
+
+    is : n ≡ length vs
+    is = count ∙ sym (length-map old.vertices.items view_vertex)
+
+    vertices-are : vertices_of shown new ≡ vs ++ x ∷ []
+    vertices-are = ap (map view_vertex) vertices ∙ map-append view_vertex old.vertices.items (v ∷ [])
+
+    types-are : types_in shown new.fields.items ≡ ts ++ t ∷ []
+    types-are = ap (types_in shown) fields ∙ map-append (λ (f : WrittenField S). view_type f.declared_type.now) old.fields.items (f ∷ [])
+
+    heads-are : written_of shown new ≡ hs ++ h ∷ []
+    heads-are = ap (heads_in shown) fields ∙ map-append (λ (f : WrittenField S). view_field shown f.field.now) old.fields.items (f ∷ [])
+
+    added' : IsAdded (IsOwn (length vs) x) x.key (length vs) (group_in old.kinds) (group_in new.kinds)
+    unfolding view_vertex
+    added' = subst (λ m. IsAdded (IsOwn m x) v.key.now m (group_in old.kinds) (group_in new.kinds)) is added
+
+    own-shape' : x.shape ≡ length vs → In (length vs) (group_in new.kinds x.key)
+    unfolding view_vertex
+    own-shape' = subst (λ m. v.shape ≡ m → In m (group_in new.kinds v.key.now)) is own-shape
+
+    own-call' : x.call ≡ length vs → In (length vs) (group_in new.kinds x.key)
+    unfolding view_vertex
+    own-call' = subst (λ m. v.call ≡ m → In m (group_in new.kinds v.key.now)) is own-call
+
+    numbered-now : AreNumbered s (vertices_of shown new) (heads_of shown new)
+    unfolding view_vertex
+    numbered-now = rw (vertices-are) (subst (λ gs. AreNumbered s (vs ++ x ∷ []) (head_in gs)) (sym heads-are)
+        (still-numbered s vs ts hs (group_in old.kinds) (group_in new.kinds) x t h g.numbered g.kept made.typed made.once added' made.shape own-shape' made.call own-call'))
+
+    kept-now : AreKept s (vertices_of shown new) (types_in shown new.fields.items) (written_of shown new) (heads_of shown new) (group_in new.kinds)
+    unfolding view_vertex
+    kept-now = rw (vertices-are, types-are) (subst (λ gs. AreKept s (vs ++ x ∷ []) (ts ++ t ∷ []) gs (head_in gs) (group_in new.kinds)) (sym heads-are)
+        (still-kept s vs ts hs (group_in old.kinds) (group_in new.kinds) x t h g.numbered g.kept made.typed made.once added' made.shape own-shape' made.call own-call'))
+
+    grown-now : Grows vs (vertices_of shown new) (heads_of shown old) (heads_of shown new)
+    unfolding view_vertex
+    grown-now = rw (vertices-are) (subst (λ gs. Grows vs (vs ++ x ∷ []) (head_in hs) (head_in gs)) (sym heads-are)
+        (has-grown s vs ts hs (group_in old.kinds) (group_in new.kinds) x t h g.numbered g.kept made.typed made.once added' made.shape own-shape' made.call own-call'))
+
+    there-now : slice_get (vertices_of shown new) n ≡ Some x
+    there-now = ap (λ ws. slice_get ws n) vertices-are ∙ last-is vs x n (sym is)
+
+    head-now : heads_of shown new n ≡ h
+    unfolding head_or_none
+    head-now = ap (λ gs. head_or_none (slice_get gs n)) heads-are ∙ ap head_or_none (last-is hs h n (g.kept.headed ∙ sym is))
+
+    pub pushed : IsPushed shown s old new v.parent.now h v.below.items n
+    unfolding view_vertex
+    pushed = record {
+      graph = record { numbered = numbered-now; kept = kept-now };
+      grows = grown-now;
+      vertex = x;
+      selects = refl;
+      stands = λ y p e. record {
+        there = there-now;
+        head = head-now ∙ sym e;
+        parent = sym p;
+        key = made.key ∙ ap response_key (sym e);
+        on_object = made.on_object ∙ ap (λ m. is_object (type_named s m)) (sym p);
+      };
+    }

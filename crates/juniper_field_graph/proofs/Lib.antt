@@ -1,0 +1,14 @@
+mod Leading
+mod Readiness
+mod Steps
+mod Holding
+mod HeldFragments
+mod HoldingSteps
+mod Taken
+mod Judging
+mod JudgingSteps
+mod WrittenOnce
+mod Choosing
+mod Numbering
+mod Pushing
+mod Graphs

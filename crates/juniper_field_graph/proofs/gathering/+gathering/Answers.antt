@@ -1,0 +1,76 @@
+use Rattle.std.proofs.Common.{Some, ◌++◌, sym, ap, subst, ◌∙◌}
+use Rattle.graphql_spec.specs.Types.{innermost}
+use Rattle.juniper_merging.specs.Kept.{IsSetOf}
+use Rattle.graphql_spec.specs.Documents as spec
+use Rattle.juniper_schema.specs.SchemaView.{view_schema}
+use Rattle.juniper_syntax.specs.DocumentView.{view_selections, view_set}
+use Rattle.juniper_written.specs.WrittenView.{view_field, view_inline, view_spread_at}
+use Rattle.juniper_field_graph.specs.Gathering.{IsSetGathered, numbers_at, view_sets}
+use Rattle.juniper_field_graph.proofs.Holding.{numbers-none, numbers-some}
+use Rattle.juniper_field_graph.proofs.Steps.{field-step, none-gathered, spread-step, unknown-step, inline-step, so-far-all, so-far-next, so-far-none}
+use Rattle.juniper_field_graph.proofs.gathering.+gathering.Goals as goal
+
+pub gather_set-loop-selection-preserved : goal.gather_set-loop-selection-preserved
+gather_set-loop-selection-preserved g t c fs ends unknown is ready =
+    let shown = g.S.ScalarValue.shown in
+    let before = c.loop-selection.invariant fs ends unknown is ready in
+    so-far-next shown (view_schema shown c.args.known.now.schema.now) fs ends (numbers_at c.args.known.now.fragments.now) c.args.parent.now c.args.gathered.now.graph c.loop-selection.gathered.graph c.gather_selection.new.gathered.graph
+    (view_sets c.args.gathered.now.sets) (view_sets c.loop-selection.gathered.sets) (view_sets c.gather_selection.new.gathered.sets) c.new-numbers.result c.loop-selection.numbers c.gather_selection.new.numbers
+    c.args.selections.now c.loop-selection.selection-index c.selection-item.result c.loop-selection-test.true c.selection-item.is before
+    (c.in_ok-gather_selection.ensures fs ends unknown before.0.graph)
+
+pub gather_set-loop-selection-init : goal.gather_set-loop-selection-init
+gather_set-loop-selection-init g t c fs ends unknown is ready =
+    let shown = g.S.ScalarValue.shown in
+    so-far-none shown (view_schema shown c.args.known.now.schema.now) fs ends (numbers_at c.args.known.now.fragments.now) c.args.parent.now c.args.gathered.now.graph (view_sets c.args.gathered.now.sets) c.new-numbers.result c.args.selections.now is ready
+
+pub gather_set-returns : goal.gather_set-returns
+gather_set-returns g t c fs ends unknown is ready =
+    let shown = g.S.ScalarValue.shown in
+    so-far-all shown (view_schema shown c.args.known.now.schema.now) fs ends (numbers_at c.args.known.now.fragments.now) c.args.parent.now c.args.gathered.now.graph c.loop-selection.gathered.graph
+    (view_sets c.args.gathered.now.sets) (view_sets c.loop-selection.gathered.sets) (view_sets c.put_set.new.sets) c.new-numbers.result c.loop-selection.numbers
+    c.args.selections.now c.loop-selection.selection-index c.in_ok-set.set.items c.loop-selection-test.false c.new-numbers.ensures (c.loop-selection.invariant fs ends unknown is ready) c.in_ok-set.ensures.0 c.in_ok-set.ensures.1
+
+pub gather_selection-returns-in_ok-put_field-in-Some : goal.gather_selection-returns-in_ok-put_field-in-Some
+gather_selection-returns-in_ok-put_field-in-Some g t c fs ends unknown is rest ready =
+    let shown = g.S.ScalarValue.shown in
+    let s = view_schema shown c.args.known.now.schema.now in
+    field-step shown s fs ends (numbers_at c.args.known.now.fragments.now) c.args.parent.now c.args.gathered.now.graph c.gather_set.new.gathered.graph c.put_field.new.graph
+    (view_sets c.args.gathered.now.sets) (view_sets c.gather_set.new.gathered.sets) c.args.numbers.now c.put_field.new.numbers rest c.args.selection.now c.in-Field.field (view_selections shown c.deref.result.now) c.in_ok-below-in-Some.below.items
+    c.in-Field.is (ap (view_set shown) c.in-Some.is ∙ sym (ap (view_selections shown) c.deref.ensures.value)) ready
+    (λ r. subst (λ q. IsSetGathered shown s fs c.args.gathered.now.graph c.gather_set.new.gathered.graph (view_sets c.args.gathered.now.sets) (view_sets c.gather_set.new.gathered.sets) q (view_selections shown c.deref.result.now) c.in_ok-below-in-Some.below.items)
+    (c.innermost_name-inner.ensures ∙ ap innermost (c.declared_type-declared_type.ensures unknown)) (c.in_ok-below-in-Some.ensures fs ends unknown is r))
+    (λ graph once. c.in_ok-put_field-in-Some.ensures graph (c.declared_type-declared_type.ensures unknown) once)
+
+pub gather_selection-returns-in_ok-put_field-in-None : goal.gather_selection-returns-in_ok-put_field-in-None
+gather_selection-returns-in_ok-put_field-in-None g t c fs ends unknown is rest ready =
+    let shown = g.S.ScalarValue.shown in
+    let s = view_schema shown c.args.known.now.schema.now in
+    field-step shown s fs ends (numbers_at c.args.known.now.fragments.now) c.args.parent.now c.args.gathered.now.graph c.args.gathered.now.graph c.put_field-in-None.new.graph
+    (view_sets c.args.gathered.now.sets) (view_sets c.args.gathered.now.sets) c.args.numbers.now c.put_field-in-None.new.numbers rest c.args.selection.now c.in-Field.field spec.end c.new-below.result.items
+    c.in-Field.is (ap (view_set shown) c.in-None.is) ready
+    (λ r. subst (IsSetGathered shown s fs c.args.gathered.now.graph c.args.gathered.now.graph (view_sets c.args.gathered.now.sets) (view_sets c.args.gathered.now.sets) _ spec.end) (sym c.new-below.ensures.items)
+    (none-gathered shown s fs c.args.gathered.now.graph (view_sets c.args.gathered.now.sets) _ is))
+    (λ graph once. c.in_ok-put_field-in-None.ensures graph (c.declared_type-declared_type.ensures unknown) once)
+
+pub gather_selection-returns-in_ok-extend-in-Some-get : goal.gather_selection-returns-in_ok-extend-in-Some-get
+gather_selection-returns-in_ok-extend-in-Some-get g t c fs ends unknown is rest ready =
+    let shown = g.S.ScalarValue.shown in
+    spread-step shown (view_schema shown c.args.known.now.schema.now) fs ends (numbers_at c.args.known.now.fragments.now) c.args.parent.now c.args.gathered.now.graph (view_sets c.args.gathered.now.sets) c.args.numbers.now c.extend.new.self
+    rest c.args.selection.now c.in-FragmentSpread.spread c.deref-in-Some-get.result.now c.in-FragmentSpread.is is ready (numbers-some c.args.known.now.fragments.now c.in-FragmentSpread.spread.item.name.item.now c.in-Some-get.held.now c.in-Some-get.ensures.value ∙ sym (ap Some c.deref-in-Some-get.ensures.value)) c.in_ok-extend-in-Some-get.ensures
+
+pub gather_selection-returns-in-None-get : goal.gather_selection-returns-in-None-get
+gather_selection-returns-in-None-get g t c fs ends unknown is rest ready =
+    let shown = g.S.ScalarValue.shown in
+    unknown-step shown (view_schema shown c.args.known.now.schema.now) fs ends (numbers_at c.args.known.now.fragments.now) c.args.parent.now c.args.gathered.now.graph (view_sets c.args.gathered.now.sets) c.args.numbers.now
+    rest c.args.selection.now c.in-FragmentSpread.spread c.in-FragmentSpread.is is ready (numbers-none c.args.known.now.fragments.now c.in-FragmentSpread.spread.item.name.item.now c.in-None-get.ensures.value)
+
+pub gather_selection-returns-in_ok-extend-in-InlineFragment : goal.gather_selection-returns-in_ok-extend-in-InlineFragment
+gather_selection-returns-in_ok-extend-in-InlineFragment g t c fs ends unknown is rest ready =
+    let shown = g.S.ScalarValue.shown in
+    inline-step shown (view_schema shown c.args.known.now.schema.now) fs ends (numbers_at c.args.known.now.fragments.now) c.args.parent.now c.args.gathered.now.graph c.gather_set-in-InlineFragment.new.gathered.graph
+    (view_sets c.args.gathered.now.sets) (view_sets c.gather_set-in-InlineFragment.new.gathered.sets) c.args.numbers.now c.extend-in-InlineFragment.new.self rest c.args.selection.now c.in-InlineFragment.inline
+    (view_selections shown c.deref-in-InlineFragment.result.now) c.in_ok-held-in-InlineFragment.held.items c.in-InlineFragment.is (sym (ap (view_selections shown) c.deref-in-InlineFragment.ensures.value)) ready
+    (λ r. subst (λ q. IsSetGathered shown (view_schema shown c.args.known.now.schema.now) fs c.args.gathered.now.graph c.gather_set-in-InlineFragment.new.gathered.graph (view_sets c.args.gathered.now.sets) (view_sets c.gather_set-in-InlineFragment.new.gathered.sets) q (view_selections shown c.deref-in-InlineFragment.result.now) c.in_ok-held-in-InlineFragment.held.items)
+    c.type_inside-inner.ensures (c.in_ok-held-in-InlineFragment.ensures fs ends unknown is r))
+    (λ all a. subst (λ l. IsSetOf c.extend-in-InlineFragment.new.self (all ++ l)) c.deref-in-InlineFragment-2.ensures.value (c.in_ok-extend-in-InlineFragment.ensures all a))

@@ -1,0 +1,20 @@
+use Rattle.std.proofs.Common.{List, None}
+use Rattle.std.specs.Prelude.{◌≡◌}
+use Rattle.graphql_spec.specs.Documents.{Fragment as SpecFragment}
+use Rattle.graphql_spec.specs.Fields as fields
+use Rattle.graphql_spec.specs.Fragments.{HasNoCycle}
+use Rattle.juniper_meta.specs.MetaView.{view_type}
+use Rattle.juniper_schema.specs.SchemaView.{view_schema}
+use Rattle.juniper_syntax.specs.DocumentView.{view_selections}
+use Rattle.juniper_field_graph.specs.Gathering.{IsReadyIn, numbers_at, view_sets}
+use Rattle.juniper_field_graph.specs.GraphView.{IsGraphOf}
+use Rattle.juniper_field_graph.proofs.Steps.{IsSoFar}
+use Rattle.juniper_field_graph.proofs.gathering.+gathering.Given as goal
+
+abbrev pub invariant-gather_set-loop-selection : goal.invariant-gather_set-loop-selection
+invariant-gather_set-loop-selection g l =
+    let shown = g.S.ScalarValue.shown in
+    let s = view_schema shown l.known.schema.now in
+    (fs : List SpecFragment) (ends : HasNoCycle fs) → view_type l.known.undeclared.now ≡ fields.declared_type None → IsGraphOf shown s l.initial.gathered.graph →
+    IsReadyIn shown s fs l.initial.gathered.graph (numbers_at l.known.fragments.now) (view_selections shown l.selections) →
+    IsSoFar shown s fs ends (numbers_at l.known.fragments.now) l.parent l.initial.gathered.graph l.gathered.graph (view_sets l.initial.gathered.sets) (view_sets l.gathered.sets) l.initial.numbers l.numbers l.selections l.selection-index

@@ -1,0 +1,49 @@
+-- How a graph of written fields is seen (FieldsInSetCanMerge, 5.3.2).
+use Rattle.std.specs.Prelude.{ℕ, false, List, [], Option, Some, None, map, ◌≡◌}
+use Rattle.std.specs.List.{slice_get}
+use Rattle.graphql_spec.specs.Shown.{Shown, Name}
+use Rattle.graphql_spec.specs.Positions.{Span, origin}
+use Rattle.graphql_spec.specs.Documents.{Head}
+use Rattle.graphql_spec.specs.Schema.{Schema}
+use Rattle.graphql_spec.specs.Overlap.{Field}
+use Rattle.juniper_merging.specs.MergingGraph.{FieldAt, view_vertex}
+use Rattle.juniper_merging.specs.Standing.{AreNumbered, Grows, IsAt}
+use Rattle.juniper_merging.specs.SearchView.{group_in}
+use Rattle.juniper_field_graph.specs.KindsView.{AreKept, heads_in, types_in}
+use Rattle.juniper_field_graph.specs.declared.graph.FieldGraph.{FieldGraph}
+
+-- a place, and a field of no name there; each number of a graph has a field
+abbrev no_span : Span
+no_span = record { start = origin; end = origin }
+
+unfoldable pub no_head : Head
+no_head = record { alias = None; name = record { item = []; span = no_span }; arguments = None; directives = []; has_set = false; span = no_span }
+
+-- the field, if there is one
+unfoldable pub head_or_none : Option Head → Head
+head_or_none None = no_head
+head_or_none (Some h) = h
+
+module _ {S : Type 0} (shown : S → Shown) where
+  abbrev pub vertices_of : FieldGraph S → List FieldAt
+  vertices_of g = map view_vertex g.vertices.items
+
+  -- the fields that they stand for
+  abbrev pub written_of : FieldGraph S → List Head
+  written_of g = heads_in shown g.fields.items
+
+  abbrev pub heads_of : FieldGraph S → ℕ → Head
+  heads_of g i = head_or_none (slice_get (written_of g) i)
+
+  -- equal numbers say that types agree, and that names and arguments are the same
+  pub record IsGraphOf (s : Schema) (g : FieldGraph S) : Type 0 where
+    pub numbered : AreNumbered s (vertices_of g) (heads_of g)
+    pub kept : AreKept s (vertices_of g) (types_in shown g.fields.items) (written_of g) (heads_of g) (group_in g.kinds)
+
+  -- a field on the type p, which selects the fields of these numbers, now stands at i
+  pub record IsPushed (s : Schema) (old new : FieldGraph S) (p : Name) (h : Head) (below : List ℕ) (i : ℕ) : Type 0 where
+    pub graph : IsGraphOf s new
+    pub grows : Grows (vertices_of old) (vertices_of new) (heads_of old) (heads_of new)
+    pub vertex : FieldAt
+    pub selects : vertex.below ≡ below
+    pub stands : (x : Field) → x.parent ≡ p → x.occurrence.head ≡ h → IsAt s (vertices_of new) (heads_of new) x i vertex

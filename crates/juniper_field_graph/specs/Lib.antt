@@ -1,0 +1,3 @@
+pub mod GraphView
+pub mod Gathering
+pub mod KindsView

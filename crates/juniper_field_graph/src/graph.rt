@@ -1,0 +1,247 @@
+//! A graph of written fields.
+
+ghost use Rattle.std.specs.Prelude.{◌≡◌, ◌||◌, ℕ, IfOk, List, OnOk, Some, cond, false, length, map, nat_eq, []};
+ghost use Rattle.std.specs.List.{find, slice_get};
+ghost use Rattle.std.specs.Str.{bytes_eq};
+ghost use Rattle.graphql_spec.specs.Documents as documents;
+ghost use Rattle.graphql_spec.specs.Documents.{Head, written};
+ghost use Rattle.graphql_spec.specs.Fields as fields;
+ghost use Rattle.graphql_spec.specs.Fields.{field_of};
+ghost use Rattle.graphql_spec.specs.Schema.{Schema};
+ghost use Rattle.graphql_spec.specs.Shown.{Name};
+ghost use Rattle.graphql_spec.specs.Written.{arguments_repeat};
+ghost use Rattle.juniper_merging.specs.MergingGraph.{view_vertex};
+ghost use Rattle.juniper_merging.specs.SearchView.{group_in};
+ghost use Rattle.juniper_meta.specs.MetaView.{view_type};
+ghost use Rattle.juniper_schema.specs.SchemaView.{view_schema};
+ghost use Rattle.juniper_written.specs.WrittenView.{view_field};
+ghost use Rattle.juniper_field_graph.specs.GraphView.{IsGraphOf, IsPushed};
+ghost use Rattle.juniper_field_graph.specs.KindsView as kinds_view;
+ghost use Rattle.juniper_field_graph.specs.KindsView.{IsOnce, heads_in, number_among, number_or, types_in};
+
+use juniper_merging::Vertex;
+use juniper_overlapping_fields::{same_call, types_agree};
+use juniper_schema::SchemaType;
+use juniper_syntax::{Field, ScalarValue, Span, Spanning, Type};
+use std::alloc::{AllocError, Global};
+use std::collections::HashMap;
+
+/// A field as it is written, with the type that is declared for it.
+#[derive(Drop)]
+struct WrittenField<'d, 'a, S> {
+    /// The field.
+    field: &'d Spanning<Field<'a, S>, Span>,
+    /// Its declared type.
+    declared_type: &'d Type<String>,
+}
+
+/// Written fields on their parent types, each a vertex with numbers for its type and for its name and arguments.
+#[derive(Drop)]
+pub struct FieldGraph<'d, 'a, S> {
+    /// The vertices.
+    pub vertices: Vec<Vertex<'d>>,
+    /// The field that each of them stands for.
+    fields: Vec<WrittenField<'d, 'a, S>>,
+    /// For each response key the numbers of vertices of which each differs from those before it in its type or its call.
+    kinds: HashMap<&'d str, Vec<usize>>,
+}
+
+impl<'d, 'a, S: ScalarValue> FieldGraph<'d, 'a, S> {
+    /// No fields.
+    pub fn new(alloc: Global) -> Self
+        ensures { (s : Schema) → IsGraphOf S.shown s result }
+    {
+        FieldGraph {
+            vertices: Vec::new(alloc),
+            fields: Vec::new(alloc),
+            kinds: HashMap::new(alloc),
+        }
+    }
+
+    /// Adds a field of this declared type on its parent type, which selects the fields of these numbers, and gives its number.
+    /// An error where memory is refused.
+    pub fn push(
+        &mut self,
+        alloc: Global,
+        schema: &'d SchemaType<S>,
+        parent: &'d str,
+        field: &'d Spanning<Field<'a, S>, Span>,
+        declared_type: &'d Type<String>,
+        below: Vec<usize>,
+    ) -> Result<usize, AllocError>
+        ensures { IfOk result (λ i. IsGraphOf S.shown (view_schema S.shown schema.now) self.old
+            → view_type declared_type.now ≡ fields.declared_type (field_of (view_schema S.shown schema.now) parent.now (view_field S.shown field.now).name.item)
+            → arguments_repeat (written (view_field S.shown field.now).arguments) ≡ false
+            → IsPushed S.shown (view_schema S.shown schema.now) self.old self.new parent.now (view_field S.shown field.now) below.items i) }
+    {
+        let number = self.vertices.len();
+        let key = response_key(field);
+        let mut kinds = take_kinds(alloc, &mut self.kinds, key);
+        let shape = shape_among(schema, &self.vertices, &self.fields, &kinds, declared_type);
+        let call = call_among(&self.vertices, &self.fields, &kinds, field);
+        if is_own(number, shape, call) {
+            kinds.push(number)?;
+        }
+        put_kinds(&mut self.kinds, key, kinds)?;
+        self.vertices.push(Vertex {
+            key,
+            parent,
+            on_object: names_object(schema, parent),
+            shape,
+            call,
+            below,
+        })?;
+        self.fields.push(WrittenField {
+            field,
+            declared_type,
+        })?;
+        Ok(number)
+    }
+}
+
+/// The response key of a field: its alias, else its name.
+#[tactic(auto, unfolding(graphql_spec::specs::Documents::response_key, graphql_spec::specs::Documents::name_or))]
+fn response_key<'a, S: ScalarValue>(field: &Spanning<Field<'a, S>, Span>) -> &'a str
+    ensures { result.now ≡ documents.response_key (view_field S.shown field.now) }
+{
+    match field.item.alias {
+        Some(alias) => alias.item,
+        None => field.item.name.item,
+    }
+}
+
+/// Whether an object type is declared at the name (section 3.6).
+#[tactic(auto, unfolding(graphql_spec::specs::Fields::is_object))]
+fn names_object<S: ScalarValue>(schema: &SchemaType<S>, name: &str) -> bool
+    ensures { result ≡ fields.is_object (fields.type_named (view_schema S.shown schema.now) name.now) }
+{
+    match schema.concrete_type_by_name(name) {
+        Some(meta) => meta.is_object(),
+        None => false,
+    }
+}
+
+/// Whether the shape or the call is a new vertex's own number.
+fn is_own(number: usize, shape: usize, call: usize) -> bool
+    ensures { result ≡ (nat_eq shape number || nat_eq call number) }
+{
+    shape == number || call == number
+}
+
+/// Takes the kinds of a response key out.
+fn take_kinds<'d>(
+    alloc: Global,
+    kinds: &mut HashMap<&'d str, Vec<usize>>,
+    key: &'d str,
+) -> Vec<usize>
+    ensures numbers { result.items ≡ group_in kinds.old key.now }
+    ensures taken { (k : Name) → group_in kinds.new k ≡ cond (bytes_eq key.now k) [] (group_in kinds.old k) }
+{
+    match kinds.remove(key) {
+        Some(numbers) => numbers,
+        None => Vec::new(alloc),
+    }
+}
+
+/// Puts the kinds of a response key.
+fn put_kinds<'d>(
+    kinds: &mut HashMap<&'d str, Vec<usize>>,
+    key: &'d str,
+    numbers: Vec<usize>,
+) -> Result<(), AllocError>
+    ensures { OnOk result ((k : Name) → group_in kinds.new k ≡ cond (bytes_eq key.now k) numbers.items (group_in kinds.old k)) }
+{
+    drop(kinds.insert(key, numbers)?);
+    Ok(())
+}
+
+/// The shape of the first kind whose declared type agrees, else the number of a new vertex.
+fn shape_among<S: ScalarValue>(
+    schema: &SchemaType<S>,
+    vertices: &[Vertex<'_>],
+    fields: &[WrittenField<'_, '_, S>],
+    kinds: &[usize],
+    declared_type: &Type<String>,
+) -> usize
+    ensures { result ≡ number_among (λ v. v.shape) (map view_vertex vertices.now)
+        (λ r. kinds_view.has_type (view_schema S.shown schema.now) (view_type declared_type.now) (slice_get (types_in S.shown fields.now) r)) kinds.now }
+{
+    for kind in kinds {
+        if has_type(schema, fields, *kind, declared_type) {
+            return shape_at(vertices, *kind);
+        }
+    }
+    vertices.len()
+}
+
+/// The call of the first kind of this name with the same arguments, else the number of a new vertex.
+fn call_among<S: ScalarValue>(
+    vertices: &[Vertex<'_>],
+    fields: &[WrittenField<'_, '_, S>],
+    kinds: &[usize],
+    field: &Spanning<Field<'_, S>, Span>,
+) -> usize
+    ensures { ((i : ℕ) (h : Head) → slice_get (heads_in S.shown fields.now) i ≡ Some h → IsOnce h) → IsOnce (view_field S.shown field.now)
+        → result ≡ number_among (λ v. v.call) (map view_vertex vertices.now) (λ r. kinds_view.has_call (view_field S.shown field.now) (slice_get (heads_in S.shown fields.now) r)) kinds.now }
+{
+    for kind in kinds {
+        if has_call(fields, *kind, field) {
+            return call_at(vertices, *kind);
+        }
+    }
+    vertices.len()
+}
+
+/// The shape of a vertex, else the number of a new one.
+#[tactic(auto, unfolding(crate::specs::KindsView::number_or, juniper_merging::specs::MergingGraph::view_vertex))]
+fn shape_at(vertices: &[Vertex<'_>], number: usize) -> usize
+    ensures { result ≡ number_or (λ v. v.shape) (length vertices.now) (slice_get (map view_vertex vertices.now) number) }
+{
+    match vertices.get(number) {
+        Some(vertex) => vertex.shape,
+        None => vertices.len(),
+    }
+}
+
+/// The call of a vertex, else the number of a new one.
+#[tactic(auto, unfolding(crate::specs::KindsView::number_or, juniper_merging::specs::MergingGraph::view_vertex))]
+fn call_at(vertices: &[Vertex<'_>], number: usize) -> usize
+    ensures { result ≡ number_or (λ v. v.call) (length vertices.now) (slice_get (map view_vertex vertices.now) number) }
+{
+    match vertices.get(number) {
+        Some(vertex) => vertex.call,
+        None => vertices.len(),
+    }
+}
+
+/// Whether the field of this number has a declared type that agrees.
+#[tactic(auto, unfolding(crate::specs::KindsView::has_type))]
+fn has_type<S: ScalarValue>(
+    schema: &SchemaType<S>,
+    fields: &[WrittenField<'_, '_, S>],
+    number: usize,
+    declared_type: &Type<String>,
+) -> bool
+    ensures { result ≡ kinds_view.has_type (view_schema S.shown schema.now) (view_type declared_type.now) (slice_get (types_in S.shown fields.now) number) }
+{
+    match fields.get(number) {
+        Some(field) => types_agree(schema, field.declared_type, declared_type),
+        None => false,
+    }
+}
+
+/// Whether the field of this number has this field's name and the same arguments.
+#[tactic(auto, unfolding(crate::specs::KindsView::has_call))]
+fn has_call<S: ScalarValue>(
+    fields: &[WrittenField<'_, '_, S>],
+    number: usize,
+    field: &Spanning<Field<'_, S>, Span>,
+) -> bool
+    ensures { ((i : ℕ) (h : Head) → slice_get (heads_in S.shown fields.now) i ≡ Some h → IsOnce h) → IsOnce (view_field S.shown field.now)
+        → result ≡ kinds_view.has_call (view_field S.shown field.now) (slice_get (heads_in S.shown fields.now) number) }
+{
+    match fields.get(number) {
+        Some(other) => same_call(other.field, field),
+        None => false,
+    }
+}
