@@ -21,7 +21,7 @@ use Rattle.graphql_spec.specs.Walk.{count_listed, told, IsAnswer}
 use Rattle.graphql_spec.specs.Fragments.{expand}
 use Rattle.graphql_spec.specs.Directives.{passes}
 use Rattle.graphql_spec.specs.Selections.{Forest}
-use Rattle.graphql_spec.specs.Rules.{looks_at_schema}
+use Rattle.graphql_spec.specs.Rules.{RuleError, looks_at_schema}
 use Rattle.graphql_spec.specs.Executable.{built_ins_are_right, is_executable}
 use Rattle.graphql_spec.specs.Requests.{Outcome, refused, runs, not_parsed, not_valid, unknown_operation, of_document_by}
 use Rattle.graphql_spec.specs.FirstRules.{lacks_field, is_asked, first_calls, first_name_errors, first_type_errors, merge_errors, first_rule_errors, is_served, served_rule_errors, unsupported, is_plain_selections, is_query, is_empty, is_plain_operation, is_plain_document, is_flat_field, is_flat}
@@ -117,6 +117,9 @@ unfoldable becomes : Option Name → Option Document → Outcome
 unfolding outcome small lacks_field is_asked first_calls first_name_errors first_type_errors merge_errors first_rule_errors Rattle.graphql_spec.specs.Rules.gives_unknown Rattle.graphql_spec.specs.Rules.gives_too_few Rattle.graphql_spec.specs.Rules.gives_wrong Rattle.graphql_spec.specs.Served.is_truth Rattle.graphql_spec.specs.Served.is_condition Rattle.graphql_spec.specs.Served.is_served_directive Rattle.graphql_spec.specs.Served.is_served_value Rattle.graphql_spec.specs.Served.is_served_field is_plain_selections is_query is_empty is_plain_operation is_plain_document is_flat_field is_flat Rattle.graphql_spec.specs.Tokens.is_name Rattle.graphql_spec.specs.Tokens.starts_name Rattle.graphql_spec.specs.Tokens.continues_name Rattle.graphql_spec.specs.Grammar.is_end served_rule_errors is_served has_scalar_fields is_scalar_type is_scalar unsupported
 becomes n d = of_document_by (served_rule_errors small) small n none d
 
+abbrev alone : RuleError
+alone = record { message = codes "Anonymous operation is not alone"; start = at 0 }
+
 abbrev invalid : Text → Outcome
 invalid t = refused (not_valid (record { message = t; start = at 0 } ∷ []))
 
@@ -124,7 +127,7 @@ invalid t = refused (not_valid (record { message = t; start = at 0 } ∷ []))
 refusals : (becomes None (Some (asking (leaf_field (codes "x") 2 end) 5)) ≡ invalid (codes "Unknown field"))
     × (becomes None (Some (asking (as_field (codes "a") (codes "id") 2 (as_field (codes "a") (codes "name") 8 end)) 17)) ≡ invalid (codes "Fields cannot be merged"))
     × (becomes None (Some (asking (leaf_field (codes "x") 2 (as_field (codes "a") (codes "id") 4 (as_field (codes "a") (codes "name") 10 end))) 19)) ≡ invalid (codes "Unknown field"))
-    × (becomes None (Some (asking (leaf_field (codes "__schema") 2 end) 12)) ≡ invalid (codes "Unknown field"))
+    × (becomes None (Some (asking (leaf_field (codes "__schema") 2 end) 12)) ≡ invalid (codes "Selection set does not fit the field"))
     × (becomes None (Some (asking (as_field (codes "a") (codes "id") 2 (leaf_field (codes "name") 8 (as_field (codes "a") (codes "id") 13 end))) 20)) ≡ runs (asking (as_field (codes "a") (codes "id") 2 (leaf_field (codes "name") 8 (as_field (codes "a") (codes "id") 13 end))) 20)
     (record { kind = query; name = None; variables = None; directives = []; selections = as_field (codes "a") (codes "id") 2 (leaf_field (codes "name") 8 (as_field (codes "a") (codes "id") 13 end)); span = span 0 20 }) none)
     × (becomes None None ≡ refused not_parsed)
@@ -136,8 +139,8 @@ names : (becomes (Some (codes "Q")) (Some (asking (leaf_field (codes "id") 2 end
 unfolding becomes
 names = (refl, refl)
 
--- two queries, a mutation from 3 on, and nothing at all
-unserved : (becomes None (Some (asking (leaf_field (codes "x") 2 end) 5 ++ asking (leaf_field (codes "id") 8 end) 12)) ≡ invalid (codes "Not supported yet"))
+-- two queries; a mutation from 3 on, which no rule refuses; and nothing at all
+unserved : (becomes None (Some (asking (leaf_field (codes "x") 2 end) 5 ++ asking (leaf_field (codes "id") 8 end) 12)) ≡ refused (not_valid (alone ∷ alone ∷ [])))
     × (becomes (Some (codes "Q")) (Some (operation (record { kind = mutation; name = None; variables = None; directives = []; selections = leaf_field (codes "x") 14 end; span = span 3 17 }) ∷ [])) ≡ refused (not_valid (record { message = codes "Not supported yet"; start = at 3 } ∷ [])))
     × (becomes None (Some []) ≡ refused unknown_operation)
 unfolding becomes

@@ -83,9 +83,10 @@ unsupported (x ∷ d) = record { message = codes "Not supported yet"; start = (s
 unfoldable pub is_served : Schema → Document → Bool
 is_served s d = has_scalar_fields s && is_plain_document d
 
--- what validation finds: the first rules' errors of a document that is served, else that it is not
+-- what is found of a document before it is executed, with introspection disabled: the errors of all rules; and of one without
+-- errors that is not served, that it is not
 unfoldable pub served_rule_errors : Schema → Document → List RuleError
-served_rule_errors s d = cond (is_served s d) (first_rule_errors s d) (unsupported d)
+served_rule_errors s d = first_found (rule_errors s true d) (cond (is_served s d) [] (unsupported d))
 
 -- a field whose type ends in a scalar or an enum
 unfoldable pub is_flat_field : Schema → FieldDeclaration → Bool
