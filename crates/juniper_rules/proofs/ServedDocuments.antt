@@ -1,5 +1,5 @@
 -- Whether a document is served, selection by selection.
-use Rattle.std.proofs.Common.{◌≡◌, ℕ, ◌+◌, ◌<◌, ◌≤◌, codes, Vec, Global, Bool, true, false, ◌&&◌, List, length, get_or, drop, map, [], ◌∷◌, arith, Option, Some, None, is_some, is_none, option_map, refl, sym, ap, ◌∙◌}
+use Rattle.std.proofs.Common.{◌≡◌, cond, ℕ, ◌+◌, ◌<◌, ◌≤◌, codes, Vec, Global, Bool, true, false, ◌&&◌, List, length, get_or, drop, map, [], ◌∷◌, arith, Option, Some, None, is_some, is_none, option_map, refl, sym, ap, ◌∙◌}
 use Rattle.std.proofs.lemmas.List.{drop_all}
 use Rattle.std.specs.List.{list_all}
 use Rattle.graphql_spec.specs.Shown.{Shown}
@@ -8,7 +8,8 @@ use Rattle.graphql_spec.specs.Grammar.{is_end}
 use Rattle.graphql_spec.specs.Schema.{Schema}
 use Rattle.graphql_spec.specs.Served.{is_condition, is_served_field, is_served_value}
 use Rattle.graphql_spec.specs.ServedFields.{has_scalar_fields}
-use Rattle.graphql_spec.specs.FirstRules.{is_plain_document, is_plain_operation, is_plain_selections, is_served, first_rule_errors, unsupported, served_rule_errors}
+use Rattle.graphql_spec.specs.FirstRules.{is_plain_document, is_plain_operation, is_plain_selections, is_served, unsupported, served_rule_errors}
+use Rattle.graphql_spec.specs.Rules.{RuleError, first_found, rule_errors}
 use Rattle.juniper_syntax.specs.DocumentView.{view_head, view_selections, put_selection, view_set}
 use Rattle.juniper_position.specs.Positions.{view_span}
 use Rattle.juniper_position.specs.declared.position.Spanning.{Spanning}
@@ -87,10 +88,6 @@ two-no-condition view (x ∷ y ∷ xs) two = refl
 
 -- ## What validation finds
 
-is-served : (s : Schema) (d : Document) → has_scalar_fields s ≡ true → is_plain_document d ≡ true → is_served s d ≡ true
-unfolding is_served
-is-served s d h plain = rw h plain
-
 and-false : (b : Bool) → (b && false) ≡ false
 and-false true = refl
 and-false false = refl
@@ -103,19 +100,45 @@ unserved-document : (s : Schema) (d : Document) → is_plain_document d ≡ fals
 unfolding is_served
 unserved-document s d plain = rw plain (and-false (has_scalar_fields s))
 
-pub served-errors : (s : Schema) (d : Document) (o : Operation) → has_scalar_fields s ≡ true → is_plain_document d ≡ true → d ≡ operation o ∷ [] → first_rule_errors s (operation o ∷ []) ≡ served_rule_errors s d
+first-empty : (ds es : List RuleError) → first_found ds es ≡ [] → (ds ≡ []) × (es ≡ [])
+unfolding first_found
+first-empty [] es e = (refl, e)
+first-empty (x ∷ ds) es e = cc
+
+-- where nothing is found, no rule finds anything
+pub nothing-found : (s : Schema) (d : Document) → served_rule_errors s d ≡ [] → rule_errors s true d ≡ []
 unfolding served_rule_errors
-served-errors s d o h plain is = rw (is-served s d h plain) (ap (first_rule_errors s) (sym is))
+nothing-found s d e = (first-empty (rule_errors s true d) _ e).0
 
-not-served-errors : (s : Schema) (d : Document) → is_served s d ≡ false → unsupported d ≡ served_rule_errors s d
+-- and the document is served, unless it has no definition
+pub nothing-unserved : (s : Schema) (d : Document) → served_rule_errors s d ≡ [] → is_served s d ≡ false → unsupported d ≡ []
 unfolding served_rule_errors
-not-served-errors s d e = rw e refl
+nothing-unserved s d e n = sym (rw n refl) ∙ (first-empty (rule_errors s true d) _ e).1
 
-pub unserved-errors : (s : Schema) (d : Document) → is_plain_document d ≡ false → unsupported d ≡ served_rule_errors s d
-unserved-errors s d plain = not-served-errors s d (unserved-document s d plain)
+pub unserved-errors : (s : Schema) (d : Document) → is_plain_document d ≡ false → served_rule_errors s d ≡ [] → unsupported d ≡ []
+unserved-errors s d plain e = nothing-unserved s d e (unserved-document s d plain)
 
-pub other-schema-errors : (s : Schema) (d : Document) → has_scalar_fields s ≡ false → unsupported d ≡ served_rule_errors s d
-other-schema-errors s d h = not-served-errors s d (unserved-schema s d h)
+pub other-schema-errors : (s : Schema) (d : Document) → has_scalar_fields s ≡ false → served_rule_errors s d ≡ [] → unsupported d ≡ []
+other-schema-errors s d h e = nothing-unserved s d e (unserved-schema s d h)
+
+-- ## What is listed
+
+pub listed-rules : (s : Schema) (d : Document) (es : List RuleError) → es ≡ rule_errors s true d → (es ≡ [] → ⊥) → es ≡ served_rule_errors s d
+unfolding served_rule_errors
+listed-rules s d es e some = go es e some
+  where
+    go : (es : List RuleError) → es ≡ rule_errors s true d → (es ≡ [] → ⊥) → es ≡ first_found (rule_errors s true d) (cond (is_served s d) [] (unsupported d))
+    unfolding first_found
+    go [] e some = absurd (some refl)
+    go (x ∷ es) e some = rw (sym e) refl
+
+pub listed-served : (s : Schema) (d : Document) → [] ≡ rule_errors s true d → is_served s d ≡ true → [] ≡ served_rule_errors s d
+unfolding served_rule_errors first_found
+listed-served s d e served = rw (sym e, served) refl
+
+pub listed-unserved : (s : Schema) (d : Document) → [] ≡ rule_errors s true d → is_served s d ≡ false → unsupported d ≡ served_rule_errors s d
+unfolding served_rule_errors first_found
+listed-unserved s d e unserved = rw (sym e, unserved) refl
 
 -- a field is not served where no type of it is found
 pub none_served : {A B C : Type 0} (f : A → C) (h : B → C) (o : Option A) (p : Option B) → option_map f o ≡ option_map h p → is_none o ≡ is_none p

@@ -12,21 +12,15 @@ use Rattle.graphql_spec.specs.Schema.{Schema, InputDeclaration}
 use Rattle.graphql_spec.specs.Fits.{fits}
 use Rattle.graphql_spec.specs.Placed.{Call}
 use Rattle.graphql_spec.specs.Rules.{RuleError, gives_unknown, gives_too_few, gives_wrong}
-use Rattle.juniper_syntax.specs.DocumentView.{view_argument as view_given}
 use Rattle.juniper_position.specs.declared.position.Spanning.{Spanning}
 use Rattle.juniper_position.specs.declared.position.Span.{Span}
 use Rattle.juniper_syntax.specs.declared.ast.Field.{Field}
-use Rattle.juniper_rules.specs.declared.calls.Call.{Call as CodeCall}
 use Rattle.juniper_rules.specs.Occurrences.{view_occurrence}
-use Rattle.juniper_meta.specs.MetaView.{view_argument}
 use Rattle.graphql_spec.specs.ServedFields.{served_field}
 
--- the words of a field, and the arguments of one beside those that are declared
+-- the words of a field
 unfoldable pub head_seen : {S : Type 0} → (S → Shown) → Spanning (Field S) Span → Head
 head_seen shown f = (view_occurrence shown f).head
-
-unfoldable pub view_call : {S : Type 0} → (S → Shown) → CodeCall S → Call
-view_call shown c = record { declared = map (view_argument shown) c.declared.now; given = map (view_given shown) c.given.now }
 
 -- the fields of plain selections, in order
 unfoldable pub plain_heads : Selections → List Head

@@ -10,7 +10,7 @@ ghost use Rattle.juniper_syntax.specs.DocumentView.{put_selection, view_argument
 ghost use Rattle.juniper_syntax.specs.InputView.{view_input};
 ghost use Rattle.juniper_rules.specs.PlainSelections.{head_seen};
 
-use crate::calls::{Given, written};
+use crate::arguments::{Given, written};
 use juniper_syntax::{
     Definition, Directive, Document, Field, InputValue, Operation, OperationType, ScalarValue,
     Selection, Span, Spanning,
