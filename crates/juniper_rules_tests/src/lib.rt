@@ -4,6 +4,8 @@
 #[cfg(test)]
 mod listed;
 #[cfg(test)]
+mod lists;
+#[cfg(test)]
 mod names;
 #[cfg(test)]
 mod phases;
