@@ -1,2 +1,3 @@
 pub mod AtEach
 pub mod Phases
+pub mod SideBySide

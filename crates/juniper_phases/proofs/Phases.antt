@@ -1,7 +1,7 @@
 -- What is found at a definition, rule by rule.
 use Rattle.std.proofs.Common.{◌≡◌, Bool, List, [], ◌∷◌, ◌++◌, codes, sym, append-nil, append_assoc, ◌∙◌}
 use Rattle.graphql_spec.specs.Documents.{Definition, Document}
-use Rattle.graphql_spec.specs.Rules.{RuleError, has_other_condition, has_other_variable, has_unknown_argument, has_unknown_directive, has_unknown_field, has_unknown_type, has_wrong_argument, has_wrong_default, has_wrong_set, is_not_alone, lacks_argument, name_errors, repeats_argument, repeats_fragment, repeats_input_field, repeats_operation, repeats_variable, reported, spreads_itself, spreads_unknown, type_errors}
+use Rattle.graphql_spec.specs.Rules.{RuleError, cannot_merge, has_other_condition, has_other_variable, has_unknown_argument, has_unknown_directive, has_unknown_field, has_unknown_type, has_wrong_argument, has_wrong_default, has_wrong_set, is_not_alone, lacks_argument, looks_at_schema, misuses_variable, name_errors, repeats_argument, repeats_fragment, repeats_input_field, repeats_operation, repeats_variable, reported, spreads_itself, spreads_unknown, type_errors, use_errors, uses_undefined}
 use Rattle.graphql_spec.specs.Schema.{Schema}
 
 -- lists one behind the other, taken from the left and from the right
@@ -68,3 +68,18 @@ types-found s disabled d earlier x a b c e f g h i p1 p2 p3 p4 p5 p6 p7 p8 = rw 
     ∷ reported (lacks_argument s x) (codes "Argument is missing") x
     ∷ reported (has_wrong_argument s x) (codes "Argument does not fit its type") x
     ∷ reported (has_wrong_default s x) (codes "Default value does not fit its type") x ∷ []))
+
+-- the rules on variables, merging and introspection
+pub uses-found : (s : Schema) (disabled : Bool) (d : Document) (earlier : List Definition) (x : Definition) (a b c e : Bool) →
+    a ≡ uses_undefined s d x → b ≡ misuses_variable s d x → c ≡ cannot_merge s d x → e ≡ looks_at_schema s disabled x →
+    reported a (codes "Variable is not defined") x
+    ++ (reported b (codes "Variable may not stand here") x
+    ++ (reported c (codes "Fields cannot be merged") x
+    ++ (reported e (codes "Introspection is disabled") x ++ [])))
+    ≡ use_errors s disabled d earlier x
+unfolding use_errors
+uses-found s disabled d earlier x a b c e p1 p2 p3 p4 = rw (p1, p2, p3, p4)
+    (same-list (reported (uses_undefined s d x) (codes "Variable is not defined") x) (
+    reported (misuses_variable s d x) (codes "Variable may not stand here") x
+    ∷ reported (cannot_merge s d x) (codes "Fields cannot be merged") x
+    ∷ reported (looks_at_schema s disabled x) (codes "Introspection is disabled") x ∷ []))

@@ -5,6 +5,8 @@
 mod names;
 mod report;
 mod types;
+mod uses;
 
 pub use names::name_errors;
 pub use types::type_errors;
+pub use uses::use_errors;
