@@ -1,0 +1,50 @@
+//! Validation of a document against a schema (section 5 of the Specification).
+
+ghost use Rattle.std.specs.Prelude.{◌≡◌, IfOk, map};
+ghost use Rattle.graphql_spec.specs.Rules.{rule_errors};
+ghost use Rattle.juniper_position.specs.RuleView.{view_rule_error};
+ghost use Rattle.juniper_schema.specs.SchemaView.{view_schema};
+ghost use Rattle.juniper_syntax.specs.DocumentView.{view_document};
+
+use crate::names::name_errors;
+use crate::types::type_errors;
+use crate::uses::use_errors;
+use juniper_field_graph::cannot_merge;
+use juniper_schema::SchemaType;
+use juniper_spreads::fragments_by_name;
+use juniper_syntax::{Document, RuleError, ScalarValue};
+use std::alloc::{AllocError, Global};
+
+/// The errors of a document: one for each rule that a definition violates, at the start of that definition, in the order of
+/// the definitions, and of the rules at each. There are none exactly where the document is valid (section 5). The rules on
+/// names come first; those on types are tested where these find nothing; those on variables, on merging and, where
+/// introspection is disabled, on `__schema` and `__type`, where both find nothing. An error where memory is refused.
+pub fn validate<'d, 'a, S: ScalarValue>(
+    alloc: Global,
+    document: &'d Document<'a, S>,
+    schema: &'d SchemaType<S>,
+    introspection_disabled: bool,
+) -> Result<Vec<RuleError>, AllocError>
+    ensures { IfOk result (λ es. map view_rule_error es.items ≡ rule_errors (view_schema S.shown schema.now) introspection_disabled (view_document S.shown document.now)) }
+{
+    let definitions = document.as_slice();
+    let fragments = fragments_by_name(alloc, definitions)?;
+    let errors = name_errors(alloc, schema, definitions, &fragments)?;
+    if !errors.is_empty() {
+        return Ok(errors);
+    }
+    let errors = type_errors(alloc, schema, definitions)?;
+    if !errors.is_empty() {
+        return Ok(errors);
+    }
+    let cannot_merge = cannot_merge(alloc, schema, definitions, &fragments)?;
+    let errors = use_errors(
+        alloc,
+        schema,
+        definitions,
+        &fragments,
+        &cannot_merge,
+        introspection_disabled,
+    )?;
+    Ok(errors)
+}
