@@ -2,8 +2,6 @@
 #![tactic(auto)]
 
 #[cfg(test)]
-mod graph;
-#[cfg(test)]
 mod listed;
 #[cfg(test)]
 mod lists;

@@ -2,10 +2,8 @@
 //! counted from zero, where its definition starts.
 
 use crate::schema::{Scalar, schema};
-use juniper_language::{Definition, RuleError, parse_document_source};
-use juniper_phases::{name_errors, type_errors, use_errors};
-use juniper_schema::SchemaType;
-use juniper_spreads::fragments_by_name;
+use juniper_language::{RuleError, parse_document_source};
+use juniper_phases::validate;
 use std::alloc::{AllocError, Global};
 use std::test::Fail;
 
@@ -65,6 +63,50 @@ query A { id }
 query B { ...F }
  fragment F on Query { x: id x: number }";
 
+/// Whether fields can be merged, in sets that are written together, one inside the other, and in fragments.
+const MERGING: &str = "\
+{ x: id x: number } => Fields cannot be merged@0:0;
+
+{ id id: id } =>
+
+{ x: id y: id x: number } => Fields cannot be merged@0:0;
+
+{ number(plus: 1) number(plus: 2) } => Fields cannot be merged@0:0;
+
+{ number(plus: 1) number(plus: 1) } =>
+
+{ number(plus: 1) number } => Fields cannot be merged@0:0;
+
+{ add(n: 1) { x: id } add(n: 1) { x: number } } => Fields cannot be merged@0:0;
+
+{ add(n: 1) { y: add(n: 2) { x: id } } add(n: 1) { y: add(n: 2) { x: number } } } => Fields cannot be merged@0:0;
+
+{ a: add(n: 1) { x: id } b: add(n: 1) { x: number } } =>
+
+{ add(n: 1, m: 2) { id } add(m: 2, n: 1) { number } } =>
+
+{ add(n: 1, in: {k: 1, l: [2]}) { id } add(in: {l: [2], k: 1}, n: 1) { id } } =>
+
+{ add(n: 1, in: {k: 1, l: [2, 3]}) { id } add(n: 1, in: {k: 1, l: [3, 2]}) { id } } => Fields cannot be merged@0:0;
+
+{ x: id ... on Query { x: number } } => Fields cannot be merged@0:0;
+
+{ ... { x: id x: number } } => Fields cannot be merged@0:0;
+
+query Q { x: id ...F } fragment F on Query { x: number } => Fields cannot be merged@0:0;
+
+query Q { ...F ...G } fragment F on Query { ...H } fragment G on Query { x: number } fragment H on Query { x: id } => Fields cannot be merged@0:0;
+
+query Q { id } fragment F on Query { x: id x: number } => Fields cannot be merged@0:15;
+
+query Q { ...F ...F add(n: 1) { ...F } } fragment F on Query { id number } =>
+
+query Q { ...A } fragment A on Query { ...B ...B } fragment B on Query { ...C ...C } fragment C on Query { x: id x: id } =>
+
+query Q { x: id ...A } fragment A on Query { ...B ...B } fragment B on Query { ...C ...C } fragment C on Query { x: number } => Fields cannot be merged@0:0;
+
+{ x: id x: number nope } => Unknown field@0:0;";
+
 /// The first row that says something else than what is found.
 fn first_other<'r>(
     alloc: Global,
@@ -81,66 +123,21 @@ fn first_other<'r>(
 
 fn is_found(alloc: Global, row: &str, introspection_disabled: bool) -> Result<bool, AllocError> {
     match row.split_once(" =>") {
-        Some((text, said)) => {
-            Ok(found(alloc, text, &[], introspection_disabled)?.as_str() == said)
-        }
+        Some((text, said)) => Ok(found(alloc, text, introspection_disabled)?.as_str() == said),
         None => Ok(false),
     }
 }
 
-/// What is found in a text, of whose definitions these have fields that cannot be merged: each error behind a blank and
-/// with a `;` at its end.
-fn found(
-    alloc: Global,
-    text: &str,
-    cannot_merge: &[usize],
-    introspection_disabled: bool,
-) -> Result<String, AllocError> {
+/// What is found in a text: each error behind a blank and with a `;` at its end.
+fn found(alloc: Global, text: &str, introspection_disabled: bool) -> Result<String, AllocError> {
     match parse_document_source::<Scalar>(alloc, text) {
         Ok(document) => {
-            let marks = marks(alloc, document.len(), cannot_merge)?;
             let schema = schema(alloc)?;
-            let errors = errors(alloc, &schema, &document, &marks, introspection_disabled)?;
+            let errors = validate(alloc, &document, &schema, introspection_disabled)?;
             told(alloc, &errors)
         }
         Err(error) => error.item.to_string(alloc),
     }
-}
-
-/// Which of so many definitions are listed.
-fn marks(alloc: Global, count: usize, listed: &[usize]) -> Result<Vec<bool>, AllocError> {
-    let mut marks = Vec::new(alloc);
-    for index in 0..count {
-        marks.push(listed.contains(&index))?;
-    }
-    Ok(marks)
-}
-
-/// The errors of the first phase that finds one.
-fn errors<'d, 'a>(
-    alloc: Global,
-    schema: &'d SchemaType<Scalar>,
-    document: &'d [Definition<'a, Scalar>],
-    cannot_merge: &[bool],
-    introspection_disabled: bool,
-) -> Result<Vec<RuleError>, AllocError> {
-    let fragments = fragments_by_name(alloc, document)?;
-    let of_names = name_errors(alloc, schema, document, &fragments)?;
-    if !of_names.is_empty() {
-        return Ok(of_names);
-    }
-    let of_types = type_errors(alloc, schema, document)?;
-    if !of_types.is_empty() {
-        return Ok(of_types);
-    }
-    use_errors(
-        alloc,
-        schema,
-        document,
-        &fragments,
-        cannot_merge,
-        introspection_disabled,
-    )
 }
 
 fn told(alloc: Global, errors: &[RuleError]) -> Result<String, AllocError> {
@@ -168,8 +165,14 @@ fn introspection_is_listed(rt: HostRuntime) -> Result<(), Fail> {
 }
 
 #[test]
+fn fields_are_merged(rt: HostRuntime) -> Result<(), Fail> {
+    assert_eq!(rt; first_other(rt.alloc(), MERGING, false)?, None);
+    Ok(())
+}
+
+#[test]
 fn merging_is_listed_third(rt: HostRuntime) -> Result<(), Fail> {
-    let list = found(rt.alloc(), ALL_FOUR, &[0], true)?;
+    let list = found(rt.alloc(), ALL_FOUR, true)?;
     assert_eq!(rt;
         list.as_str(),
         " Variable is not defined@0:0; Variable may not stand here@0:0; Fields cannot be merged@0:0; Introspection is disabled@0:0;"
@@ -179,7 +182,7 @@ fn merging_is_listed_third(rt: HostRuntime) -> Result<(), Fail> {
 
 #[test]
 fn merging_is_listed_at_each_definition(rt: HostRuntime) -> Result<(), Fail> {
-    let list = found(rt.alloc(), TWO_CANNOT_MERGE, &[1, 2], false)?;
+    let list = found(rt.alloc(), TWO_CANNOT_MERGE, false)?;
     assert_eq!(rt;
         list.as_str(),
         " Fields cannot be merged@1:0; Fields cannot be merged@2:1;"
