@@ -9,6 +9,8 @@ use Rattle.graphql_spec.specs.Schema.{Schema}
 use Rattle.graphql_spec.specs.Rules.{RuleError}
 use Rattle.graphql_spec.specs.FirstRules.{first_rule_errors, served_rule_errors, unsupported, is_plain_operation, is_plain_document}
 use Rattle.graphql_spec.specs.ServedFields.{has_scalar_fields}
+use Rattle.graphql_spec.specs.Executable.{is_executable}
+use Rattle.graphql_spec.proofs.FirstFound.{nothing-first}
 use Rattle.graphql_spec.specs.Shown.{Text}
 use Rattle.graphql_spec.specs.Positions.{Spanned}
 use Rattle.graphql_spec.specs.Values.{Value}
@@ -26,7 +28,7 @@ use Rattle.juniper.specs.Answering.{outcome, Reads, IsAnswered, IsAnsweredDocume
 use Rattle.juniper.specs.RequestErrors as request
 use Rattle.juniper.specs.RequestErrors.{RequestError, view_request_error, of_parse_error}
 use Rattle.juniper_rules.proofs.PlainErrors.{plain-query, plain-variables, plain-name}
-use Rattle.juniper_rules.proofs.ServedDocuments.{served-errors, unserved-errors, other-schema-errors, only-is-plain}
+use Rattle.juniper_rules.proofs.ServedDocuments.{nothing-found, unserved-errors, other-schema-errors, only-is-plain}
 
 no-variables : (o : Operation) → o.variables ≡ None → variables_of o ≡ []
 unfolding variables_of
@@ -50,13 +52,13 @@ pub unserved-unknown : (s : Schema) (given : Variables) (d : Document) (name : O
 unfolding of_document_by if_valid of_choice choose operations choose_only choose_named
 unserved-unknown s given [] None plain valid = rw valid refl
 unserved-unknown s given [] (Some n) plain valid = rw valid refl
-unserved-unknown s given (x ∷ d) name plain valid = absurd (some-unsupported x d (unserved-errors s (x ∷ d) plain ∙ valid))
+unserved-unknown s given (x ∷ d) name plain valid = absurd (some-unsupported x d (unserved-errors s (x ∷ d) plain valid))
 
 -- on a query type with other fields than scalars a document is not served, so one without errors is empty
 pub served-fields-alone : (s : Schema) (d : Document) (o : Operation) → d ≡ operation o ∷ [] → served_rule_errors s d ≡ [] → has_scalar_fields s ≡ true
 served-fields-alone s d o is valid = elim (cases_Bool (has_scalar_fields s)) [
   | inl served ↦ served
-  | inr other ↦ absurd (some-unsupported (operation o) [] (sym (ap unsupported is) ∙ (other-schema-errors s d other ∙ valid)))
+  | inr other ↦ absurd (some-unsupported (operation o) [] (sym (ap unsupported is) ∙ other-schema-errors s d other valid))
 ]
 
 module _ (s : Schema) (o : Operation) (plain : is_plain_operation o ≡ true) (given : Variables) where
@@ -90,8 +92,8 @@ module _ (s : Schema) (given : Variables) (d : Document) (o : Operation) (plain 
   here : served_rule_errors s (operation o ∷ []) ≡ []
   here = ap (served_rule_errors s) (sym is) ∙ valid
 
-  pub nothing-found : first_rule_errors s (operation o ∷ []) ≡ []
-  nothing-found = served-errors s d o (served-fields-alone s d o is valid) plain is ∙ valid
+  pub first-nothing : is_executable s ≡ true → first_rule_errors s (operation o ∷ []) ≡ []
+  first-nothing executable = ap (first_rule_errors s) (sym is) ∙ nothing-first s d executable (served-fields-alone s d o is valid) plain (nothing-found s d valid)
 
   pub refuses-named : (name : Option Name) → is_some name ≡ true → (e : RequestError) → e ≡ request.unknown_operation → IsRefusedDocument d s name given e
   refuses-named (Some n) named e made = rw (made, is) (unknown_operation, name-refuses s o (only-is-plain d o plain is) given n here, refl)

@@ -26,7 +26,7 @@ use crate::walk::{Walk, object};
 use juniper_language::{
     Document, Operation, ScalarValue, Span, Spanning, Value, Variables, parse_document_source,
 };
-use juniper_rules::{served_operation, validate};
+use juniper_rules::{served_operation, served_rule_errors};
 use juniper_types::{GraphQLType, GraphQLValue};
 use juniper_values::ExecutionError;
 use std::alloc::{AllocError, Global};
@@ -98,7 +98,7 @@ fn execute_document<Q: GraphQLValue<S>, M: GraphQLType<S>, Sub: GraphQLType<S>, 
         (world_in Q.concrete Q.answer (resolver_of root_node.now) (info_of root_node.now) context.now (view_schema S.shown (schema_of root_node.now))) (Q.root (resolver_of root_node.now)) (view_value S.shown p.0) (map (view_listed S.shown) p.1.items))
         (λ e. IsRefusedDocument (view_document S.shown document.now) (view_schema S.shown (schema_of root_node.now)) (option_map (λ n. n.now) operation_name.entry) (view_variables S.shown variables.now) (view_request_error e)) }
 {
-    let errors = validate(alloc, document, &root_node.schema)?;
+    let errors = served_rule_errors(alloc, document, &root_node.schema)?;
     if !errors.is_empty() {
         return Err(GraphQLError::from(errors));
     }

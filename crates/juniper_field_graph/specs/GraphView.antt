@@ -35,7 +35,7 @@ module _ {S : Type 0} (shown : S → Shown) where
   abbrev pub heads_of : FieldGraph S → ℕ → Head
   heads_of g i = head_or_none (slice_get (written_of g) i)
 
-  -- equal numbers say that types agree, and that names and arguments are the same
+  -- equal numbers say that types agree, and that names and arguments are the same; and what new numbers are found by is kept
   pub record IsGraphOf (s : Schema) (g : FieldGraph S) : Type 0 where
     pub numbered : AreNumbered s (vertices_of g) (heads_of g)
     pub kept : AreKept s (vertices_of g) (types_in shown g.fields.items) (written_of g) (heads_of g) (group_in g.kinds)

@@ -1,3 +1,4 @@
 pub mod AtEach
 pub mod Phases
 pub mod SideBySide
+mod Validating

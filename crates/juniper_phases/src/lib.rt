@@ -6,7 +6,9 @@ mod names;
 mod report;
 mod types;
 mod uses;
+mod validation;
 
 pub use names::name_errors;
 pub use types::type_errors;
 pub use uses::use_errors;
+pub use validation::validate;

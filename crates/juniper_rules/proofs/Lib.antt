@@ -2,4 +2,3 @@ pub mod ArgumentMaps
 pub mod PlainErrors
 pub mod PlainRules
 pub mod ServedDocuments
-mod Validating

@@ -123,14 +123,14 @@ other-schema-errors s d h e = nothing-unserved s d e (unserved-schema s d h)
 
 -- ## What is listed
 
+some-first : (es ds fs : List RuleError) → es ≡ ds → (es ≡ [] → ⊥) → es ≡ first_found ds fs
+unfolding first_found
+some-first [] ds fs e some = absurd (some refl)
+some-first (x ∷ es) ds fs e some = rw (sym e) refl
+
 pub listed-rules : (s : Schema) (d : Document) (es : List RuleError) → es ≡ rule_errors s true d → (es ≡ [] → ⊥) → es ≡ served_rule_errors s d
 unfolding served_rule_errors
-listed-rules s d es e some = go es e some
-  where
-    go : (es : List RuleError) → es ≡ rule_errors s true d → (es ≡ [] → ⊥) → es ≡ first_found (rule_errors s true d) (cond (is_served s d) [] (unsupported d))
-    unfolding first_found
-    go [] e some = absurd (some refl)
-    go (x ∷ es) e some = rw (sym e) refl
+listed-rules s d es e some = some-first es (rule_errors s true d) (cond (is_served s d) [] (unsupported d)) e some
 
 pub listed-served : (s : Schema) (d : Document) → [] ≡ rule_errors s true d → is_served s d ≡ true → [] ≡ served_rule_errors s d
 unfolding served_rule_errors first_found

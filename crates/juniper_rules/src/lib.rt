@@ -5,10 +5,9 @@ mod arguments;
 mod occurrences;
 mod served;
 mod served_rules;
-mod validation;
 
+pub use juniper_phases::validate;
 pub use juniper_syntax::RuleError;
 pub use occurrences::{Occurrences, response_key};
 pub use served::served_operation;
 pub use served_rules::served_rule_errors;
-pub use validation::validate;

@@ -10,7 +10,7 @@ ghost use Rattle.juniper_schema.specs.SchemaView.{view_schema};
 ghost use Rattle.juniper_syntax.specs.DocumentView.{view_definition, view_document};
 
 use crate::served::served_operation;
-use crate::validation::validate;
+use juniper_phases::validate;
 use juniper_schema::SchemaType;
 use juniper_syntax::{Definition, Document, RuleError, ScalarValue, SourcePosition};
 use std::alloc::{AllocError, Global};

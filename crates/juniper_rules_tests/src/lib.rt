@@ -2,9 +2,9 @@
 #![tactic(auto)]
 
 #[cfg(test)]
-mod graph;
-#[cfg(test)]
 mod listed;
+#[cfg(test)]
+mod lists;
 #[cfg(test)]
 mod names;
 #[cfg(test)]

@@ -9,7 +9,7 @@ use Rattle.juniper_schema.specs.SchemaView.{view_schema}
 use Rattle.juniper.specs.Walking.{world_in}
 use Rattle.juniper_syntax.proofs.Lists.{none-seen, some-seen}
 use Rattle.juniper_rules.proofs.ServedDocuments.{only-is-plain}
-use Rattle.juniper.proofs.Outcomes.{refuses-invalid, refuses-unserved, refuses-named, runs-alone, served-fields-alone, nothing-found, is-named, is-unnamed}
+use Rattle.juniper.proofs.Outcomes.{refuses-invalid, refuses-unserved, refuses-named, runs-alone, served-fields-alone, first-nothing, is-named, is-unnamed}
 use Rattle.juniper.proofs.execute.execute_document.Goals as goal
 
 pub returns-then-not-is_empty : goal.returns-then-not-is_empty
@@ -52,8 +52,9 @@ execute_query-requires-clause-served g c =
 pub execute_query-requires-clause-valid : goal.execute_query-requires-clause-valid
 execute_query-requires-clause-valid g c =
     let shown = g.S.ScalarValue.shown in
-    nothing-found (view_schema shown c.args.root_node.now.schema) (view_variables shown c.args.variables.now) (view_document shown c.args.document.now) (view_operation shown c.in-Some.operation.now) c.in-Some.ensures.0 c.in-Some.ensures.1
+    first-nothing (view_schema shown c.args.root_node.now.schema) (view_variables shown c.args.variables.now) (view_document shown c.args.document.now) (view_operation shown c.in-Some.operation.now) c.in-Some.ensures.0 c.in-Some.ensures.1
     (sym c.in_ok-errors.ensures ∙ none-seen view_rule_error c.in_ok-errors.errors.items c.in_ok-errors.errors.len c.in_ok-errors.errors.ok.0 c.if-not-is_empty.ensures)
+    c.args.root_node.now.executable
 
 pub returns : goal.returns
 returns g c =

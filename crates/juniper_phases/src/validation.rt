@@ -6,8 +6,10 @@ ghost use Rattle.juniper_position.specs.RuleView.{view_rule_error};
 ghost use Rattle.juniper_schema.specs.SchemaView.{view_schema};
 ghost use Rattle.juniper_syntax.specs.DocumentView.{view_document};
 
+use crate::names::name_errors;
+use crate::types::type_errors;
+use crate::uses::use_errors;
 use juniper_field_graph::cannot_merge;
-use juniper_phases::{name_errors, type_errors, use_errors};
 use juniper_schema::SchemaType;
 use juniper_spreads::fragments_by_name;
 use juniper_syntax::{Document, RuleError, ScalarValue};
