@@ -1,5 +1,6 @@
 pub mod Defaults
 pub mod Lists
 pub mod Placeholders
+pub mod Registered
 pub mod Plain
 pub mod Tables

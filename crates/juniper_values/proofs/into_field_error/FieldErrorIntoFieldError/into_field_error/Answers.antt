@@ -1,0 +1,5 @@
+use Rattle.std.proofs.Common.{refl}
+use Rattle.juniper_values.proofs.into_field_error.FieldErrorIntoFieldError.into_field_error.Goals as goal
+
+pub returns : goal.returns
+returns g c = refl
