@@ -142,18 +142,30 @@ fn r1_rows(rt: HostRuntime) -> Result<(), Fail> {
             "{ fail=null } failed@2:fail failed@7:fail",
         ),
         ("{ x }", None, "Unknown field@0"),
-        ("{ __schema }", None, "Unknown field@0"),
+        (
+            "{ __schema }",
+            None,
+            "Selection set does not fit the field@0",
+        ),
         ("{ a: id a: name }", None, "Fields cannot be merged@0"),
         ("{ id }", Some("Q"), "Unknown operation name"),
         ("{ x }", Some("Q"), "Unknown field@0"),
-        ("{ id { a } }", None, "Not supported yet@0"),
+        (
+            "{ id { a } }",
+            None,
+            "Unknown field@0Selection set does not fit the field@0",
+        ),
         ("", None, "Unexpected end of input@0"),
         ("{", None, "Unexpected end of input@1"),
         ("}", None, "Unexpected token@0"),
         ("{}", None, "Unexpected token@1"),
         ("{ id } x", None, "Unexpected token@7"),
-        ("{ id @skip }", None, "Not supported yet@0"),
-        ("{ id @skip(if: 1) }", None, "Not supported yet@0"),
+        ("{ id @skip }", None, "Argument is missing@0"),
+        (
+            "{ id @skip(if: 1) }",
+            None,
+            "Argument does not fit its type@0",
+        ),
         ("{ id \0 }", None, "Unknown character@5"),
     ];
     assert_eq!(rt;
@@ -226,7 +238,11 @@ fn r2_rows(rt: HostRuntime) -> Result<(), Fail> {
             None,
             "Argument name is not unique@0",
         ),
-        ("{ __type(name: 1) }", None, "Unknown field@0"),
+        (
+            "{ __type(name: 1) }",
+            None,
+            "Selection set does not fit the field@0Argument does not fit its type@0",
+        ),
         ("{ id(plus: 1) }", None, "Unknown argument@0"),
         (
             "{ number(plus: 1) @skip(if: true) number(plus: 1) }",
@@ -245,11 +261,11 @@ fn r2_rows(rt: HostRuntime) -> Result<(), Fail> {
     Ok(())
 }
 
-/// What is read and not served is refused at the start of its first definition, before the rules and the name.
+/// What no rule refuses and is not served yet is refused at the start of its first definition, before the name.
 #[test]
 fn r3_rows(rt: HostRuntime) -> Result<(), Fail> {
     let alloc = rt.alloc();
-    let rows: [Row<'_>; 16] = [
+    let rows: [Row<'_>; 19] = [
         ("query { id }", None, "{ id=q1 }"),
         ("query { x }", None, "Unknown field@0"),
         (" query Q { id }", Some("Q"), "Not supported yet@1"),
@@ -262,18 +278,41 @@ fn r3_rows(rt: HostRuntime) -> Result<(), Fail> {
             None,
             "Not supported yet@8",
         ),
-        ("{ id } { id }", None, "Not supported yet@0"),
-        ("{ x ...F }", None, "Not supported yet@0"),
-        ("{ ... { x } }", Some("Q"), "Not supported yet@0"),
-        ("{ x { y } }", None, "Not supported yet@0"),
+        (
+            "{ id } { id }",
+            None,
+            "Anonymous operation is not alone@0Anonymous operation is not alone@7",
+        ),
+        ("{ x ...F }", None, "Unknown fragment@0"),
+        ("{ ... { x } }", Some("Q"), "Unknown field@0"),
+        ("{ x { y } }", None, "Unknown field@0"),
         (
             "{ number(plus: 1, plus: \"1\") }",
             None,
+            "Argument name is not unique@0",
+        ),
+        (
+            "{ number(plus: [1]) }",
+            None,
+            "Argument does not fit its type@0",
+        ),
+        ("{ id @other(if: true) }", None, "Unknown directive@0"),
+        ("{ id @skip(if: $v) }", None, "Variable is not defined@0"),
+        (
+            "{ ...F } fragment F on Query { id ...F }",
+            None,
+            "Fragment spreads itself@9",
+        ),
+        (
+            "{ number(plus: 1) ... on Query { number(plus: 2) } }",
+            None,
+            "Fields cannot be merged@0",
+        ),
+        (
+            "{ ...F } fragment F on Query { id }",
+            None,
             "Not supported yet@0",
         ),
-        ("{ number(plus: [1]) }", None, "Not supported yet@0"),
-        ("{ id @other(if: true) }", None, "Not supported yet@0"),
-        ("{ id @skip(if: $v) }", None, "Not supported yet@0"),
     ];
     assert_eq!(rt;
         first_wrong::<DefaultScalarValue>(alloc, rows.as_slice())?.as_str(),
