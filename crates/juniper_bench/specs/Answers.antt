@@ -1,9 +1,10 @@
 -- What the program answers.
-use Rattle.std.specs.Prelude.{◌≡◌, ◌≢◌, ◌⊎◌, Bool, MatchOption, ◌+◌, ℕ, cond, length, ◌++◌, codes, decimal, string_bytes}
+use Rattle.std.specs.Prelude.{◌≡◌, ◌≢◌, ◌⊎◌, Bool, false, MatchOption, ◌+◌, ℕ, cond, length, ◌++◌, codes, decimal, string_bytes}
 use Rattle.graphql_spec.specs.Shown.{Text}
 use Rattle.graphql_spec.specs.Documents.{Document}
 use Rattle.graphql_spec.specs.Grammar.{Spells}
 use Rattle.graphql_spec.specs.Positions.{Position}
+use Rattle.graphql_spec.specs.Rules.{rule_errors}
 use Rattle.graphql_spec.specs.Schema.{Schema}
 use Rattle.graphql_spec.specs.Executable.{is_executable}
 use Rattle.juniper_position.specs.Refusals.{refusal_text, view_refusal}
@@ -32,6 +33,18 @@ IsRefused t a = (e : ParseError) × (p : Position) × (e ≢ Memory → (d : Doc
 -- the answer to a text that is to be a document
 abbrev pub IsAnswerTo : Text → Answer → Type 0
 IsAnswerTo t a = IsCounted t a ⊎ IsRefused t a
+
+-- how numbers of definitions and errors are told
+abbrev pub list_line : ℕ → ℕ → Text
+list_line ds es = codes "definitions: " ++ (decimal ds ++ (codes ", errors: " ++ decimal es))
+
+-- the answer for a document that is validated on a schema which is made (5): how many errors are listed, with status 0
+abbrev pub IsListed : Document → Answer → Type 0
+IsListed d a = (s : Schema) × (a.status ≡ 0) × (string_bytes a.line ≡ list_line (length d) (length (rule_errors s false d)))
+
+-- the answer to a text whose document is to be validated
+abbrev pub IsListFor : Text → Answer → Type 0
+IsListFor t a = ((d : Document) × Spells t d × IsListed d a) ⊎ IsRefused t a
 
 -- the answer to a text that is to be JSON: how many bytes it has, with status 0; to one that is none that it is none, with status 1
 abbrev pub IsScanOf : Text → Answer → Type 0

@@ -1,22 +1,27 @@
 //! What the program answers.
 
-ghost use Rattle.std.specs.Prelude.{◌≡◌, IfOk, length, string_bytes};
+ghost use Rattle.std.specs.Prelude.{◌≡◌, IfOk, length, map, string_bytes};
 ghost use Rattle.juniper_syntax.specs.DocumentView.{view_document};
 ghost use Rattle.juniper_position.specs.Positions.{view_position};
+ghost use Rattle.juniper_position.specs.RuleView.{view_rule_error};
 ghost use Rattle.juniper_syntax.specs.Scalars.{default_shown};
 ghost use Rattle.juniper_schema.specs.SchemaView.{view_schema};
 ghost use Rattle.graphql_spec.specs.Executable.{is_executable};
-ghost use Rattle.juniper_bench.specs.Answers.{IsAnswerTo, IsScanOf, IsTestOf, counts_line, executable_word, refusal_line, schema_line};
+ghost use Rattle.juniper_bench.specs.Answers.{IsAnswerTo, IsListFor, IsListed, IsScanOf, IsTestOf, counts_line, executable_word, list_line, refusal_line, schema_line};
 ghost use Rattle.juniper_bench.specs.Counts.{capped, fields_of};
 
 use crate::count::count_fields;
 use crate::schema::made_schema;
 use juniper_language::{
-    DefaultScalarValue, Document, ParseError, Span, Spanning, parse_document_source,
+    DefaultScalarValue, Document, ParseError, RuleError, Span, Spanning, parse_document_source,
 };
+use juniper_rules::validate;
 use juniper_schema::{SchemaType, schema_is_executable};
 use serde_json::Value;
 use std::alloc::{AllocError, Global};
+
+/// How many types the schema has on which documents are validated.
+const SCHEMA_TYPES: usize = 12;
 
 /// What the program prints, and the status with which it ends: 0 where it did what it was asked for, 1 for a text that is
 /// refused, 2 for words that are not understood and for a file that cannot be read.
@@ -71,6 +76,50 @@ fn refused(alloc: Global, refusal: &Spanning<ParseError, Span>) -> Result<Answer
     Ok(Answer {
         status: 1,
         line: format!(in alloc; "refused: {error} at {line}:{column}")?,
+    })
+}
+
+/// Parses the text, validates its document so many times on a schema that is made, with introspection allowed, and answers
+/// how many errors are listed; or why and where the text is refused. An error where memory is refused.
+pub fn validate_answer(alloc: Global, text: &str, times: usize) -> Result<Answer, AllocError>
+    ensures { IfOk result (IsListFor text.now) }
+{
+    match parse_document_source::<DefaultScalarValue>(alloc, text) {
+        Ok(document) => listed(alloc, &document, times),
+        Err(refusal) => refused(alloc, &refusal),
+    }
+}
+
+/// How many errors validation lists for a document.
+fn listed(
+    alloc: Global,
+    document: &Document<'_, DefaultScalarValue>,
+    times: usize,
+) -> Result<Answer, AllocError>
+    ensures { IfOk result (IsListed (view_document default_shown document.now)) }
+{
+    let schema = made_schema(alloc, SCHEMA_TYPES)?;
+    for _turn in 1..times {
+        let _listed = validate(alloc, &*document, &schema, false);
+    }
+    let errors = validate(alloc, &*document, &schema, false)?;
+    list_answer(alloc, document, &errors)
+}
+
+/// How many definitions a document has, and how many errors are listed for it.
+fn list_answer(
+    alloc: Global,
+    document: &Document<'_, DefaultScalarValue>,
+    errors: &Vec<RuleError>,
+) -> Result<Answer, AllocError>
+    ensures status { IfOk result (λ a. a.status ≡ 0) }
+    ensures line { IfOk result (λ a. string_bytes a.line ≡ list_line (length (view_document default_shown document.now)) (length (map view_rule_error errors.now.items))) }
+{
+    let definition_count = document.len();
+    let error_count = errors.len();
+    Ok(Answer {
+        status: 0,
+        line: format!(in alloc; "definitions: {definition_count}, errors: {error_count}")?,
     })
 }
 
@@ -161,6 +210,30 @@ mod tests {
         ];
         for (text, status, line) in &rows {
             let answer = parse_answer(alloc, text, 2)?;
+            assert_eq!(rt; answer.line.as_str(), *line, "{text}");
+            assert_eq!(rt; answer.status, *status, "{text}");
+        }
+        Ok(())
+    }
+
+    #[test]
+    fn errors_are_counted(rt: HostRuntime) -> Result<(), Fail> {
+        let alloc = rt.alloc();
+        let rows = [
+            (
+                "{ first { ...F } } fragment F on Node { id ... on T3 { others(first: 2) { id } } }",
+                0,
+                "definitions: 2, errors: 0",
+            ),
+            (
+                "{ first { id(of: 1) name } } query Q { id }",
+                0,
+                "definitions: 2, errors: 1",
+            ),
+            ("{ first", 1, "refused: Unexpected end of input at 1:8"),
+        ];
+        for (text, status, line) in &rows {
+            let answer = validate_answer(alloc, text, 2)?;
             assert_eq!(rt; answer.line.as_str(), *line, "{text}");
             assert_eq!(rt; answer.status, *status, "{text}");
         }

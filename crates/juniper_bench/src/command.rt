@@ -20,6 +20,8 @@ pub struct Size {
 pub enum Command<'a> {
     /// To read a file as a document, so many times.
     Parse(&'a str, usize),
+    /// To read a file as a document, and to validate it so many times.
+    Validate(&'a str, usize),
     /// To read a file as JSON, so many times.
     Scan(&'a str, usize),
     /// To make a text.
@@ -28,8 +30,8 @@ pub enum Command<'a> {
     Schema(usize, usize),
 }
 
-/// What the words ask for; nothing where they are none of `parse FILE TIMES`, `scan FILE TIMES`, `make FIELDS DEPTH` and
-/// `schema TYPES TIMES`, or a number is not in its bounds.
+/// What the words ask for; nothing where they are none of `parse FILE TIMES`, `validate FILE TIMES`, `scan FILE TIMES`,
+/// `make FIELDS DEPTH` and `schema TYPES TIMES`, or a number is not in its bounds.
 pub fn read_command(words: &[String]) -> Option<Command<'_>> {
     let [word, first, second] = words else {
         return None;
@@ -37,6 +39,7 @@ pub fn read_command(words: &[String]) -> Option<Command<'_>> {
     let last = number(second.as_str())?;
     match word.as_str() {
         "parse" => Some(Command::Parse(first.as_str(), last)),
+        "validate" => Some(Command::Validate(first.as_str(), last)),
         "scan" => Some(Command::Scan(first.as_str(), last)),
         "make" => {
             let size = bounded_size(number(first.as_str())?, last)?;

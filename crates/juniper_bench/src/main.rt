@@ -1,5 +1,6 @@
-//! Measures the parser and the test of schemas: `juniper_bench parse FILE TIMES` parses a file so many times and prints what
-//! its document counts, `juniper_bench scan FILE TIMES` reads a file of JSON so many times, `juniper_bench make FIELDS DEPTH`
+//! Measures the parser, validation and the test of schemas: `juniper_bench parse FILE TIMES` parses a file so many times and
+//! prints what its document counts, `juniper_bench validate FILE TIMES` parses a file and validates its document so many times
+//! on a schema that is made, `juniper_bench scan FILE TIMES` reads a file of JSON so many times, `juniper_bench make FIELDS DEPTH`
 //! prints a text to be parsed, and `juniper_bench schema TYPES TIMES` makes a schema of so many types, and tests so many times
 //! whether requests can be executed on it. The program takes no time itself: the one who runs it does.
 #![tactic(auto)]
@@ -12,7 +13,7 @@ mod count;
 mod make;
 mod schema;
 
-use answers::{Answer, parse_answer, scan_answer, schema_answer};
+use answers::{Answer, parse_answer, scan_answer, schema_answer, validate_answer};
 use command::{Command, read_command};
 use make::made_text;
 use std::alloc::{AllocError, Global};
@@ -28,11 +29,15 @@ fn answer<R: Files + AllocGlobal>(rt: &R, words: &[String]) -> Result<Answer, Al
             status: 2,
             line: String::from_str(
                 alloc,
-                "usage: juniper_bench parse FILE TIMES | scan FILE TIMES | make FIELDS DEPTH | schema TYPES TIMES",
+                "usage: juniper_bench parse FILE TIMES | validate FILE TIMES | scan FILE TIMES | make FIELDS DEPTH | schema TYPES TIMES",
             )?,
         }),
         Some(Command::Parse(file, times)) => match fs::read_to_string(rt, file) {
             Ok(text) => parse_answer(alloc, text.as_str(), times),
+            Err(_) => unread(alloc, file),
+        },
+        Some(Command::Validate(file, times)) => match fs::read_to_string(rt, file) {
+            Ok(text) => validate_answer(alloc, text.as_str(), times),
             Err(_) => unread(alloc, file),
         },
         Some(Command::Scan(file, times)) => match fs::read_to_string(rt, file) {

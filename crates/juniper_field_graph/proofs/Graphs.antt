@@ -11,7 +11,7 @@ use Rattle.graphql_spec.specs.Fields.{declared_type, field_of, is_object, type_n
 use Rattle.graphql_spec.specs.Laws.{In}
 use Rattle.juniper_merging.specs.MergingGraph.{FieldAt, view_vertex}
 use Rattle.juniper_merging.specs.Standing.{AreNumbered, Grows}
-use Rattle.juniper_merging.specs.SearchView.{group_in}
+use Rattle.juniper_merging.specs.Groups.{group_in}
 use Rattle.juniper_merging.specs.declared.graph.Vertex.{Vertex}
 use Rattle.juniper_merging.proofs.Grouping.{empty-groups}
 use Rattle.juniper_meta.specs.MetaView.{view_type}
@@ -132,7 +132,9 @@ module _ {S : Type 0} (shown : S → Shown) (s : Schema) where
     pushed = record {
       graph = record { numbered = numbered-now; kept = kept-now };
       grows = grown-now;
+      number = is;
       vertex = x;
+      added = vertices-are;
       selects = refl;
       stands = λ y p e. record {
         there = there-now;

@@ -1,11 +1,10 @@
 -- Fragments that are held one behind the other.
-use Rattle.std.proofs.Common.{◌≡◌, ℕ, true, false, Bool, cond, bytes_eq, List, [], ◌∷◌, ◌++◌, length, Option, Some, None, inl, inr, refl, sym, ap, subst, ◌∙◌}
+use Rattle.std.proofs.Common.{◌≡◌, ℕ, cond, bytes_eq, List, [], ◌∷◌, ◌++◌, Option, Some, None, inl, inr, refl, sym, ap, subst, ◌∙◌}
 use Rattle.std.proofs.lemmas.Bool.{cases_Bool}
 use Rattle.graphql_spec.specs.Shown.{Name}
-use Rattle.graphql_spec.specs.Documents.{Fragment, Head, written}
-use Rattle.graphql_spec.specs.Fragments.{HasNoCycle, fragment_of, spreads}
+use Rattle.graphql_spec.specs.Documents.{Fragment, Head}
+use Rattle.graphql_spec.specs.Fragments.{HasNoCycle, fragment_of}
 use Rattle.graphql_spec.specs.Schema.{Schema}
-use Rattle.graphql_spec.specs.Written.{arguments_repeat, heads}
 use Rattle.graphql_spec.specs.Laws.{In}
 use Rattle.graphql_spec.proofs.Grouping.{in_append}
 use Rattle.graphql_spec.proofs.Lists.{same_refl, same_true}

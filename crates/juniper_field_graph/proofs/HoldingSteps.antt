@@ -1,6 +1,6 @@
 -- The steps of a walk that holds fragments.
-use Rattle.std.proofs.Common.{◌≡◌, ℕ, zero, ◌+◌, ◌<◌, ◌≤◌, cond, bytes_eq, List, [], ◌∷◌, ◌++◌, length, get_or, take, drop, map, Option, Some, None, Bor, refl, sym, ap, subst, ◌∙◌}
-use Rattle.std.proofs.lemmas.List.{drop_all, take_all}
+use Rattle.std.proofs.Common.{◌≡◌, ℕ, zero, ◌+◌, ◌<◌, ◌≤◌, cond, bytes_eq, List, ◌∷◌, length, get_or, take, drop, map, Option, Some, None, Bor, sym, subst}
+use Rattle.std.proofs.lemmas.List.{take_all}
 use Rattle.graphql_spec.specs.Shown.{Shown, Name}
 use Rattle.graphql_spec.specs.Documents as spec
 use Rattle.graphql_spec.specs.Fragments.{HasNoCycle}

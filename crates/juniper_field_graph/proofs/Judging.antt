@@ -1,11 +1,11 @@
 -- Whether all sets of a definition merge.
-use Rattle.std.proofs.Common.{◌≡◌, ℕ, Bool, true, false, ◌&&◌, not, List, [], ◌∷◌, ◌++◌, Option, Some, None, inl, inr, refl, sym, ap, subst, ◌∙◌}
+use Rattle.std.proofs.Common.{◌≡◌, ℕ, Bool, true, false, ◌&&◌, List, [], ◌∷◌, Some, None, inl, inr, refl, sym, ap, ◌∙◌}
 use Rattle.std.specs.List.{list_all}
-use Rattle.std.proofs.lemmas.Bool.{and_parts, and_from, cases_Bool}
+use Rattle.std.proofs.lemmas.Bool.{cases_Bool}
 use Rattle.std.proofs.lemmas.List.Folds.{list_all-append}
 use Rattle.graphql_spec.specs.Shown.{Name}
 use Rattle.graphql_spec.specs.Types.{innermost}
-use Rattle.graphql_spec.specs.Documents.{Definition, operation, fragment, Document, Fragment, fragments, Head, Operation, Selections, end, field, spread, inline, name_or}
+use Rattle.graphql_spec.specs.Documents.{operation, fragment, Document, Fragment, fragments, Head, Operation, Selections, end, field, spread, inline, name_or}
 use Rattle.graphql_spec.specs.Schema.{Schema}
 use Rattle.graphql_spec.specs.Fields.{declared_type, field_of}
 use Rattle.graphql_spec.specs.Placed.{root_type}
@@ -15,7 +15,6 @@ use Rattle.graphql_spec.specs.ValidityLaws.{PlacedSet, sets_below, sets_from}
 use Rattle.juniper_merging.specs.MergingGraph.{FieldAt, each_pair_at, set_merges_at}
 use Rattle.juniper_merging.specs.Standing.{AreNumbered, Covers}
 use Rattle.juniper_merging.proofs.Searching.{all-from}
-use Rattle.juniper_merging.proofs.Places.{same-truth}
 use Rattle.juniper_merging.proofs.Whole.{whole}
 use Rattle.juniper_field_graph.specs.Gathering.{AreCovered}
 

@@ -1,7 +1,6 @@
 -- Selections that are gathered one behind the other.
-use Rattle.std.specs.Prelude.{ℕ, suc, true, false, List, [], ◌∷◌, ◌++◌, ◌≡◌, ◌⊎◌, Option, Some, None}
-use Rattle.std.specs.List.{slice_get}
-use Rattle.std.proofs.Common.{refl, sym, ap, subst, inl, inr, ◌∙◌}
+use Rattle.std.specs.Prelude.{ℕ, true, List, [], ◌∷◌, ◌++◌, ◌≡◌, Some, None}
+use Rattle.std.proofs.Common.{refl, sym, subst, inl, inr, ◌∙◌}
 use Rattle.std.proofs.lemmas.List.{append_assoc, append-nil}
 use Rattle.graphql_spec.specs.Shown.{Name}
 use Rattle.graphql_spec.specs.Types.{innermost}
@@ -9,16 +8,14 @@ use Rattle.graphql_spec.specs.Documents.{Fragment, Head, Inline, Selections, Spr
 use Rattle.graphql_spec.specs.Fragments.{HasNoCycle, expand, fragment_of}
 use Rattle.graphql_spec.specs.Schema.{Schema}
 use Rattle.graphql_spec.specs.Fields.{declared_type, field_of}
-use Rattle.graphql_spec.specs.Overlap.{Field}
 use Rattle.graphql_spec.specs.Laws.{In}
 use Rattle.graphql_spec.specs.ValidityLaws.{PlacedSet, sets_below, sets_from}
 use Rattle.graphql_spec.proofs.Grouping.{in_append, in_first, in_second}
-use Rattle.juniper_merging.specs.Kept.{IsSetOf}
 use Rattle.juniper_merging.specs.MergingGraph.{FieldAt}
-use Rattle.juniper_merging.specs.Standing.{AreAlike, Covers, Grows, IsAt}
-use Rattle.juniper_merging.proofs.Covering.{covers-end, covers-field, covers-inline, covers-kept, covers-more, covers-nothing, covers-spread}
+use Rattle.juniper_merging.specs.Standing.{Covers, Grows, IsAt}
+use Rattle.juniper_merging.proofs.Covering.{covers-end, covers-field, covers-inline, covers-more, covers-nothing, covers-spread}
 use Rattle.juniper_merging.proofs.Growing.{at-more}
-use Rattle.juniper_field_graph.specs.Gathering.{AreCovered, IsKnown, IsReady, Leads}
+use Rattle.juniper_field_graph.specs.Gathering.{AreCovered, Leads}
 
 -- ## Graphs that grow
 

@@ -12,3 +12,4 @@ mod Choosing
 mod Numbering
 mod Pushing
 mod Graphs
+mod Found

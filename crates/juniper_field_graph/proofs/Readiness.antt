@@ -1,12 +1,11 @@
 -- Selections whose fragments are known, part by part.
-use Rattle.std.specs.Prelude.{ℕ, false, List, [], ◌∷◌, ◌++◌, ◌≡◌, ◌⊎◌, Option, Some, None}
+use Rattle.std.specs.Prelude.{ℕ, false, List, ◌≡◌, Option, Some, None}
 use Rattle.std.proofs.Common.{refl, sym, subst, inl, inr, ◌∙◌}
 use Rattle.graphql_spec.specs.Shown.{Name}
 use Rattle.graphql_spec.specs.Documents.{Fragment, Head, Inline, Selections, Spread, end, field, spread, inline, written}
 use Rattle.graphql_spec.specs.Fragments.{fragment_of, spreads}
 use Rattle.graphql_spec.specs.Schema.{Schema}
 use Rattle.graphql_spec.specs.Written.{arguments_repeat, heads}
-use Rattle.graphql_spec.specs.Laws.{In}
 use Rattle.graphql_spec.proofs.Grouping.{in_first, in_second}
 use Rattle.juniper_merging.specs.MergingGraph.{FieldAt}
 use Rattle.juniper_merging.specs.Standing.{Covers, Grows}

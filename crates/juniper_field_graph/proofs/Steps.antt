@@ -1,11 +1,13 @@
 -- The steps of a walk that gathers selections.
-use Rattle.std.proofs.Common.{◌≡◌, ℕ, ◌+◌, ◌<◌, ◌≤◌, false, true, List, [], ◌∷◌, ◌++◌, length, get_or, drop, Option, Some, None, Vec, Global, inl, inr, refl, sym, ap, subst, ◌∙◌}
+use Rattle.std.proofs.Common.{◌≡◌, ℕ, ◌+◌, ◌<◌, ◌≤◌, false, true, List, [], ◌∷◌, ◌++◌, length, get_or, drop, Option, Some, None, refl, sym, ap, subst, ◌∙◌}
+use Rattle.std.specs.Prelude.{Vec}
+use Rattle.std.specs.declared.alloc.Global.{Global}
 use Rattle.std.proofs.lemmas.List.{append_assoc, append-nil, drop_all}
 use Rattle.graphql_spec.specs.Shown.{Shown, Name}
 use Rattle.graphql_spec.specs.Types.{innermost}
 use Rattle.graphql_spec.specs.Documents as spec
 use Rattle.graphql_spec.specs.Documents.{Fragment, Head, Selections, end, field, spread, inline, name_or, written}
-use Rattle.graphql_spec.specs.Fragments.{HasNoCycle, expand, fragment_of}
+use Rattle.graphql_spec.specs.Fragments.{HasNoCycle, expand}
 use Rattle.graphql_spec.specs.Schema.{Schema}
 use Rattle.graphql_spec.specs.Fields.{declared_type, field_of}
 use Rattle.graphql_spec.specs.Written.{arguments_repeat}
@@ -24,8 +26,9 @@ use Rattle.juniper_syntax.specs.declared.ast.Selection.TheOpen.{Selection-F}
 use Rattle.juniper_syntax.proofs.Documents.{put-Field, put-FragmentSpread, put-InlineFragment}
 use Rattle.juniper_syntax.proofs.Lists.{left-is}
 use Rattle.juniper_written.specs.WrittenView.{view_field, view_inline, view_spread_at}
-use Rattle.juniper_field_graph.specs.Gathering.{IsGathered, IsKnown, IsReadyIn, IsSetGathered}
+use Rattle.juniper_field_graph.specs.Gathering.{IsGathered, IsKnown, IsReadyIn, IsSetGathered, view_sets}
 use Rattle.juniper_field_graph.specs.GraphView.{IsGraphOf, IsPushed, heads_of, vertices_of}
+use Rattle.juniper_field_graph.specs.declared.gathering.Gathered.{Gathered}
 use Rattle.juniper_field_graph.specs.declared.graph.FieldGraph.{FieldGraph}
 use Rattle.juniper_field_graph.proofs.Leading.{grows-further, grows-itself, covered-end, covered-from, leads-field, leads-inline, leads-nothing, leads-spread, leads-then, leads-unknown, leads-whole}
 use Rattle.juniper_field_graph.proofs.Readiness.{known-held, known-none, ready-field, ready-inline, ready-more, ready-spread}
@@ -41,6 +44,20 @@ module _ {S : Type 0} (shown : S → Shown) (s : Schema) (fs : List Fragment) wh
     stands = covers-end s (vertices_of shown g) (heads_of shown g) fs p;
     covered = covered-end s fs (vertices_of shown g) (heads_of shown g) p;
   }
+
+  -- the same, as the code has it after what a field selects was looked at
+  pub set-as : (old : FieldGraph S) (then now : Gathered S) (sets : List (List ℕ)) (p q : Name) (set : Selections) (v w : Vec ℕ Global) → now ≡ then → w ≡ v → p ≡ q →
+      IsSetGathered shown s fs old then.graph sets (view_sets then.sets) p set v.items → IsSetGathered shown s fs old now.graph sets (view_sets now.sets) q set w.items
+  set-as old then now sets p q set v w same put on a =
+      subst (λ z. IsSetGathered shown s fs old z.graph sets (view_sets z.sets) q set w.items) (sym same)
+      (subst (λ l. IsSetGathered shown s fs old then.graph sets (view_sets then.sets) q set l.items) (sym put)
+      (subst (λ n. IsSetGathered shown s fs old then.graph sets (view_sets then.sets) n set v.items) on a))
+
+  pub none-as : (old now : Gathered S) (v w : Vec ℕ Global) (p : Name) → now ≡ old → w ≡ v → v.items ≡ [] → IsGraphOf shown s old.graph →
+      IsSetGathered shown s fs old.graph now.graph (view_sets old.sets) (view_sets now.sets) p end w.items
+  none-as old now v w p same put none is =
+      set-as old.graph old now (view_sets old.sets) p p end v w same put refl
+      (subst (IsSetGathered shown s fs old.graph old.graph (view_sets old.sets) (view_sets old.sets) p end) (sym none) (none-gathered old.graph (view_sets old.sets) p is))
 
   -- a field, behind what it selects
   pub field-gathered : (old mid new : FieldGraph S) (sets then : List (List ℕ)) (n m : Numbers) (p : Name) (h : Head) (below rest : Selections) (inner : List ℕ) (i : ℕ) →

@@ -2,7 +2,7 @@
 use Rattle.std.proofs.Common.{◌≡◌, ℕ, ◌+◌, ◌<◌, ◌≤◌, List, [], ◌∷◌, ◌++◌, length, get_or, take, drop, map, inl, inr, refl, sym, ap, subst, ◌∙◌}
 use Rattle.std.proofs.lemmas.List.{take_more, take_all, take-append-drop, map-append}
 use Rattle.graphql_spec.specs.Laws.{In}
-use Rattle.graphql_spec.proofs.Grouping.{in_append, in_first, in_second}
+use Rattle.graphql_spec.proofs.Grouping.{in_append, in_second}
 use Rattle.juniper_syntax.proofs.Lists.{left-is, seen-last}
 
 module _ {A B : Type 0} (view : A → B) (xs : List A) where

@@ -1,12 +1,10 @@
 -- Documents in which the rules on names find nothing: no field has an argument twice.
-use Rattle.std.proofs.Common.{◌≡◌, ℕ, Bool, false, List, [], ◌∷◌, Option, Some, inl, inr, sym, ap, subst, ◌∙◌}
+use Rattle.std.proofs.Common.{◌≡◌, ℕ, Bool, false, List, [], ◌∷◌, Option, inl, inr, ap, ◌∙◌}
 use Rattle.std.specs.List.{list_any}
 use Rattle.std.proofs.lemmas.Bool.{or_parts}
 use Rattle.graphql_spec.specs.Shown.{Name}
-use Rattle.graphql_spec.specs.Documents.{Definition, Document, Fragment, Head, fragment, fragments, written}
-use Rattle.graphql_spec.specs.Fragments.{fragment_of}
+use Rattle.graphql_spec.specs.Documents.{Definition, Document, Head, fragment, fragments, written}
 use Rattle.graphql_spec.specs.Schema.{Schema}
-use Rattle.graphql_spec.specs.Rules.{at_each, name_errors}
 use Rattle.graphql_spec.specs.ValidityLaws.{HasGoodNames}
 use Rattle.graphql_spec.specs.Written.{arguments_repeat, heads, selections_of}
 use Rattle.graphql_spec.specs.Laws.{In}

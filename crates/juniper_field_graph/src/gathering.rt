@@ -78,40 +78,8 @@ fn gather_selection<'d, 'a, S: ScalarValue>(
 {
     match selection {
         Selection::Field(field) => {
-            let declared_type = declared_type(known, parent, field.item.name.item);
-            match &field.item.selection_set {
-                Some(selections) => {
-                    let inner = declared_type.innermost_name();
-                    let below = gather_set(alloc, known, inner, selections, gathered)?;
-                    let graph = &mut gathered.graph;
-                    put_field(
-                        alloc,
-                        known,
-                        parent,
-                        field,
-                        declared_type,
-                        below,
-                        graph,
-                        numbers,
-                    )?;
-                    Ok(())
-                }
-                None => {
-                    let below = Vec::new(alloc);
-                    let graph = &mut gathered.graph;
-                    put_field(
-                        alloc,
-                        known,
-                        parent,
-                        field,
-                        declared_type,
-                        below,
-                        graph,
-                        numbers,
-                    )?;
-                    Ok(())
-                }
-            }
+            gather_field(alloc, known, parent, field, numbers, gathered)?;
+            Ok(())
         }
         Selection::FragmentSpread(spread) => {
             let fragments = known.fragments;
@@ -130,6 +98,42 @@ fn gather_selection<'d, 'a, S: ScalarValue>(
             Ok(())
         }
     }
+}
+
+/// Gathers a field on a type, behind what it selects and before what follows it.
+#[cycle(gathering)]
+fn gather_field<'d, 'a, S: ScalarValue>(
+    alloc: Global,
+    known: &Known<'d, '_, S>,
+    parent: &'d str,
+    field: &'d Spanning<Field<'a, S>, Span>,
+    numbers: &mut Numbers,
+    gathered: &mut Gathered<'d, 'a, S>,
+) -> Result<(), AllocError>
+    ensures { OnOk result ((fs : List SpecFragment) → HasNoCycle fs → view_type known.now.undeclared.now ≡ fields.declared_type None → IsGraphOf S.shown (view_schema S.shown known.now.schema.now) gathered.old.graph
+        → (rest : Selections) → IsReadyIn S.shown (view_schema S.shown known.now.schema.now) fs gathered.old.graph (numbers_at known.now.fragments.now) (put_selection S.shown (Selection.Field field.now) rest)
+        → IsGathered S.shown (view_schema S.shown known.now.schema.now) fs gathered.old.graph gathered.new.graph (view_sets gathered.old.sets) (view_sets gathered.new.sets) numbers.old numbers.new parent.now rest (put_selection S.shown (Selection.Field field.now) rest)) }
+{
+    let declared_type = declared_type(known, parent, field.item.name.item);
+    let below = match &field.item.selection_set {
+        Some(selections) => {
+            let inner = declared_type.innermost_name();
+            gather_set(alloc, known, inner, selections, gathered)?
+        }
+        None => Vec::new(alloc),
+    };
+    let graph = &mut gathered.graph;
+    put_field(
+        alloc,
+        known,
+        parent,
+        field,
+        declared_type,
+        below,
+        graph,
+        numbers,
+    )?;
+    Ok(())
 }
 
 /// Puts a field, which selects these fields, to the graph, and to the numbers.

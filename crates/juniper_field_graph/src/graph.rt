@@ -1,25 +1,22 @@
 //! A graph of written fields.
 
-ghost use Rattle.std.specs.Prelude.{◌≡◌, ◌||◌, ℕ, IfOk, List, OnOk, Some, cond, false, length, map, nat_eq, []};
+ghost use Rattle.std.specs.Prelude.{◌≡◌, ◌||◌, ℕ, IfOk, List, Some, false, length, map, nat_eq, []};
 ghost use Rattle.std.specs.List.{find, slice_get};
-ghost use Rattle.std.specs.Str.{bytes_eq};
 ghost use Rattle.graphql_spec.specs.Documents as documents;
 ghost use Rattle.graphql_spec.specs.Documents.{Head, written};
 ghost use Rattle.graphql_spec.specs.Fields as fields;
 ghost use Rattle.graphql_spec.specs.Fields.{field_of};
 ghost use Rattle.graphql_spec.specs.Schema.{Schema};
-ghost use Rattle.graphql_spec.specs.Shown.{Name};
 ghost use Rattle.graphql_spec.specs.Written.{arguments_repeat};
 ghost use Rattle.juniper_merging.specs.MergingGraph.{view_vertex};
-ghost use Rattle.juniper_merging.specs.SearchView.{group_in};
 ghost use Rattle.juniper_meta.specs.MetaView.{view_type};
 ghost use Rattle.juniper_schema.specs.SchemaView.{view_schema};
 ghost use Rattle.juniper_written.specs.WrittenView.{view_field};
-ghost use Rattle.juniper_field_graph.specs.GraphView.{IsGraphOf, IsPushed};
+ghost use Rattle.juniper_field_graph.specs.GraphView.{IsGraphOf, IsPushed, vertices_of};
 ghost use Rattle.juniper_field_graph.specs.KindsView as kinds_view;
 ghost use Rattle.juniper_field_graph.specs.KindsView.{IsOnce, heads_in, number_among, number_or, types_in};
 
-use juniper_merging::Vertex;
+use juniper_merging::{Groups, Vertex, put_group, take_group};
 use juniper_overlapping_fields::{same_call, types_agree};
 use juniper_schema::SchemaType;
 use juniper_syntax::{Field, ScalarValue, Span, Spanning, Type};
@@ -43,13 +40,14 @@ pub struct FieldGraph<'d, 'a, S> {
     /// The field that each of them stands for.
     fields: Vec<WrittenField<'d, 'a, S>>,
     /// For each response key the numbers of vertices of which each differs from those before it in its type or its call.
-    kinds: HashMap<&'d str, Vec<usize>>,
+    kinds: Groups<'d>,
 }
 
 impl<'d, 'a, S: ScalarValue> FieldGraph<'d, 'a, S> {
     /// No fields.
     pub fn new(alloc: Global) -> Self
-        ensures { (s : Schema) → IsGraphOf S.shown s result }
+        ensures graph { (s : Schema) → IsGraphOf S.shown s result }
+        ensures empty { vertices_of S.shown result ≡ [] }
     {
         FieldGraph {
             vertices: Vec::new(alloc),
@@ -58,8 +56,8 @@ impl<'d, 'a, S: ScalarValue> FieldGraph<'d, 'a, S> {
         }
     }
 
-    /// Adds a field of this declared type on its parent type, which selects the fields of these numbers, and gives its number.
-    /// An error where memory is refused.
+    /// Adds a field of this declared type on its parent type, which selects the fields of these numbers, and gives its number:
+    /// how many vertices there were. An error where memory is refused.
     pub fn push(
         &mut self,
         alloc: Global,
@@ -76,13 +74,13 @@ impl<'d, 'a, S: ScalarValue> FieldGraph<'d, 'a, S> {
     {
         let number = self.vertices.len();
         let key = response_key(field);
-        let mut kinds = take_kinds(alloc, &mut self.kinds, key);
+        let mut kinds = take_group(alloc, &mut self.kinds, key);
         let shape = shape_among(schema, &self.vertices, &self.fields, &kinds, declared_type);
         let call = call_among(&self.vertices, &self.fields, &kinds, field);
         if is_own(number, shape, call) {
             kinds.push(number)?;
         }
-        put_kinds(&mut self.kinds, key, kinds)?;
+        put_group(&mut self.kinds, key, kinds)?;
         self.vertices.push(Vertex {
             key,
             parent,
@@ -126,33 +124,6 @@ fn is_own(number: usize, shape: usize, call: usize) -> bool
     ensures { result ≡ (nat_eq shape number || nat_eq call number) }
 {
     shape == number || call == number
-}
-
-/// Takes the kinds of a response key out.
-fn take_kinds<'d>(
-    alloc: Global,
-    kinds: &mut HashMap<&'d str, Vec<usize>>,
-    key: &'d str,
-) -> Vec<usize>
-    ensures numbers { result.items ≡ group_in kinds.old key.now }
-    ensures taken { (k : Name) → group_in kinds.new k ≡ cond (bytes_eq key.now k) [] (group_in kinds.old k) }
-{
-    match kinds.remove(key) {
-        Some(numbers) => numbers,
-        None => Vec::new(alloc),
-    }
-}
-
-/// Puts the kinds of a response key.
-fn put_kinds<'d>(
-    kinds: &mut HashMap<&'d str, Vec<usize>>,
-    key: &'d str,
-    numbers: Vec<usize>,
-) -> Result<(), AllocError>
-    ensures { OnOk result ((k : Name) → group_in kinds.new k ≡ cond (bytes_eq key.now k) numbers.items (group_in kinds.old k)) }
-{
-    drop(kinds.insert(key, numbers)?);
-    Ok(())
 }
 
 /// The shape of the first kind whose declared type agrees, else the number of a new vertex.

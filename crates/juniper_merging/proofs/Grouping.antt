@@ -10,7 +10,7 @@ use Rattle.std.proofs.lemmas.Bool.{cases_Bool}
 use Rattle.std.proofs.lemmas.Map.Text.{hash_map_updates_str}
 use Rattle.std.proofs.Common.{refl, ap, ◌∙◌, inl, inr}
 use Rattle.graphql_spec.specs.Shown.{Name}
-use Rattle.juniper_merging.specs.SearchView.{group_in, numbers_of}
+use Rattle.juniper_merging.specs.Groups.{group_in, numbers_of}
 
 pub group-found : {H : Type 0} (m : HashMap (Bor (List ℕ)) (Vec ℕ Global) H) (k : Name) (o : Option (Vec ℕ Global)) → o ≡ get_by (λ n. bytes_eq k n.now) m → numbers_of o ≡ group_in m k
 unfolding group_in

@@ -1,6 +1,5 @@
 -- What vertices stand for, they stand for in every graph that has them; and each at most twice is enough.
-use Rattle.std.specs.Prelude.{ℕ, zero, suc, List, ◌≡◌, Some}
-use Rattle.std.specs.List.{slice_get}
+use Rattle.std.specs.Prelude.{ℕ, zero, suc, List, ◌≡◌}
 use Rattle.std.proofs.Common.{sym, subst, ◌∙◌}
 use Rattle.graphql_spec.specs.Documents.{Head}
 use Rattle.graphql_spec.specs.Schema.{Schema}

@@ -1,11 +1,8 @@
 -- The search over pairs of fields; only private clauses cite what stands here.
-use Rattle.std.specs.Prelude.{ℕ, zero, suc, Bool, true, false, not, ◌&&◌, List, [], ◌∷◌, ◌++◌, Option, Some, None, nat_eq, map, cond, length, ◌≡◌, ◌⊎◌, ◌≤◌, ◌+◌, Vec}
+use Rattle.std.specs.Prelude.{ℕ, zero, suc, Bool, true, false, not, ◌&&◌, List, [], ◌∷◌, ◌++◌, Option, Some, None, nat_eq, map, cond, length, ◌≡◌, ◌⊎◌, ◌≤◌, ◌+◌}
 use Rattle.std.specs.List.{slice_get, list_any}
 use Rattle.std.specs.Str.{bytes_eq}
-use Rattle.std.specs.Borrow.{Bor}
-use Rattle.std.specs.HashMap.{HashMap, get_by}
 use Rattle.std.specs.HashSet.{HashSet}
-use Rattle.std.specs.declared.alloc.Global.{Global}
 use Rattle.graphql_spec.specs.Shown.{Name}
 use Rattle.graphql_spec.specs.Laws.{In}
 use Rattle.juniper_merging.specs.MergingGraph.{FieldAt, agree_at, meet_at, below_both}
@@ -66,15 +63,6 @@ work n s = unseen (was_seen s) n n + length s.left.items
 unfoldable pub has_key : Name → Option FieldAt → Bool
 has_key k None = false
 has_key k (Some x) = bytes_eq x.key k
-
--- the numbers, if any
-unfoldable pub numbers_of : Option (Vec ℕ Global) → List ℕ
-numbers_of None = []
-numbers_of (Some v) = v.items
-
--- the numbers that a map has at a key
-unfoldable pub group_in : {H : Type 0} → HashMap (Bor (List ℕ)) (Vec ℕ Global) H → Name → List ℕ
-group_in m k = numbers_of (get_by (λ n. bytes_eq k n.now) m)
 
 module _ (vs : List FieldAt) where
   unfoldable pub pair_fits : Pair → Bool

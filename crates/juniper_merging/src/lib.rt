@@ -3,11 +3,13 @@
 #![tactic(auto)]
 
 mod graph;
+mod groups;
 mod laws;
 mod numbers;
 mod search;
 
 pub use graph::Vertex;
+pub use groups::{Groups, put_group, take_group};
 pub use laws::{numbers_tell, sets_tell};
 pub use numbers::Numbers;
 pub use search::set_merges;

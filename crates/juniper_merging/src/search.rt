@@ -1,12 +1,11 @@
 //! The search over pairs.
 
 ghost use Rattle.std.specs.Prelude.{◌≡◌, ◌∷◌, ◌&&◌, ℕ, IfOk, List, OnOk, cond, false, map, nat_eq, not, true, []};
-ghost use Rattle.std.specs.Str.{bytes_eq};
-ghost use Rattle.graphql_spec.specs.Shown.{Name};
 ghost use Rattle.juniper_merging.specs.MergingGraph.{agree, below_both, can_meet, meet_at, set_merges_at, view_vertex};
-ghost use Rattle.juniper_merging.specs.SearchView.{Looks, Takes, group_in, has_pair, pairs_below, pairs_of, pairs_with};
+ghost use Rattle.juniper_merging.specs.SearchView.{Looks, Takes, has_pair, pairs_below, pairs_of, pairs_with};
 
 use crate::graph::Vertex;
+use crate::groups::{Groups, put_group, take_group};
 use std::alloc::{AllocError, Global};
 use std::collections::{HashMap, HashSet};
 
@@ -82,10 +81,10 @@ fn look_through<'a>(
 ) -> Result<bool, AllocError>
     ensures { IfOk result (λ b. Looks (map view_vertex vertices.now) (pairs_of (map view_vertex vertices.now) must_merge set.now) search.old search.new b) }
 {
-    let mut groups: HashMap<&'a str, Vec<usize>> = HashMap::new(alloc);
+    let mut groups: Groups<'a> = HashMap::new(alloc);
     for second in set {
         if let Some(vertex) = vertices.get(*second) {
-            let mut group = group_of(alloc, &mut groups, vertex.key);
+            let mut group = take_group(alloc, &mut groups, vertex.key);
             if !look_at_each(vertices, &group, *second, must_merge, search)? {
                 return Ok(false);
             }
@@ -94,33 +93,6 @@ fn look_through<'a>(
         }
     }
     Ok(true)
-}
-
-/// Takes the numbers at a response key out.
-fn group_of<'a>(
-    alloc: Global,
-    groups: &mut HashMap<&'a str, Vec<usize>>,
-    key: &'a str,
-) -> Vec<usize>
-    ensures numbers { result.items ≡ group_in groups.old key.now }
-    ensures taken { (k : Name) → group_in groups.new k ≡ cond (bytes_eq key.now k) [] (group_in groups.old k) }
-{
-    match groups.remove(key) {
-        Some(group) => group,
-        None => Vec::new(alloc),
-    }
-}
-
-/// Puts the numbers at a response key.
-fn put_group<'a>(
-    groups: &mut HashMap<&'a str, Vec<usize>>,
-    key: &'a str,
-    group: Vec<usize>,
-) -> Result<(), AllocError>
-    ensures { OnOk result ((k : Name) → group_in groups.new k ≡ cond (bytes_eq key.now k) group.items (group_in groups.old k)) }
-{
-    drop(groups.insert(key, group)?);
-    Ok(())
 }
 
 /// Looks at the pairs of each number of a group with one number.

@@ -1,4 +1,5 @@
 pub mod ArgumentMaps
+pub mod Misfits
 pub mod PlainErrors
 pub mod PlainRules
 pub mod ServedDocuments

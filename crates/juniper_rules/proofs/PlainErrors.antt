@@ -1,23 +1,18 @@
 -- What the rules that are served find in one plain query.
-use Rattle.std.proofs.Common.{◌≡◌, Bool, true, false, not, ◌&&◌, ◌||◌, List, [], ◌∷◌, ◌++◌, Option, Some, None, is_none, option_map, codes, refl, sym, ap, ap₂, ◌∙◌, inl, inr}
+use Rattle.std.proofs.Common.{◌≡◌, Bool, true, false, not, ◌&&◌, List, [], ◌∷◌, ◌++◌, Option, Some, None, is_none, codes, refl, sym, ap, ◌∙◌}
 use Rattle.std.specs.List.{list_any}
 use Rattle.std.proofs.lemmas.Bool.{and_parts}
-use Rattle.graphql_spec.specs.Shown.{Text, Name, Shown}
+use Rattle.graphql_spec.specs.Shown.{Text}
 use Rattle.graphql_spec.specs.Positions.{Position}
-use Rattle.graphql_spec.specs.Types.{TypeRef}
-use Rattle.graphql_spec.specs.Documents.{Argument, Head, Selections, end, field, spread, inline, OperationType, query, mutation, subscription, Operation, operation, written, span_of_definition}
-use Rattle.graphql_spec.specs.Schema.{Schema, FieldDeclaration, InputDeclaration}
-use Rattle.graphql_spec.specs.Fields.{entry_named, type_named, leaf_accepts, declaration_in}
-use Rattle.graphql_spec.specs.Fits.{through, scalar_fits, fits}
+use Rattle.graphql_spec.specs.Documents.{Head, OperationType, query, mutation, subscription, Operation, operation, span_of_definition}
+use Rattle.graphql_spec.specs.Schema.{Schema}
 use Rattle.graphql_spec.specs.Merging.{each_two}
 use Rattle.graphql_spec.specs.Rules.{RuleError, gives_unknown, gives_too_few, gives_wrong, reported, at_each, first_found}
 use Rattle.graphql_spec.specs.FirstRules.{first_name_errors, first_type_errors, merge_errors, first_rule_errors, is_plain_selections, is_plain_operation, is_query, is_empty}
-use Rattle.graphql_spec.proofs.PlainQueries.{Every, Literal, plain_field_parts}
 use Rattle.graphql_spec.proofs.FlatSchemas.{Built}
 use Rattle.graphql_spec.proofs.FirstRules.{conditions_known, conditions_complete, conditions_fit}
-use Rattle.graphql_spec.specs.ServedFields.{served_field}
-use Rattle.juniper_rules.specs.PlainSelections.{plain_heads, repeats_name, is_unserved, call_of, breaks, call_breaks, may_share, reported_at, type_errors_of}
-use Rattle.juniper_rules.proofs.PlainRules.{with_words, parts, not-plain, not-plain-inline, IsPlainQuery, repeats-argument-is, lacks-is, calls-break, cannot-merge-is}
+use Rattle.juniper_rules.specs.PlainSelections.{plain_heads, repeats_name, is_unserved, may_share, reported_at, type_errors_of}
+use Rattle.juniper_rules.proofs.PlainRules.{IsPlainQuery, repeats-argument-is, lacks-is, calls-break, cannot-merge-is}
 
 -- ## Plain operations
 
@@ -93,28 +88,9 @@ module _ (s : Schema) (b : Built s) (o : Operation) (q : IsPlainQuery o) where
   unfolding merge_errors reported span_of_definition reported_at
   merges-are = rw (cannot-merge-is s (operation o ∷ []) o q.kind q.selections) refl
 
-  pub first-rules-are : first_rule_errors s (operation o ∷ []) ≡ first_found (name_error o) (first_found (type_errors_in s o) (merge_error o))
+  first-rules-are : first_rule_errors s (operation o ∷ []) ≡ first_found (name_error o) (first_found (type_errors_in s o) (merge_error o))
   unfolding first_rule_errors at_each
   first-rules-are = rw (names-are, types-are, merges-are, append-nothing (name_error o), append-nothing (type_errors_in s o), append-nothing (merge_error o)) refl
-
-  -- phase by phase
-  pub repeated-found : list_any repeats_name (heads_of o) ≡ true → first_rule_errors s (operation o ∷ []) ≡ record { message = codes "Argument name is not unique"; start = o.span.start } ∷ []
-  unfolding first_found reported_at
-  repeated-found e = first-rules-are ∙ rw e refl
-
-  pub types-found : list_any repeats_name (heads_of o) ≡ false → (es : List RuleError) → es ≡ type_errors_in s o → (es ≡ [] → ⊥) → first_rule_errors s (operation o ∷ []) ≡ es
-  unfolding first_found reported_at
-  types-found e [] f some = absurd (some refl)
-  types-found e (x ∷ es) f some = first-rules-are ∙ rw (e, sym f) refl
-
-  pub conflict-found : list_any repeats_name (heads_of o) ≡ false → type_errors_in s o ≡ [] → each_two may_share (heads_of o) ≡ false →
-      first_rule_errors s (operation o ∷ []) ≡ record { message = codes "Fields cannot be merged"; start = o.span.start } ∷ []
-  unfolding first_found reported_at
-  conflict-found e f m = first-rules-are ∙ rw (e, f, m) refl
-
-  pub nothing-found : list_any repeats_name (heads_of o) ≡ false → type_errors_in s o ≡ [] → each_two may_share (heads_of o) ≡ true → first_rule_errors s (operation o ∷ []) ≡ []
-  unfolding first_found reported_at
-  nothing-found e f m = first-rules-are ∙ rw (e, f, m) refl
 
 -- what holds where nothing is found
 pub record IsValid (s : Schema) (hs : List Head) : Type 0 where

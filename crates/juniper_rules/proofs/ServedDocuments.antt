@@ -1,5 +1,5 @@
 -- Whether a document is served, selection by selection.
-use Rattle.std.proofs.Common.{◌≡◌, cond, ℕ, ◌+◌, ◌<◌, ◌≤◌, codes, Vec, Global, Bool, true, false, ◌&&◌, List, length, get_or, drop, map, [], ◌∷◌, arith, Option, Some, None, is_some, is_none, option_map, refl, sym, ap, ◌∙◌}
+use Rattle.std.proofs.Common.{◌≡◌, cond, ℕ, ◌+◌, ◌<◌, ◌≤◌, codes, Vec, Global, Bool, true, false, ◌&&◌, List, length, get_or, drop, map, [], ◌∷◌, arith, Option, Some, None, is_some, refl, sym, ap, ◌∙◌}
 use Rattle.std.proofs.lemmas.List.{drop_all}
 use Rattle.std.specs.List.{list_all}
 use Rattle.graphql_spec.specs.Shown.{Shown}
@@ -139,13 +139,6 @@ listed-served s d e served = rw (sym e, served) refl
 pub listed-unserved : (s : Schema) (d : Document) → [] ≡ rule_errors s true d → is_served s d ≡ false → unsupported d ≡ served_rule_errors s d
 unfolding served_rule_errors first_found
 listed-unserved s d e unserved = rw (sym e, unserved) refl
-
--- a field is not served where no type of it is found
-pub none_served : {A B C : Type 0} (f : A → C) (h : B → C) (o : Option A) (p : Option B) → option_map f o ≡ option_map h p → is_none o ≡ is_none p
-none_served f h None None e = refl
-none_served f h None (Some y) e = cc
-none_served f h (Some x) None e = cc
-none_served f h (Some x) (Some y) e = refl
 
 pub only-is-plain : (d : Document) (o : Operation) → is_plain_document d ≡ true → d ≡ operation o ∷ [] → is_plain_operation o ≡ true
 unfolding is_plain_document

@@ -1,5 +1,5 @@
 -- Tests of plain selections; only private clauses cite them (5.3, 5.4, 5.6.1).
-use Rattle.std.specs.Prelude.{Bool, true, false, not, ◌&&◌, ◌||◌, cond, codes, map, List, [], ◌∷◌, ◌++◌, Option, Some, None, option_map}
+use Rattle.std.specs.Prelude.{Bool, true, false, not, ◌&&◌, ◌||◌, cond, codes, List, [], ◌∷◌, ◌++◌, Option, Some, None, option_map}
 use Rattle.std.specs.Str.{bytes_eq}
 use Rattle.std.specs.List.{list_any, list_all}
 use Rattle.std.specs.Option.{is_none}
@@ -8,8 +8,7 @@ use Rattle.graphql_spec.specs.Positions.{Position}
 use Rattle.graphql_spec.specs.Inputs.{Input, null, scalar}
 use Rattle.graphql_spec.specs.Documents.{Argument, Head, Selections, end, field, spread, inline, response_key, written}
 use Rattle.graphql_spec.specs.Directives.{argument_named}
-use Rattle.graphql_spec.specs.Schema.{Schema, InputDeclaration}
-use Rattle.graphql_spec.specs.Fits.{fits}
+use Rattle.graphql_spec.specs.Schema.{Schema}
 use Rattle.graphql_spec.specs.Placed.{Call}
 use Rattle.graphql_spec.specs.Rules.{RuleError, gives_unknown, gives_too_few, gives_wrong}
 use Rattle.juniper_position.specs.declared.position.Spanning.{Spanning}
@@ -54,10 +53,6 @@ breaks rule (Some c) = rule c
 -- so does a field
 unfoldable pub call_breaks : (Call → Bool) → Schema → Head → Bool
 call_breaks rule s h = breaks rule (call_of s h)
-
--- a value that does not fit its declared argument (5.6.1)
-abbrev pub misfits : Schema → Option InputDeclaration → Input → Bool
-misfits s o v = elim o [ None ↦ false | Some d ↦ not (fits s false v d.of_type) ]
 
 -- two literals are equal (5.3.2)
 unfoldable pub same_literal : Input → Input → Bool

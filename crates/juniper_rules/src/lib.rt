@@ -2,10 +2,12 @@
 #![tactic(auto)]
 
 mod arguments;
+mod input_values;
 mod occurrences;
 mod served;
 mod served_rules;
 
+pub use input_values::validate_input_values;
 pub use juniper_phases::validate;
 pub use juniper_syntax::RuleError;
 pub use occurrences::{Occurrences, response_key};

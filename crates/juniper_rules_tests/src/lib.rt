@@ -2,6 +2,10 @@
 #![tactic(auto)]
 
 #[cfg(test)]
+mod demo;
+#[cfg(test)]
+mod input_values;
+#[cfg(test)]
 mod listed;
 #[cfg(test)]
 mod lists;
@@ -9,6 +13,10 @@ mod lists;
 mod names;
 #[cfg(test)]
 mod phases;
+#[cfg(test)]
+mod reports;
+#[cfg(test)]
+mod rows;
 #[cfg(test)]
 mod schema;
 #[cfg(test)]

@@ -1,9 +1,8 @@
 //! The whole lists of errors, through the three phases, worked out by hand: each error with the line and the column,
 //! counted from zero, where its definition starts.
 
-use crate::schema::{Scalar, schema};
-use juniper_language::{RuleError, parse_document_source};
-use juniper_phases::validate;
+use crate::reports::{found, is_found};
+use crate::schema::schema;
 use std::alloc::{AllocError, Global};
 use std::test::Fail;
 
@@ -113,43 +112,13 @@ fn first_other<'r>(
     rows: &'r str,
     introspection_disabled: bool,
 ) -> Result<Option<&'r str>, AllocError> {
+    let schema = schema(alloc)?;
     for row in rows.split("\n\n") {
-        if !is_found(alloc, row, introspection_disabled)? {
+        if !is_found(alloc, &schema, row, introspection_disabled)? {
             return Ok(Some(row));
         }
     }
     Ok(None)
-}
-
-fn is_found(alloc: Global, row: &str, introspection_disabled: bool) -> Result<bool, AllocError> {
-    match row.split_once(" =>") {
-        Some((text, said)) => Ok(found(alloc, text, introspection_disabled)?.as_str() == said),
-        None => Ok(false),
-    }
-}
-
-/// What is found in a text: each error behind a blank and with a `;` at its end.
-fn found(alloc: Global, text: &str, introspection_disabled: bool) -> Result<String, AllocError> {
-    match parse_document_source::<Scalar>(alloc, text) {
-        Ok(document) => {
-            let schema = schema(alloc)?;
-            let errors = validate(alloc, &document, &schema, introspection_disabled)?;
-            told(alloc, &errors)
-        }
-        Err(error) => error.item.to_string(alloc),
-    }
-}
-
-fn told(alloc: Global, errors: &[RuleError]) -> Result<String, AllocError> {
-    let mut line = String::new(alloc);
-    for error in errors {
-        for location in error.locations() {
-            let message = error.message();
-            let (row, column) = (location.line(), location.column());
-            line.push_str(&format!(in alloc; " {message}@{row}:{column};")?)?;
-        }
-    }
-    Ok(line)
 }
 
 #[test]
@@ -172,7 +141,7 @@ fn fields_are_merged(rt: HostRuntime) -> Result<(), Fail> {
 
 #[test]
 fn merging_is_listed_third(rt: HostRuntime) -> Result<(), Fail> {
-    let list = found(rt.alloc(), ALL_FOUR, true)?;
+    let list = found(rt.alloc(), &schema(rt.alloc())?, ALL_FOUR, true)?;
     assert_eq!(rt;
         list.as_str(),
         " Variable is not defined@0:0; Variable may not stand here@0:0; Fields cannot be merged@0:0; Introspection is disabled@0:0;"
@@ -182,7 +151,7 @@ fn merging_is_listed_third(rt: HostRuntime) -> Result<(), Fail> {
 
 #[test]
 fn merging_is_listed_at_each_definition(rt: HostRuntime) -> Result<(), Fail> {
-    let list = found(rt.alloc(), TWO_CANNOT_MERGE, false)?;
+    let list = found(rt.alloc(), &schema(rt.alloc())?, TWO_CANNOT_MERGE, false)?;
     assert_eq!(rt;
         list.as_str(),
         " Fields cannot be merged@1:0; Fields cannot be merged@2:1;"

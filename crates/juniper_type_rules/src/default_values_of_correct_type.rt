@@ -1,17 +1,17 @@
 //! DefaultValuesOfCorrectType: the default of a variable fits its type (section 5.6.1 of the Specification).
 
-ghost use Rattle.std.specs.Prelude.{◌≡◌, IfOk, string_bytes};
+ghost use Rattle.std.specs.Prelude.{◌≡◌, IfOk};
 ghost use Rattle.std.specs.List.{list_any};
 ghost use Rattle.graphql_spec.specs.Rules as rules;
 ghost use Rattle.juniper_schema.specs.SchemaView.{view_schema};
 ghost use Rattle.juniper_syntax.specs.DocumentView.{view_definition, view_variable};
-ghost use Rattle.juniper_syntax.specs.TypeView.{view_type};
 ghost use Rattle.juniper_type_rules.specs.SetTests.{has_misfit};
 ghost use Rattle.juniper_written.specs.WrittenView.{view_variables};
 
+use crate::owned_types::owned_type;
 use juniper_schema::SchemaType;
 use juniper_syntax::{
-    Definition, ScalarValue, Span, Spanning, Type, VariableDefinition, VariableDefinitions,
+    Definition, ScalarValue, Span, Spanning, VariableDefinition, VariableDefinitions,
 };
 use std::alloc::{AllocError, Global};
 
@@ -68,23 +68,5 @@ fn is_misfit<S: ScalarValue>(
             Ok(!schema.fits(&value.item, &reference, false))
         }
         None => Ok(false),
-    }
-}
-
-/// The same type, with names of its own. An error where memory is refused.
-fn owned_type(alloc: Global, reference: &Type<&str>) -> Result<Type<String>, AllocError>
-    ensures { IfOk result (λ t. view_type (λ n. string_bytes n) t ≡ view_type (λ n. n.now) reference.now) }
-{
-    match reference {
-        Type::Named(name) => Ok(Type::Named(String::from_str(alloc, *name)?)),
-        Type::NonNullNamed(name) => Ok(Type::NonNullNamed(String::from_str(alloc, *name)?)),
-        Type::List(inner, size) => {
-            let owned = owned_type(alloc, &**inner)?;
-            Ok(Type::List(Box::new(alloc, owned)?, *size))
-        }
-        Type::NonNullList(inner, size) => {
-            let owned = owned_type(alloc, &**inner)?;
-            Ok(Type::NonNullList(Box::new(alloc, owned)?, *size))
-        }
     }
 }

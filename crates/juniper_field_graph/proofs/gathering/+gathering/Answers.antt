@@ -1,14 +1,15 @@
-use Rattle.std.proofs.Common.{Some, ◌++◌, sym, ap, subst, ◌∙◌}
+use Rattle.std.proofs.Common.{Some, ◌++◌, refl, sym, ap, subst, ◌∙◌}
 use Rattle.graphql_spec.specs.Types.{innermost}
 use Rattle.juniper_merging.specs.Kept.{IsSetOf}
 use Rattle.graphql_spec.specs.Documents as spec
 use Rattle.juniper_schema.specs.SchemaView.{view_schema}
-use Rattle.juniper_syntax.specs.DocumentView.{view_selections, view_set}
-use Rattle.juniper_written.specs.WrittenView.{view_field, view_inline, view_spread_at}
-use Rattle.juniper_field_graph.specs.Gathering.{IsSetGathered, numbers_at, view_sets}
+use Rattle.juniper_syntax.specs.DocumentView.{put_selection, view_selections, view_set}
+use Rattle.juniper_syntax.specs.declared.ast.Selection as selections
+use Rattle.juniper_field_graph.specs.Gathering.{IsGathered, IsReadyIn, IsSetGathered, numbers_at, view_sets}
 use Rattle.juniper_field_graph.proofs.Holding.{numbers-none, numbers-some}
-use Rattle.juniper_field_graph.proofs.Steps.{field-step, none-gathered, spread-step, unknown-step, inline-step, so-far-all, so-far-next, so-far-none}
+use Rattle.juniper_field_graph.proofs.Steps.{field-step, none-as, set-as, spread-step, unknown-step, inline-step, so-far-all, so-far-next, so-far-none}
 use Rattle.juniper_field_graph.proofs.gathering.+gathering.Goals as goal
+use Rattle.juniper_field_graph.proofs.gathering.+gathering.Goals.{gather_field-in-Some+in_ok-below-in-Some, gather_field-in-None}
 
 pub gather_set-loop-selection-preserved : goal.gather_set-loop-selection-preserved
 gather_set-loop-selection-preserved g t c fs ends unknown is ready =
@@ -31,46 +32,52 @@ gather_set-returns g t c fs ends unknown is ready =
     (view_sets c.args.gathered.now.sets) (view_sets c.loop-selection.gathered.sets) (view_sets c.put_set.new.sets) c.new-numbers.result c.loop-selection.numbers
     c.args.selections.now c.loop-selection.selection-index c.in_ok-set.set.items c.loop-selection-test.false c.new-numbers.ensures (c.loop-selection.invariant fs ends unknown is ready) c.in_ok-set.ensures.0 c.in_ok-set.ensures.1
 
-pub gather_selection-returns-in_ok-put_field-in-Some : goal.gather_selection-returns-in_ok-put_field-in-Some
-gather_selection-returns-in_ok-put_field-in-Some g t c fs ends unknown is rest ready =
+pub gather_field-returns : goal.gather_field-returns
+gather_field-returns g t c fs ends unknown is rest ready =
     let shown = g.S.ScalarValue.shown in
     let s = view_schema shown c.args.known.now.schema.now in
-    field-step shown s fs ends (numbers_at c.args.known.now.fragments.now) c.args.parent.now c.args.gathered.now.graph c.gather_set.new.gathered.graph c.put_field.new.graph
-    (view_sets c.args.gathered.now.sets) (view_sets c.gather_set.new.gathered.sets) c.args.numbers.now c.put_field.new.numbers rest c.args.selection.now c.in-Field.field (view_selections shown c.deref.result.now) c.in_ok-below-in-Some.below.items
-    c.in-Field.is (ap (view_set shown) c.in-Some.is ∙ sym (ap (view_selections shown) c.deref.ensures.value)) ready
-    (λ r. subst (λ q. IsSetGathered shown s fs c.args.gathered.now.graph c.gather_set.new.gathered.graph (view_sets c.args.gathered.now.sets) (view_sets c.gather_set.new.gathered.sets) q (view_selections shown c.deref.result.now) c.in_ok-below-in-Some.below.items)
-    (c.innermost_name-inner.ensures ∙ ap innermost (c.declared_type-declared_type.ensures unknown)) (c.in_ok-below-in-Some.ensures fs ends unknown is r))
-    (λ graph once. c.in_ok-put_field-in-Some.ensures graph (c.declared_type-declared_type.ensures unknown) once)
+    let old = c.args.gathered.now in
+    let now = c.match-field.gathered in
+    let declared = c.declared_type-declared_type.ensures unknown in
+    elim c.match-field.branch [
+      | gather_field-in-Some+in_ok-below-in-Some w ↦
+          field-step shown s fs ends (numbers_at c.args.known.now.fragments.now) c.args.parent.now old.graph now.graph c.put_field.new.graph (view_sets old.sets) (view_sets now.sets) c.args.numbers.now c.put_field.new.numbers rest
+          (selections.Field c.args.field.now) c.args.field.now (view_selections shown w.deref.result.now) c.match-field.below.items refl (ap (view_set shown) w.in-Some.is ∙ sym (ap (view_selections shown) w.deref.ensures.value)) ready
+          (λ r. set-as shown s fs old.graph w.gather_set.new.gathered now (view_sets old.sets) w.innermost_name-inner.result.now _ (view_selections shown w.deref.result.now) w.in_ok-below-in-Some.below c.match-field.below
+          w.gathered-is w.below-is (w.innermost_name-inner.ensures ∙ ap innermost declared) (w.in_ok-below-in-Some.ensures fs ends unknown is r))
+          (λ graph once. c.in_ok-put_field.ensures graph declared once)
+      | gather_field-in-None w ↦
+          field-step shown s fs ends (numbers_at c.args.known.now.fragments.now) c.args.parent.now old.graph now.graph c.put_field.new.graph (view_sets old.sets) (view_sets now.sets) c.args.numbers.now c.put_field.new.numbers rest
+          (selections.Field c.args.field.now) c.args.field.now spec.end c.match-field.below.items refl (ap (view_set shown) w.in-None.is) ready
+          (λ r. none-as shown s fs old now w.new-below.result c.match-field.below _ w.gathered-is w.below-is w.new-below.ensures.items is)
+          (λ graph once. c.in_ok-put_field.ensures graph declared once)
+    ]
 
-pub gather_selection-returns-in_ok-put_field-in-None : goal.gather_selection-returns-in_ok-put_field-in-None
-gather_selection-returns-in_ok-put_field-in-None g t c fs ends unknown is rest ready =
+pub gather_selection-returns-in_ok-gather_field-in-Field : goal.gather_selection-returns-in_ok-gather_field-in-Field
+gather_selection-returns-in_ok-gather_field-in-Field g t c fs ends unknown is rest ready =
     let shown = g.S.ScalarValue.shown in
     let s = view_schema shown c.args.known.now.schema.now in
-    field-step shown s fs ends (numbers_at c.args.known.now.fragments.now) c.args.parent.now c.args.gathered.now.graph c.args.gathered.now.graph c.put_field-in-None.new.graph
-    (view_sets c.args.gathered.now.sets) (view_sets c.args.gathered.now.sets) c.args.numbers.now c.put_field-in-None.new.numbers rest c.args.selection.now c.in-Field.field spec.end c.new-below.result.items
-    c.in-Field.is (ap (view_set shown) c.in-None.is) ready
-    (λ r. subst (IsSetGathered shown s fs c.args.gathered.now.graph c.args.gathered.now.graph (view_sets c.args.gathered.now.sets) (view_sets c.args.gathered.now.sets) _ spec.end) (sym c.new-below.ensures.items)
-    (none-gathered shown s fs c.args.gathered.now.graph (view_sets c.args.gathered.now.sets) _ is))
-    (λ graph once. c.in_ok-put_field-in-None.ensures graph (c.declared_type-declared_type.ensures unknown) once)
+    subst (λ x. IsGathered shown s fs c.args.gathered.now.graph c.gather_field.new.gathered.graph (view_sets c.args.gathered.now.sets) (view_sets c.gather_field.new.gathered.sets) c.args.numbers.now c.gather_field.new.numbers c.args.parent.now rest (put_selection shown x rest))
+    (sym c.in-Field.is) (c.in_ok-gather_field-in-Field.ensures fs ends unknown is rest (subst (λ x. IsReadyIn shown s fs c.args.gathered.now.graph (numbers_at c.args.known.now.fragments.now) (put_selection shown x rest)) c.in-Field.is ready))
 
-pub gather_selection-returns-in_ok-extend-in-Some-get : goal.gather_selection-returns-in_ok-extend-in-Some-get
-gather_selection-returns-in_ok-extend-in-Some-get g t c fs ends unknown is rest ready =
+pub gather_selection-returns-in_ok-extend-in-Some : goal.gather_selection-returns-in_ok-extend-in-Some
+gather_selection-returns-in_ok-extend-in-Some g t c fs ends unknown is rest ready =
     let shown = g.S.ScalarValue.shown in
     spread-step shown (view_schema shown c.args.known.now.schema.now) fs ends (numbers_at c.args.known.now.fragments.now) c.args.parent.now c.args.gathered.now.graph (view_sets c.args.gathered.now.sets) c.args.numbers.now c.extend.new.self
-    rest c.args.selection.now c.in-FragmentSpread.spread c.deref-in-Some-get.result.now c.in-FragmentSpread.is is ready (numbers-some c.args.known.now.fragments.now c.in-FragmentSpread.spread.item.name.item.now c.in-Some-get.held.now c.in-Some-get.ensures.value ∙ sym (ap Some c.deref-in-Some-get.ensures.value)) c.in_ok-extend-in-Some-get.ensures
+    rest c.args.selection.now c.in-FragmentSpread.spread c.deref.result.now c.in-FragmentSpread.is is ready (numbers-some c.args.known.now.fragments.now c.in-FragmentSpread.spread.item.name.item.now c.in-Some.held.now c.in-Some.ensures.value ∙ sym (ap Some c.deref.ensures.value)) c.in_ok-extend-in-Some.ensures
 
-pub gather_selection-returns-in-None-get : goal.gather_selection-returns-in-None-get
-gather_selection-returns-in-None-get g t c fs ends unknown is rest ready =
+pub gather_selection-returns-in-None : goal.gather_selection-returns-in-None
+gather_selection-returns-in-None g t c fs ends unknown is rest ready =
     let shown = g.S.ScalarValue.shown in
     unknown-step shown (view_schema shown c.args.known.now.schema.now) fs ends (numbers_at c.args.known.now.fragments.now) c.args.parent.now c.args.gathered.now.graph (view_sets c.args.gathered.now.sets) c.args.numbers.now
-    rest c.args.selection.now c.in-FragmentSpread.spread c.in-FragmentSpread.is is ready (numbers-none c.args.known.now.fragments.now c.in-FragmentSpread.spread.item.name.item.now c.in-None-get.ensures.value)
+    rest c.args.selection.now c.in-FragmentSpread.spread c.in-FragmentSpread.is is ready (numbers-none c.args.known.now.fragments.now c.in-FragmentSpread.spread.item.name.item.now c.in-None.ensures.value)
 
 pub gather_selection-returns-in_ok-extend-in-InlineFragment : goal.gather_selection-returns-in_ok-extend-in-InlineFragment
 gather_selection-returns-in_ok-extend-in-InlineFragment g t c fs ends unknown is rest ready =
     let shown = g.S.ScalarValue.shown in
-    inline-step shown (view_schema shown c.args.known.now.schema.now) fs ends (numbers_at c.args.known.now.fragments.now) c.args.parent.now c.args.gathered.now.graph c.gather_set-in-InlineFragment.new.gathered.graph
-    (view_sets c.args.gathered.now.sets) (view_sets c.gather_set-in-InlineFragment.new.gathered.sets) c.args.numbers.now c.extend-in-InlineFragment.new.self rest c.args.selection.now c.in-InlineFragment.inline
+    inline-step shown (view_schema shown c.args.known.now.schema.now) fs ends (numbers_at c.args.known.now.fragments.now) c.args.parent.now c.args.gathered.now.graph c.gather_set.new.gathered.graph
+    (view_sets c.args.gathered.now.sets) (view_sets c.gather_set.new.gathered.sets) c.args.numbers.now c.extend-in-InlineFragment.new.self rest c.args.selection.now c.in-InlineFragment.inline
     (view_selections shown c.deref-in-InlineFragment.result.now) c.in_ok-held-in-InlineFragment.held.items c.in-InlineFragment.is (sym (ap (view_selections shown) c.deref-in-InlineFragment.ensures.value)) ready
-    (λ r. subst (λ q. IsSetGathered shown (view_schema shown c.args.known.now.schema.now) fs c.args.gathered.now.graph c.gather_set-in-InlineFragment.new.gathered.graph (view_sets c.args.gathered.now.sets) (view_sets c.gather_set-in-InlineFragment.new.gathered.sets) q (view_selections shown c.deref-in-InlineFragment.result.now) c.in_ok-held-in-InlineFragment.held.items)
+    (λ r. subst (λ q. IsSetGathered shown (view_schema shown c.args.known.now.schema.now) fs c.args.gathered.now.graph c.gather_set.new.gathered.graph (view_sets c.args.gathered.now.sets) (view_sets c.gather_set.new.gathered.sets) q (view_selections shown c.deref-in-InlineFragment.result.now) c.in_ok-held-in-InlineFragment.held.items)
     c.type_inside-inner.ensures (c.in_ok-held-in-InlineFragment.ensures fs ends unknown is r))
     (λ all a. subst (λ l. IsSetOf c.extend-in-InlineFragment.new.self (all ++ l)) c.deref-in-InlineFragment-2.ensures.value (c.in_ok-extend-in-InlineFragment.ensures all a))

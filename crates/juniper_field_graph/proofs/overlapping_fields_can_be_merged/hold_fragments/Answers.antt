@@ -1,4 +1,4 @@
-use Rattle.std.proofs.Common.{◌≡◌, ◌<◌, ◌≤◌, length, arith}
+use Rattle.std.proofs.Common.{◌<◌, ◌≤◌, length, arith}
 use Rattle.juniper_schema.specs.SchemaView.{view_schema}
 use Rattle.juniper_field_graph.specs.Gathering.{numbers_at}
 use Rattle.juniper_field_graph.proofs.HoldingSteps.{held-so-far-all, held-so-far-next, held-so-far-none, next-ready}

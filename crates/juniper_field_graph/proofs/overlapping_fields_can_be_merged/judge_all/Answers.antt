@@ -1,9 +1,8 @@
-use Rattle.std.proofs.Common.{map, refl, subst}
+use Rattle.std.proofs.Common.{map}
 use Rattle.graphql_spec.specs.Documents.{fragments}
 use Rattle.graphql_spec.proofs.KnownSpreads.{names_end_spreads}
 use Rattle.juniper_schema.specs.SchemaView.{view_schema}
-use Rattle.juniper_syntax.specs.DocumentView.{view_definition, view_fragment}
-use Rattle.juniper_spreads.specs.Order.{IsInOrder}
+use Rattle.juniper_syntax.specs.DocumentView.{view_definition}
 use Rattle.juniper_field_graph.specs.Gathering.{numbers_at}
 use Rattle.juniper_field_graph.specs.GraphView.{heads_of, vertices_of}
 use Rattle.juniper_field_graph.proofs.Holding.{empty-numbers}

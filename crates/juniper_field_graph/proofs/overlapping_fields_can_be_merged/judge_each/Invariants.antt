@@ -1,4 +1,4 @@
-use Rattle.std.proofs.Common.{◌≡◌, List, None, map, take}
+use Rattle.std.proofs.Common.{◌≡◌, None, map}
 use Rattle.graphql_spec.specs.Documents as documents
 use Rattle.graphql_spec.specs.Documents.{Document}
 use Rattle.graphql_spec.specs.Fields as fields

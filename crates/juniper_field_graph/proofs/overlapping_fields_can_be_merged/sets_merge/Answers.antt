@@ -1,4 +1,4 @@
-use Rattle.std.proofs.Common.{◌≡◌, ℕ, true, false, map, ap, subst, sym, ◌∙◌}
+use Rattle.std.proofs.Common.{◌≡◌, true, false, map, ap, subst, sym}
 use Rattle.graphql_spec.specs.Laws.{In}
 use Rattle.juniper_merging.specs.MergingGraph.{set_merges_at, view_vertex}
 use Rattle.juniper_schema.specs.SchemaView.{view_schema}

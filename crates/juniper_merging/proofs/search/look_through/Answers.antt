@@ -3,7 +3,8 @@ use Rattle.std.specs.List.{slice_get}
 use Rattle.std.proofs.lemmas.Grind.{get_or_default_zero}
 use Rattle.graphql_spec.specs.Shown.{Name}
 use Rattle.juniper_merging.specs.MergingGraph.{view_vertex}
-use Rattle.juniper_merging.specs.SearchView.{Looks, group_in, partners, pairs_with, pairs_after, pairs_of, with_key_at}
+use Rattle.juniper_merging.specs.Groups.{group_in}
+use Rattle.juniper_merging.specs.SearchView.{Looks, partners, pairs_with, pairs_after, pairs_of, with_key_at}
 use Rattle.juniper_merging.proofs.Looking.{found-at, missing-at, vertex-some, vertex-none, looks-none}
 use Rattle.juniper_merging.proofs.Passing.{IsLooked, looked-first, looked-next, looked-fails, looked-all, turn-left, no-turn-left, groups-skip, groups-put, no-groups, no-partners, partners-are}
 use Rattle.juniper_merging.proofs.Grouping.{empty-groups}
@@ -27,7 +28,7 @@ returns-then-not-branch c =
     let x = c.in-Some.vertex.now in
     let i = c.loop-second.invariant in
     let some : slice_get vs j ≡ Some (view_vertex x) = vertex-some c.args.vertices.now j x (found-at c.args.vertices.now j c.get.result c.in-Some.vertex c.get.ensures.lookup.3 c.in-Some.is) in
-    let group : c.deref.result.now ≡ partners vs (slice_get vs j) i.0 = partners-are vs (view_vertex x) j i.0 (group_in c.loop-second.groups) c.deref.result.now some i.1 (c.deref.ensures.value ∙ c.group_of-group.ensures.numbers) in
+    let group : c.deref.result.now ≡ partners vs (slice_get vs j) i.0 = partners-are vs (view_vertex x) j i.0 (group_in c.loop-second.groups) c.deref.result.now some i.1 (c.deref.ensures.value ∙ c.take_group-group.ensures.numbers) in
     looked-fails vs (pairs_of vs m set) (pairs_after vs m i.0 (drop n set)) (pairs_with vs m j (partners vs (slice_get vs j) i.0)) (pairs_after vs m (i.0 ++ j ∷ []) (drop (n + 1) set))
     c.args.search.now c.loop-second.search c.look_at_each.new.search i.2
     (turn-left vs m i.0 set n j c.loop-second-test.true (sym (get_or_default_zero set n j c.loop-second-test.true)))
@@ -48,10 +49,10 @@ loop-second-preserved c =
       | in-Some+in_ok-look_at_each+else-not-branch+in_ok-push+in_ok-put_group w ↦
           let x = w.in-Some.vertex.now in
           let some : slice_get vs j ≡ Some (view_vertex x) = vertex-some c.args.vertices.now j x (found-at c.args.vertices.now j c.get.result w.in-Some.vertex c.get.ensures.lookup.3 w.in-Some.is) in
-          let group : w.deref.result.now ≡ partners vs (slice_get vs j) i.0 = partners-are vs (view_vertex x) j i.0 (group_in c.loop-second.groups) w.deref.result.now some i.1 (w.deref.ensures.value ∙ w.group_of-group.ensures.numbers) in
-          let grown : w.push.new.self.items ≡ group_in c.loop-second.groups x.key.now ++ j ∷ [] = w.in_ok-push.ensures.items ∙ ap (λ l. l ++ j ∷ []) w.group_of-group.ensures.numbers in
-          let groups : (k : Name) → group_in w.put_group.new.groups k ≡ with_key_at vs k (i.0 ++ j ∷ []) = groups-put vs j (view_vertex x) i.0 w.push.new.self.items (group_in c.loop-second.groups) (group_in w.group_of-group.new.groups) (group_in w.put_group.new.groups)
-          some i.1 grown w.group_of-group.ensures.taken w.in_ok-put_group.ensures in
+          let group : w.deref.result.now ≡ partners vs (slice_get vs j) i.0 = partners-are vs (view_vertex x) j i.0 (group_in c.loop-second.groups) w.deref.result.now some i.1 (w.deref.ensures.value ∙ w.take_group-group.ensures.numbers) in
+          let grown : w.push.new.self.items ≡ group_in c.loop-second.groups x.key.now ++ j ∷ [] = w.in_ok-push.ensures.items ∙ ap (λ l. l ++ j ∷ []) w.take_group-group.ensures.numbers in
+          let groups : (k : Name) → group_in w.put_group.new.groups k ≡ with_key_at vs k (i.0 ++ j ∷ []) = groups-put vs j (view_vertex x) i.0 w.push.new.self.items (group_in c.loop-second.groups) (group_in w.take_group-group.new.groups) (group_in w.put_group.new.groups)
+          some i.1 grown w.take_group-group.ensures.taken w.in_ok-put_group.ensures in
           let looked : IsLooked vs (pairs_of vs m set) (pairs_after vs m (i.0 ++ j ∷ []) (drop (n + 1) set)) c.args.search.now w.look_at_each.new.search = looked-next vs (pairs_of vs m set) (pairs_after vs m i.0 (drop n set))
           (pairs_with vs m j (partners vs (slice_get vs j) i.0)) (pairs_after vs m (i.0 ++ j ∷ []) (drop (n + 1) set)) c.args.search.now c.loop-second.search w.look_at_each.new.search i.2 turn
           (subst (λ g. Looks vs (pairs_with vs m j g) c.loop-second.search w.look_at_each.new.search true) group

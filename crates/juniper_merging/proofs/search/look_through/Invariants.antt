@@ -1,7 +1,8 @@
 use Rattle.std.proofs.Common.{◌≡◌, ℕ, List, map, drop}
 use Rattle.graphql_spec.specs.Shown.{Name}
 use Rattle.juniper_merging.specs.MergingGraph.{view_vertex}
-use Rattle.juniper_merging.specs.SearchView.{group_in, pairs_after, pairs_of, with_key_at}
+use Rattle.juniper_merging.specs.Groups.{group_in}
+use Rattle.juniper_merging.specs.SearchView.{pairs_after, pairs_of, with_key_at}
 use Rattle.juniper_merging.proofs.Passing.{IsLooked}
 use Rattle.juniper_merging.proofs.search.look_through.Given as goal
 

@@ -3,7 +3,7 @@ use Rattle.std.proofs.Common.{ℕ, List, Some, ◌≡◌, ◌⊎◌, ◌++◌, �
 use Rattle.graphql_spec.specs.Laws.{In}
 use Rattle.graphql_spec.specs.Schema.{Schema}
 use Rattle.juniper_merging.specs.MergingGraph.{view_vertex}
-use Rattle.juniper_merging.specs.SearchView.{group_in}
+use Rattle.juniper_merging.specs.Groups.{group_in}
 use Rattle.juniper_merging.specs.declared.graph.Vertex.{Vertex}
 use Rattle.juniper_meta.specs.MetaView.{view_type}
 use Rattle.juniper_schema.specs.SchemaView.{view_schema}
@@ -26,10 +26,10 @@ returns g c graph typed once =
     let t = view_type c.args.declared_type.now in
     let n = c.len-number.result in
     let count : n ≡ length old.vertices.items = omega (arith, c.len-number.ensures, old.vertices.ok.0) in
-    let ks : List ℕ = c.take_kinds-kinds.result.items in
+    let ks : List ℕ = c.take_group-kinds.result.items in
     let ls : List ℕ = c.if-is_own.kinds.items in
-    let mid = group_in c.take_kinds-kinds.new.kinds in
-    let now = group_in c.put_kinds.new.kinds in
+    let mid = group_in c.take_group-kinds.new.groups in
+    let now = group_in c.put_group.new.groups in
     let vs = map view_vertex old.vertices.items in
     let v : Vertex = record {
       key = c.response_key-key.result;
@@ -41,11 +41,11 @@ returns g c graph typed once =
     } in
     let shape : v.shape ≡ number_among (λ w. w.shape) vs (λ r. has_type s t (slice_get (types_in shown old.fields.items) r)) (group_in old.kinds key) =
     among-same (λ w. w.shape) (has_type s t) (map view_vertex c.deref.result.now) vs (types_in shown c.deref-2.result.now) (types_in shown old.fields.items) c.deref-3.result.now ks
-    (group_in old.kinds key) c.shape_among-shape.result (ap (map view_vertex) c.deref.ensures.value) (ap (types_in shown) c.deref-2.ensures.value) c.deref-3.ensures.value c.take_kinds-kinds.ensures.numbers c.shape_among-shape.ensures
+    (group_in old.kinds key) c.shape_among-shape.result (ap (map view_vertex) c.deref.ensures.value) (ap (types_in shown) c.deref-2.ensures.value) c.deref-3.ensures.value c.take_group-kinds.ensures.numbers c.shape_among-shape.ensures
     in
     let call : v.call ≡ number_among (λ w. w.call) vs (λ r. has_call h (slice_get (heads_in shown old.fields.items) r)) (group_in old.kinds key) =
     among-same (λ w. w.call) (has_call h) (map view_vertex c.deref-4.result.now) vs (heads_in shown c.deref-5.result.now) (heads_in shown old.fields.items) c.deref-6.result.now ks
-    (group_in old.kinds key) c.call_among-call.result (ap (map view_vertex) c.deref-4.ensures.value) (ap (heads_in shown) c.deref-5.ensures.value) c.deref-6.ensures.value c.take_kinds-kinds.ensures.numbers
+    (group_in old.kinds key) c.call_among-call.result (ap (map view_vertex) c.deref-4.ensures.value) (ap (heads_in shown) c.deref-5.ensures.value) c.deref-6.ensures.value c.take_group-kinds.ensures.numbers
     (c.call_among-call.ensures (λ i f e. graph.kept.once i f (subst (λ fs. slice_get (heads_in shown fs) i ≡ Some f) c.deref-5.ensures.value e)) once)
     in
     let made : IsMade shown s old v (record { field = c.args.field; declared_type = c.args.declared_type }) = record {
@@ -61,9 +61,9 @@ returns g c graph typed once =
       | else-is_own w ↦ inr (ap (λ z. z.items) w.kinds-is)
     ] in
     let own : IsOwn n (view_vertex v) → In n (now key) = λ o. elim c.if-is_own.branch [
-      | then-is_own+in_ok-push w ↦ put-last mid now key ks ls n c.in_ok-put_kinds.ensures (ap (λ z. z.items) w.kinds-is ∙ w.in_ok-push.ensures.items)
+      | then-is_own+in_ok-push w ↦ put-last mid now key ks ls n c.in_ok-put_group.ensures (ap (λ z. z.items) w.kinds-is ∙ w.in_ok-push.ensures.items)
       | else-is_own w ↦ absurd (not-own (view_vertex v) n c.is_own.result c.is_own.ensures w.if-is_own.false o)
     ] in
     pushed shown s old _ v (record { field = c.args.field; declared_type = c.args.declared_type }) graph made n count
     c.in_ok-push-2.ensures.items c.in_ok-push-3.ensures.items
-    (put-back (group_in old.kinds) mid now key ks ls n c.take_kinds-kinds.ensures.numbers c.take_kinds-kinds.ensures.taken c.in_ok-put_kinds.ensures added) (λ e. own (inl e)) (λ e. own (inr e))
+    (put-back (group_in old.kinds) mid now key ks ls n c.take_group-kinds.ensures.numbers c.take_group-kinds.ensures.taken c.in_ok-put_group.ensures added) (λ e. own (inl e)) (λ e. own (inr e))

@@ -1,6 +1,6 @@
-use Rattle.juniper_merging.specs.SearchView.{numbers_of}
+use Rattle.juniper_merging.specs.Groups.{numbers_of}
 use Rattle.juniper_merging.proofs.Grouping.{group-put}
-use Rattle.juniper_merging.proofs.search.put_group.Goals as goal
+use Rattle.juniper_merging.proofs.groups.put_group.Goals as goal
 
 pub returns : goal.returns
 unfolding numbers_of

@@ -1,7 +1,7 @@
 use Rattle.std.proofs.Common.{ap, ◌∙◌, sym}
-use Rattle.juniper_merging.specs.SearchView.{numbers_of}
+use Rattle.juniper_merging.specs.Groups.{numbers_of}
 use Rattle.juniper_merging.proofs.Grouping.{group-found, group-put}
-use Rattle.juniper_merging.proofs.search.group_of.Goals as goal
+use Rattle.juniper_merging.proofs.groups.take_group.Goals as goal
 
 pub returns-in-Some-clause-numbers : goal.returns-in-Some-clause-numbers
 unfolding numbers_of
