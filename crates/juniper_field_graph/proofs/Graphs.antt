@@ -127,17 +127,18 @@ module _ {S : Type 0} (shown : S → Shown) (s : Schema) where
     unfolding head_or_none
     head-now = ap (λ gs. head_or_none (slice_get gs n)) heads-are ∙ ap head_or_none (last-is hs h n (g.kept.headed ∙ sym is))
 
-    pub pushed : IsPushed shown s old new v.parent.now h v.below.items n
+    pub pushed : (i : ℕ) → slice_get (vertices_of shown new) i ≡ slice_get (vertices_of shown new) n → IsPushed shown s old new v.parent.now h v.below.items i
     unfolding view_vertex
-    pushed = record {
+    pushed i same = record {
       graph = record { numbered = numbered-now; kept = kept-now };
       grows = grown-now;
-      number = is;
       vertex = x;
       added = vertices-are;
       selects = refl;
       stands = λ y p e. record {
-        there = there-now;
+        there = same ∙ there-now;
+        like = n;
+        like_there = there-now;
         head = head-now ∙ sym e;
         parent = sym p;
         key = made.key ∙ ap response_key (sym e);

@@ -1,5 +1,5 @@
 -- How a graph of written fields is seen (FieldsInSetCanMerge, 5.3.2).
-use Rattle.std.specs.Prelude.{ℕ, false, List, [], ◌∷◌, ◌++◌, Option, Some, None, map, length, ◌≡◌}
+use Rattle.std.specs.Prelude.{ℕ, false, List, [], ◌∷◌, ◌++◌, Option, Some, None, map, ◌≡◌}
 use Rattle.std.specs.List.{slice_get}
 use Rattle.graphql_spec.specs.Shown.{Shown, Name}
 use Rattle.graphql_spec.specs.Positions.{Span, origin}
@@ -40,11 +40,11 @@ module _ {S : Type 0} (shown : S → Shown) where
     pub numbered : AreNumbered s (vertices_of g) (heads_of g)
     pub kept : AreKept s (vertices_of g) (types_in shown g.fields.items) (written_of g) (heads_of g) (group_in g.kinds)
 
-  -- a field on the type p, which selects the fields of these numbers, now stands at i, behind the vertices that there were
+  -- a field on the type p, which selects the fields of these numbers, now stands at i: at the vertex that was added, or at
+  -- one that is the same
   pub record IsPushed (s : Schema) (old new : FieldGraph S) (p : Name) (h : Head) (below : List ℕ) (i : ℕ) : Type 0 where
     pub graph : IsGraphOf s new
     pub grows : Grows (vertices_of old) (vertices_of new) (heads_of old) (heads_of new)
-    pub number : i ≡ length (vertices_of old)
     pub vertex : FieldAt
     pub added : vertices_of new ≡ vertices_of old ++ vertex ∷ []
     pub selects : vertex.below ≡ below

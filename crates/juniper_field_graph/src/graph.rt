@@ -16,7 +16,7 @@ ghost use Rattle.juniper_field_graph.specs.GraphView.{IsGraphOf, IsPushed, verti
 ghost use Rattle.juniper_field_graph.specs.KindsView as kinds_view;
 ghost use Rattle.juniper_field_graph.specs.KindsView.{IsOnce, heads_in, number_among, number_or, types_in};
 
-use juniper_merging::{Groups, Vertex, put_group, take_group};
+use juniper_merging::{Groups, Leaves, Vertex, put_group, take_group};
 use juniper_overlapping_fields::{same_call, types_agree};
 use juniper_schema::SchemaType;
 use juniper_syntax::{Field, ScalarValue, Span, Spanning, Type};
@@ -41,6 +41,8 @@ pub struct FieldGraph<'d, 'a, S> {
     fields: Vec<WrittenField<'d, 'a, S>>,
     /// For each response key the numbers of vertices of which each differs from those before it in its type or its call.
     kinds: Groups<'d>,
+    /// The fields that select nothing.
+    leaves: Leaves<'d>,
 }
 
 impl<'d, 'a, S: ScalarValue> FieldGraph<'d, 'a, S> {
@@ -53,11 +55,12 @@ impl<'d, 'a, S: ScalarValue> FieldGraph<'d, 'a, S> {
             vertices: Vec::new(alloc),
             fields: Vec::new(alloc),
             kinds: HashMap::new(alloc),
+            leaves: Leaves::new(alloc),
         }
     }
 
-    /// Adds a field of this declared type on its parent type, which selects the fields of these numbers, and gives its number:
-    /// how many vertices there were. An error where memory is refused.
+    /// Adds a field of this declared type on its parent type, which selects the fields of these numbers, and gives its
+    /// number: that of the first field with the same vertex, where it selects nothing. An error where memory is refused.
     pub fn push(
         &mut self,
         alloc: Global,
@@ -93,7 +96,8 @@ impl<'d, 'a, S: ScalarValue> FieldGraph<'d, 'a, S> {
             field,
             declared_type,
         })?;
-        Ok(number)
+        let first = self.leaves.first_like(&self.vertices, number)?;
+        Ok(first)
     }
 }
 

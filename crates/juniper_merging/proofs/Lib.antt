@@ -11,3 +11,4 @@ pub mod Whole
 pub mod Keeping
 pub mod Growing
 pub mod Covering
+pub mod SameVertices

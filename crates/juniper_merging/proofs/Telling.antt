@@ -194,12 +194,12 @@ module _ (s : Schema) (vs : List FieldAt) (heads : ℕ → Head) (numbered : Are
 
     types-same : same_key x y ≡ true → types_agree s (type_at s x) (type_at s y) ≡ nat_eq v.shape w.shape
     unfolding type_at
-    types-same k = sym (numbered.shapes i j v w a.there b.there (one-key k)
+    types-same k = sym (numbered.shapes a.like b.like v w a.like_there b.like_there (one-key k)
         ∙ (λ t. types_agree s (declared_type (field_of s (a.parent t) (a.head t).name.item)) (declared_type (field_of s (b.parent t) (b.head t).name.item))))
 
     calls-same : same_key x y ≡ true → (same_name x y && same_arguments x y) ≡ nat_eq v.call w.call
     unfolding same_name same_arguments
-    calls-same k = sym (numbered.calls i j v w a.there b.there (one-key k)
+    calls-same k = sym (numbered.calls a.like b.like v w a.like_there b.like_there (one-key k)
         ∙ (λ t. bytes_eq (a.head t).name.item (b.head t).name.item && same_members (written_meaning (written (a.head t).arguments)) (written_meaning (written (b.head t).arguments))))
 
     meets-same : may_meet s x y ≡ can_meet v w

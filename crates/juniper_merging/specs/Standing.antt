@@ -34,10 +34,12 @@ module _ (s : Schema) (vs : List FieldAt) (heads : ℕ → Head) where
     pub calls : (i j : ℕ) (v w : FieldAt) → slice_get vs i ≡ Some v → slice_get vs j ≡ Some w → bytes_eq v.key w.key ≡ true →
         nat_eq v.call w.call ≡ (bytes_eq (heads i).name.item (heads j).name.item && same_members (written_meaning (written (heads i).arguments)) (written_meaning (written (heads j).arguments)))
 
-  -- the vertex at i has the field's words and parent type
+  -- the vertex at i has the field's parent type, and is like one that has its words
   pub record IsAt (x : Field) (i : ℕ) (v : FieldAt) : Type 0 where
     pub there : slice_get vs i ≡ Some v
-    pub head : heads i ≡ x.occurrence.head
+    pub like : ℕ
+    pub like_there : slice_get vs like ≡ Some v
+    pub head : heads like ≡ x.occurrence.head
     pub parent : v.parent ≡ x.parent
     pub key : v.key ≡ response_key x.occurrence.head
     pub on_object : v.on_object ≡ is_object (type_named s x.parent)

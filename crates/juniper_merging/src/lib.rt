@@ -5,11 +5,13 @@
 mod graph;
 mod groups;
 mod laws;
+mod leaves;
 mod numbers;
 mod search;
 
 pub use graph::Vertex;
 pub use groups::{Groups, put_group, take_group};
 pub use laws::{numbers_tell, sets_tell};
+pub use leaves::Leaves;
 pub use numbers::Numbers;
 pub use search::set_merges;

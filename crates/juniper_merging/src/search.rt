@@ -166,7 +166,7 @@ fn put_pair(
 
 /// Whether the field selects nothing.
 #[tactic(auto, unfolding(crate::specs::MergingGraph::view_vertex))]
-fn selects_nothing(vertex: &Vertex<'_>) -> bool
+pub(crate) fn selects_nothing(vertex: &Vertex<'_>) -> bool
     ensures { result ≡ true → (view_vertex vertex.now).below ≡ [] }
 {
     let below: &[usize] = &vertex.below;

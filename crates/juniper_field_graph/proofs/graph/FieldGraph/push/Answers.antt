@@ -67,3 +67,4 @@ returns g c graph typed once =
     pushed shown s old _ v (record { field = c.args.field; declared_type = c.args.declared_type }) graph made n count
     c.in_ok-push-2.ensures.items c.in_ok-push-3.ensures.items
     (put-back (group_in old.kinds) mid now key ks ls n c.take_group-kinds.ensures.numbers c.take_group-kinds.ensures.taken c.in_ok-put_group.ensures added) (λ e. own (inl e)) (λ e. own (inr e))
+    c.in_ok-first.first (subst (λ vs. slice_get (map view_vertex vs) c.in_ok-first.first ≡ slice_get (map view_vertex vs) n) c.deref-7.ensures.value c.in_ok-first.ensures)
