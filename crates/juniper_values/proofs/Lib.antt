@@ -1,6 +1,9 @@
 pub mod ArgumentMembers
+pub mod Counts
 pub mod ErrorEquality
 pub mod ErrorOrder
+pub mod Items
 pub mod Meanings
 pub mod Nulls
 pub mod RoundTrips
+pub mod Shapes

@@ -1,3 +1,6 @@
 pub mod ArgumentView
+pub mod ConversionErrors
 pub mod Conversions
 pub mod ErrorView
+pub mod ListConversions
+pub mod WrappedConversions
