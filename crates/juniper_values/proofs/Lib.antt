@@ -3,7 +3,9 @@ pub mod Counts
 pub mod ErrorEquality
 pub mod ErrorOrder
 pub mod Items
+pub mod ListRoundTrips
 pub mod Meanings
 pub mod Nulls
 pub mod RoundTrips
 pub mod Shapes
+pub mod WrappedRoundTrips

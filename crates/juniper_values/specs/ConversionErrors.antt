@@ -1,5 +1,5 @@
 -- What the errors of list conversions become as the error of a field (6.4.4).
-use Rattle.std.specs.Prelude.{ℕ, codes, ◌++◌}
+use Rattle.std.specs.Prelude.{codes, ◌++◌}
 use Rattle.std.specs.Fmt.{decimal}
 use Rattle.graphql_spec.specs.Resolvers.{Error}
 use Rattle.juniper_values.specs.Conversions.{message_alone}

@@ -3,4 +3,5 @@ pub mod ConversionErrors
 pub mod Conversions
 pub mod ErrorView
 pub mod ListConversions
+pub mod RoundTrips
 pub mod WrappedConversions

@@ -81,11 +81,3 @@ GivesArray n inner v answer = ByShape v (answer ≡ Err array.Null) (λ vs. Give
 -- how items are written: as the list of what is written of each
 abbrev pub list_input : {A : Type 0} → (A → Constant) → List A → Constant
 list_input inner xs = list (constants_of (map inner xs))
-
--- whatever is answered for what is written of it is a value
-abbrev pub ComesBack : {A E : Type 0} → (Constant → Result A E → Type 0) → (A → Constant) → A → Type 0
-ComesBack {E = E} gives input x = (e : E) → gives (input x) (Err e) → ⊥
-
--- beside each item stands what it comes back as
-abbrev pub EachComesBackAs : {A E : Type 0} → (Constant → Result A E → Type 0) → (A → Constant) → List A → List A → Type 0
-EachComesBackAs gives input = AllZip (λ x y. gives (input x) (Ok y))

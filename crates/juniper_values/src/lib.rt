@@ -9,6 +9,7 @@ mod field_error;
 mod into_field_error;
 pub mod laws;
 mod list_conversions;
+pub mod list_laws;
 mod wrapped_conversions;
 
 pub use arguments::Arguments;
