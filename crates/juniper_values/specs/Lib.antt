@@ -1,3 +1,7 @@
 pub mod ArgumentView
+pub mod ConversionErrors
 pub mod Conversions
 pub mod ErrorView
+pub mod ListConversions
+pub mod RoundTrips
+pub mod WrappedConversions

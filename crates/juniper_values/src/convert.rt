@@ -172,7 +172,7 @@ impl<T: ToInputValue<S>, S: ScalarValue> ToInputValue<S> for Option<T> {
 }
 
 /// Whether a value is null.
-fn is_null<S: ScalarValue>(value: &InputValue<S>) -> bool
+pub(crate) fn is_null<S: ScalarValue>(value: &InputValue<S>) -> bool
     ensures { result ≡ is_null (meaning (view_input S.shown value.now)) }
 {
     match value {

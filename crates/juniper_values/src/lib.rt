@@ -2,13 +2,18 @@
 #![tactic(auto)]
 
 mod arguments;
+mod conversion_errors;
 mod convert;
 mod execution_error;
 mod field_error;
 mod into_field_error;
 pub mod laws;
+mod list_conversions;
+pub mod list_laws;
+mod wrapped_conversions;
 
 pub use arguments::Arguments;
+pub use conversion_errors::{FromInputValueArrayError, FromInputValueVecError};
 pub use convert::{FromInputValue, ToInputValue};
 pub use execution_error::ExecutionError;
 pub use field_error::{ExecutionResult, FieldError, FieldResult, ResolveError};
