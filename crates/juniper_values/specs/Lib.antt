@@ -1,3 +1,4 @@
 pub mod ArgumentView
 pub mod Conversions
 pub mod ErrorView
+pub mod ScalarConversions

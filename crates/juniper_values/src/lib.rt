@@ -5,11 +5,14 @@ mod arguments;
 mod convert;
 mod execution_error;
 mod field_error;
+mod id;
 mod into_field_error;
 pub mod laws;
+mod scalar_traits;
 
 pub use arguments::Arguments;
 pub use convert::{FromInputValue, ToInputValue};
 pub use execution_error::ExecutionError;
 pub use field_error::{ExecutionResult, FieldError, FieldResult, ResolveError};
 pub use into_field_error::IntoFieldError;
+pub use scalar_traits::{FromScalarValue, ToScalarValue};
