@@ -7,5 +7,6 @@ pub mod Displays
 pub mod Escapes
 pub mod Values
 pub mod ValueLists
+pub mod Mapped
 pub mod ValueEquality
 pub mod TypeTexts

@@ -16,21 +16,21 @@ abbrev pub append_entries : Entries → Entries → Entries
 append_entries no_entries vs = vs
 append_entries (entry k u us) vs = entry k u (append_entries us vs)
 
-append_values-none : (us : Values) → append_values us no_items ≡ us
+pub append_values-none : (us : Values) → append_values us no_items ≡ us
 append_values-none no_items = refl
 append_values-none (item u us) = ap (item u) (append_values-none us)
 
-append_entries-none : (us : Entries) → append_entries us no_entries ≡ us
+pub append_entries-none : (us : Entries) → append_entries us no_entries ≡ us
 append_entries-none no_entries = refl
 append_entries-none (entry k u us) = ap (entry k u) (append_entries-none us)
 
 module _ {S : Type 0} (shown : S → Shown) where
   -- an item at the end of the front is one at the beginning of what is left
-  values_push : (us : List (Value S)) (u : Value S) (vs : Values) → append_values (view_values shown (us ++ u ∷ [])) vs ≡ append_values (view_values shown us) (item (view_value shown u) vs)
+  pub values_push : (us : List (Value S)) (u : Value S) (vs : Values) → append_values (view_values shown (us ++ u ∷ [])) vs ≡ append_values (view_values shown us) (item (view_value shown u) vs)
   values_push [] u vs = refl
   values_push (w ∷ us) u vs = ap (item (view_value shown w)) (values_push us u vs)
 
-  entries_push : (us : List (Pair S)) (u : Pair S) (vs : Entries)
+  pub entries_push : (us : List (Pair S)) (u : Pair S) (vs : Entries)
       → append_entries (view_entries shown (us ++ u ∷ [])) vs ≡ append_entries (view_entries shown us) (entry (string_bytes u.0) (view_value shown u.1) vs)
   entries_push [] u vs = refl
   entries_push (w ∷ us) u vs = ap (entry (string_bytes w.0) (view_value shown w.1)) (entries_push us u vs)

@@ -6,6 +6,7 @@ pub mod ast;
 mod display;
 pub mod input;
 pub mod laws;
+mod map_scalars;
 pub mod scalar;
 pub mod types;
 pub mod value;

@@ -55,7 +55,7 @@ impl<S: ScalarValue> Value<S> {
 #[cycle(value)]
 #[derive(Debug, PartialEq, Eq, Drop)]
 pub struct Object<S> {
-    fields: Vec<(String, Value<S>)>,
+    pub(crate) fields: Vec<(String, Value<S>)>,
 }
 
 impl<S: ScalarValue> Object<S> {
@@ -140,7 +140,7 @@ fn clone_object<S: ScalarValue>(alloc: Global, object: &Object<S>) -> Result<Obj
 }
 
 /// The value of an entry. A name for it keeps the terms of a proof small.
-fn value_of<S>(entry: &(String, Value<S>)) -> &Value<S>
+pub(crate) fn value_of<S>(entry: &(String, Value<S>)) -> &Value<S>
     ensures { result.now ≡ entry.now.1 }
 {
     &entry.1

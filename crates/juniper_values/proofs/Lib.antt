@@ -2,6 +2,7 @@ pub mod ArgumentMembers
 pub mod Counts
 pub mod ErrorEquality
 pub mod ErrorOrder
+pub mod IdReads
 pub mod Items
 pub mod ListRoundTrips
 pub mod Meanings

@@ -4,4 +4,5 @@ pub mod Conversions
 pub mod ErrorView
 pub mod ListConversions
 pub mod RoundTrips
+pub mod ScalarConversions
 pub mod WrappedConversions

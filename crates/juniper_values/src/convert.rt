@@ -7,6 +7,7 @@ ghost use Rattle.juniper_values.specs.Conversions.{is_null, scalar_of, int_of, b
 ghost use Rattle.juniper_values.specs.ErrorView.{view_error};
 
 use crate::field_error::FieldError;
+use crate::scalar_traits::another_scalar;
 use juniper_syntax::{InputValue, ScalarValue};
 use std::alloc::{AllocError, Global};
 
@@ -186,7 +187,7 @@ pub(crate) fn is_null<S: ScalarValue>(value: &InputValue<S>) -> bool
 }
 
 /// The scalar that a value is, if it is one.
-fn scalar_of<S: ScalarValue>(value: &InputValue<S>) -> Option<&S>
+pub(crate) fn scalar_of<S: ScalarValue>(value: &InputValue<S>) -> Option<&S>
     ensures { option_map (λ s. S.shown s.now) result ≡ scalar_of (meaning (view_input S.shown value.now)) }
 {
     match value {
@@ -230,7 +231,7 @@ fn text_of<S: ScalarValue>(value: &InputValue<S>) -> Option<&str>
 }
 
 /// The error of a conversion to a scalar type, for a value that shows nothing of the kind.
-fn refused<S: ScalarValue>(
+pub(crate) fn refused<S: ScalarValue>(
     alloc: Global,
     kind: &str,
     value: &InputValue<S>,
@@ -239,7 +240,7 @@ fn refused<S: ScalarValue>(
 {
     let message = match value {
         InputValue::Null => String::from_str(alloc, "Expected GraphQL scalar, found: null")?,
-        InputValue::Scalar(_) => format!(in alloc; "Expected `{kind}`, found another scalar")?,
+        InputValue::Scalar(_) => another_scalar(alloc, kind)?,
         InputValue::Enum(_) => String::from_str(alloc, "Expected GraphQL scalar, found: enum")?,
         InputValue::Variable(_) => {
             String::from_str(alloc, "Expected GraphQL scalar, found: variable")?

@@ -70,6 +70,20 @@ impl<S: ScalarValue> FieldError<S> {
         }
     }
 
+    /// The error of the same message whose extensions show the same, each scalar being the `T` that shows what it showed
+    /// (3.5); an error where memory is refused.
+    pub fn map_scalar_value<T: ScalarValue>(
+        self,
+        alloc: Global,
+    ) -> Result<FieldError<T>, AllocError>
+        ensures { IfOk result (λ made. view_error T.shown made ≡ view_error S.shown self) }
+    {
+        Ok(FieldError {
+            extensions: self.extensions.map_scalar_value(alloc)?,
+            message: self.message,
+        })
+    }
+
     /// An equal error; an error where memory is refused.
     pub fn try_clone(&self, alloc: Global) -> Result<Self, AllocError>
         ensures { IfOk result (λ made. view_error S.shown made ≡ view_error S.shown self.now) }

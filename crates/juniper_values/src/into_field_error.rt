@@ -7,6 +7,8 @@ ghost use Rattle.juniper_values.specs.ErrorView.{view_error};
 use crate::field_error::FieldError;
 use juniper_syntax::ScalarValue;
 use std::alloc::{AllocError, Global};
+use std::borrow::CowStr;
+use std::boxed::BoxedStr;
 
 /// A type that becomes the error of a field.
 pub trait IntoFieldError<S: ScalarValue> {
@@ -18,12 +20,12 @@ pub trait IntoFieldError<S: ScalarValue> {
         ensures { IfOk result (λ made. view_error S.shown made ≡ becomes self) };
 }
 
-/// Itself.
-impl<S: ScalarValue> IntoFieldError<S> for FieldError<S> {
-    ghost becomes = { view_error S.shown };
+/// The error of the same message whose extensions show the same.
+impl<S: ScalarValue, S1: ScalarValue> IntoFieldError<S> for FieldError<S1> {
+    ghost becomes = { view_error S1.shown };
 
-    fn into_field_error(self, _alloc: Global) -> Result<FieldError<S>, AllocError> {
-        Ok(self)
+    fn into_field_error(self, alloc: Global) -> Result<FieldError<S>, AllocError> {
+        self.map_scalar_value(alloc)
     }
 }
 
@@ -46,5 +48,29 @@ impl<S: ScalarValue> IntoFieldError<S> for String {
 
     fn into_field_error(self, _alloc: Global) -> Result<FieldError<S>, AllocError> {
         Ok(FieldError::of_message(self))
+    }
+}
+
+/// The error of this message, with null for its extensions.
+impl<S: ScalarValue> IntoFieldError<S> for CowStr<'_> {
+    ghost use Rattle.std.specs.Cow.{cow_str_bytes};
+    ghost use Rattle.juniper_values.specs.Conversions.{message_alone};
+
+    ghost becomes = { λ message. message_alone (cow_str_bytes message) };
+
+    fn into_field_error(self, alloc: Global) -> Result<FieldError<S>, AllocError> {
+        Ok(FieldError::of_message(self.into_owned(alloc)?))
+    }
+}
+
+/// The error of this message, with null for its extensions.
+impl<S: ScalarValue> IntoFieldError<S> for BoxedStr {
+    ghost use Rattle.std.specs.Box.{boxed_str_bytes};
+    ghost use Rattle.juniper_values.specs.Conversions.{message_alone};
+
+    ghost becomes = { λ message. message_alone (boxed_str_bytes message) };
+
+    fn into_field_error(self, _alloc: Global) -> Result<FieldError<S>, AllocError> {
+        Ok(FieldError::of_message(self.into_string()))
     }
 }

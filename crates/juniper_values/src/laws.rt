@@ -5,12 +5,14 @@ ghost use Rattle.std.specs.Cmp.{IsTotalOrder};
 ghost use Rattle.std.specs.declared.cmp.Ordering.TheVariants.{Equal};
 ghost use Rattle.graphql_spec.specs.Constants.{null};
 ghost use Rattle.graphql_spec.specs.Errors.{Listed, compare};
+ghost use Rattle.juniper_id.specs.Text.{id_text};
 ghost use Rattle.juniper_values.specs.Conversions.{is_ok_by, is_some_by};
 ghost use Rattle.juniper_values.specs.ErrorView.{view_error, view_listed};
 
 use crate::convert::{FromInputValue, ToInputValue};
 use crate::execution_error::ExecutionError;
 use crate::field_error::FieldError;
+use juniper_id::ID;
 use juniper_syntax::ScalarValue;
 
 /// `==` says that the messages are equal and that the extensions show the same.
@@ -52,6 +54,12 @@ pub fn booleans_come_back<S: ScalarValue>(value: bool)
 pub fn strings_come_back<S: ScalarValue>(value: &String)
     ensures given { ⟦<String as FromInputValue<S>>⟧.gives (⟦<String as ToInputValue<S>>⟧.input value.now) (Ok value.now) }
     ensures back { (answer : _) → ⟦<String as FromInputValue<S>>⟧.gives (⟦<String as ToInputValue<S>>⟧.input value.now) answer → MatchResult answer (λ text. string_bytes text ≡ string_bytes value.now) (λ e. ⊥) }
+{}
+
+/// An ID comes back from the input value that it makes (3.5.5).
+pub fn ids_come_back<S: ScalarValue>(value: &ID)
+    ensures given { ⟦<ID as FromInputValue<S>>⟧.gives (⟦<ID as ToInputValue<S>>⟧.input value.now) (Ok value.now) }
+    ensures back { (answer : _) → ⟦<ID as FromInputValue<S>>⟧.gives (⟦<ID as ToInputValue<S>>⟧.input value.now) answer → MatchResult answer (λ id. id_text id ≡ id_text value.now) (λ e. ⊥) }
 {}
 
 /// `None` comes back from null. `Some` of a value comes back where the value does and is not written as null: what each

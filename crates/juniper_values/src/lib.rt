@@ -6,10 +6,12 @@ mod conversion_errors;
 mod convert;
 mod execution_error;
 mod field_error;
+mod id;
 mod into_field_error;
 pub mod laws;
 mod list_conversions;
 pub mod list_laws;
+mod scalar_traits;
 mod wrapped_conversions;
 
 pub use arguments::Arguments;
@@ -18,3 +20,4 @@ pub use convert::{FromInputValue, ToInputValue};
 pub use execution_error::ExecutionError;
 pub use field_error::{ExecutionResult, FieldError, FieldResult, ResolveError};
 pub use into_field_error::IntoFieldError;
+pub use scalar_traits::{FromScalarValue, ToScalarValue};

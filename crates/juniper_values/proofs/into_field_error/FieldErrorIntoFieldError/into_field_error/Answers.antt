@@ -1,5 +1,4 @@
-use Rattle.std.proofs.Common.{refl}
 use Rattle.juniper_values.proofs.into_field_error.FieldErrorIntoFieldError.into_field_error.Goals as goal
 
 pub returns : goal.returns
-returns g c = refl
+returns g c = c.map_scalar_value.ensures
