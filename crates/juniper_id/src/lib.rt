@@ -1,0 +1,9 @@
+//! [`ID`]: the text that names one object among those of its type (3.5.5).
+#![tactic(auto)]
+
+mod identifier;
+pub mod laws;
+#[cfg(test)]
+mod tests;
+
+pub use identifier::ID;
