@@ -3,9 +3,11 @@
 ghost use Rattle.std.specs.Prelude.{string_bytes};
 ghost use Rattle.graphql_spec.specs.Resolvers.{answered, leaf};
 ghost use Rattle.graphql_spec.specs.Shown.{boolean, int, text};
+ghost use Rattle.juniper_id.specs.Text.{id_text};
 
 use crate::into_resolvable::IntoResolvable;
 use crate::resolved::Resolved;
+use juniper_id::ID;
 use juniper_syntax::ScalarValue;
 use juniper_values::ResolveError;
 use std::alloc::Global;
@@ -34,5 +36,14 @@ impl<N, S: ScalarValue> IntoResolvable<N, S> for String {
 
     fn into_resolvable(self, _alloc: Global) -> Result<Resolved<N, S>, ResolveError<S>> {
         Ok(Resolved::Scalar(S::from_text(self)?))
+    }
+}
+
+/// An ID, by its text (3.5.5).
+impl<N, S: ScalarValue> IntoResolvable<N, S> for ID {
+    ghost resolves = { λ id. answered (leaf (text (id_text id))) };
+
+    fn into_resolvable(self, _alloc: Global) -> Result<Resolved<N, S>, ResolveError<S>> {
+        Ok(Resolved::Scalar(S::from_text(String::from(self))?))
     }
 }

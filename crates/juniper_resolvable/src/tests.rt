@@ -1,6 +1,7 @@
 //! Tests: what each conversion answers.
 
 use super::*;
+use juniper_id::ID;
 use juniper_nullable::Nullable;
 use juniper_syntax::DefaultScalarValue;
 use juniper_values::ResolveError;
@@ -29,6 +30,8 @@ fn scalars_and_objects_are_answered(rt: HostRuntime) -> Result<(), Fail> {
     assert_eq!(rt; answer(alloc, true)?.as_str(), "Scalar(Boolean(true))");
     let text = String::from_str(alloc, "a")?;
     assert_eq!(rt; answer(alloc, text)?.as_str(), "Scalar(String(\"a\"))");
+    let id = ID::new(String::from_str(alloc, "1000")?);
+    assert_eq!(rt; answer(alloc, id)?.as_str(), "Scalar(String(\"1000\"))");
     assert_eq!(rt; answer(alloc, OfNode(5))?.as_str(), "Node(5)");
     assert_eq!(rt; answer(alloc, Resolved::Node(6))?.as_str(), "Node(6)");
     let boxed = Box::new(alloc, 8)?;
