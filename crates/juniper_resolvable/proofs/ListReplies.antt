@@ -4,7 +4,7 @@ use Rattle.graphql_spec.specs.Shown.{Shown}
 use Rattle.graphql_spec.specs.Resolvers.{Error, Tree, tree, Reply, answered, failed, items}
 use Rattle.juniper_values.specs.declared.field_error.ResolveError.{ResolveError}
 use Rattle.juniper_values.specs.declared.field_error.ResolveError.TheVariants.{Field, Memory}
-use Rattle.juniper_resolvable.specs.Replies.{first_error, all_answered, items_or, list_reply}
+use Rattle.juniper_resolvable.specs.Replies.{first_error, all_answered, list_reply}
 use Rattle.juniper_resolvable.specs.ResolvedView.{trees_of, FailsWith}
 
 -- a list without length has no items

@@ -1,7 +1,7 @@
-use Rattle.std.proofs.Common.{◌≡◌, ◌++◌, List, [], map, ap, sym, ◌∙◌, append-nil}
+use Rattle.std.proofs.Common.{◌≡◌, ◌++◌, [], map, ap, sym, ◌∙◌, append-nil}
 use Rattle.std.proofs.lemmas.Result.{err_from_is_err_and}
 use Rattle.std.specs.Vec.Iter.{into_iter_items}
-use Rattle.graphql_spec.specs.Resolvers.{Reply, answered}
+use Rattle.graphql_spec.specs.Resolvers.{answered}
 use Rattle.juniper_resolvable.specs.Replies.{list_reply}
 use Rattle.juniper_resolvable.specs.ResolvedView.{view_resolved}
 use Rattle.juniper_resolvable.proofs.ListReplies.{none_left, answers_all, fails_at}
