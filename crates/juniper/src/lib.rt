@@ -26,7 +26,7 @@ pub use juniper_schema::{
 };
 pub use juniper_types::{
     EmptyMutation, EmptySubscription, Executor, GraphQLReference, GraphQLType, GraphQLValue,
-    Registry, RegistryError, Resolved, TypeKind,
+    IntoResolvable, OfNode, Registry, RegistryError, Resolved, TypeKind,
 };
 pub use juniper_values::{
     Arguments, ExecutionError, ExecutionResult, FieldError, FieldResult, FromInputValue,

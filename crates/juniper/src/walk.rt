@@ -13,7 +13,7 @@ ghost use Rattle.juniper_syntax.specs.InputView.{view_variables};
 ghost use Rattle.juniper_syntax.specs.ValueView.{view_value, view_object};
 ghost use Rattle.juniper_values.specs.ErrorView.{view_error, view_listed};
 ghost use Rattle.juniper_rules.specs.Occurrences.{view_occurrence};
-ghost use Rattle.juniper_types.specs.ResolvedView.{Answers, view_resolved};
+ghost use Rattle.juniper_resolvable.specs.ResolvedView.{Answers, view_resolved};
 ghost use Rattle.juniper_schema.specs.SchemaView.{view_schema};
 ghost use Rattle.graphql_spec.specs.ServedFields.{is_served_schema, is_served_head};
 ghost use Rattle.juniper.specs.Walking.{world_in, is_leaf_value, settled, IsLeaf, IsCompleted, IsWalked, listed_of};

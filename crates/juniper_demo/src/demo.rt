@@ -5,7 +5,7 @@ ghost use Rattle.graphql_spec.specs.Constants.{find};
 ghost use Rattle.graphql_spec.specs.Resolvers.{failed};
 ghost use Rattle.juniper_values.specs.ArgumentView.{view_arguments};
 ghost use Rattle.juniper_values.specs.Conversions.{message_alone};
-ghost use Rattle.juniper_types.specs.ResolvedView.{Answers};
+ghost use Rattle.juniper_resolvable.specs.ResolvedView.{Answers};
 ghost use Rattle.juniper_demo.specs.Demo.{concrete_type, number_reply, query_reply, reply, root_of, sum_reply};
 ghost use Rattle.juniper_demo.specs.declared.demo.DemoNode.TheVariants.{Query};
 

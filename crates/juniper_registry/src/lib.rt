@@ -5,6 +5,7 @@ mod build;
 mod error;
 mod graphql_type;
 mod names;
+mod nullables;
 mod registry;
 #[cfg(test)]
 mod samples;

@@ -14,6 +14,7 @@ use crate::graphql_type::{GraphQLReference, GraphQLType};
 use crate::names::{declares, put, stands};
 use juniper_meta::meta::Field;
 use juniper_meta::{Argument, MetaType, PlaceholderMeta};
+use juniper_resolvable::IntoResolvable;
 use juniper_syntax::{ScalarValue, Type};
 use juniper_values::ToInputValue;
 use std::alloc::{AllocError, Global};
@@ -147,6 +148,20 @@ impl<S: ScalarValue> Registry<S> {
     {
         let own = String::from_str(self.alloc, name)?;
         Ok(Field::new(own, self.get_type::<T>(info)?))
+    }
+
+    /// The field of this name and the type `I`, of which a resolver answers a `T`: the field of `I`, as by `field`, whatever
+    /// `T` is. The registry changes as by `get_type`; an error where memory is refused.
+    pub fn field_convert<T: IntoResolvable<N, S>, I: GraphQLReference<S>, N>(
+        &mut self,
+        name: &str,
+        info: &I::TypeInfo,
+    ) -> Result<Field<S>, AllocError>
+        ensures made { IfOk result (λ f. view_field S.shown f ≡ plain_field name.now [] (I.reference info.now)) }
+        ensures awaited { Awaits result (innermost (I.reference info.now)) (view_registry S.shown self.old) (view_registry S.shown self.new) }
+        ensures added { KeepsAdding (view_registry S.shown self.old) (view_registry S.shown self.new) }
+    {
+        self.field::<I>(name, info)
     }
 
     /// The argument of this name and type, without description and default value. The registry changes as by `get_type`; an

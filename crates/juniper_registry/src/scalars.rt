@@ -2,11 +2,12 @@
 
 ghost use Rattle.std.specs.Prelude.{Some, codes, true};
 ghost use Rattle.graphql_spec.specs.Types.{named as named_type};
-ghost use Rattle.juniper_builtins.specs.BuiltInScalars.{booleans, ints, scalar_of, texts};
+ghost use Rattle.juniper_builtins.specs.BuiltInScalars.{booleans, ids, ints, scalar_of, texts};
 
 use crate::graphql_type::{GraphQLReference, GraphQLType};
 use crate::registry::Registry;
-use juniper_builtins::{boolean_scalar, int_scalar, string_scalar};
+use juniper_builtins::{boolean_scalar, id_scalar, int_scalar, string_scalar};
+use juniper_id::ID;
 use juniper_meta::MetaType;
 use juniper_syntax::{ScalarValue, Type};
 use std::alloc::{AllocError, Global};
@@ -114,6 +115,42 @@ impl<S: ScalarValue> GraphQLType<S> for String {
         _registry: &mut Registry<S>,
     ) -> Result<MetaType<S>, AllocError> {
         string_scalar(alloc)
+    }
+
+    ghost keeps_name = { λ _ _ e. e };
+}
+
+/// `ID` (3.5.5).
+impl<S: ScalarValue> GraphQLReference<S> for ID {
+    type TypeInfo = ();
+
+    ghost named = { λ _. Some (codes "ID") };
+
+    ghost reference = { λ _. named_type true (codes "ID") };
+
+    fn name(_info: &()) -> Option<&str> {
+        Some("ID")
+    }
+
+    #[tactic(auto, unfolding(graphql_spec::specs::Types::innermost))]
+    fn type_in(
+        _alloc: Global,
+        _info: &(),
+        registry: &mut Registry<S>,
+    ) -> Result<Type<String>, AllocError> {
+        registry.named_type("ID")
+    }
+}
+
+impl<S: ScalarValue> GraphQLType<S> for ID {
+    ghost declaration = { λ _. scalar_of (codes "ID") ids };
+
+    fn meta(
+        alloc: Global,
+        _info: &(),
+        _registry: &mut Registry<S>,
+    ) -> Result<MetaType<S>, AllocError> {
+        id_scalar(alloc)
     }
 
     ghost keeps_name = { λ _ _ e. e };

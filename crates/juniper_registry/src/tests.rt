@@ -5,8 +5,10 @@ use crate::graphql_type::GraphQLReference;
 use crate::registry::Registry;
 use crate::samples::{Episode, Human};
 use crate::type_kind::TypeKind;
+use juniper_id::ID;
 use juniper_meta::meta::Field;
 use juniper_meta::{Argument, MetaType, ScalarKinds};
+use juniper_nullable::Nullable;
 use juniper_syntax::DefaultScalarValue;
 use std::alloc::{AllocError, Global};
 use std::collections::HashMap;
@@ -98,6 +100,8 @@ fn types_are_referred_to(rt: HostRuntime) -> Result<(), Fail> {
     assert_eq!(rt; reference::<[i32; 3]>(alloc)?.as_str(), "[Int!]!");
     assert_eq!(rt; reference::<Box<Option<bool>>>(alloc)?.as_str(), "Boolean");
     assert_eq!(rt; reference::<&String>(alloc)?.as_str(), "String!");
+    assert_eq!(rt; reference::<Nullable<ID>>(alloc)?.as_str(), "ID");
+    assert_eq!(rt; reference::<Vec<ID>>(alloc)?.as_str(), "[ID!]!");
     Ok(())
 }
 
@@ -132,6 +136,19 @@ fn declarations_are_built(rt: HostRuntime) {
             .build_input_object_type::<Human>(&(), Vec::new(alloc))
             .is_ok()
     );
+}
+
+/// The field of a type that differs from what its resolver answers.
+fn converted(alloc: Global) -> Result<String, AllocError> {
+    let mut fields = Vec::new(alloc);
+    fields.push(empty(alloc).field_convert::<Option<String>, ID, u8>("id", &())?)?;
+    last_field(alloc, fields.as_slice())
+}
+
+#[test]
+fn fields_have_the_type_that_is_given(rt: HostRuntime) -> Result<(), Fail> {
+    assert_eq!(rt; converted(rt.alloc())?.as_str(), "id: ID!");
+    Ok(())
 }
 
 #[test]

@@ -10,7 +10,7 @@ ghost use Rattle.juniper_registry.specs.Referred.{fields_refer};
 ghost use Rattle.juniper_registry.specs.RegistryView.{view_registry};
 ghost use Rattle.juniper_values.specs.Conversions.{message_alone};
 ghost use Rattle.juniper_values.specs.ArgumentView.{view_arguments};
-ghost use Rattle.juniper_types.specs.ResolvedView.{Answers};
+ghost use Rattle.juniper_resolvable.specs.ResolvedView.{Answers};
 ghost use Rattle.juniper_tests.specs.TestRoot.{number_field, number_reply, query_meta, sum_reply, test_fields, test_reply};
 
 use juniper::meta::{Field, MetaType};

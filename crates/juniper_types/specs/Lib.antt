@@ -1,2 +1,1 @@
 pub mod ExecutorView
-pub mod ResolvedView

@@ -3,11 +3,10 @@
 
 pub mod empty;
 pub mod executor;
-pub mod resolved;
 pub mod resolver;
 
 pub use empty::{EmptyMutation, EmptySubscription};
 pub use executor::Executor;
 pub use juniper_registry::{GraphQLReference, GraphQLType, Registry, RegistryError, TypeKind};
-pub use resolved::Resolved;
+pub use juniper_resolvable::{IntoResolvable, OfNode, Resolved};
 pub use resolver::GraphQLValue;

@@ -6,11 +6,11 @@ ghost use Rattle.graphql_spec.specs.Constants.{Members};
 ghost use Rattle.graphql_spec.specs.Resolvers.{Reply};
 ghost use Rattle.juniper_values.specs.ArgumentView.{view_arguments};
 ghost use Rattle.juniper_types.specs.ExecutorView.{context_of};
-ghost use Rattle.juniper_types.specs.ResolvedView.{Answers};
+ghost use Rattle.juniper_resolvable.specs.ResolvedView.{Answers};
 
 use crate::executor::Executor;
-use crate::resolved::Resolved;
 use juniper_registry::GraphQLType;
+use juniper_resolvable::Resolved;
 use juniper_syntax::ScalarValue;
 use juniper_values::{Arguments, ResolveError};
 use std::alloc::Global;

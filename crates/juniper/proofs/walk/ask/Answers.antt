@@ -5,7 +5,7 @@ use Rattle.graphql_spec.specs.Resolvers.{world_of}
 use Rattle.juniper_syntax.specs.InputView.{view_variables}
 use Rattle.juniper_values.specs.ArgumentView.{view_arguments, view_declared}
 use Rattle.juniper_rules.specs.Occurrences.{view_occurrence}
-use Rattle.juniper_types.specs.ResolvedView.{Answers}
+use Rattle.juniper_resolvable.specs.ResolvedView.{Answers}
 use Rattle.juniper_meta.specs.MetaView.{view_argument}
 use Rattle.juniper_schema.specs.SchemaView.{view_schema}
 use Rattle.juniper.specs.Walking.{world_in}

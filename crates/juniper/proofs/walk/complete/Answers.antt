@@ -3,9 +3,9 @@ use Rattle.graphql_spec.specs.Fields.{entry_named, leaf_accepts}
 use Rattle.juniper_syntax.specs.ValueView.{view_value}
 use Rattle.juniper_syntax.proofs.Values as values
 use Rattle.juniper_values.specs.ErrorView.{view_error}
-use Rattle.juniper_types.specs.ResolvedView.{view_resolved}
+use Rattle.juniper_resolvable.specs.ResolvedView.{view_resolved}
 use Rattle.juniper_schema.specs.SchemaView.{view_schema}
-use Rattle.juniper_types.proofs.Resolutions.{view-Null, view-Scalar, view-List, view-Node}
+use Rattle.juniper_resolvable.proofs.Resolutions.{view-Null, view-Scalar, view-List, view-Node}
 use Rattle.juniper.proofs.Leaves.{leaf-null, leaf-lost, leaf-taken, leaf-refused, leaf-list, leaf-node}
 use Rattle.juniper.proofs.walk.complete.Goals as goal
 

@@ -5,7 +5,7 @@ use Rattle.juniper_syntax.specs.ValueView.{view_value}
 use Rattle.juniper_syntax.proofs.Values.{view-Null}
 use Rattle.juniper_values.specs.ErrorView.{view_error}
 use Rattle.juniper_rules.specs.Occurrences.{view_occurrence}
-use Rattle.juniper_types.specs.ResolvedView.{view_resolved}
+use Rattle.juniper_resolvable.specs.ResolvedView.{view_resolved}
 use Rattle.juniper_schema.specs.ServedView.{view_leaf_type}
 use Rattle.juniper_schema.specs.SchemaView.{view_schema}
 use Rattle.juniper.specs.Walking.{world_in}

@@ -1,7 +1,7 @@
 use Rattle.std.proofs.Common.{◌∙◌, sym, ap, subst}
 use Rattle.graphql_spec.specs.Resolvers.{answered}
-use Rattle.juniper_types.specs.ResolvedView.{Answers}
-use Rattle.juniper_types.proofs.Resolutions.{view-Scalar}
+use Rattle.juniper_resolvable.specs.ResolvedView.{Answers}
+use Rattle.juniper_resolvable.proofs.Resolutions.{view-Scalar}
 use Rattle.juniper_tests.proofs.Sums.{some_sum, no_sum}
 use Rattle.juniper_tests.proofs.root.sum.Goals as goal
 

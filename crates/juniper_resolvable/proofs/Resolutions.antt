@@ -2,8 +2,8 @@
 use Rattle.std.proofs.Common.{◌≡◌, Vec, Global, map, rules}
 use Rattle.graphql_spec.specs.Shown.{Shown}
 use Rattle.graphql_spec.specs.Resolvers as spec
-use Rattle.juniper_types.specs.ResolvedView.{view_resolved, trees_of}
-use Rattle.juniper_types.specs.declared.resolved.Resolved.{Resolved, Null, Scalar, List as ListOf, Node, the_lemmas}
+use Rattle.juniper_resolvable.specs.ResolvedView.{view_resolved, trees_of}
+use Rattle.juniper_resolvable.specs.declared.resolved.Resolved.{Resolved, Null, Scalar, List as ListOf, Node, the_lemmas}
 
 module _ {N S : Type 0} (shown : S → Shown) where
   pub view-Null : view_resolved {N = N} shown Null ≡ spec.nothing

@@ -1,1 +1,2 @@
+mod ListReplies
 pub mod Resolutions
