@@ -1,0 +1,4 @@
+//! Tests of conversions, and an input type of one's own.
+#![tactic(auto)]
+
+pub mod cell;
