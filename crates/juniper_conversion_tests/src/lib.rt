@@ -2,3 +2,9 @@
 #![tactic(auto)]
 
 pub mod cell;
+#[cfg(test)]
+mod inputs;
+#[cfg(test)]
+mod rows;
+#[cfg(test)]
+mod scalars;

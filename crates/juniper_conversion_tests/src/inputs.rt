@@ -1,0 +1,33 @@
+//! Input values by their texts.
+
+use juniper_language::{
+    DefaultScalarValue, Definition, InputValue, Selection, parse_document_source,
+};
+use std::alloc::{AllocError, Global};
+
+/// The scalars of the tests.
+pub type Scalar = DefaultScalarValue;
+
+/// The input value of a text; null where it is none.
+pub fn read_input(alloc: Global, text: &str) -> Result<InputValue<Scalar>, AllocError> {
+    let request = format!(in alloc; "{{ f(v: {text}) }}")?;
+    match parse_document_source::<Scalar>(alloc, &request) {
+        Ok(document) => given(alloc, document.as_slice()),
+        Err(_) => Ok(InputValue::Null),
+    }
+}
+
+/// The only argument of the only field.
+fn given(
+    alloc: Global,
+    definitions: &[Definition<'_, Scalar>],
+) -> Result<InputValue<Scalar>, AllocError> {
+    if let [Definition::Operation(operation)] = definitions
+        && let [Selection::Field(field)] = operation.item.selection_set.as_slice()
+        && let Some(arguments) = &field.item.arguments
+        && let [(_, value)] = arguments.item.items.as_slice()
+    {
+        return value.item.try_clone(alloc);
+    }
+    Ok(InputValue::Null)
+}
