@@ -10,3 +10,5 @@ mod field_errors;
 #[cfg(test)]
 mod requests;
 pub mod root;
+#[cfg(test)]
+mod scalars;

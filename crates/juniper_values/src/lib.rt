@@ -8,6 +8,7 @@ mod field_error;
 mod id;
 mod into_field_error;
 pub mod laws;
+pub mod scalar_laws;
 mod scalar_traits;
 
 pub use arguments::Arguments;
