@@ -11,6 +11,7 @@ mod into_field_error;
 pub mod laws;
 mod list_conversions;
 pub mod list_laws;
+pub mod scalar_laws;
 mod scalar_traits;
 mod wrapped_conversions;
 
