@@ -26,11 +26,11 @@ impl<T: FromInputValue<S>, S: ScalarValue> FromInputValue<S> for Vec<T> {
         if is_null(value) {
             return Ok(Err(FromInputValueVecError::Null));
         }
-        let converted = match list_of(value) {
+        let answer = match list_of(value) {
             Some(items) => convert_items(alloc, items)?,
             None => convert_single(alloc, value)?,
         };
-        match converted {
+        match answer {
             Ok(items) => Ok(Ok(items)),
             Err(error) => Ok(Err(FromInputValueVecError::Item(error))),
         }
@@ -65,12 +65,8 @@ impl<T: FromInputValue<S>, S: ScalarValue, const N: usize> FromInputValue<S> for
         }
         let converted = match list_of(value) {
             Some(items) => {
-                let actual = items.len();
-                if actual != N {
-                    return Ok(Err(FromInputValueArrayError::WrongCount {
-                        actual,
-                        expected: N,
-                    }));
+                if items.len() != N {
+                    return Ok(Err(wrong_count(items.len(), N)));
                 }
                 convert_items(alloc, items)?
             }
@@ -152,11 +148,18 @@ fn into_array<T: FromInputValue<S>, S: ScalarValue, const N: usize>(
     let actual = items.len();
     match <[T; N]>::try_from(items) {
         Ok(array) => Ok(array),
-        Err(_) => Err(FromInputValueArrayError::WrongCount {
-            actual,
-            expected: N,
-        }),
+        Err(_) => Err(wrong_count(actual, N)),
     }
+}
+
+/// The error of so many items where an array has another count.
+fn wrong_count<T: FromInputValue<S>, S: ScalarValue>(
+    actual: usize,
+    expected: usize,
+) -> FromInputValueArrayError<T, S>
+    ensures { result ≡ FromInputValueArrayError.WrongCount actual expected }
+{
+    FromInputValueArrayError::WrongCount { actual, expected }
 }
 
 /// The input value of each item.

@@ -1,6 +1,6 @@
 //! Laws of the conversions of lists, boxes and [`Nullable`]. Each function does nothing; its contract is the law.
 
-ghost use Rattle.std.specs.Prelude.{◌≡◌, ◌≢◌, Ok, Some, MatchResult, IsOkAnd, IsSomeAnd, All, List, Vec};
+ghost use Rattle.std.specs.Prelude.{◌≡◌, ◌≢◌, Ok, IsOkAnd, IsSomeAnd, All, List, Vec};
 ghost use Rattle.std.specs.declared.alloc.Global.{Global};
 ghost use Rattle.std.specs.declared.boxed.Box.{Box};
 ghost use Rattle.graphql_spec.specs.Constants.{null};

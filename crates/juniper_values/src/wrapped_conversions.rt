@@ -87,6 +87,6 @@ impl<T: ToInputValue<S>, S: ScalarValue> ToInputValue<S> for &T {
     ghost input = { λ reference. T.input reference.now };
 
     fn to_input_value(&self, alloc: Global) -> Result<InputValue<S>, AllocError> {
-        (**self).to_input_value(alloc)
+        T::to_input_value(*self, alloc)
     }
 }
