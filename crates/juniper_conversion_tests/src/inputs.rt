@@ -17,15 +17,15 @@ pub fn read_input(alloc: Global, text: &str) -> Result<InputValue<Scalar>, Alloc
     }
 }
 
-/// The only argument of the only field.
+/// The first argument of the first field.
 fn given(
     alloc: Global,
     definitions: &[Definition<'_, Scalar>],
 ) -> Result<InputValue<Scalar>, AllocError> {
-    if let [Definition::Operation(operation)] = definitions
-        && let [Selection::Field(field)] = operation.item.selection_set.as_slice()
+    if let Some(Definition::Operation(operation)) = definitions.first()
+        && let Some(Selection::Field(field)) = operation.item.selection_set.first()
         && let Some(arguments) = &field.item.arguments
-        && let [(_, value)] = arguments.item.items.as_slice()
+        && let Some((_, value)) = arguments.item.items.first()
     {
         return value.item.try_clone(alloc);
     }

@@ -77,8 +77,8 @@ fn found(
     let Ok(document) = parse_document_source::<Scalar>(alloc, text) else {
         return String::from_str(alloc, "no document");
     };
-    match document.as_slice() {
-        [Definition::Operation(operation)] => {
+    match document.first() {
+        Some(Definition::Operation(operation)) => {
             let errors = validate_input_values(alloc, values, operation, schema)?;
             told(alloc, &errors)
         }
@@ -98,11 +98,11 @@ fn read_values(alloc: Global, text: &str) -> Result<Variables<Scalar>, AllocErro
     Ok(values)
 }
 
-/// The arguments of the only field.
+/// The arguments of the first field.
 fn given<'d, 'a>(definitions: &'d [Definition<'a, Scalar>]) -> &'d [Given<'a>] {
-    match definitions {
-        [Definition::Operation(operation)] => match operation.item.selection_set.as_slice() {
-            [Selection::Field(field)] => match &field.item.arguments {
+    match definitions.first() {
+        Some(Definition::Operation(operation)) => match operation.item.selection_set.first() {
+            Some(Selection::Field(field)) => match &field.item.arguments {
                 Some(arguments) => arguments.item.items.as_slice(),
                 None => &[],
             },
