@@ -77,8 +77,8 @@ fn found(
     let Ok(document) = parse_document_source::<Scalar>(alloc, text) else {
         return String::from_str(alloc, "no document");
     };
-    match document.as_slice() {
-        [Definition::Operation(operation)] => {
+    match document.first() {
+        Some(Definition::Operation(operation)) => {
             let errors = validate_input_values(alloc, values, operation, schema)?;
             told(alloc, &errors)
         }
@@ -89,8 +89,10 @@ fn found(
 /// The arguments of a text's field, as the values of variables.
 fn read_values(alloc: Global, text: &str) -> Result<Variables<Scalar>, AllocError> {
     let mut values = HashMap::new(alloc);
-    if let Ok(document) = parse_document_source::<Scalar>(alloc, text) {
-        for (name, value) in given(document.as_slice()) {
+    if let Ok(document) = parse_document_source::<Scalar>(alloc, text)
+        && let Some(arguments) = given(document.as_slice())
+    {
+        for (name, value) in arguments {
             let name = String::from_str(alloc, name.item)?;
             values.insert(name, value.item.try_clone(alloc)?)?;
         }
@@ -98,17 +100,23 @@ fn read_values(alloc: Global, text: &str) -> Result<Variables<Scalar>, AllocErro
     Ok(values)
 }
 
-/// The arguments of the only field.
-fn given<'d, 'a>(definitions: &'d [Definition<'a, Scalar>]) -> &'d [Given<'a>] {
-    match definitions {
-        [Definition::Operation(operation)] => match operation.item.selection_set.as_slice() {
-            [Selection::Field(field)] => match &field.item.arguments {
-                Some(arguments) => arguments.item.items.as_slice(),
-                None => &[],
-            },
-            _ => &[],
+/// The arguments of the first field, where it has any.
+fn given<'d, 'a>(definitions: &'d [Definition<'a, Scalar>]) -> Option<&'d [Given<'a>]> {
+    match definitions.first()? {
+        Definition::Operation(operation) => written(operation.item.selection_set.as_slice()),
+        Definition::Fragment(_) => None,
+    }
+}
+
+/// The arguments of the first field of a set, where it has any.
+fn written<'d, 'a>(selections: &'d [Selection<'a, Scalar>]) -> Option<&'d [Given<'a>]> {
+    match selections.first()? {
+        Selection::Field(field) => match &field.item.arguments {
+            Some(arguments) => Some(arguments.item.items.as_slice()),
+            None => None,
         },
-        _ => &[],
+        Selection::FragmentSpread(_) => None,
+        Selection::InlineFragment(_) => None,
     }
 }
 
