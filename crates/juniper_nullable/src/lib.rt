@@ -2,6 +2,7 @@
 #![tactic(auto)]
 
 mod combinators;
+pub mod laws;
 mod nullable;
 mod references;
 #[cfg(test)]
