@@ -23,7 +23,7 @@ nullable_input inner nullable.ImplicitNull = null
 nullable_input inner nullable.ExplicitNull = null
 nullable_input inner (nullable.Some x) = inner x
 
--- a box: what the type inside gives, boxed
-abbrev pub GivesBox : {A E : Type 0} → (Constant → Result A E → Type 0) → Constant → Result (Box A Global) E → Type 0
+-- a box: what the type inside gives, boxed; of an input value as of a scalar
+abbrev pub GivesBox : {V A E : Type 0} → (V → Result A E → Type 0) → V → Result (Box A Global) E → Type 0
 GivesBox inner v (Ok b) = inner v (Ok b.value)
 GivesBox inner v (Err e) = inner v (Err e)

@@ -136,11 +136,11 @@ impl<'s, S: ScalarValue> FromScalarValue<'s, S> for &'s str {
 
 /// A box: what the type inside answers.
 impl<'s, T: FromScalarValue<'s, S>, S: ScalarValue> FromScalarValue<'s, S> for Box<T> {
-    ghost use Rattle.juniper_values.specs.ScalarConversions.{GivesBoxed};
+    ghost use Rattle.juniper_values.specs.WrappedConversions.{GivesBox};
 
     type Error = T::Error;
 
-    ghost gives = { GivesBoxed T.gives };
+    ghost gives = { GivesBox T.gives };
 
     fn from_scalar_value(
         alloc: Global,
