@@ -11,7 +11,7 @@ ghost use Rattle.juniper_syntax.specs.DocumentView.{view_document, view_operatio
 ghost use Rattle.juniper_syntax.specs.InputView.{view_variables};
 ghost use Rattle.juniper_syntax.specs.ValueView.{view_value};
 ghost use Rattle.juniper.specs.Answering.{IsAnswered, IsAnsweredDocument, IsRefusedDocument, IsRefusedWith};
-ghost use Rattle.juniper_values.specs.ErrorView.{view_listed};
+ghost use Rattle.juniper_errors.specs.ErrorView.{view_listed};
 ghost use Rattle.juniper.specs.RequestErrors.{view_request_error};
 ghost use Rattle.juniper.specs.RootView.{schema_of, resolver_of, info_of};
 ghost use Rattle.juniper_schema.specs.SchemaView.{view_schema};

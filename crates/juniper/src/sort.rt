@@ -4,7 +4,7 @@ ghost use Rattle.std.specs.Prelude.{◌≡◌, Bool, IsTrue, OnOk, OnErr, map};
 ghost use Rattle.std.specs.List.Sorted.{IsPermutation, IsStable};
 ghost use Rattle.graphql_spec.specs.Errors.{Listed, compare, is_sorted};
 ghost use Rattle.graphql_spec.specs.Walk.{count_listed};
-ghost use Rattle.juniper_values.specs.ErrorView.{view_listed};
+ghost use Rattle.juniper_errors.specs.ErrorView.{view_listed};
 
 use juniper_language::ScalarValue;
 use juniper_values::ExecutionError;

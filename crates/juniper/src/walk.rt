@@ -11,7 +11,7 @@ ghost use Rattle.graphql_spec.specs.Shown.{text};
 ghost use Rattle.graphql_spec.specs.Laws.{Agree};
 ghost use Rattle.juniper_syntax.specs.InputView.{view_variables};
 ghost use Rattle.juniper_syntax.specs.ValueView.{view_value, view_object};
-ghost use Rattle.juniper_values.specs.ErrorView.{view_error, view_listed};
+ghost use Rattle.juniper_errors.specs.ErrorView.{view_error, view_listed};
 ghost use Rattle.juniper_rules.specs.Occurrences.{view_occurrence};
 ghost use Rattle.juniper_resolvable.specs.ResolvedView.{Answers, view_resolved};
 ghost use Rattle.juniper_schema.specs.SchemaView.{view_schema};

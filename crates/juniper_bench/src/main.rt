@@ -7,15 +7,13 @@
 
 ghost use Rattle.std.specs.Prelude.{◌≡◌, ◌++◌, IfOk, codes, string_bytes};
 
-mod answers;
-mod command;
-mod count;
-mod make;
-mod schema;
+#[cfg(test)]
+mod tests;
 
-use answers::{Answer, parse_answer, scan_answer, schema_answer, validate_answer};
-use command::{Command, read_command};
-use make::made_text;
+use juniper_bench_tasks::{
+    Answer, Command, made_text, parse_answer, read_command, scan_answer, schema_answer,
+    validate_answer,
+};
 use std::alloc::{AllocError, Global};
 use std::process::ExitCode;
 use std::rt::Files;

@@ -3,8 +3,8 @@
 ghost use Rattle.std.specs.Prelude.{◌≡◌, option_map};
 ghost use Rattle.graphql_spec.specs.Constants.{find, meaning, members};
 ghost use Rattle.juniper_syntax.specs.InputView.{view_fields, view_input};
-ghost use Rattle.juniper_values.specs.Conversions.{int_of};
-ghost use Rattle.juniper_values.specs.ErrorView.{view_error};
+ghost use Rattle.juniper_scalars.specs.Conversions.{int_of};
+ghost use Rattle.juniper_errors.specs.ErrorView.{view_error};
 ghost use Rattle.juniper_conversion_tests.specs.Cells.{GivesCell};
 ghost use Rattle.juniper_conversion_tests.specs.Cells as cells;
 

@@ -147,16 +147,40 @@ fn told_at(
         "Option<i32>" => told::<Option<i32>>(alloc, question, value),
         "Nullable<i32>" => told::<Nullable<i32>>(alloc, question, value),
         "Box<Nullable<i32>>" => told::<Box<Nullable<i32>>>(alloc, question, value),
+        _ => told_at_vector(alloc, question, kind, value),
+    }
+}
+
+/// What is asked, at a type with vectors.
+fn told_at_vector(
+    alloc: Global,
+    question: Question,
+    kind: &str,
+    value: &InputValue<Scalar>,
+) -> Result<String, AllocError> {
+    match kind {
         "Vec<i32>" => told::<Vec<i32>>(alloc, question, value),
         "Vec<Option<i32>>" => told::<Vec<Option<i32>>>(alloc, question, value),
         "Vec<Vec<i32>>" => told::<Vec<Vec<i32>>>(alloc, question, value),
         "Vec<Vec<Vec<i32>>>" => told::<Vec<Vec<Vec<i32>>>>(alloc, question, value),
+        "Option<Vec<i32>>" => told::<Option<Vec<i32>>>(alloc, question, value),
+        "Option<Vec<Vec<i32>>>" => told::<Option<Vec<Vec<i32>>>>(alloc, question, value),
+        _ => told_at_array(alloc, question, kind, value),
+    }
+}
+
+/// What is asked, at a type with arrays.
+fn told_at_array(
+    alloc: Global,
+    question: Question,
+    kind: &str,
+    value: &InputValue<Scalar>,
+) -> Result<String, AllocError> {
+    match kind {
         "[i32; 3]" => told::<[i32; 3]>(alloc, question, value),
         "[i32; 0]" => told::<[i32; 0]>(alloc, question, value),
         "[Option<i32>; 3]" => told::<[Option<i32>; 3]>(alloc, question, value),
         "[[i32; 1]; 3]" => told::<[[i32; 1]; 3]>(alloc, question, value),
-        "Option<Vec<i32>>" => told::<Option<Vec<i32>>>(alloc, question, value),
-        "Option<Vec<Vec<i32>>>" => told::<Option<Vec<Vec<i32>>>>(alloc, question, value),
         "Option<[i32; 3]>" => told::<Option<[i32; 3]>>(alloc, question, value),
         _ => String::from_str(alloc, "no such type"),
     }

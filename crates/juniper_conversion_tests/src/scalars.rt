@@ -58,21 +58,30 @@ fn scalars_are_read(rt: HostRuntime) -> Result<(), Fail> {
     Ok(())
 }
 
+/// The scalar that is made of a value.
+fn made<T: ToScalarValue<Scalar>>(alloc: Global, value: &T) -> Result<String, AllocError> {
+    let scalar = value.to_scalar_value(alloc)?;
+    format!(in alloc; "{scalar:?}")
+}
+
+/// The scalar that is made of a text, and the one that is made of it as an ID.
+fn made_of_text(alloc: Global, text: &str) -> Result<(String, String), AllocError> {
+    let id = ID::new(String::from_str(alloc, text)?);
+    let of_id = made(alloc, &id)?;
+    let of_text = made(alloc, &String::from_str(alloc, text)?)?;
+    Ok((of_text, of_id))
+}
+
 #[test]
 fn scalars_are_made(rt: HostRuntime) -> Result<(), Fail> {
     let alloc = rt.alloc();
-    let int: Scalar = 7.to_scalar_value(alloc)?;
-    assert_eq!(rt; int, Scalar::Int(7));
-    let lent: Scalar = (&&7).to_scalar_value(alloc)?;
-    assert_eq!(rt; lent, Scalar::Int(7));
-    let boxed: Scalar = Box::new(alloc, 7)?.to_scalar_value(alloc)?;
-    assert_eq!(rt; boxed, Scalar::Int(7));
-    let boolean: Scalar = true.to_scalar_value(alloc)?;
-    assert_eq!(rt; boolean, Scalar::Boolean(true));
-    let text: Scalar = String::from_str(alloc, "x")?.to_scalar_value(alloc)?;
-    assert_eq!(rt; text.try_to_str(), Some("x"));
-    let id: Scalar = ID::new(String::from_str(alloc, "7")?).to_scalar_value(alloc)?;
-    assert_eq!(rt; id.try_to_str(), Some("7"));
+    assert_eq!(rt; made(alloc, &7)?.as_str(), "Int(7)");
+    assert_eq!(rt; made(alloc, &&7)?.as_str(), "Int(7)");
+    assert_eq!(rt; made(alloc, &Box::new(alloc, 7)?)?.as_str(), "Int(7)");
+    assert_eq!(rt; made(alloc, &true)?.as_str(), "Boolean(true)");
+    let (of_text, of_id) = made_of_text(alloc, "x")?;
+    assert_eq!(rt; of_text.as_str(), "String(\"x\")");
+    assert_eq!(rt; of_id.as_str(), "String(\"x\")");
     Ok(())
 }
 
@@ -85,47 +94,67 @@ where
     format!(in alloc; "{answer:?}")
 }
 
-#[test]
-fn missing_values_are_null_or_implicit(rt: HostRuntime) -> Result<(), Fail> {
-    let alloc = rt.alloc();
-    let option = missing::<Option<i32>>(alloc)?;
-    assert_eq!(rt; option.as_str(), "Ok(None)");
-    let nullable = missing::<Nullable<i32>>(alloc)?;
-    assert_eq!(rt; nullable.as_str(), "Ok(ImplicitNull)");
-    let boxed = missing::<Box<Nullable<i32>>>(alloc)?;
-    assert_eq!(rt; boxed.as_str(), "Ok(ExplicitNull)");
-    let list = missing::<Vec<i32>>(alloc)?;
-    assert_eq!(rt; list.as_str(), "Err(Null)");
-    let array = missing::<[i32; 0]>(alloc)?;
-    assert_eq!(rt; array.as_str(), "Err(Null)");
+/// What is written of a null that is not written.
+fn written_implicit(alloc: Global) -> Result<String, AllocError> {
     let implicit: Nullable<i32> = Nullable::ImplicitNull;
     let written = ToInputValue::<Scalar>::to_input_value(&&implicit, alloc)?;
-    assert_eq!(rt; written.to_string(alloc)?.as_str(), "null");
-    Ok(())
+    written.to_string(alloc)
 }
 
 #[test]
-fn errors_become_errors_of_a_field(rt: HostRuntime) -> Result<(), Fail> {
+fn missing_values_are_null_or_implicit(rt: HostRuntime) -> Result<(), Fail> {
     let alloc = rt.alloc();
+    assert_eq!(rt; missing::<Option<i32>>(alloc)?.as_str(), "Ok(None)");
+    assert_eq!(rt;
+        missing::<Nullable<i32>>(alloc)?.as_str(),
+        "Ok(ImplicitNull)"
+    );
+    assert_eq!(rt;
+        missing::<Box<Nullable<i32>>>(alloc)?.as_str(),
+        "Ok(ExplicitNull)"
+    );
+    assert_eq!(rt; missing::<Vec<i32>>(alloc)?.as_str(), "Err(Null)");
+    assert_eq!(rt; missing::<[i32; 0]>(alloc)?.as_str(), "Err(Null)");
+    assert_eq!(rt; written_implicit(alloc)?.as_str(), "null");
+    Ok(())
+}
+
+/// An error of another type of scalars, with one value of each kind for its extensions.
+fn error_of_kinds(alloc: Global) -> Result<FieldError<TestScalar>, AllocError> {
     let text = TestScalar::from_text(String::from_str(alloc, "x")?)?;
     let mut items = Vec::new(alloc);
     items.push(Value::Scalar(text))?;
     items.push(Value::Scalar(TestScalar::from_int(7)))?;
     items.push(Value::Scalar(TestScalar::from_bool(true)))?;
     items.push(Value::Null)?;
-    let error = FieldError::new(alloc, "no", Value::List(items))?;
-    let mapped: FieldError<Scalar> = error.into_field_error(alloc)?;
-    assert_eq!(rt; mapped.message(), "no");
-    let shown = format!(in alloc; "{:?}", mapped.extensions())?;
+    FieldError::new(alloc, "no", Value::List(items))
+}
+
+/// The error of a field that is made of something: its message, and what more is said.
+fn told<E: IntoFieldError<Scalar>>(alloc: Global, error: E) -> Result<String, AllocError> {
+    let made = error.into_field_error(alloc)?;
+    let message = made.message();
+    let extensions = made.extensions();
+    format!(in alloc; "{message}: {extensions:?}")
+}
+
+#[test]
+fn errors_become_errors_of_a_field(rt: HostRuntime) -> Result<(), Fail> {
+    let alloc = rt.alloc();
     assert_eq!(rt;
-        shown.as_str(),
-        "List([Scalar(String(\"x\")), Scalar(Int(7)), Scalar(Boolean(true)), Null])"
+        told(alloc, error_of_kinds(alloc)?)?.as_str(),
+        "no: List([Scalar(String(\"x\")), Scalar(Int(7)), Scalar(Boolean(true)), Null])"
     );
-    let lent: FieldError<Scalar> = CowStr::Borrowed("lent").into_field_error(alloc)?;
-    assert_eq!(rt; lent.message(), "lent");
+    assert_eq!(rt;
+        told(alloc, CowStr::Borrowed("lent"))?.as_str(),
+        "lent: Null"
+    );
+    assert_eq!(rt; told(alloc, "no")?.as_str(), "no: Null");
     let boxed = String::from_str(alloc, "boxed")?.into_boxed_str();
-    let boxed: FieldError<Scalar> = boxed.into_field_error(alloc)?;
-    assert_eq!(rt; boxed.message(), "boxed");
-    assert_eq!(rt; boxed.extensions(), &Value::Null);
+    assert_eq!(rt; told(alloc, boxed)?.as_str(), "boxed: Null");
+    assert_eq!(rt;
+        told(alloc, String::from_str(alloc, "never")?)?.as_str(),
+        "never: Null"
+    );
     Ok(())
 }

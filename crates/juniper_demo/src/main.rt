@@ -1,13 +1,10 @@
 //! The demo server: `juniper_demo TEXT` executes the request of the text and prints its answer as one line of JSON.
 #![tactic(auto)]
 
-mod answer;
-mod demo;
-mod outcome;
-mod schema;
+#[cfg(test)]
+mod tests;
 
-use answer::answer;
-use demo::DemoContext;
+use juniper_demo_server::{DemoContext, answer};
 use std::env;
 use std::process::ExitCode;
 

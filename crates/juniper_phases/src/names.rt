@@ -9,6 +9,8 @@ ghost use Rattle.juniper_position.specs.RuleView.{view_rule_error};
 ghost use Rattle.juniper_schema.specs.SchemaView.{view_schema};
 ghost use Rattle.juniper_spreads.specs.SpreadsView.{AreFragmentsOf};
 ghost use Rattle.juniper_syntax.specs.DocumentView.{view_definition};
+ghost use Rattle.juniper_written.specs.Parts.{parts_of};
+ghost use Rattle.juniper_written.specs.WrittenView.{view_written};
 ghost use Rattle.juniper_phases.specs.Operations.{OperationsOf};
 
 use crate::report::report;
@@ -20,7 +22,7 @@ use juniper_schema::SchemaType;
 use juniper_spreads::FragmentsByName;
 use juniper_syntax::{Definition, RuleError, ScalarValue};
 use juniper_type_rules::has_unknown_type;
-use juniper_written::{argument_lists, written_in};
+use juniper_written::{Written, argument_lists, written_in};
 use std::alloc::{AllocError, Global};
 
 /// What the rules on names find in a document with these fragments: an error for each rule that a definition violates, in
@@ -63,12 +65,7 @@ fn find_names<'d, 'a, S: ScalarValue>(
 ) -> Result<(), AllocError>
     ensures { OnOk result ((disabled : Bool) (d : documents.Document) (ds : List documents.Definition) → AreFragmentsOf S.shown fragments.now d → OperationsOf operation_count d → IsEarlier earlier.now ds → map view_rule_error errors.new.items ≡ map view_rule_error errors.old.items ++ rules.name_errors (view_schema S.shown schema.now) disabled d ds (view_definition S.shown definition.now)) }
 {
-    let written = written_in(alloc, definition)?;
-    let arguments = argument_lists(alloc, &written)?;
-    let spreads_itself = fragments.spreads_itself(alloc, definition, &written.spreads)?;
-    let repeats_variable = repeats_variable(alloc, definition)?;
-    let repeats_argument = repeats_argument(alloc, &arguments)?;
-    let repeats_input_field = repeats_input_field(alloc, definition, &arguments)?;
+    let inside = names_inside(alloc, schema, fragments, definition)?;
     let findings = [
         (
             earlier.repeats_operation(definition),
@@ -82,20 +79,70 @@ fn find_names<'d, 'a, S: ScalarValue>(
             earlier.repeats_fragment(definition),
             "Fragment name is not unique",
         ),
-        (
-            fragments.spreads_unknown(&written.spreads),
-            "Unknown fragment",
-        ),
-        (spreads_itself, "Fragment spreads itself"),
-        (repeats_variable, "Variable name is not unique"),
-        (repeats_argument, "Argument name is not unique"),
-        (repeats_input_field, "Input field name is not unique"),
-        (has_unknown_directive(&written), "Unknown directive"),
-        (
-            has_unknown_type(schema, &written, definition),
-            "Unknown type",
-        ),
+        (inside.spreads_unknown, "Unknown fragment"),
+        (inside.spreads_itself, "Fragment spreads itself"),
+        (inside.repeats_variable, "Variable name is not unique"),
+        (inside.repeats_argument, "Argument name is not unique"),
+        (inside.repeats_input_field, "Input field name is not unique"),
+        (inside.has_unknown_directive, "Unknown directive"),
+        (inside.has_unknown_type, "Unknown type"),
     ];
-    report(alloc, errors, definition, &findings)?;
-    Ok(())
+    report(alloc, errors, definition, &findings)
+}
+
+/// Which rules on names are violated by what is written inside a definition.
+#[derive(Clone, Copy)]
+struct NamesInside {
+    spreads_unknown: bool,
+    spreads_itself: bool,
+    repeats_variable: bool,
+    repeats_argument: bool,
+    repeats_input_field: bool,
+    has_unknown_directive: bool,
+    has_unknown_type: bool,
+}
+
+/// Which rules on names are violated by what is written inside a definition.
+fn names_inside<'d, 'a, S: ScalarValue>(
+    alloc: Global,
+    schema: &SchemaType<S>,
+    fragments: &FragmentsByName<'d, 'a, S>,
+    definition: &'d Definition<'a, S>,
+) -> Result<NamesInside, AllocError>
+    ensures unknown { IfOk result (λ n. (d : documents.Document) → AreFragmentsOf S.shown fragments.now d → n.spreads_unknown ≡ rules.spreads_unknown d (view_definition S.shown definition.now)) }
+    ensures cycle { IfOk result (λ n. (d : documents.Document) → AreFragmentsOf S.shown fragments.now d → n.spreads_itself ≡ rules.spreads_itself d (view_definition S.shown definition.now)) }
+    ensures variable { IfOk result (λ n. n.repeats_variable ≡ rules.repeats_variable (view_definition S.shown definition.now)) }
+    ensures argument { IfOk result (λ n. n.repeats_argument ≡ rules.repeats_argument (view_definition S.shown definition.now)) }
+    ensures field { IfOk result (λ n. n.repeats_input_field ≡ rules.repeats_input_field (view_definition S.shown definition.now)) }
+    ensures directive { IfOk result (λ n. n.has_unknown_directive ≡ rules.has_unknown_directive (view_definition S.shown definition.now)) }
+    ensures named { IfOk result (λ n. n.has_unknown_type ≡ rules.has_unknown_type (view_schema S.shown schema.now) (view_definition S.shown definition.now)) }
+{
+    let repeats_variable = repeats_variable(alloc, definition)?;
+    let written = written_in(alloc, definition)?;
+    let spreads_itself = fragments.spreads_itself(alloc, definition, &written.spreads)?;
+    let (repeats_argument, repeats_input_field) = repeats_given(alloc, definition, &written)?;
+    Ok(NamesInside {
+        spreads_unknown: fragments.spreads_unknown(&written.spreads),
+        spreads_itself,
+        repeats_variable,
+        repeats_argument,
+        repeats_input_field,
+        has_unknown_directive: has_unknown_directive(&written),
+        has_unknown_type: has_unknown_type(schema, &written, definition),
+    })
+}
+
+/// Whether a definition, in which this is written, repeats the name of an argument, and that of an input field.
+fn repeats_given<'d, 'a, S: ScalarValue>(
+    alloc: Global,
+    definition: &'d Definition<'a, S>,
+    written: &Written<'d, 'a, S>,
+) -> Result<(bool, bool), AllocError>
+    ensures argument { IfOk result (λ r. view_written S.shown written.now ≡ parts_of (view_definition S.shown definition.now) → r.0 ≡ rules.repeats_argument (view_definition S.shown definition.now)) }
+    ensures field { IfOk result (λ r. view_written S.shown written.now ≡ parts_of (view_definition S.shown definition.now) → r.1 ≡ rules.repeats_input_field (view_definition S.shown definition.now)) }
+{
+    let arguments = argument_lists(alloc, written)?;
+    let repeats_argument = repeats_argument(alloc, &arguments)?;
+    let repeats_input_field = repeats_input_field(alloc, definition, &arguments)?;
+    Ok((repeats_argument, repeats_input_field))
 }

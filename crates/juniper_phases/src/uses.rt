@@ -9,18 +9,20 @@ ghost use Rattle.juniper_schema.specs.SchemaView.{view_schema};
 ghost use Rattle.juniper_spreads.specs.SpreadsView.{AreFragmentsOf};
 ghost use Rattle.juniper_syntax.specs.DocumentView.{view_definition};
 ghost use Rattle.juniper_use_rules.specs.UsesView.{AreUsesOfFragments, IsReachOf, usage_of, view_used};
-ghost use Rattle.juniper_written.specs.Parts.{parts_of};
-ghost use Rattle.juniper_written.specs.WrittenView.{view_written};
+ghost use Rattle.juniper_placed.specs.CallView.{view_calls};
+ghost use Rattle.juniper_placed.specs.Placing as placing;
+ghost use Rattle.juniper_written.specs.Parts.{lists_of, parts_of};
+ghost use Rattle.juniper_written.specs.WrittenView.{view_lists, view_written};
 
 use crate::report::report;
-use juniper_placed::{calls, placed_in};
+use juniper_placed::{Call, calls, placed_in};
 use juniper_schema::SchemaType;
 use juniper_spreads::FragmentsByName;
 use juniper_syntax::{Definition, RuleError, ScalarValue};
 use juniper_use_rules::{
     Used, looks_at_schema, misuses_variable, used_in, uses_of_fragments, uses_undefined,
 };
-use juniper_written::{Written, argument_lists, written_in};
+use juniper_written::{ArgumentLists, Written, argument_lists, written_in};
 use std::alloc::{AllocError, Global};
 use std::collections::HashSet;
 
@@ -79,23 +81,52 @@ fn find_uses<'d, 'a, 'u, S: ScalarValue>(
 ) -> Result<(), AllocError>
     ensures { OnOk result ((d : documents.Document) (ds : List documents.Definition) → AreFragmentsOf S.shown given.now.fragments.now d → AreUsesOfFragments (view_schema S.shown given.now.schema.now) given.now.used_by_fragments.now.items d → view_used own.now ≡ usage_of (view_schema S.shown given.now.schema.now) (view_definition S.shown definition.now) → cannot_merge ≡ rules.cannot_merge (view_schema S.shown given.now.schema.now) d (view_definition S.shown definition.now) → map view_rule_error errors.new.items ≡ map view_rule_error errors.old.items ++ rules.use_errors (view_schema S.shown given.now.schema.now) given.now.introspection_disabled d ds (view_definition S.shown definition.now)) }
 {
+    let inside = uses_inside(alloc, given, definition, own)?;
+    let findings = [
+        (inside.undefined, "Variable is not defined"),
+        (inside.misused, "Variable may not stand here"),
+        (cannot_merge, "Fields cannot be merged"),
+        (inside.looks_at_schema, "Introspection is disabled"),
+    ];
+    report(alloc, errors, definition, &findings)
+}
+
+/// Which rules on uses are violated by what is written inside a definition.
+#[derive(Clone, Copy)]
+struct UsesInside {
+    undefined: bool,
+    misused: bool,
+    looks_at_schema: bool,
+}
+
+/// Which rules on uses are violated by what is written inside a definition, which uses these variables.
+fn uses_inside<'d, 'a, 'u, S: ScalarValue>(
+    alloc: Global,
+    given: &Given<'_, 'd, 'a, 'u, S>,
+    definition: &'d Definition<'a, S>,
+    own: &Used<'u>,
+) -> Result<UsesInside, AllocError>
+    ensures undefined { IfOk result (λ u. (d : documents.Document) → AreFragmentsOf S.shown given.now.fragments.now d → AreUsesOfFragments (view_schema S.shown given.now.schema.now) given.now.used_by_fragments.now.items d → view_used own.now ≡ usage_of (view_schema S.shown given.now.schema.now) (view_definition S.shown definition.now) → u.undefined ≡ rules.uses_undefined (view_schema S.shown given.now.schema.now) d (view_definition S.shown definition.now)) }
+    ensures misused { IfOk result (λ u. (d : documents.Document) → AreFragmentsOf S.shown given.now.fragments.now d → AreUsesOfFragments (view_schema S.shown given.now.schema.now) given.now.used_by_fragments.now.items d → view_used own.now ≡ usage_of (view_schema S.shown given.now.schema.now) (view_definition S.shown definition.now) → u.misused ≡ rules.misuses_variable (view_schema S.shown given.now.schema.now) d (view_definition S.shown definition.now)) }
+    ensures schema { IfOk result (λ u. u.looks_at_schema ≡ rules.looks_at_schema (view_schema S.shown given.now.schema.now) given.now.introspection_disabled (view_definition S.shown definition.now)) }
+{
     let schema = given.schema;
     let fragments = given.used_by_fragments;
     let written = written_in(alloc, definition)?;
+    let looks_at_schema = looks_at_schema(
+        schema,
+        given.introspection_disabled,
+        definition,
+        &written,
+    );
     let reached = reach_of(alloc, given.fragments, definition, &written)?;
-    let uses_undefined = uses_undefined(alloc, schema, definition, own, fragments, &reached)?;
-    let misuses_variable = misuses_variable(alloc, schema, definition, own, fragments, &reached)?;
-    let findings = [
-        (uses_undefined, "Variable is not defined"),
-        (misuses_variable, "Variable may not stand here"),
-        (cannot_merge, "Fields cannot be merged"),
-        (
-            looks_at_schema(schema, given.introspection_disabled, definition, &written),
-            "Introspection is disabled",
-        ),
-    ];
-    report(alloc, errors, definition, &findings)?;
-    Ok(())
+    let undefined = uses_undefined(alloc, schema, definition, own, fragments, &reached)?;
+    let misused = misuses_variable(alloc, schema, definition, own, fragments, &reached)?;
+    Ok(UsesInside {
+        undefined,
+        misused,
+        looks_at_schema,
+    })
 }
 
 /// The names of the fragments that an operation reaches, in which this is written.
@@ -137,11 +168,32 @@ fn used_by<'u, 'a: 'u, S: ScalarValue>(
 ) -> Result<Used<'u>, AllocError>
     ensures { IfOk result (λ u. view_used u ≡ usage_of (view_schema S.shown schema.now) (view_definition S.shown definition.now)) }
 {
-    let written = written_in(alloc, definition)?;
-    let lists = argument_lists(alloc, &written)?;
-    let parts = placed_in(alloc, schema, definition)?;
-    let calls = calls(alloc, schema, &parts)?;
+    let lists = lists_in(alloc, definition)?;
+    let calls = calls_in(alloc, schema, definition)?;
     used_in(alloc, schema, definition, &lists, &calls)
+}
+
+/// The argument lists that are written in a definition.
+fn lists_in<'d, 'a, S: ScalarValue>(
+    alloc: Global,
+    definition: &'d Definition<'a, S>,
+) -> Result<ArgumentLists<'d, 'a, S>, AllocError>
+    ensures { IfOk result (λ l. view_lists S.shown l ≡ lists_of (parts_of (view_definition S.shown definition.now))) }
+{
+    let written = written_in(alloc, definition)?;
+    argument_lists(alloc, &written)
+}
+
+/// The calls of fields and of directives in a definition.
+fn calls_in<'d, 'a, S: ScalarValue>(
+    alloc: Global,
+    schema: &'d SchemaType<S>,
+    definition: &'d Definition<'a, S>,
+) -> Result<Vec<Call<'d, 'a, 'd, S>>, AllocError>
+    ensures { IfOk result (λ cs. view_calls S.shown cs.items ≡ placing.calls_of (view_schema S.shown schema.now) (placing.parts_of (view_schema S.shown schema.now) (view_definition S.shown definition.now))) }
+{
+    let parts = placed_in(alloc, schema, definition)?;
+    calls(alloc, schema, &parts)
 }
 
 /// Whether the list marks this place.

@@ -1,18 +1,20 @@
 //! Validation of a document against a schema (section 5 of the Specification).
 
-ghost use Rattle.std.specs.Prelude.{◌≡◌, IfOk, map};
-ghost use Rattle.graphql_spec.specs.Rules.{rule_errors};
+ghost use Rattle.std.specs.Prelude.{◌≡◌, IfOk, map, []};
+ghost use Rattle.graphql_spec.specs.Rules as rules;
+ghost use Rattle.graphql_spec.specs.Rules.{at_each, rule_errors};
 ghost use Rattle.juniper_position.specs.RuleView.{view_rule_error};
 ghost use Rattle.juniper_schema.specs.SchemaView.{view_schema};
-ghost use Rattle.juniper_syntax.specs.DocumentView.{view_document};
+ghost use Rattle.juniper_spreads.specs.SpreadsView.{AreFragmentsOf};
+ghost use Rattle.juniper_syntax.specs.DocumentView.{view_definition, view_document};
 
 use crate::names::name_errors;
 use crate::types::type_errors;
 use crate::uses::use_errors;
 use juniper_field_graph::cannot_merge;
 use juniper_schema::SchemaType;
-use juniper_spreads::fragments_by_name;
-use juniper_syntax::{Document, RuleError, ScalarValue};
+use juniper_spreads::{FragmentsByName, fragments_by_name};
+use juniper_syntax::{Definition, Document, RuleError, ScalarValue};
 use std::alloc::{AllocError, Global};
 
 /// The errors of a document: one for each rule that a definition violates, at the start of that definition, in the order of
@@ -33,18 +35,37 @@ pub fn validate<'d, 'a, S: ScalarValue>(
     if !errors.is_empty() {
         return Ok(errors);
     }
-    let errors = type_errors(alloc, schema, definitions)?;
-    if !errors.is_empty() {
-        return Ok(errors);
-    }
-    let cannot_merge = cannot_merge(alloc, schema, definitions, &fragments)?;
-    let errors = use_errors(
+    later_errors(
         alloc,
         schema,
         definitions,
         &fragments,
+        introspection_disabled,
+    )
+}
+
+/// What the rules on types find in a document with these fragments, on whose names no rule finds anything; and where these
+/// find nothing either, what the last rules find.
+fn later_errors<'d, 'a, S: ScalarValue>(
+    alloc: Global,
+    schema: &'d SchemaType<S>,
+    document: &'d [Definition<'a, S>],
+    fragments: &FragmentsByName<'d, 'a, S>,
+    introspection_disabled: bool,
+) -> Result<Vec<RuleError>, AllocError>
+    ensures { IfOk result (λ es. AreFragmentsOf S.shown fragments.now (map (view_definition S.shown) document.now) → at_each (rules.name_errors (view_schema S.shown schema.now) introspection_disabled (map (view_definition S.shown) document.now)) [] (map (view_definition S.shown) document.now) ≡ [] → map view_rule_error es.items ≡ rule_errors (view_schema S.shown schema.now) introspection_disabled (map (view_definition S.shown) document.now)) }
+{
+    let errors = type_errors(alloc, schema, document)?;
+    if !errors.is_empty() {
+        return Ok(errors);
+    }
+    let cannot_merge = cannot_merge(alloc, schema, document, fragments)?;
+    use_errors(
+        alloc,
+        schema,
+        document,
+        fragments,
         &cannot_merge,
         introspection_disabled,
-    )?;
-    Ok(errors)
+    )
 }

@@ -7,11 +7,7 @@ mod graphql_type;
 mod names;
 mod nullables;
 mod registry;
-#[cfg(test)]
-mod samples;
 mod scalars;
-#[cfg(test)]
-mod tests;
 mod type_kind;
 mod wrappers;
 

@@ -2,8 +2,8 @@
 use Rattle.std.proofs.Common.{◌≡◌, ℕ, List, length, arith, [], ◌∷◌, ◌++◌, map, Some, None, refl, ap, ◌∙◌}
 use Rattle.graphql_spec.specs.Shown.{Shown}
 use Rattle.graphql_spec.specs.Resolvers.{Error, Tree, tree, Reply, answered, failed, items}
-use Rattle.juniper_values.specs.declared.field_error.ResolveError.{ResolveError}
-use Rattle.juniper_values.specs.declared.field_error.ResolveError.TheVariants.{Field, Memory}
+use Rattle.juniper_errors.specs.declared.field_error.ResolveError.{ResolveError}
+use Rattle.juniper_errors.specs.declared.field_error.ResolveError.TheVariants.{Field, Memory}
 use Rattle.juniper_resolvable.specs.Replies.{first_error, all_answered, list_reply}
 use Rattle.juniper_resolvable.specs.ResolvedView.{trees_of, FailsWith}
 

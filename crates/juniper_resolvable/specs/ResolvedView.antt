@@ -3,11 +3,11 @@ use Rattle.std.specs.Prelude.{◌≡◌, List, [], ◌∷◌, Result, Ok, Err}
 use Rattle.graphql_spec.specs.Shown.{Shown}
 use Rattle.graphql_spec.specs.Resolvers as spec
 use Rattle.graphql_spec.specs.Resolvers.{Tree, Trees, no_trees, tree, Reply, answered, failed}
-use Rattle.juniper_values.specs.ErrorView.{view_error}
+use Rattle.juniper_errors.specs.ErrorView.{view_error}
 use Rattle.juniper_resolvable.specs.declared.resolved.Resolved.{Resolved, fold-Resolved}
 use Rattle.juniper_resolvable.specs.declared.resolved.Resolved.TheOpen.{Resolved-F}
-use Rattle.juniper_values.specs.declared.field_error.ResolveError.{ResolveError}
-use Rattle.juniper_values.specs.declared.field_error.ResolveError.TheVariants.{Field, Memory}
+use Rattle.juniper_errors.specs.declared.field_error.ResolveError.{ResolveError}
+use Rattle.juniper_errors.specs.declared.field_error.ResolveError.TheVariants.{Field, Memory}
 
 abbrev pub trees_of : {N : Type 0} → List (Tree N) → Trees N
 trees_of [] = no_trees

@@ -2,7 +2,7 @@
 
 ghost use Rattle.std.specs.Prelude.{◌≡◌, ◌+◌, IfOk, OnOk, map, string_bytes, [], ◌∷◌};
 ghost use Rattle.graphql_spec.specs.Errors.{key};
-ghost use Rattle.juniper_values.specs.ErrorView.{view_listed};
+ghost use Rattle.juniper_errors.specs.ErrorView.{view_listed};
 ghost use Rattle.juniper_position.specs.Positions.{view_position};
 ghost use Rattle.juniper_syntax.specs.ValueView.{view_value, view_object, view_values};
 ghost use Rattle.serde_json.specs.Data.{array, object};

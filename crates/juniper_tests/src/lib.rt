@@ -1,12 +1,7 @@
-//! Tests over several crates: requests to a root, and what they are answered; conversions; errors.
+//! Tests over all crates: requests to a root, and what they are answered; the errors of requests.
 #![tactic(auto)]
 
 #[cfg(test)]
-mod conversions;
-#[cfg(test)]
 mod errors;
 #[cfg(test)]
-mod field_errors;
-#[cfg(test)]
 mod requests;
-pub mod root;

@@ -1,10 +1,10 @@
 //! Requests, and what they are answered: data with errors, or a refusal, each with its place. Each row is tried with both
 //! types of scalars.
 
-use crate::root::{Requests, TestRoot, list_root, test_root};
 use juniper::{ExecutionError, GraphQLError, execute_sync};
 use juniper_language::{DefaultScalarValue, Object, ScalarValue, SourcePosition, Value, Variables};
 use juniper_language_tests::scalar::TestScalar;
+use juniper_test_root::root::{Requests, TestRoot, list_root, test_root};
 use std::alloc::{AllocError, Global};
 use std::test::Fail;
 

@@ -1,12 +1,1 @@
 pub mod ArgumentMembers
-pub mod Counts
-pub mod ErrorEquality
-pub mod ErrorOrder
-pub mod IdReads
-pub mod Items
-pub mod ListRoundTrips
-pub mod Meanings
-pub mod Nulls
-pub mod RoundTrips
-pub mod Shapes
-pub mod WrappedRoundTrips

@@ -10,9 +10,9 @@ use Rattle.juniper_syntax.specs.InputView.{view_input}
 use Rattle.juniper_syntax.specs.declared.input.InputValue.{InputValue}
 use Rattle.juniper_position.specs.declared.position.Span.{Span}
 use Rattle.juniper_position.specs.declared.position.Spanning.{Spanning}
-use Rattle.juniper_values.specs.ErrorView.{view_error}
-use Rattle.juniper_values.specs.declared.field_error.ResolveError.{ResolveError}
-use Rattle.juniper_values.specs.declared.field_error.ResolveError.TheVariants.{Field, Memory}
+use Rattle.juniper_errors.specs.ErrorView.{view_error}
+use Rattle.juniper_errors.specs.declared.field_error.ResolveError.{ResolveError}
+use Rattle.juniper_errors.specs.declared.field_error.ResolveError.TheVariants.{Field, Memory}
 use Rattle.juniper_meta.specs.MetaView.{view_argument}
 use Rattle.juniper_values.specs.declared.arguments.Arguments.{Arguments}
 use Rattle.juniper_meta.specs.declared.declaration.Argument.{Argument}

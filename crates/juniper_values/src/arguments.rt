@@ -7,10 +7,9 @@ ghost use Rattle.juniper_syntax.specs.InputView.{view_input};
 ghost use Rattle.juniper_values.specs.ArgumentView.{members_of, view_arguments, view_declared, view_given, GivesArgument};
 ghost use Rattle.juniper_meta.specs.MetaView.{view_argument};
 
-use crate::convert::FromInputValue;
-use crate::field_error::ResolveError;
-use crate::into_field_error::IntoFieldError;
 use indexmap::IndexMap;
+use juniper_conversions::FromInputValue;
+use juniper_errors::{IntoFieldError, ResolveError};
 use juniper_meta::meta::Argument;
 use juniper_syntax::{InputValue, ScalarValue, Span, Spanning};
 use std::alloc::{AllocError, Global};

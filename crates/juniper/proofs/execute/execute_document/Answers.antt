@@ -3,7 +3,7 @@ use Rattle.juniper_syntax.specs.InputView.{view_variables}
 use Rattle.juniper_syntax.specs.DocumentView.{view_document, view_operation}
 use Rattle.juniper_syntax.specs.ValueView.{view_value}
 use Rattle.juniper_position.specs.RuleView.{view_rule_error}
-use Rattle.juniper_values.specs.ErrorView.{view_listed}
+use Rattle.juniper_errors.specs.ErrorView.{view_listed}
 use Rattle.juniper.specs.RequestErrors.{view_request_error, unknown_operation}
 use Rattle.juniper_schema.specs.SchemaView.{view_schema}
 use Rattle.juniper.specs.Walking.{world_in}

@@ -5,7 +5,7 @@ use Rattle.graphql_spec.specs.Requests.{selected}
 use Rattle.juniper_syntax.specs.InputView.{view_variables}
 use Rattle.juniper_syntax.specs.DocumentView.{view_operation}
 use Rattle.juniper_syntax.specs.ValueView.{view_value}
-use Rattle.juniper_values.specs.ErrorView.{view_listed}
+use Rattle.juniper_errors.specs.ErrorView.{view_listed}
 use Rattle.juniper_rules.specs.Occurrences.{view_occurrence}
 use Rattle.juniper_schema.specs.SchemaView.{view_schema}
 use Rattle.juniper.specs.Walking.{world_in}

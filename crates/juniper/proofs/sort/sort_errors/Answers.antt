@@ -2,8 +2,8 @@ use Rattle.std.proofs.Common.{rules}
 use Rattle.std.proofs.lemmas.Result.{on_ok_weaker}
 use Rattle.std.proofs.lemmas.List.MinMax.{ranks_by}
 use Rattle.std.proofs.lemmas.List.Sorted.{answers_always}
-use Rattle.juniper_values.specs.ErrorView.{view_listed}
-use Rattle.juniper_values.proofs.ErrorOrder.{compare_total}
+use Rattle.juniper_errors.specs.ErrorView.{view_listed}
+use Rattle.juniper_errors.proofs.ErrorOrder.{compare_total}
 use Rattle.juniper.proofs.ErrorSorting.{is_sorted_by, counts_stay}
 use Rattle.juniper.proofs.sort.sort_errors.Goals as goal
 

@@ -2,7 +2,7 @@ use Rattle.std.proofs.Common.{None, refl, sym, ap, ◌∙◌, option_map}
 use Rattle.graphql_spec.specs.Fields.{entry_named, leaf_accepts}
 use Rattle.juniper_syntax.specs.ValueView.{view_value}
 use Rattle.juniper_syntax.proofs.Values as values
-use Rattle.juniper_values.specs.ErrorView.{view_error}
+use Rattle.juniper_errors.specs.ErrorView.{view_error}
 use Rattle.juniper_resolvable.specs.ResolvedView.{view_resolved}
 use Rattle.juniper_schema.specs.SchemaView.{view_schema}
 use Rattle.juniper_resolvable.proofs.Resolutions.{view-Null, view-Scalar, view-List, view-Node}

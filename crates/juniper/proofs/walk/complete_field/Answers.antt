@@ -3,7 +3,7 @@ use Rattle.graphql_spec.specs.Resolvers.{world_of}
 use Rattle.juniper_syntax.specs.InputView.{view_variables}
 use Rattle.juniper_syntax.specs.ValueView.{view_value}
 use Rattle.juniper_syntax.proofs.Values.{view-Null}
-use Rattle.juniper_values.specs.ErrorView.{view_error}
+use Rattle.juniper_errors.specs.ErrorView.{view_error}
 use Rattle.juniper_rules.specs.Occurrences.{view_occurrence}
 use Rattle.juniper_resolvable.specs.ResolvedView.{view_resolved}
 use Rattle.juniper_schema.specs.ServedView.{view_leaf_type}

@@ -3,7 +3,7 @@ use Rattle.graphql_spec.specs.Values.{object, keys_differ}
 use Rattle.juniper_syntax.specs.InputView.{view_variables}
 use Rattle.juniper_syntax.specs.ValueView.{view_value, view_object}
 use Rattle.juniper_syntax.proofs.Values.{view-Null, view-Object}
-use Rattle.juniper_values.specs.ErrorView.{view_error, view_listed}
+use Rattle.juniper_errors.specs.ErrorView.{view_error, view_listed}
 use Rattle.juniper_rules.specs.Occurrences.{view_occurrence}
 use Rattle.juniper_schema.specs.SchemaView.{view_schema}
 use Rattle.graphql_spec.specs.ServedFields.{is_served_head}

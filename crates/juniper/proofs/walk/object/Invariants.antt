@@ -2,7 +2,7 @@ use Rattle.std.proofs.Common.{◌≡◌, true, take, map}
 use Rattle.graphql_spec.specs.Values.{object, keys_differ}
 use Rattle.juniper_syntax.specs.InputView.{view_variables}
 use Rattle.juniper_syntax.specs.ValueView.{view_object}
-use Rattle.juniper_values.specs.ErrorView.{view_listed}
+use Rattle.juniper_errors.specs.ErrorView.{view_listed}
 use Rattle.juniper_rules.specs.Occurrences.{view_occurrence}
 use Rattle.juniper_schema.specs.SchemaView.{view_schema}
 use Rattle.juniper.specs.Walking.{world_in, IsWalked}

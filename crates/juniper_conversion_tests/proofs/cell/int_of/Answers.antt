@@ -1,5 +1,5 @@
 use Rattle.std.proofs.Common.{refl, ap, ◌∙◌}
-use Rattle.juniper_values.proofs.Meanings.{means-Null, means-Scalar, means-Enum, means-Variable, means-List, means-Object}
+use Rattle.juniper_conversions.proofs.Meanings.{means-Null, means-Scalar, means-Enum, means-Variable, means-List, means-Object}
 use Rattle.juniper_conversion_tests.proofs.cell.int_of.Goals as goal
 
 pub returns-in-Scalar : goal.returns-in-Scalar

@@ -17,5 +17,5 @@ returns g c =
     let s = view_schema shown c.args.schema.now in
     let x = view_definition shown c.args.definition.now in
     IfOk-weaker c.used_in.result _ (λ u. view_used u ≡ usage_of s x) (λ u is. is
-    (c.in_ok-lists.ensures ∙ ap lists_of c.in_ok-written.ensures)
-    (ap (view_calls shown) c.deref.ensures.value ∙ (c.in_ok-calls.ensures ∙ ap (placing.calls_of s) c.in_ok-parts.ensures))) c.used_in.ensures
+    c.in_ok-lists.ensures
+    (ap (view_calls shown) c.deref.ensures.value ∙ c.in_ok-calls.ensures)) c.used_in.ensures

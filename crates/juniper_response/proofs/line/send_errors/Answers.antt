@@ -1,6 +1,6 @@
 use Rattle.std.proofs.Common.{arith, refl}
 use Rattle.std.proofs.lemmas.Result.{on_ok_weaker}
-use Rattle.juniper_values.specs.ErrorView.{view_listed}
+use Rattle.juniper_errors.specs.ErrorView.{view_listed}
 use Rattle.juniper_response.specs.AnswerText.{error_data}
 use Rattle.juniper_response.proofs.Sending.{list_sent}
 use Rattle.juniper_response.proofs.line.send_errors.Goals as goal

@@ -1,5 +1,5 @@
 use Rattle.std.proofs.Common.{map, drop}
-use Rattle.juniper_values.specs.ErrorView.{view_listed}
+use Rattle.juniper_errors.specs.ErrorView.{view_listed}
 use Rattle.juniper_response.specs.AnswerText.{items_data, error_data}
 use Rattle.juniper_response.proofs.Sending.{Goes}
 use Rattle.juniper_response.proofs.line.send_errors.Given as goal

@@ -1,0 +1,5 @@
+pub mod ConversionErrors
+pub mod ListConversions
+pub mod Options
+pub mod RoundTrips
+pub mod WrappedConversions

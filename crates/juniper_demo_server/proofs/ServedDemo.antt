@@ -1,0 +1,52 @@
+-- The demo's schema is executable, and what is made of the demo's types is this schema.
+use Rattle.std.proofs.Common.{◌≡◌, IsTrue, true, codes, List, None, refl, ap, ◌∙◌, sym, subst, bytes_eq, inl, inr}
+use Rattle.std.proofs.lemmas.Bool.{cases_Bool}
+use Rattle.graphql_spec.specs.Schema.{Schema, Entry, plain_field}
+use Rattle.graphql_spec.specs.Fits.{fits, through, scalar_fits}
+use Rattle.graphql_spec.specs.Inputs.{is_const}
+use Rattle.graphql_spec.specs.Types.{innermost, same_type, required}
+use Rattle.graphql_spec.specs.Tokens.{is_name, starts_name, continues_name}
+use Rattle.graphql_spec.specs.Shown.{Name, same_bool}
+use Rattle.graphql_spec.specs.Fields.{accepts_kind, entry_in, or_else, typename_field, shape_of, entry_named, type_named, is_object, is_interface, is_composite, is_leaf, is_input, interfaces_of, members_of, fields_of}
+use Rattle.graphql_spec.specs.Executable.{values_of, input_fields_of, shape_fields, names_differ, is_filled, is_reserved, no_declarations, is_typename_field, input_is_free, field_is_free, is_own_name, entry_is_named, entries_are_named, mutation_is_apart, roots_are_objects, ends_in_output, ends_in_input, field_is_known, types_are_known, input_names_differ, is_value_name, entry_names_differ, all_names_differ, implements, interfaces_are_met, default_is_right, defaults_fit, accepts_just, scalar_if_there, built_ins_are_right, is_executable, IsSameSchema}
+use Rattle.graphql_spec.proofs.Lists.{same_true}
+use Rattle.graphql_spec.proofs.Reordered.{order_is_open}
+use Rattle.juniper_meta.specs.MetaView.{is_placeholder}
+use Rattle.juniper_schema.specs.SchemaView.{AreCompleted, with_built_ins}
+use Rattle.juniper_demo_server.specs.DemoSchema.{demo_schema, demo_types}
+
+demo_is_executable : is_executable demo_schema ≡ true
+unfolding typename_field is_const fits through scalar_fits accepts_kind type_named or_else required plain_field innermost same_type is_name starts_name continues_name same_bool entry_in shape_of entry_named is_object is_interface is_composite is_leaf is_input interfaces_of members_of fields_of values_of input_fields_of shape_fields names_differ is_filled is_reserved no_declarations is_typename_field input_is_free field_is_free is_own_name entry_is_named entries_are_named mutation_is_apart roots_are_objects ends_in_output ends_in_input field_is_known types_are_known input_names_differ is_value_name entry_names_differ all_names_differ implements interfaces_are_met default_is_right defaults_fit accepts_just scalar_if_there built_ins_are_right is_executable
+demo_is_executable = refl
+
+-- the demo's types, with the built-in scalars, are the entries of its schema
+completed : (n : Name) → with_built_ins n (entry_in demo_types n) ≡ entry_in demo_schema.entries n
+unfolding entry_in is_placeholder
+completed n = elim (cases_Bool (bytes_eq n (codes "String"))) [
+  | inl e ↦ at (codes "String") (sym (same_true n (codes "String") e)) refl
+  | inr e ↦ elim (cases_Bool (bytes_eq n (codes "Boolean"))) [
+    | inl f ↦ at (codes "Boolean") (sym (same_true n (codes "Boolean") f)) refl
+    | inr f ↦ elim (cases_Bool (bytes_eq n (codes "Int"))) [
+      | inl g ↦ at (codes "Int") (sym (same_true n (codes "Int") g)) refl
+      | inr g ↦ elim (cases_Bool (bytes_eq n (codes "ID"))) [
+        | inl h ↦ at (codes "ID") (sym (same_true n (codes "ID") h)) refl
+        | inr h ↦ rw (e, f, g, h) refl
+      ]
+    ]
+  ]
+]
+  where
+    at : (k : Name) → k ≡ n → with_built_ins k (entry_in demo_types k) ≡ entry_in demo_schema.entries k → with_built_ins n (entry_in demo_types n) ≡ entry_in demo_schema.entries n
+    at k is same = subst (λ m. with_built_ins m (entry_in demo_types m) ≡ entry_in demo_schema.entries m) is same
+
+-- a schema that is made of the demo's types is the demo's
+pub made_is_same : (types : List Entry) (s : Schema) → ((n : Name) → entry_in types n ≡ entry_in demo_types n) → AreCompleted types s.entries → s.query ≡ codes "Query" → s.mutation ≡ None → IsSameSchema demo_schema s
+made_is_same types s at made query mutation = record {
+  entries = λ n. sym (made.held n ∙ (ap (with_built_ins n) (at n) ∙ completed n));
+  query = sym query;
+  mutation = sym mutation;
+}
+
+-- so it is executable
+pub made_is_executable : (types : List Entry) (s : Schema) → AreCompleted types s.entries → IsSameSchema demo_schema s → IsTrue (is_executable s)
+made_is_executable types s made same = order_is_open demo_schema s same made.distinct demo_is_executable

@@ -1,0 +1,2 @@
+pub mod ErrorEquality
+pub mod ErrorOrder

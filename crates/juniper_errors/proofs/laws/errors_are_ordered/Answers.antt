@@ -1,0 +1,11 @@
+use Rattle.juniper_errors.proofs.ErrorOrder.{compare_total, errors_equal, errors_same}
+use Rattle.juniper_errors.proofs.laws.errors_are_ordered.Goals as goal
+
+pub returns-clause-order : goal.returns-clause-order
+returns-clause-order c = compare_total
+
+pub returns-clause-equal : goal.returns-clause-equal
+returns-clause-equal c = errors_equal
+
+pub returns-clause-same : goal.returns-clause-same
+returns-clause-same c = errors_same

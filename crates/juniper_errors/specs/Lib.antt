@@ -1,0 +1,2 @@
+pub mod ErrorView
+pub mod Messages

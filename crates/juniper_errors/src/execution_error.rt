@@ -1,0 +1,118 @@
+//! Errors of an execution as an answer lists them (section 7.1.2 of the Specification).
+
+ghost use Rattle.std.specs.Prelude.{◌≡◌, IfOk, map, [], string_bytes};
+ghost use Rattle.graphql_spec.specs.Errors.{key, compare};
+ghost use Rattle.graphql_spec.specs.Positions.{origin};
+ghost use Rattle.juniper_position.specs.Positions.{view_position};
+ghost use Rattle.juniper_errors.specs.ErrorView.{view_error, view_listed};
+
+use crate::field_error::FieldError;
+use juniper_syntax::{ScalarValue, SourcePosition};
+use std::alloc::{AllocError, Global};
+use std::cmp::Ordering;
+
+/// An error of an execution: the start of the field that it belongs to, the response keys from the root to it, and the
+/// field error.
+#[derive(Debug, PartialEq, Eq, Drop)]
+pub struct ExecutionError<S> {
+    location: SourcePosition,
+    path: Vec<String>,
+    error: FieldError<S>,
+}
+
+impl<S: ScalarValue> ExecutionError<S> {
+    /// The error of the field at this place of the text, under these response keys from the root; an error where memory
+    /// is refused.
+    pub fn new(
+        alloc: Global,
+        location: SourcePosition,
+        path: &[&str],
+        error: FieldError<S>,
+    ) -> Result<Self, AllocError>
+        ensures { IfOk result (λ made. view_listed S.shown made ≡ record { path = map (λ k. key k.now) path.now; start = view_position location; error = view_error S.shown error }) }
+    {
+        let path = own_keys(alloc, path)?;
+        Ok(ExecutionError {
+            location,
+            path,
+            error,
+        })
+    }
+
+    /// The error of no field: at the beginning of the text, under no response keys.
+    pub fn at_origin(alloc: Global, error: FieldError<S>) -> Self
+        ensures { view_listed S.shown result ≡ record { path = []; start = origin; error = view_error S.shown error } }
+    {
+        ExecutionError {
+            location: SourcePosition::new_origin(),
+            path: Vec::new(alloc),
+            error,
+        }
+    }
+
+    /// Where the field starts in the text.
+    pub fn location(&self) -> &SourcePosition
+        ensures { view_position result.now ≡ (view_listed S.shown self.now).start }
+    {
+        &self.location
+    }
+
+    /// The response keys from the root to the field.
+    pub fn path(&self) -> &[String]
+        ensures { map (λ k. key (string_bytes k)) result.now ≡ (view_listed S.shown self.now).path }
+    {
+        self.path.as_slice()
+    }
+
+    /// The field error.
+    pub fn error(&self) -> &FieldError<S>
+        ensures { view_error S.shown result.now ≡ (view_listed S.shown self.now).error }
+    {
+        &self.error
+    }
+
+    /// The order in which errors are listed: by location, then by path, key by key and a beginning first, then by message;
+    /// keys and messages go by their bytes. Errors that differ in their extensions alone compare equal, while `==` tells
+    /// them apart.
+    pub fn compare(&self, other: &ExecutionError<S>) -> Ordering
+        ensures { result ≡ compare (view_listed S.shown self.now) (view_listed S.shown other.now) }
+    {
+        self.location
+            .cmp(&other.location)
+            .then(self.path.cmp(&other.path))
+            .then(self.error.message().cmp(other.error.message()))
+    }
+
+    /// An equal error; an error where memory is refused.
+    pub fn try_clone(&self, alloc: Global) -> Result<Self, AllocError>
+        ensures { IfOk result (λ made. view_listed S.shown made ≡ view_listed S.shown self.now) }
+    {
+        Ok(ExecutionError {
+            location: self.location,
+            path: clone_keys(alloc, self.path.as_slice())?,
+            error: self.error.try_clone(alloc)?,
+        })
+    }
+}
+
+/// The keys, each in memory of its own.
+fn clone_keys(alloc: Global, keys: &[String]) -> Result<Vec<String>, AllocError>
+    ensures { IfOk result (λ made. map (λ k. key (string_bytes k)) made.items ≡ map (λ k. key (string_bytes k)) keys.now) }
+{
+    let mut made = Vec::with_capacity(alloc, keys.len())?;
+    for key in keys {
+        made.push(String::from_str(alloc, key.as_str())?)?;
+    }
+    Ok(made)
+}
+
+/// The keys, each in memory of its own.
+fn own_keys(alloc: Global, keys: &[&str]) -> Result<Vec<String>, AllocError>
+    ensures { IfOk result (λ owned. map (λ k. key (string_bytes k)) owned.items ≡ map (λ k. key k.now) keys.now) }
+{
+    let mut owned = Vec::with_capacity(alloc, keys.len())?;
+    for key in keys {
+        owned.push(String::from_str(alloc, key)?)?;
+    }
+    Ok(owned)
+}

@@ -1,0 +1,7 @@
+//! Tests of the registry of types.
+#![tactic(auto)]
+
+#[cfg(test)]
+mod registry;
+#[cfg(test)]
+mod samples;

@@ -1,0 +1,2 @@
+pub mod IdReads
+pub mod RoundTrips

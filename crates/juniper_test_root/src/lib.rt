@@ -1,0 +1,4 @@
+//! The root to which the tests of requests are put.
+#![tactic(auto)]
+
+pub mod root;
