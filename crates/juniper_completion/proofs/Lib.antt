@@ -1,0 +1,9 @@
+mod Listing
+mod Filling
+mod Completing
+mod Deepening
+mod Agreeing
+mod Telling
+mod Joining
+mod Walking
+mod SkeletonRows

@@ -1,0 +1,23 @@
+use Rattle.juniper_completion.proofs.Agreeing.{agrees-below}
+use Rattle.juniper_completion.proofs.Deepening.{fields-are-shallower}
+use Rattle.juniper_completion.proofs.Joining.{keys-stay-apart}
+use Rattle.juniper_completion.proofs.Walking.{none-walked, one-more-walked, walk-answers}
+use Rattle.juniper_completion.proofs.walks_by_fields.Goals as goal
+
+pub returns-clause-none : goal.returns-clause-none
+returns-clause-none g c = λ W. none-walked W
+
+pub returns-clause-more : goal.returns-clause-more
+returns-clause-more g c = λ W. one-more-walked W
+
+pub returns-clause-keys : goal.returns-clause-keys
+returns-clause-keys g c = keys-stay-apart
+
+pub returns-clause-shallower : goal.returns-clause-shallower
+returns-clause-shallower g c = fields-are-shallower
+
+pub returns-clause-agree : goal.returns-clause-agree
+returns-clause-agree g c = λ W. agrees-below W
+
+pub returns-clause-answers : goal.returns-clause-answers
+returns-clause-answers g c = λ W. walk-answers W

@@ -1,0 +1,3 @@
+pub mod Skeletons
+pub mod CompletionLaws
+pub mod Walks

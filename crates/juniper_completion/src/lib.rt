@@ -1,0 +1,29 @@
+//! What becomes of an answer that is completed in two steps: without the objects of its nodes, and with them (sections 6.4.3
+//! and 6.4.4 of the Specification).
+#![tactic(auto)]
+
+ghost use Rattle.graphql_spec.specs.Errors.{Place};
+ghost use Rattle.graphql_spec.specs.Failures.{Failure};
+ghost use Rattle.graphql_spec.specs.Resolvers.{World};
+ghost use Rattle.graphql_spec.specs.Shown.{Name};
+ghost use Rattle.graphql_spec.specs.Values.{Value};
+ghost use Rattle.std.specs.Prelude.{List};
+ghost use Rattle.juniper_completion.specs.CompletionLaws.{CompletesApart};
+ghost use Rattle.juniper_completion.specs.Walks.{AgreesBelow, FieldsAreShallower, KeysStayApart, NoneWalked, OneMoreWalked, WalkAnswers};
+
+/// A reply whose holes are filled by the objects of its nodes is completed, and what is listed of it and of them meets what
+/// fails.
+pub fn completes_apart<N>()
+    ensures { (tell : Place → Place) (W : World N) (objects : Name → N → Value) (at : Place → Place → Name → N → List Failure) (nulls : Place → Name → N → List Place) → CompletesApart tell W objects at nulls }
+{}
+
+/// A selection set is walked field by field: an empty one, and one more field, which selects less deep than the set that holds
+/// it (section 6.3). Where its fields agree, so does what they select; and what was walked of a request answers it.
+pub fn walks_by_fields<N>()
+    ensures none { (W : World N) → NoneWalked W }
+    ensures more { (W : World N) → OneMoreWalked W }
+    ensures keys { KeysStayApart }
+    ensures shallower { FieldsAreShallower }
+    ensures agree { (W : World N) → AgreesBelow W }
+    ensures answers { (W : World N) → WalkAnswers W }
+{}
