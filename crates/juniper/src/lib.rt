@@ -3,7 +3,7 @@
 
 mod coerce;
 mod collect;
-pub mod error;
+mod error;
 mod execute;
 mod root;
 mod sort;
@@ -14,15 +14,16 @@ pub use execute::execute_sync;
 pub use juniper_language::{
     DefaultScalarValue, Definition, Directive, Document, Field, Fragment, FragmentSpread,
     Fragments, InlineFragment, InputValue, LexerError, Object, Operation, OperationType,
-    ParseError, ScalarValue, Selection, SourcePosition, Span, Spanning, Type, Value,
-    VariableDefinition, VariableDefinitions, Variables, ast, decode_int, parse_document_source,
+    ParseError, ScalarToken, ScalarValue, Selection, SourcePosition, Span, Spanning, Type, Value,
+    VariableDefinition, VariableDefinitions, Variables, ast, decode_int, decode_string,
+    parse_document_source,
 };
 pub use juniper_lookahead::admits;
-pub use juniper_rules::RuleError;
+pub use juniper_rules::{RuleError, validate, validate_input_values};
 pub use juniper_schema::{
-    DeprecationStatus, DirectiveLocation, DirectiveType, EnumMeta, EnumValue, InputObjectMeta,
-    InterfaceMeta, ListMeta, MetaType, NullableMeta, ObjectMeta, PlaceholderMeta, ScalarKinds,
-    ScalarMeta, SchemaType, TypeType, UnionMeta, meta, schema_is_executable,
+    Argument, DeprecationStatus, DirectiveLocation, DirectiveType, EnumMeta, EnumValue,
+    InputObjectMeta, InterfaceMeta, ListMeta, MetaType, NullableMeta, ObjectMeta, PlaceholderMeta,
+    ScalarKinds, ScalarMeta, SchemaType, TypeType, UnionMeta, meta, schema_is_executable,
 };
 pub use juniper_types::{
     EmptyMutation, EmptySubscription, Executor, GraphQLReference, GraphQLType, GraphQLValue,
@@ -30,6 +31,7 @@ pub use juniper_types::{
 };
 pub use juniper_values::{
     Arguments, ExecutionError, ExecutionResult, FieldError, FieldResult, FromInputValue,
-    IntoFieldError, ResolveError, ToInputValue,
+    FromInputValueArrayError, FromInputValueVecError, FromScalarValue, ID, IntoFieldError,
+    Nullable, ResolveError, ToInputValue, ToScalarValue,
 };
 pub use root::RootNode;

@@ -5,7 +5,7 @@ mod cursor;
 mod definitions;
 mod directives;
 pub mod grammar;
-pub mod parser;
+mod parser;
 mod references;
 mod selections;
 mod values;
@@ -14,8 +14,7 @@ pub use juniper_syntax::{
     DefaultScalarValue, Definition, Directive, Document, Field, Fragment, FragmentSpread,
     Fragments, InlineFragment, InputValue, LexerError, Object, Operation, OperationType,
     ParseError, RuleError, ScalarValue, Selection, SourcePosition, Span, Spanning, Type, Value,
-    VariableDefinition, VariableDefinitions, Variables, ast, error, input, laws, position, scalar,
-    types, value,
+    VariableDefinition, VariableDefinitions, Variables, ast, laws,
 };
 pub use juniper_tokens::{ScalarToken, decode_int, decode_string};
 pub use parser::parse_document_source;

@@ -3,7 +3,7 @@
 ghost use Rattle.std.specs.Prelude.{◌≡◌, IfOk, string_bytes, map, option_map, [], ◌∷◌, ◌++◌};
 ghost use Rattle.graphql_spec.specs.Schema.{plain_field, plain_input};
 ghost use Rattle.graphql_spec.specs.BuiltIns.{value_named};
-ghost use Rattle.graphql_spec.specs.Fields.{field_in, declaration_in};
+ghost use Rattle.graphql_spec.specs.Fields.{field_in, declaration_in, declares_value};
 ghost use Rattle.juniper_syntax.specs.DocumentView.{items_or_none};
 ghost use Rattle.juniper_syntax.specs.InputView.{view_input};
 ghost use Rattle.juniper_meta.specs.MetaView.{view_type, view_text, view_argument, view_field, view_enum_value, view_deprecation};
@@ -287,4 +287,17 @@ pub fn find_argument<'a, S: ScalarValue>(
         }
     }
     None
+}
+
+/// Whether one of the values has this name (3.9).
+#[tactic(auto, unfolding(graphql_spec::specs::Fields::declares_value))]
+pub fn declares_value(values: &[EnumValue], name: &str) -> bool
+    ensures { result ≡ declares_value (map view_enum_value values.now) name.now }
+{
+    for value in values {
+        if name == value.name.as_str() {
+            return true;
+        }
+    }
+    false
 }

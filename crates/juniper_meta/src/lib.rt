@@ -6,6 +6,7 @@ mod directive;
 mod kinds;
 pub mod meta;
 
+pub use declaration::{declares_value, find_argument, find_field};
 pub use directive::{DirectiveLocation, DirectiveType};
 pub use kinds::ScalarKinds;
 pub use meta::{

@@ -2,15 +2,14 @@
 
 ghost use Rattle.std.specs.Prelude.{◌≡◌, IfOk, string_bytes, map, option_map, Some, None, [], ◌∷◌};
 ghost use Rattle.graphql_spec.specs.Executable.{values_of, input_fields_of};
-ghost use Rattle.graphql_spec.specs.Fields.{fields_of, interfaces_of, members_of, is_object, is_interface, is_composite, is_leaf, is_input, leaf_accepts, enum_accepts, declares_value, field_in, declaration_in};
+ghost use Rattle.graphql_spec.specs.Fields.{fields_of, interfaces_of, members_of, is_object, is_interface, is_composite, is_leaf, is_input, leaf_accepts, enum_accepts, field_in, declaration_in};
 ghost use Rattle.graphql_spec.specs.Schema.{scalar_type, enum_type, object_type, interface_type, union_type, input_object_type, list_type, nullable_type, placeholder};
 ghost use Rattle.juniper_meta.specs.MetaView.{view_type, view_text, view_names, view_kinds, view_argument, view_field, view_enum_value, innermost_names};
 ghost use Rattle.juniper_meta.specs.MetaView.{view_scalar, view_enum, view_object, view_interface, view_union, view_input_object, view_list, view_nullable, view_placeholder, view_meta, shape_of};
 ghost use Rattle.juniper_meta.specs.MetaView.{with_description, with_interfaces, with_url, kinds_of, url_of, is_placeholder, named_meta, unnamed_meta};
 
-pub use crate::declaration::{
-    Argument, DeprecationStatus, EnumValue, Field, find_argument, find_field,
-};
+pub use crate::declaration::{Argument, DeprecationStatus, EnumValue, Field};
+use crate::declaration::{declares_value, find_argument, find_field};
 use crate::kinds::ScalarKinds;
 use juniper_syntax::{ScalarValue, Type};
 use std::alloc::{AllocError, Global};
@@ -765,17 +764,4 @@ fn enum_accepts<S: ScalarValue>(values: &[EnumValue], scalar: &S) -> bool
         Some(text) => declares_value(values, text),
         None => false,
     }
-}
-
-/// Whether one of the values has this name (3.9).
-#[tactic(auto, unfolding(graphql_spec::specs::Fields::declares_value))]
-pub fn declares_value(values: &[EnumValue], name: &str) -> bool
-    ensures { result ≡ declares_value (map view_enum_value values.now) name.now }
-{
-    for value in values {
-        if name == value.name.as_str() {
-            return true;
-        }
-    }
-    false
 }

@@ -1,9 +1,9 @@
 //! Places in a text, the refusals of a text that says nothing, and the errors of validation.
 #![tactic(auto)]
 
-pub mod error;
-pub mod position;
-pub mod rule;
+mod error;
+mod position;
+mod rule;
 
 pub use error::{LexerError, ParseError};
 pub use position::{SourcePosition, Span, Spanning};

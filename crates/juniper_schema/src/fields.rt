@@ -9,8 +9,8 @@ ghost use Rattle.juniper_meta.specs.MetaView.{view_directive, view_field};
 ghost use Rattle.juniper_schema.specs.SchemaView.{view_schema};
 
 use crate::schema::SchemaType;
-use juniper_meta::DirectiveType;
-use juniper_meta::meta::{Field, find_field};
+use juniper_meta::meta::Field;
+use juniper_meta::{DirectiveType, find_field};
 use juniper_syntax::ScalarValue;
 
 impl<S: ScalarValue> SchemaType<S> {

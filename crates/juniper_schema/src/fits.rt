@@ -10,7 +10,7 @@ ghost use Rattle.juniper_syntax.specs.InputView.{view_fields, view_input, view_i
 ghost use Rattle.juniper_syntax.specs.TypeView.{view_type};
 
 use crate::schema::SchemaType;
-use juniper_meta::meta::{Argument, MetaType, declares_value, find_argument};
+use juniper_meta::{Argument, MetaType, declares_value, find_argument};
 use juniper_syntax::{InputValue, ScalarValue, Span, Spanning, Type};
 
 /// A field of an object value: its name and its value.

@@ -14,9 +14,9 @@ mod type_type;
 
 pub use executable::schema_is_executable;
 pub use juniper_meta::{
-    DeprecationStatus, DirectiveLocation, DirectiveType, EnumMeta, EnumValue, InputObjectMeta,
-    InterfaceMeta, ListMeta, MetaType, NullableMeta, ObjectMeta, PlaceholderMeta, ScalarKinds,
-    ScalarMeta, UnionMeta, meta,
+    Argument, DeprecationStatus, DirectiveLocation, DirectiveType, EnumMeta, EnumValue,
+    InputObjectMeta, InterfaceMeta, ListMeta, MetaType, NullableMeta, ObjectMeta, PlaceholderMeta,
+    ScalarKinds, ScalarMeta, UnionMeta, meta,
 };
 pub use schema::SchemaType;
 pub use served::LeafType;

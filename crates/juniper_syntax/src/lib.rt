@@ -4,21 +4,19 @@
 
 pub mod ast;
 mod display;
-pub mod input;
+mod input;
 pub mod laws;
 mod map_scalars;
-pub mod scalar;
-pub mod types;
-pub mod value;
+mod scalar;
+mod types;
+mod value;
 
 pub use ast::{
     Definition, Directive, Document, Field, Fragment, FragmentSpread, Fragments, InlineFragment,
     Operation, OperationType, Selection, VariableDefinition, VariableDefinitions,
 };
 pub use input::{InputValue, Variables};
-pub use juniper_position::{
-    LexerError, ParseError, RuleError, SourcePosition, Span, Spanning, error, position, rule,
-};
+pub use juniper_position::{LexerError, ParseError, RuleError, SourcePosition, Span, Spanning};
 pub use scalar::{DefaultScalarValue, ScalarValue};
 pub use types::Type;
 pub use value::{Object, Value};

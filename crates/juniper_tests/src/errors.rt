@@ -16,33 +16,51 @@ fn has_text(alloc: Global, error: &GraphQLError, text: &str) -> Result<bool, All
     Ok(copy == *error && shown.as_str() == text)
 }
 
+/// The texts of the errors that hold no text, in the order of [`error_at`].
+const TEXTS: &str = "\
+Unexpected end of input
+No operation provided
+Multiple operations provided
+Unknown operation name
+Operation is a subscription
+Operation is not a subscription
+Mutations are not supported
+Out of memory";
+
+/// The error whose text stands in this line.
+fn error_at(line: usize) -> GraphQLError {
+    match line {
+        0 => GraphQLError::ParseError(Spanning::unlocated(ParseError::UnexpectedEndOfFile)),
+        1 => GraphQLError::NoOperationProvided,
+        2 => GraphQLError::MultipleOperationsProvided,
+        3 => GraphQLError::UnknownOperationName,
+        4 => GraphQLError::IsSubscription,
+        5 => GraphQLError::NotSubscription,
+        6 => GraphQLError::MutationNotSupported,
+        _ => GraphQLError::OutOfMemory,
+    }
+}
+
+/// The first text that is not the one of its error.
+fn first_other<'r>(alloc: Global, texts: &'r str) -> Result<&'r str, AllocError> {
+    for (line, text) in texts.lines().enumerate() {
+        if !has_text(alloc, &error_at(line), text)? {
+            return Ok(text);
+        }
+    }
+    Ok("")
+}
+
 #[test]
 fn each_error_has_its_text(rt: HostRuntime) -> Result<(), Fail> {
-    let rows = [
-        (
-            GraphQLError::ParseError(Spanning::unlocated(ParseError::UnexpectedEndOfFile)),
-            "Unexpected end of input",
-        ),
-        (GraphQLError::NoOperationProvided, "No operation provided"),
-        (
-            GraphQLError::MultipleOperationsProvided,
-            "Multiple operations provided",
-        ),
-        (GraphQLError::UnknownOperationName, "Unknown operation name"),
-        (GraphQLError::IsSubscription, "Operation is a subscription"),
-        (
-            GraphQLError::NotSubscription,
-            "Operation is not a subscription",
-        ),
-        (
-            GraphQLError::MutationNotSupported,
-            "Mutations are not supported",
-        ),
-        (GraphQLError::OutOfMemory, "Out of memory"),
-    ];
-    for (error, text) in &rows {
-        assert!(rt; has_text(rt.alloc(), error, text)?, "{text}");
-    }
+    assert_eq!(rt; first_other(rt.alloc(), TEXTS)?, "");
+    Ok(())
+}
+
+#[test]
+fn a_wrong_text_is_found(rt: HostRuntime) -> Result<(), Fail> {
+    let texts = "Unexpected end of input\nNo operation";
+    assert_eq!(rt; first_other(rt.alloc(), texts)?, "No operation");
     Ok(())
 }
 

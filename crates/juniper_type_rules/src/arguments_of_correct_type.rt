@@ -9,7 +9,7 @@ ghost use Rattle.juniper_schema.specs.SchemaView.{view_schema};
 ghost use Rattle.juniper_syntax.specs.InputView.{view_input};
 ghost use Rattle.juniper_type_rules.specs.SetTests.{misfits};
 
-use juniper_meta::meta::{Argument, find_argument};
+use juniper_meta::{Argument, find_argument};
 use juniper_placed::Call;
 use juniper_schema::SchemaType;
 use juniper_syntax::{InputValue, ScalarValue};

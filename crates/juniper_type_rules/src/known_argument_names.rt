@@ -8,7 +8,7 @@ ghost use Rattle.graphql_spec.specs.Rules as rules;
 ghost use Rattle.juniper_meta.specs.MetaView.{view_argument};
 ghost use Rattle.juniper_placed.specs.CallView.{view_call, view_calls};
 
-use juniper_meta::meta::{Argument, find_argument};
+use juniper_meta::{Argument, find_argument};
 use juniper_placed::Call;
 use juniper_syntax::ScalarValue;
 

@@ -1,9 +1,9 @@
 //! Types of GraphQL by Rust types, resolvers, and what they are asked with.
 #![tactic(auto)]
 
-pub mod empty;
-pub mod executor;
-pub mod resolver;
+mod empty;
+mod executor;
+mod resolver;
 
 pub use empty::{EmptyMutation, EmptySubscription};
 pub use executor::Executor;

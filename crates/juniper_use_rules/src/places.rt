@@ -13,7 +13,7 @@ ghost use Rattle.juniper_use_rules.specs.UsesView.{view_uses};
 
 use crate::uses::Use;
 use crate::values::{InputField, value_of};
-use juniper_meta::meta::{Argument, find_argument};
+use juniper_meta::{Argument, find_argument};
 use juniper_placed::Call;
 use juniper_schema::SchemaType;
 use juniper_syntax::ast::Arguments;

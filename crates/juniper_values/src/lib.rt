@@ -10,4 +10,6 @@ pub use juniper_conversions::{
 pub use juniper_errors::{
     ExecutionError, ExecutionResult, FieldError, FieldResult, IntoFieldError, ResolveError,
 };
+pub use juniper_id::ID;
+pub use juniper_nullable::Nullable;
 pub use juniper_scalars::{FromScalarValue, ToScalarValue};

@@ -11,9 +11,8 @@ ghost use Rattle.juniper_schema.specs.SchemaView.{view_schema};
 use crate::executable::roots::is_object;
 use crate::names::contains;
 use crate::schema::SchemaType;
-use juniper_meta::meta::{
-    Argument, EnumValue, Field, MetaType, declares_value, find_argument, find_field,
-};
+use juniper_meta::meta::Field;
+use juniper_meta::{Argument, EnumValue, MetaType, declares_value, find_argument, find_field};
 use juniper_syntax::ScalarValue;
 
 /// Whether names differ in each list, enum values are none of `true`, `false`, `null`, and members of unions are objects

@@ -11,7 +11,8 @@ ghost use Rattle.juniper_schema.specs.SchemaView.{view_schema};
 use crate::names::contains;
 use crate::schema::SchemaType;
 use crate::subtypes::{is_subtype, same_type};
-use juniper_meta::meta::{Argument, Field, MetaType, find_argument, find_field};
+use juniper_meta::meta::Field;
+use juniper_meta::{Argument, MetaType, find_argument, find_field};
 use juniper_syntax::ScalarValue;
 
 /// Whether each object and interface implements the interfaces that it lists (3.6, 3.7).

@@ -1,4 +1,7 @@
-use Rattle.std.proofs.Common.{sym, ap, refl, ◌∙◌, ◌||◌}
+use Rattle.std.proofs.Common.{◌≡◌, get_or, sym, ap, refl, ◌∙◌, ◌||◌, arith, rules}
+use denote.Param.Weighed.{at_most}
+use Rattle.juniper_syntax.proofs.input.InputValue.TheLaws.{the_size}
+use Rattle.juniper_syntax.specs.declared.input.InputValue.TheShapes.{weighed-InputValue-Object-0-at-4}
 use Rattle.graphql_spec.specs.Written.{field_repeats, item_repeats, fields_repeat}
 use Rattle.juniper_syntax.specs.InputView.{view_input, view_items, view_fields}
 use Rattle.juniper_syntax.proofs.Inputs.{view-Null, view-Scalar, view-Enum, view-Variable, view-List, view-Object}
@@ -84,3 +87,13 @@ object_repeats-returns g t c =
     let fs = view_fields shown c.args.fields.now in
     fields_done shown c.args.fields.now c.loop-field.field-index c.loop-field-test.false ∙ (c.loop-field.invariant
     ∙ sym (repeats-split fs ∙ ap (λ b. b || values_repeat fs) (sym c.in_ok-names_repeat.ensures ∙ c.if-branch.false)))
+
+pub object_repeats-value_repeats-requires : goal.object_repeats-value_repeats-requires
+object_repeats-value_repeats-requires g t c κs within = (
+  let size = the_size g.row.S g.S.laws in
+      let most_of = (weighed-InputValue-Object-0-at-4 g.row.S.Denot).weight _ size in
+      let at = at_most most_of c.args.fields.now c.loop-field.field-index c.field-item.result (omega arith) in
+      let same : most_of c.field-item.result ≡ most_of (get_or c.args.fields.now c.loop-field.field-index c.field-item.result) = ap most_of c.field-item.is in
+      omega (arith, c.decreases, at, same),
+  search rules,
+)

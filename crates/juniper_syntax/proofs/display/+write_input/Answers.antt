@@ -1,4 +1,7 @@
-use Rattle.std.proofs.Common.{[], ◌++◌, sym, ap, refl, ◌∙◌, rules, arith}
+use Rattle.std.proofs.Common.{◌≡◌, ◌≤◌, [], ◌++◌, get_or, sym, ap, refl, ◌∙◌, rules, arith}
+use denote.Param.Weighed.{at_most}
+use Rattle.juniper_syntax.proofs.input.InputValue.TheLaws.{the_size}
+use Rattle.juniper_syntax.specs.declared.input.InputValue.TheShapes.{weighed-InputValue-Object-0-at-4}
 use Rattle.std.proofs.Output.{has_written_append, has_written_of_eq}
 use Rattle.graphql_spec.specs.Display.{display}
 use Rattle.juniper_syntax.specs.InputView.{view_input}
@@ -108,3 +111,14 @@ write_input-returns-in_ok-write_str-in-Variable g t c plain ok =
     let sign = c.write_str-in-Variable.ensures.writes plain (search rules) in
     let name = rw c.as_str-in-Variable.ensures.value at c.write_str-in-Variable-2.ensures.writes sign.plain ok in
     has_written_of_eq _ _ _ _ _ (sym (ap display seen)) (has_written_append _ _ _ _ _ _ sign name)
+
+pub write_fields-write_input-requires : goal.write_fields-write_input-requires
+write_fields-write_input-requires g t c κs within = (
+  let size = the_size g.row.S g.S.laws in
+      let most_of = (weighed-InputValue-Object-0-at-4 g.row.S.Denot).weight _ size in
+      let at = at_most most_of c.args.fields.now c.loop-field.field-index c.field-item.result (omega arith) in
+      let one : size c.value_of.result.now ≤ most_of c.field-item.result = rw c.value_of.ensures (omega arith) in
+      let same : most_of c.field-item.result ≡ most_of (get_or c.args.fields.now c.loop-field.field-index c.field-item.result) = ap most_of c.field-item.is in
+      omega (arith, c.decreases, at, one, same),
+  search rules,
+)

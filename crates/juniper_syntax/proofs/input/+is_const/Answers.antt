@@ -1,4 +1,7 @@
-use Rattle.std.proofs.Common.{sym, ap, refl, ◌∙◌}
+use Rattle.std.proofs.Common.{◌≡◌, get_or, sym, ap, refl, ◌∙◌, arith, rules}
+use denote.Param.Weighed.{at_most}
+use Rattle.juniper_syntax.proofs.input.InputValue.TheLaws.{the_size}
+use Rattle.juniper_syntax.specs.declared.input.InputValue.TheShapes.{weighed-InputValue-Object-0-at-4}
 use Rattle.graphql_spec.specs.Inputs.{is_const, items_are_const, fields_are_const}
 use Rattle.juniper_syntax.specs.InputView.{view_input, view_items, view_fields}
 use Rattle.juniper_syntax.proofs.Inputs.{view-Variable, view-List, view-Object}
@@ -56,3 +59,13 @@ fields_are_const-returns-then-not-is_const g t c =
 
 pub fields_are_const-returns : goal.fields_are_const-returns
 fields_are_const-returns g t c = fields_done g.S.ScalarValue.shown c.args.fields.now c.loop-field.field-index c.loop-field-test.false ∙ c.loop-field.invariant
+
+pub fields_are_const-is_const-requires : goal.fields_are_const-is_const-requires
+fields_are_const-is_const-requires g t c κs within = (
+  let size = the_size g.row.S g.S.laws in
+      let most_of = (weighed-InputValue-Object-0-at-4 g.row.S.Denot).weight _ size in
+      let at = at_most most_of c.args.fields.now c.loop-field.field-index c.field-item.result (omega arith) in
+      let same : most_of c.field-item.result ≡ most_of (get_or c.args.fields.now c.loop-field.field-index c.field-item.result) = ap most_of c.field-item.is in
+      omega (arith, c.decreases, at, same),
+  search rules,
+)
