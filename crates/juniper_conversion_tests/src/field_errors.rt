@@ -1,62 +1,111 @@
 //! The errors of fields and of executions.
 
+use crate::tables::{Told, check, unknown};
 use juniper_language::{DefaultScalarValue, SourcePosition, Value};
 use juniper_values::{ExecutionError, FieldError, IntoFieldError, ResolveError};
 use std::alloc::{AllocError, AllocFailed, Global};
-use std::cmp::Ordering;
 use std::fmt::Display;
-use std::test::Fail;
 
-/// An error at a place of the first line, with a number for its extensions.
-fn listed(
-    alloc: Global,
-    index: usize,
-    path: &[&str],
-    message: &str,
-    number: i32,
-) -> Result<ExecutionError<DefaultScalarValue>, AllocError> {
-    let extensions = Value::Scalar(DefaultScalarValue::Int(number));
-    let error = FieldError::new(alloc, message, extensions)?;
-    ExecutionError::new(alloc, SourcePosition::new(index, 0, index), path, error)
-}
+/// For an error of a field its message, and what more is said.
+const FIELD_ERRORS: &str = "\
+of an Int => 42: Null
+with more => no: Scalar(Boolean(true))
+of a mapped message => outer: inner: Scalar(Int(3))";
+
+/// Why there is no answer where memory is refused.
+const REFUSED: &str = "\
+AllocError => Memory
+AllocFailed => Memory";
+
+/// For an error of an execution its location, its path and its message.
+const PLACES: &str = "\
+at a place => 9 0 9 [\"hero\", \"friends\"] no
+at the origin => 0 0 0 [] none";
+
+/// For two errors how they are ordered, and whether they are equal: a beginning comes before the whole, the location comes
+/// first and the message last, and the extensions order nothing.
+const ORDERS: &str = "\
+short | longer => Less, false
+longer | short => Greater, false
+earlier | short => Less, false
+short | louder => Less, false
+short | extended => Equal, false
+short | short => Equal, true";
+
+/// Whether what is made of an error is equal to it.
+const COPIES: &str = "\
+ExecutionError => true
+FieldError => true
+into_field_error => true";
 
 /// The message of an error, and what more is said.
-fn told<T: Display + Drop>(
-    alloc: Global,
-    message: T,
-    extensions: Value<DefaultScalarValue>,
-) -> Result<String, AllocError> {
-    let error = FieldError::new(alloc, message, extensions)?;
+pub fn said(alloc: Global, error: &FieldError<DefaultScalarValue>) -> Result<String, AllocError> {
     let message = error.message();
     let extensions = error.extensions();
     format!(in alloc; "{message}: {extensions:?}")
 }
 
-#[test]
-fn a_field_error_has_what_it_is_given(rt: HostRuntime) -> Result<(), Fail> {
-    let alloc = rt.alloc();
-    assert_eq!(rt; told(alloc, 42, Value::Null)?.as_str(), "42: Null");
-    let yes = Value::Scalar(DefaultScalarValue::Boolean(true));
-    assert_eq!(rt;
-        told(alloc, "no", yes)?.as_str(),
-        "no: Scalar(Boolean(true))"
-    );
-    Ok(())
+/// What is said by an error of this name.
+pub fn said_of(alloc: Global, name: &str) -> Result<String, AllocError> {
+    match name {
+        "of an Int" => told(alloc, 42, Value::Null),
+        "with more" => told(
+            alloc,
+            "no",
+            Value::Scalar(DefaultScalarValue::Boolean(true)),
+        ),
+        "of a mapped message" => mapped(alloc),
+        _ => unknown(alloc),
+    }
 }
 
-#[test]
-fn refused_memory_ends_an_execution(rt: HostRuntime) {
-    let refused = ResolveError::<DefaultScalarValue>::from(AllocError);
-    assert!(rt; matches!(refused, ResolveError::Memory));
-    let kept = ResolveError::<DefaultScalarValue>::from(AllocFailed { value: 1u8 });
-    assert!(rt; matches!(kept, ResolveError::Memory));
+/// What is said by the error of this message.
+fn told<T: Display + Drop>(
+    alloc: Global,
+    message: T,
+    extensions: Value<DefaultScalarValue>,
+) -> Result<String, AllocError> {
+    said(alloc, &FieldError::new(alloc, message, extensions)?)
+}
+
+/// What is said by an error whose message was replaced by a longer one.
+fn mapped(alloc: Global) -> Result<String, AllocError> {
+    let error = three(alloc, "inner")?;
+    let mut outer = String::from_str(alloc, "outer: ")?;
+    outer.push_str(error.message())?;
+    said(alloc, &error.map_message(|_| outer))
+}
+
+/// An error with 3 for its extensions.
+fn three(alloc: Global, message: &str) -> Result<FieldError<DefaultScalarValue>, AllocError> {
+    FieldError::new(alloc, message, Value::Scalar(DefaultScalarValue::Int(3)))
+}
+
+/// What a refusal of memory becomes.
+pub fn refused_of(alloc: Global, name: &str) -> Result<String, AllocError> {
+    match name {
+        "AllocError" => reason(alloc, ResolveError::from(AllocError)),
+        "AllocFailed" => reason(alloc, ResolveError::from(AllocFailed { value: 1u8 })),
+        _ => unknown(alloc),
+    }
+}
+
+/// Why a resolver has no answer.
+fn reason(alloc: Global, error: ResolveError<DefaultScalarValue>) -> Result<String, AllocError> {
+    format!(in alloc; "{error:?}")
+}
+
+/// Where an error of this name is.
+pub fn place_of(alloc: Global, name: &str) -> Result<String, AllocError> {
+    match name {
+        "at a place" => place(alloc, &listed(alloc, (9, &["hero", "friends"], "no", 1))?),
+        "at the origin" => place(alloc, &at_origin(alloc)?),
+        _ => unknown(alloc),
+    }
 }
 
 /// Where an error is: its location, its path and its message.
-fn place_of(
-    alloc: Global,
-    error: &ExecutionError<DefaultScalarValue>,
-) -> Result<String, AllocError> {
+fn place(alloc: Global, error: &ExecutionError<DefaultScalarValue>) -> Result<String, AllocError> {
     let location = error.location();
     let (index, line, column) = (location.index(), location.line(), location.column());
     let path = error.path();
@@ -64,71 +113,67 @@ fn place_of(
     format!(in alloc; "{index} {line} {column} {path:?} {message}")
 }
 
-#[test]
-fn an_error_keeps_its_place(rt: HostRuntime) -> Result<(), Fail> {
-    let alloc = rt.alloc();
-    let error = listed(alloc, 9, &["hero", "friends"], "no", 1)?;
-    assert_eq!(rt;
-        place_of(alloc, &error)?.as_str(),
-        "9 0 9 [\"hero\", \"friends\"] no"
-    );
-    Ok(())
+/// An error of the whole.
+fn at_origin(alloc: Global) -> Result<ExecutionError<DefaultScalarValue>, AllocError> {
+    let error = FieldError::new(alloc, "none", Value::Null)?;
+    Ok(ExecutionError::at_origin(alloc, error))
 }
 
-#[test]
-fn an_error_of_the_whole_stands_at_the_origin(rt: HostRuntime) -> Result<(), Fail> {
-    let alloc = rt.alloc();
-    let error = ExecutionError::at_origin(alloc, FieldError::new(alloc, "none", Value::Null)?);
-    assert_eq!(rt; place_of(alloc, &error)?.as_str(), "0 0 0 [] none");
-    Ok(())
+/// An error's place in the first line, its path, its message, and a number for its extensions.
+type Row = (usize, &'static [&'static str], &'static str, i32);
+
+/// The error of a row.
+fn listed(alloc: Global, row: Row) -> Result<ExecutionError<DefaultScalarValue>, AllocError> {
+    let extensions = Value::Scalar(DefaultScalarValue::Int(row.3));
+    let error = FieldError::new(alloc, row.2, extensions)?;
+    ExecutionError::new(alloc, SourcePosition::new(row.0, 0, row.0), row.1, error)
 }
 
-/// An error's place in the first line, its path and its message.
-type Row<'a> = (usize, &'a [&'a str], &'a str);
-
-/// How two errors are ordered.
-fn order(alloc: Global, first: Row<'_>, second: Row<'_>) -> Result<Ordering, AllocError> {
-    let first = listed(alloc, first.0, first.1, first.2, 1)?;
-    let second = listed(alloc, second.0, second.1, second.2, 1)?;
-    Ok(first.compare(&second))
+/// The row of an error of this name.
+fn row_of(name: &str) -> Option<Row> {
+    match name {
+        "short" => Some((2, &["a"], "x", 1)),
+        "longer" => Some((2, &["a", "b"], "a", 1)),
+        "earlier" => Some((1, &["z"], "z", 1)),
+        "louder" => Some((2, &["a"], "y", 1)),
+        "extended" => Some((2, &["a"], "x", 2)),
+        _ => None,
+    }
 }
 
-#[test]
-fn errors_are_compared(rt: HostRuntime) -> Result<(), Fail> {
-    let alloc = rt.alloc();
-    let short: Row<'_> = (2, &["a"], "x");
-    let longer: Row<'_> = (2, &["a", "b"], "a");
-    assert_eq!(rt;
-        order(alloc, short, longer)?,
-        Ordering::Less,
-        "a beginning comes first"
-    );
-    assert_eq!(rt; order(alloc, longer, short)?, Ordering::Greater);
-    let earlier: Row<'_> = (1, &["z"], "z");
-    assert_eq!(rt;
-        order(alloc, earlier, short)?,
-        Ordering::Less,
-        "the location comes first"
-    );
-    let louder: Row<'_> = (2, &["a"], "y");
-    assert_eq!(rt;
-        order(alloc, short, louder)?,
-        Ordering::Less,
-        "the message comes last"
-    );
-    Ok(())
+/// The rows of a case, `NAME | NAME`.
+fn rows_of(case: &str) -> Option<(Row, Row)> {
+    let (first, second) = case.split_once(" | ")?;
+    Some((row_of(first)?, row_of(second)?))
 }
 
-#[test]
-fn extensions_do_not_order(rt: HostRuntime) -> Result<(), Fail> {
-    let alloc = rt.alloc();
-    let error = listed(alloc, 2, &["a"], "x", 1)?;
-    let other = listed(alloc, 2, &["a"], "x", 2)?;
-    assert_eq!(rt; error.compare(&other), Ordering::Equal);
-    assert!(rt; error != other);
-    let same = listed(alloc, 2, &["a"], "x", 1)?;
-    assert!(rt; error == same);
-    Ok(())
+/// How the errors of a case are ordered, and whether they are equal.
+pub fn order_of(alloc: Global, case: &str) -> Result<String, AllocError> {
+    match rows_of(case) {
+        Some((first, second)) => order(alloc, &listed(alloc, first)?, &listed(alloc, second)?),
+        None => unknown(alloc),
+    }
+}
+
+/// How two errors are ordered, and whether they are equal.
+fn order(
+    alloc: Global,
+    first: &ExecutionError<DefaultScalarValue>,
+    second: &ExecutionError<DefaultScalarValue>,
+) -> Result<String, AllocError> {
+    let order = first.compare(second);
+    let same = *first == *second;
+    format!(in alloc; "{order:?}, {same}")
+}
+
+/// Whether what is made of an error is equal to it.
+pub fn copy_of(alloc: Global, name: &str) -> Result<String, AllocError> {
+    match name {
+        "ExecutionError" => is_copied(alloc)?.to_string(alloc),
+        "FieldError" => is_field_copied(alloc)?.to_string(alloc),
+        "into_field_error" => stays_itself(alloc)?.to_string(alloc),
+        _ => unknown(alloc),
+    }
 }
 
 /// Whether two values are equal, by an equivalence.
@@ -136,37 +181,46 @@ fn equal<T: Eq>(a: &T, b: &T) -> bool {
     a == b
 }
 
-#[test]
-fn a_copy_is_equal(rt: HostRuntime) -> Result<(), Fail> {
-    let alloc = rt.alloc();
-    let error = listed(alloc, 9, &["hero", "name"], "no", 1)?;
-    assert!(rt; equal(&error.try_clone(alloc)?, &error));
-    assert!(rt; equal(&error.error().try_clone(alloc)?, error.error()));
-    Ok(())
+/// Whether a copy of an error is equal to it.
+fn is_copied(alloc: Global) -> Result<bool, AllocError> {
+    let error = listed(alloc, (9, &["hero", "name"], "no", 1))?;
+    Ok(equal(&error.try_clone(alloc)?, &error))
 }
 
-#[test]
-fn a_message_is_mapped(rt: HostRuntime) -> Result<(), Fail> {
-    let alloc = rt.alloc();
-    let extensions = Value::Scalar(DefaultScalarValue::Int(3));
-    let error = FieldError::new(alloc, "inner", extensions)?;
-    let mut outer = String::from_str(alloc, "outer: ")?;
-    outer.push_str(error.message())?;
-    let mapped = error.map_message(|_| outer);
-    assert_eq!(rt; mapped.message(), "outer: inner");
-    assert_eq!(rt;
-        mapped.extensions(),
-        &Value::Scalar(DefaultScalarValue::Int(3))
-    );
-    Ok(())
+/// Whether a copy of a field's error is equal to it.
+fn is_field_copied(alloc: Global) -> Result<bool, AllocError> {
+    let error = three(alloc, "no")?;
+    Ok(equal(&error.try_clone(alloc)?, &error))
 }
 
-#[test]
-fn a_field_error_stays_itself(rt: HostRuntime) -> Result<(), Fail> {
-    let alloc = rt.alloc();
-    let three = Value::Scalar(DefaultScalarValue::Int(3));
-    let error = FieldError::<DefaultScalarValue>::new(alloc, "why", three)?;
+/// Whether an error of a field becomes one that is equal.
+fn stays_itself(alloc: Global) -> Result<bool, AllocError> {
+    let error = three(alloc, "why")?;
     let same: FieldError<DefaultScalarValue> = error.try_clone(alloc)?.into_field_error(alloc)?;
-    assert!(rt; equal(&same, &error));
-    Ok(())
+    Ok(equal(&same, &error))
+}
+
+#[test]
+fn a_field_error_has_what_it_is_given(rt: HostRuntime) {
+    check(&rt, rt.alloc(), Told::FieldError, FIELD_ERRORS);
+}
+
+#[test]
+fn refused_memory_ends_an_execution(rt: HostRuntime) {
+    check(&rt, rt.alloc(), Told::Refusal, REFUSED);
+}
+
+#[test]
+fn an_error_keeps_its_place(rt: HostRuntime) {
+    check(&rt, rt.alloc(), Told::Place, PLACES);
+}
+
+#[test]
+fn errors_are_compared(rt: HostRuntime) {
+    check(&rt, rt.alloc(), Told::Order, ORDERS);
+}
+
+#[test]
+fn a_copy_is_equal(rt: HostRuntime) {
+    check(&rt, rt.alloc(), Told::Copy, COPIES);
 }

@@ -12,3 +12,5 @@ mod inputs;
 mod rows;
 #[cfg(test)]
 mod scalars;
+#[cfg(test)]
+mod tables;

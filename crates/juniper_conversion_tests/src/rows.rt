@@ -1,14 +1,14 @@
 //! What input values are converted to, and what is written of it: tables of rows, worked out by hand.
 
 use crate::cell::Cell;
-use crate::inputs::{Scalar, read_input};
+use crate::inputs::read_input;
+use crate::tables::{Told, check, unknown};
 use juniper_id::ID;
+use juniper_language::{DefaultScalarValue as Scalar, InputValue, ScalarValue};
 use juniper_nullable::Nullable;
-use juniper_syntax::InputValue;
 use juniper_values::{FromInputValue, IntoFieldError, ToInputValue};
 use std::alloc::{AllocError, Global};
 use std::fmt::Debug;
-use std::test::Fail;
 
 /// For a type and an input value the answer of the conversion; an error of a field is shown by its message alone.
 const ANSWERS: &str = "\
@@ -93,7 +93,7 @@ const CELLS: &str = "\
 null => Err(\"Expected a cell\")";
 
 /// For a type and an input value the message of the error that the conversion's error becomes.
-const ERRORS: &str = "\
+const MESSAGES: &str = "\
 Vec<i32> | null => Failed to convert into `Vec`: Value cannot be `null`
 Vec<i32> | [JEDI] => Expected GraphQL scalar, found: enum
 Vec<Vec<i32>> | [null] => Failed to convert into `Vec`: Value cannot be `null`
@@ -124,155 +124,203 @@ Vec<Vec<i32>> | [1, [], [2, 3]] => [[1], [], [2, 3]]
 Option<[i32; 3]> | null => null
 Vec<Vec<Vec<i32>>> | [[[1, 2], []], [], 3] => [[[1, 2], []], [], [[3]]]";
 
-/// What a test asks of a conversion.
+/// What is asked of a conversion.
 #[derive(Clone, Copy)]
-enum Question {
+pub enum Question {
+    /// The answer.
     Answer,
-    Error,
+    /// The message of the error that its error becomes.
+    Message,
+    /// The input value that is made of the answer.
     Input,
 }
 
-/// What is asked, at the type of this name.
+/// What is told of a case, `TYPE | VALUE`, where `missing` is no value.
+pub fn told_of(alloc: Global, question: Question, case: &str) -> Result<String, AllocError> {
+    let Some((kind, text)) = case.split_once(" | ") else {
+        return unknown(alloc);
+    };
+    if text == "missing" {
+        return told_at(alloc, question, kind, None);
+    }
+    match read_input::<Scalar>(alloc, text)? {
+        Some(value) => told_at(alloc, question, kind, Some(value)),
+        None => unknown(alloc),
+    }
+}
+
+/// What is told at the type of this name.
 fn told_at(
     alloc: Global,
     question: Question,
     kind: &str,
-    value: &InputValue<Scalar>,
+    value: Option<&InputValue<Scalar>>,
 ) -> Result<String, AllocError> {
     match kind {
-        "i32" => told::<i32>(alloc, question, value),
         "bool" => told::<bool>(alloc, question, value),
         "String" => told::<String>(alloc, question, value),
         "ID" => told::<ID>(alloc, question, value),
-        "Option<i32>" => told::<Option<i32>>(alloc, question, value),
         "Nullable<i32>" => told::<Nullable<i32>>(alloc, question, value),
         "Box<Nullable<i32>>" => told::<Box<Nullable<i32>>>(alloc, question, value),
-        _ => told_at_vector(alloc, question, kind, value),
-    }
-}
-
-/// What is asked, at a type with vectors.
-fn told_at_vector(
-    alloc: Global,
-    question: Question,
-    kind: &str,
-    value: &InputValue<Scalar>,
-) -> Result<String, AllocError> {
-    match kind {
-        "Vec<i32>" => told::<Vec<i32>>(alloc, question, value),
-        "Vec<Option<i32>>" => told::<Vec<Option<i32>>>(alloc, question, value),
-        "Vec<Vec<i32>>" => told::<Vec<Vec<i32>>>(alloc, question, value),
-        "Vec<Vec<Vec<i32>>>" => told::<Vec<Vec<Vec<i32>>>>(alloc, question, value),
-        "Option<Vec<i32>>" => told::<Option<Vec<i32>>>(alloc, question, value),
-        "Option<Vec<Vec<i32>>>" => told::<Option<Vec<Vec<i32>>>>(alloc, question, value),
         _ => told_at_array(alloc, question, kind, value),
     }
 }
 
-/// What is asked, at a type with arrays.
+/// What is told at a type that is an array.
 fn told_at_array(
     alloc: Global,
     question: Question,
     kind: &str,
-    value: &InputValue<Scalar>,
+    value: Option<&InputValue<Scalar>>,
 ) -> Result<String, AllocError> {
     match kind {
-        "[i32; 3]" => told::<[i32; 3]>(alloc, question, value),
         "[i32; 0]" => told::<[i32; 0]>(alloc, question, value),
+        "[i32; 3]" => told::<[i32; 3]>(alloc, question, value),
         "[Option<i32>; 3]" => told::<[Option<i32>; 3]>(alloc, question, value),
         "[[i32; 1]; 3]" => told::<[[i32; 1]; 3]>(alloc, question, value),
-        "Option<[i32; 3]>" => told::<Option<[i32; 3]>>(alloc, question, value),
-        _ => String::from_str(alloc, "no such type"),
+        _ => told_at_wrapper(alloc, question, kind, value),
     }
 }
 
-/// What is asked, at one type.
-fn told<T>(
+/// What is told at a type that a simpler one is wrapped in.
+fn told_at_wrapper(
     alloc: Global,
     question: Question,
-    value: &InputValue<Scalar>,
+    kind: &str,
+    value: Option<&InputValue<Scalar>>,
+) -> Result<String, AllocError> {
+    match kind {
+        "i32" | "Option<i32>" | "Vec<i32>" => told_around::<i32>(alloc, question, kind, value),
+        "Vec<Option<i32>>" => told_around::<Option<i32>>(alloc, question, kind, value),
+        "Option<Vec<i32>>" | "Vec<Vec<i32>>" => {
+            told_around::<Vec<i32>>(alloc, question, kind, value)
+        }
+        "Option<[i32; 3]>" => told_around::<[i32; 3]>(alloc, question, kind, value),
+        "Option<Vec<Vec<i32>>>" | "Vec<Vec<Vec<i32>>>" => {
+            told_around_vector::<Vec<i32>>(alloc, question, kind, value)
+        }
+        _ => unknown(alloc),
+    }
+}
+
+/// What is told at the type of this name, which wraps a vector of `T`.
+fn told_around_vector<T>(
+    alloc: Global,
+    question: Question,
+    kind: &str,
+    value: Option<&InputValue<Scalar>>,
 ) -> Result<String, AllocError>
 where
     T: FromInputValue<Scalar> + ToInputValue<Scalar> + Debug,
     T::Error: IntoFieldError<Scalar> + Debug,
 {
-    if let Question::Answer = question {
-        return answered::<T>(alloc, value);
+    told_around::<Vec<T>>(alloc, question, kind, value)
+}
+
+/// What is told at the type of this name, which wraps a `T` or is one.
+fn told_around<T>(
+    alloc: Global,
+    question: Question,
+    kind: &str,
+    value: Option<&InputValue<Scalar>>,
+) -> Result<String, AllocError>
+where
+    T: FromInputValue<Scalar> + ToInputValue<Scalar> + Debug,
+    T::Error: IntoFieldError<Scalar> + Debug,
+{
+    match kind.split_once('<') {
+        Some(("Option", _)) => told::<Option<T>>(alloc, question, value),
+        Some(_) => told::<Vec<T>>(alloc, question, value),
+        None => told::<T>(alloc, question, value),
     }
-    match (T::from_input_value(alloc, value)?, question) {
-        (Ok(converted), Question::Input) => converted.to_input_value(alloc)?.to_string(alloc),
-        (Err(error), Question::Error) => {
-            String::from_str(alloc, error.into_field_error(alloc)?.message())
-        }
-        _ => String::from_str(alloc, "something else"),
+}
+
+/// What is told at one type.
+fn told<T>(
+    alloc: Global,
+    question: Question,
+    value: Option<&InputValue<Scalar>>,
+) -> Result<String, AllocError>
+where
+    T: FromInputValue<Scalar> + ToInputValue<Scalar> + Debug,
+    T::Error: IntoFieldError<Scalar> + Debug,
+{
+    match question {
+        Question::Answer => answered::<Scalar, T>(alloc, value),
+        Question::Message => message::<T>(alloc, value),
+        Question::Input => written::<T>(alloc, value),
+    }
+}
+
+/// The conversion of a value, or what stands for one that is not there.
+fn converted<S: ScalarValue, T: FromInputValue<S>>(
+    alloc: Global,
+    value: Option<&InputValue<S>>,
+) -> Result<Result<T, T::Error>, AllocError> {
+    match value {
+        Some(value) => T::from_input_value(alloc, value),
+        None => T::from_implicit_null(alloc),
     }
 }
 
 /// The answer of a conversion, an error of a field by its message alone.
-fn answered<T>(alloc: Global, value: &InputValue<Scalar>) -> Result<String, AllocError>
+pub fn answered<S, T>(alloc: Global, value: Option<&InputValue<S>>) -> Result<String, AllocError>
 where
-    T: FromInputValue<Scalar> + Debug,
+    S: ScalarValue,
+    T: FromInputValue<S> + Debug,
     T::Error: Debug,
 {
-    let answer = T::from_input_value(alloc, value)?;
-    let line = format!(in alloc; "{answer:?}")?;
+    let answer = converted::<S, T>(alloc, value)?;
+    by_message(alloc, format!(in alloc; "{answer:?}")?.as_str())
+}
+
+/// The line with each error of a field by its message alone.
+fn by_message(alloc: Global, line: &str) -> Result<String, AllocError> {
     let line = line.replace(alloc, "FieldError { message: ", "")?;
     line.replace(alloc, ", extensions: Null }", "")
 }
 
-/// The first row that says something else than what is told.
-fn first_other<'r>(
-    alloc: Global,
-    question: Question,
-    rows: &'r str,
-) -> Result<Option<&'r str>, AllocError> {
-    for row in rows.lines() {
-        if !is_told(alloc, question, row)? {
-            return Ok(Some(row));
-        }
+/// The message of the error that the conversion's error becomes.
+fn message<T>(alloc: Global, value: Option<&InputValue<Scalar>>) -> Result<String, AllocError>
+where
+    T: FromInputValue<Scalar>,
+    T::Error: IntoFieldError<Scalar>,
+{
+    match converted::<Scalar, T>(alloc, value)? {
+        Ok(_) => unknown(alloc),
+        Err(error) => String::from_str(alloc, error.into_field_error(alloc)?.message()),
     }
-    Ok(None)
 }
 
-/// Whether a row, `TYPE | VALUE => TEXT`, says what is told.
-fn is_told(alloc: Global, question: Question, row: &str) -> Result<bool, AllocError> {
-    let Some((kind, rest)) = row.split_once(" | ") else {
-        return Ok(false);
-    };
-    let Some((value, said)) = rest.split_once(" => ") else {
-        return Ok(false);
-    };
-    let value = read_input(alloc, value)?;
-    Ok(told_at(alloc, question, kind, &value)?.as_str() == said)
+/// The input value that is made of the answer.
+fn written<T>(alloc: Global, value: Option<&InputValue<Scalar>>) -> Result<String, AllocError>
+where
+    T: FromInputValue<Scalar> + ToInputValue<Scalar>,
+{
+    match converted::<Scalar, T>(alloc, value)? {
+        Ok(answer) => answer.to_input_value(alloc)?.to_string(alloc),
+        Err(_) => unknown(alloc),
+    }
 }
 
-/// Whether a row, `VALUE => ANSWER`, says what a value becomes as a cell.
-fn is_cell(alloc: Global, row: &str) -> Result<bool, AllocError> {
-    let Some((value, said)) = row.split_once(" => ") else {
-        return Ok(false);
-    };
-    let value = read_input(alloc, value)?;
-    Ok(answered::<Cell>(alloc, &value)?.as_str() == said)
+/// The cell that a value becomes.
+pub fn cell_of(alloc: Global, text: &str) -> Result<String, AllocError> {
+    match read_input::<Scalar>(alloc, text)? {
+        Some(value) => answered::<Scalar, Cell>(alloc, Some(value)),
+        None => unknown(alloc),
+    }
 }
 
 #[test]
-fn r6_rows(rt: HostRuntime) -> Result<(), Fail> {
+fn conversions_answer(rt: HostRuntime) {
     let alloc = rt.alloc();
-    for (question, rows) in [
-        (Question::Answer, ANSWERS),
-        (Question::Answer, LISTS),
-        (Question::Error, ERRORS),
-        (Question::Input, INPUTS),
-    ] {
-        assert_eq!(rt; first_other(alloc, question, rows)?, None);
-    }
-    Ok(())
+    check(&rt, alloc, Told::Answer, ANSWERS);
+    check(&rt, alloc, Told::Answer, LISTS);
+    check(&rt, alloc, Told::Message, MESSAGES);
+    check(&rt, alloc, Told::Input, INPUTS);
 }
 
 #[test]
-fn objects_become_cells(rt: HostRuntime) -> Result<(), Fail> {
-    for row in CELLS.lines() {
-        assert!(rt; is_cell(rt.alloc(), row)?, "{row}");
-    }
-    Ok(())
+fn objects_become_cells(rt: HostRuntime) {
+    check(&rt, rt.alloc(), Told::Cell, CELLS);
 }
