@@ -1,108 +1,222 @@
-//! Input values: values for their variables, and copies.
+//! Input values: how they are written, their copies, and what they are with values for their variables.
 
-use juniper_language::{DefaultScalarValue, InputValue, Spanning, Variables};
+use crate::rows::unmarked;
+use crate::scalar::TestScalar;
+use juniper_syntax::{DefaultScalarValue, InputValue, ScalarValue, Spanning, Variables};
 use std::alloc::{AllocError, Global};
-use std::test::Fail;
 
-type Input = InputValue<DefaultScalarValue>;
+/// How a value is made, how it is written, and how what it is where the variable `a` is 1 is made: `=` where it has no
+/// variable, `none` where it has no value then. To make one, each word but the last two kinds is put on a pile: a text is
+/// written without its last quote and with marks, anything else as it is. A `,` puts the last value into the list before
+/// it, and a `k:` into the object before it.
+const ROWS: &str = "\
+null => null => =
+-7 => -7 => =
+-2147483648 => -2147483648 => =
+true => true => =
+false => false => =
+EMPIRE => EMPIRE => =
+$episode => $episode => none
+[] => [] => =
+{} => {} => =
+[] 1 , [] null , 2 , , => [1, [null, 2]] => =
+{} {} -7 k: 0 l: k: [] 1 , [] null , 2 , , l: => {k: {k: -7, l: 0}, l: [1, [null, 2]]} => =
+\" => \"\" => =
+\"Han␠Solo => \"Han Solo\" => =
+\"\" => \"\\\"\" => =
+\"say␠\"hi\"␠\\o/ => \"say \\\"hi\\\" \\\\o/\" => =
+\"\u{8}\u{c}␤␍\t => \"\\b\\f\\n\\r\\t\" => =
+\"\0\u{1}\u{b}\u{f}\u{10}\u{1f} => \"\\u0000\\u0001\\u000B\\u000F\\u0010\\u001F\" => =
+\"␠\u{7f}/ => \" \u{7f}/\" => =
+\"é\"€␤😀 => \"é\\\"€\\n😀\" => =
+[] $a , $b , => [$a, $b] => [] 1 , null ,
+{} $a x: => {x: $a} => {} 1 x:
+{} $b x: => {x: $b} => {}
+$b => $b => none
+[] {} \"q1 x: , EMPIRE , => [{x: \"q1\"}, EMPIRE] => =";
 
-fn variable(alloc: Global, name: &str) -> Result<Input, AllocError> {
-    Ok(InputValue::Variable(String::from_str(alloc, name)?))
+/// Rows that say something else, or nothing.
+const WRONG: &str = "\
+1 => 1
+
+ => =
+1 => 2 => =
+1 => 1 => none
+1 => 1 => 1
+$a => $a => =
+$a => $a => none
+$a => $a => 2
+$b => $b => null
+[] 1 , => [1] => {}
+[] $b , => [$b] => []
+{} 1 k: => {l: 1} => =
+\"a => a => =";
+
+type Pile<S> = Vec<InputValue<S>>;
+
+/// A value without parts, or with none yet.
+fn simple<S: ScalarValue>(alloc: Global, word: &str) -> Result<InputValue<S>, AllocError> {
+    match word {
+        "null" => Ok(InputValue::Null),
+        "true" => Ok(InputValue::Scalar(S::from_bool(true))),
+        "false" => Ok(InputValue::Scalar(S::from_bool(false))),
+        "[]" => Ok(InputValue::List(Vec::new(alloc))),
+        "{}" => Ok(InputValue::Object(Vec::new(alloc))),
+        _ => Ok(InputValue::Enum(String::from_str(alloc, word)?)),
+    }
 }
 
-fn list(alloc: Global, first: Input, second: Input) -> Result<Input, AllocError> {
-    let mut items = Vec::new(alloc);
-    items.push(Spanning::unlocated(first))?;
-    items.push(Spanning::unlocated(second))?;
-    Ok(InputValue::List(items))
+fn leaf<S: ScalarValue>(alloc: Global, word: &str) -> Result<InputValue<S>, AllocError> {
+    if let Some(text) = word.strip_prefix('"') {
+        return Ok(InputValue::Scalar(S::from_text(unmarked(alloc, text)?)?));
+    }
+    if let Some(name) = word.strip_prefix('$') {
+        return Ok(InputValue::Variable(String::from_str(alloc, name)?));
+    }
+    match word.parse::<i32>() {
+        Ok(number) => Ok(InputValue::Scalar(S::from_int(number))),
+        Err(_) => simple(alloc, word),
+    }
 }
 
-fn object(alloc: Global, key: &str, value: Input) -> Result<Input, AllocError> {
-    let name = Spanning::unlocated(String::from_str(alloc, key)?);
-    let mut fields = Vec::new(alloc);
-    fields.push((name, Spanning::unlocated(value)))?;
-    Ok(InputValue::Object(fields))
+/// Puts an item into a list, or at the key into an object.
+fn put_into<S: ScalarValue>(
+    alloc: Global,
+    into: &mut InputValue<S>,
+    key: &str,
+    item: InputValue<S>,
+) -> Result<(), AllocError> {
+    match into {
+        InputValue::List(items) => Ok(items.push(Spanning::unlocated(item))?),
+        InputValue::Object(fields) => {
+            let key = Spanning::unlocated(String::from_str(alloc, key)?);
+            Ok(fields.push((key, Spanning::unlocated(item)))?)
+        }
+        InputValue::Null | InputValue::Scalar(_) | InputValue::Enum(_) | InputValue::Variable(_) =>
+            Ok(()),
+    }
 }
 
-fn int(value: i32) -> Input {
-    InputValue::Scalar(DefaultScalarValue::Int(value))
+/// Puts the last value of the pile into the one before it.
+fn join<S: ScalarValue>(alloc: Global, pile: &mut Pile<S>, key: &str) -> Result<(), AllocError> {
+    match pile.pop() {
+        None => Ok(()),
+        Some(item) => match pile.last_mut() {
+            None => Ok(()),
+            Some(into) => put_into(alloc, into, key, item),
+        },
+    }
 }
 
-/// Variables of which `a` is 1.
-fn with_a(alloc: Global) -> Result<Variables<DefaultScalarValue>, AllocError> {
+fn step<S: ScalarValue>(alloc: Global, pile: &mut Pile<S>, word: &str) -> Result<(), AllocError> {
+    match word.strip_suffix(':') {
+        Some(key) => join(alloc, pile, key),
+        None if word == "," => join(alloc, pile, ""),
+        None => Ok(pile.push(leaf(alloc, word)?)?),
+    }
+}
+
+fn made<S: ScalarValue>(alloc: Global, words: &str) -> Result<Option<InputValue<S>>, AllocError> {
+    let mut pile = Vec::new(alloc);
+    for word in words.split(' ') {
+        step(alloc, &mut pile, word)?;
+    }
+    Ok(pile.pop())
+}
+
+fn is_written<S: ScalarValue>(
+    alloc: Global,
+    value: &InputValue<S>,
+    written: &str,
+) -> Result<bool, AllocError> {
+    Ok(value.to_string(alloc)?.as_str() == written)
+}
+
+fn is_copied<S: ScalarValue>(alloc: Global, value: &InputValue<S>) -> Result<bool, AllocError> {
+    Ok(value.try_clone(alloc)? == *value)
+}
+
+fn with_a<S: ScalarValue>(alloc: Global) -> Result<Variables<S>, AllocError> {
     let mut variables = Variables::new(alloc);
-    variables.insert(String::from_str(alloc, "a")?, int(1))?;
+    let one = InputValue::Scalar(S::from_int(1));
+    drop(variables.insert(String::from_str(alloc, "a")?, one)?);
     Ok(variables)
 }
 
-/// Whether a value becomes that one where `a` is 1, and `None` where it has none.
-fn becomes(alloc: Global, given: &Input, wanted: &Option<Input>) -> Result<bool, AllocError> {
-    let variables = with_a(alloc)?;
-    let made = given.into_const(alloc, &variables)?;
-    Ok(made == *wanted)
+fn wanted<S: ScalarValue>(
+    alloc: Global,
+    value: &InputValue<S>,
+    said: &str,
+) -> Result<Option<InputValue<S>>, AllocError> {
+    match said {
+        "=" => Ok(Some(value.try_clone(alloc)?)),
+        "none" => Ok(None),
+        _ => made(alloc, said),
+    }
 }
 
-fn two_variables(alloc: Global) -> Result<Input, AllocError> {
-    let known = variable(alloc, "a")?;
-    list(alloc, known, variable(alloc, "b")?)
+/// Whether the value becomes what is said where `a` is 1.
+fn becomes<S: ScalarValue>(
+    alloc: Global,
+    value: &InputValue<S>,
+    said: &str,
+) -> Result<bool, AllocError> {
+    let found = value.into_const(alloc, &with_a(alloc)?)?;
+    Ok(found == wanted(alloc, value, said)? && value.is_const() == (said == "="))
 }
 
-/// An item without value is null.
-fn an_item_becomes_null(alloc: Global) -> Result<bool, AllocError> {
-    let given = two_variables(alloc)?;
-    let wanted = Some(list(alloc, int(1), InputValue::Null)?);
-    Ok(!given.is_const() && becomes(alloc, &given, &wanted)?)
+fn is_as_said<S: ScalarValue>(
+    alloc: Global,
+    value: &InputValue<S>,
+    said: &str,
+) -> Result<bool, AllocError> {
+    match said.split_once(" => ") {
+        None => Ok(false),
+        Some((written, constant)) => Ok(
+            is_written(alloc, value, written)?
+                && is_copied(alloc, value)?
+                && becomes(alloc, value, constant)?,
+        ),
+    }
 }
 
-/// Whether an object with one field, which is the variable, becomes that one.
-fn object_becomes(alloc: Global, name: &str, wanted: Input) -> Result<bool, AllocError> {
-    let given = object(alloc, "x", variable(alloc, name)?)?;
-    becomes(alloc, &given, &Some(wanted))
+fn stands<S: ScalarValue>(alloc: Global, row: &str) -> Result<bool, AllocError> {
+    let Some((words, said)) = row.split_once(" => ") else {
+        return Ok(false);
+    };
+    match made::<S>(alloc, words)? {
+        None => Ok(false),
+        Some(value) => is_as_said(alloc, &value, said),
+    }
 }
 
-/// A field with a value has it.
-fn a_field_becomes_one(alloc: Global) -> Result<bool, AllocError> {
-    object_becomes(alloc, "a", object(alloc, "x", int(1))?)
-}
-
-/// A field without value is absent.
-fn a_field_becomes_absent(alloc: Global) -> Result<bool, AllocError> {
-    object_becomes(alloc, "b", InputValue::Object(Vec::new(alloc)))
-}
-
-/// A variable without value is absent.
-fn a_variable_becomes_absent(alloc: Global) -> Result<bool, AllocError> {
-    becomes(alloc, &variable(alloc, "b")?, &None)
-}
-
-fn is_copied(alloc: Global, given: Input) -> Result<bool, AllocError> {
-    let made = given.try_clone(alloc)?;
-    Ok(given.is_const() && made == given)
-}
-
-fn constant(alloc: Global) -> Result<Input, AllocError> {
-    let text = String::from_str(alloc, "q1")?;
-    let first = object(
-        alloc,
-        "x",
-        InputValue::Scalar(DefaultScalarValue::String(text)),
-    )?;
-    let name = String::from_str(alloc, "EMPIRE")?;
-    list(alloc, first, InputValue::Enum(name))
-}
-
-/// A copy is written the same.
-fn a_copy_is_the_same(alloc: Global) -> Result<bool, AllocError> {
-    is_copied(alloc, constant(alloc)?)
+/// The first row that stands where none is to stand, or does not where each is to.
+fn first_other<'r, S: ScalarValue>(alloc: Global, rows: &'r str, all: bool) -> Option<&'r str> {
+    for row in rows.split('\n') {
+        if stands::<S>(alloc, row).unwrap_or(!all) != all {
+            return Some(row);
+        }
+    }
+    None
 }
 
 #[test]
-fn variables_get_their_values(rt: HostRuntime) -> Result<(), Fail> {
-    let alloc = rt.alloc();
-    assert!(rt; an_item_becomes_null(alloc)?);
-    assert!(rt; a_field_becomes_one(alloc)?);
-    assert!(rt; a_field_becomes_absent(alloc)?);
-    assert!(rt; a_variable_becomes_absent(alloc)?);
-    assert!(rt; a_copy_is_the_same(alloc)?);
-    Ok(())
+fn values_are_as_said(rt: HostRuntime) {
+    assert_eq!(rt;
+        first_other::<DefaultScalarValue>(rt.alloc(), ROWS, true),
+        None
+    );
+}
+
+#[test]
+fn values_of_other_scalars_are_as_said(rt: HostRuntime) {
+    assert_eq!(rt; first_other::<TestScalar>(rt.alloc(), ROWS, true), None);
+}
+
+#[test]
+fn no_wrong_row_stands(rt: HostRuntime) {
+    assert_eq!(rt;
+        first_other::<DefaultScalarValue>(rt.alloc(), WRONG, false),
+        None
+    );
 }

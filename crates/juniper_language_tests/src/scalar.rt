@@ -1,6 +1,6 @@
 //! A scalar type of the tests' own.
 
-use juniper_language::ScalarValue;
+use juniper_syntax::ScalarValue;
 use std::alloc::{AllocError, Global};
 
 /// An Int, a text or a boolean.

@@ -1,95 +1,145 @@
-//! Strings, and what they stand for.
+//! Strings and Ints, and what they stand for.
 
-use juniper_language::{LexerError, ParseError, decode_string};
-use std::alloc::Global;
+use crate::rows::unmarked;
+use juniper_position::ParseError;
+use juniper_tokens::{decode_int, decode_string};
+use std::alloc::{AllocError, Global};
 
-/// Whether what stands between the quotes stands for this text.
-fn stands_for(alloc: Global, raw: &str, text: &str) -> bool {
+/// What stands between the quotes, and what it stands for, or how it is refused.
+const STRINGS: &str = "\
+q1 => \"q1\"
+ => \"\"
+ # { , } => \" # { , }\"
+\t => \"\t\"
+\u{7F} => \"\u{7F}\"
+\u{2028} => \"\u{2028}\"
+h\u{E9}llo \u{1F600} => \"h\u{E9}llo \u{1F600}\"
+\\\" => \"\"\"
+\\\\ => \"\\\"
+\\/ => \"/\"
+\\b\\f\\n\\r\\t => \"\u{8}\u{C}␤␍\t\"
+\\u0041\\u00e9\\u20AC => \"A\u{E9}\u{20AC}\"
+\\u0000\\uD7FF\\uE000\\uFFFF => \"\0\u{D7FF}\u{E000}\u{FFFF}\"
+a\\u00411\\\\n => \"aA1\\n\"
+quote \\\" => \"quote \"\"
+escaped \\n\\r\\b\\t\\f => \"escaped ␤␍\u{8}\u{9}\u{C}\"
+slashes \\\\ \\/ => \"slashes \\ /\"
+white space => \"white space\"
+\\x => Unknown escape sequence \"\\x\" in string
+a\\N => Unknown escape sequence \"\\N\" in string
+\\u+123 => Unknown escape sequence \"\\u+123\" in string
+\\u12G4 => Unknown escape sequence \"\\u12G4\" in string
+\\uD800 => Unknown escape sequence \"\\uD800\" in string
+\\uDFFF\\n => Unknown escape sequence \"\\uDFFF\" in string
+\\U0041 => Unknown escape sequence \"\\U\" in string
+\\\u{E9} => Unknown escape sequence \"\\\u{E9}\" in string
+\\ => Unterminated string literal
+\\u => Unterminated string literal
+\\u123 => Unterminated string literal
+a\"b => Unterminated string literal
+a␤b => Unterminated string literal
+␍ => Unterminated string literal
+\0 => Unknown character
+a\u{1F} => Unknown character
+\u{B} => Unknown character";
+
+/// Words, and the Ints that they are, or how they are refused.
+const INTS: &str = "\
+0 => 0
+-0 => 0
+42 => 42
+2147483647 => 2147483647
+-2147483648 => -2147483648
+ => Unexpected token
+- => Unexpected token
++5 => Unexpected token
+05 => Unexpected token
+-05 => Unexpected token
+1a => Unexpected token
+a => Unexpected token
+ 1 => Unexpected token
+1  => Unexpected token
+1.0 => Unexpected token
+2147483648 => Unexpected token
+-2147483649 => Unexpected token
+18446744073709551617 => Unexpected token";
+
+/// Rows that say something else, or nothing, of both kinds.
+const WRONG: &str = "\
+1
+
+1 => 
+1 => 2
+1 => \"2\"
+1 => \"1
++5 => 5
+\\u => Unknown character
+\\ => \"\\\"
+\\x => Unknown escape sequence \"\\y\" in string";
+
+fn is_told(alloc: Global, error: &ParseError, said: &str) -> Result<bool, AllocError> {
+    Ok(error.to_string(alloc)?.as_str() == said)
+}
+
+/// Whether the string stands for what is said between quotes, or is refused as is said.
+fn is_decoded(alloc: Global, raw: &str, said: &str) -> Result<bool, AllocError> {
     match decode_string(alloc, raw) {
-        Ok(found) => found.as_str() == text,
-        Err(_) => false,
-    }
-}
-
-/// What stands between the quotes, and what it stands for.
-static TEXTS: [(&'static str, &'static str); 14] = [
-    // Characters stand for themselves.
-    ("", ""),
-    ("q1", "q1"),
-    (" # { , }", " # { , }"),
-    ("\t", "\t"),
-    ("\u{7F}", "\u{7F}"),
-    ("\u{2028}", "\u{2028}"),
-    ("h\u{E9}llo \u{1F600}", "h\u{E9}llo \u{1F600}"),
-    // Escapes stand for characters.
-    ("\\\"", "\""),
-    ("\\\\", "\\"),
-    ("\\/", "/"),
-    ("\\b\\f\\n\\r\\t", "\u{8}\u{C}\n\r\t"),
-    ("\\u0041\\u00e9\\u20AC", "A\u{E9}\u{20AC}"),
-    ("\\u0000\\uD7FF\\uE000\\uFFFF", "\0\u{D7FF}\u{E000}\u{FFFF}"),
-    ("a\\u00411\\\\n", "aA1\\n"),
-];
-
-#[test]
-fn characters_and_escapes_are_decoded(rt: HostRuntime) {
-    for (raw, text) in &TEXTS {
-        assert!(rt; stands_for(rt.alloc(), raw, text), "{raw}");
-    }
-}
-
-/// What is told of a string that is refused.
-#[derive(Clone, Copy)]
-enum Told {
-    Escape(&'static str),
-    Endless,
-    Character,
-}
-
-fn tells(error: &LexerError, told: Told) -> bool {
-    match told {
-        Told::Escape(escape) => match error {
-            LexerError::UnknownEscapeSequence(found) => found.as_str() == escape,
-            _ => false,
+        Ok(text) => match said.strip_prefix('"') {
+            None => Ok(false),
+            Some(said) => Ok(said.strip_suffix('"') == Some(text.as_str())),
         },
-        Told::Endless => *error == LexerError::UnterminatedString,
-        Told::Character => *error == LexerError::UnknownCharacter,
+        Err(error) => is_told(alloc, &error, said),
     }
 }
 
-/// Whether a string is refused so.
-fn refuses(alloc: Global, raw: &str, told: Told) -> bool {
-    match decode_string(alloc, raw) {
-        Err(ParseError::LexerError(error)) => tells(&error, told),
-        _ => false,
+fn is_int(alloc: Global, word: &str, said: &str) -> Result<bool, AllocError> {
+    match decode_int(word) {
+        Ok(found) => Ok(found.to_string(alloc)?.as_str() == said),
+        Err(error) => is_told(alloc, &error, said),
     }
 }
 
-static REFUSED: [(&'static str, Told); 17] = [
-    ("\\x", Told::Escape("\\x")),
-    ("a\\N", Told::Escape("\\N")),
-    ("\\u+123", Told::Escape("\\u+123")),
-    ("\\u12G4", Told::Escape("\\u12G4")),
-    ("\\uD800", Told::Escape("\\uD800")),
-    ("\\uDFFF\\n", Told::Escape("\\uDFFF")),
-    ("\\U0041", Told::Escape("\\U")),
-    ("\\\u{E9}", Told::Escape("\\\u{E9}")),
-    // Strings that break off.
-    ("\\", Told::Endless),
-    ("\\u", Told::Endless),
-    ("\\u123", Told::Endless),
-    ("a\"b", Told::Endless),
-    ("a\nb", Told::Endless),
-    ("\r", Told::Endless),
-    // Control characters.
-    ("\0", Told::Character),
-    ("a\u{1F}", Told::Character),
-    ("\u{B}", Told::Character),
-];
+/// Whether the row stands of strings, or of Ints.
+fn stands(alloc: Global, row: &str, of_ints: bool) -> Result<bool, AllocError> {
+    let row = unmarked(alloc, row)?;
+    match row.as_str().split_once(" => ") {
+        None => Ok(false),
+        Some((word, said)) if of_ints => is_int(alloc, word, said),
+        Some((raw, said)) => is_decoded(alloc, raw, said),
+    }
+}
+
+/// The first row that stands where none is to stand, or does not where each is to.
+fn first_other(
+    alloc: Global,
+    rows: &'static str,
+    of_ints: bool,
+    all: bool,
+) -> Option<&'static str> {
+    for row in rows.split('\n') {
+        if stands(alloc, row, of_ints).unwrap_or(!all) != all {
+            return Some(row);
+        }
+    }
+    None
+}
 
 #[test]
-fn other_strings_are_refused(rt: HostRuntime) {
-    for (raw, told) in &REFUSED {
-        assert!(rt; refuses(rt.alloc(), raw, *told), "{raw}");
-    }
+fn strings_are_decoded(rt: HostRuntime) {
+    assert_eq!(rt; first_other(rt.alloc(), STRINGS, false, true), None);
+}
+
+#[test]
+fn ints_are_decoded(rt: HostRuntime) {
+    assert_eq!(rt; first_other(rt.alloc(), INTS, true, true), None);
+}
+
+#[test]
+fn no_wrong_string_stands(rt: HostRuntime) {
+    assert_eq!(rt; first_other(rt.alloc(), WRONG, false, false), None);
+}
+
+#[test]
+fn no_wrong_int_stands(rt: HostRuntime) {
+    assert_eq!(rt; first_other(rt.alloc(), WRONG, true, false), None);
 }

@@ -1,58 +1,32 @@
-//! Scalars, types and values.
+//! Scalars and values.
 
-use juniper_language::{DefaultScalarValue, Object, ScalarValue, Type, Value};
+use juniper_syntax::{DefaultScalarValue, Object, ScalarValue, Value};
 use std::alloc::{AllocError, Global};
 use std::test::Fail;
 
-/// Whether the copy of a scalar shows this.
-fn copy_shows(
-    alloc: Global,
-    scalar: DefaultScalarValue,
-    int: Option<i32>,
-    text: Option<&str>,
-    truth: Option<bool>,
-) -> Result<bool, AllocError> {
+/// The Int, the text and the Boolean that the copy of a scalar shows.
+fn copy_shows(alloc: Global, scalar: DefaultScalarValue) -> Result<String, AllocError> {
     let copy = scalar.try_clone(alloc)?;
-    Ok(copy.try_to_int() == int && copy.try_to_str() == text && copy.try_to_bool() == truth)
+    let (int, text, truth) = (copy.try_to_int(), copy.try_to_str(), copy.try_to_bool());
+    format!(in alloc; "{int:?} {text:?} {truth:?}")
 }
 
-fn text_of(alloc: Global, text: &str) -> Result<DefaultScalarValue, AllocError> {
-    DefaultScalarValue::from_text(String::from_str(alloc, text)?)
+fn text_shows(alloc: Global) -> Result<String, AllocError> {
+    let text = String::from_str(alloc, "q1")?;
+    copy_shows(alloc, DefaultScalarValue::from_text(text)?)
 }
 
-#[test]
-fn a_copy_shows_the_same(rt: HostRuntime) -> Result<(), Fail> {
-    let alloc = rt.alloc();
-    assert!(rt; copy_shows(alloc, text_of(alloc, "q1")?, None, Some("q1"), None)?);
-    let int = DefaultScalarValue::from_int(-7);
-    assert!(rt; copy_shows(alloc, int, Some(-7), None, None)?);
-    let boolean = DefaultScalarValue::from_bool(true);
-    assert!(rt; copy_shows(alloc, boolean, None, None, Some(true))?);
-    Ok(())
-}
-
-fn list_of_ints(alloc: Global) -> Result<Type<String>, AllocError> {
-    let item = Type::NonNullNamed(String::from_str(alloc, "Int")?);
-    Ok(item.wrap_list(alloc, Some(2))?.wrap_non_null())
-}
-
-fn has_non_null_items(list: &Type<String>) -> bool {
-    match list.list_contents() {
-        None => false,
-        Some(item) => item.is_non_null(),
-    }
-}
-
-fn is_wrapped(list: Type<String>) -> bool {
-    list.is_non_null()
-        && list.innermost_name() == "Int"
-        && has_non_null_items(&list)
-        && !list.nullable().is_non_null()
+fn all_show(alloc: Global) -> Result<String, AllocError> {
+    let text = text_shows(alloc)?;
+    let int = copy_shows(alloc, DefaultScalarValue::from_int(-7))?;
+    let truth = copy_shows(alloc, DefaultScalarValue::from_bool(true))?;
+    format!(in alloc; "{text}, {int}, {truth}")
 }
 
 #[test]
-fn a_list_is_wrapped(rt: HostRuntime) -> Result<(), Fail> {
-    assert!(rt; is_wrapped(list_of_ints(rt.alloc())?));
+fn copies_show_the_same(rt: HostRuntime) -> Result<(), Fail> {
+    let wanted = "None Some(\"q1\") None, Some(-7) None None, None None Some(true)";
+    assert_eq!(rt; all_show(rt.alloc())?.as_str(), wanted);
     Ok(())
 }
 

@@ -1,6 +1,9 @@
 //! Operations, fragments, spreads and inline fragments.
 
-pub const OPERATIONS: &str = r#"{ a } => query { a };
+/// What is read, what no rule has a place for, and texts that end too early.
+pub const ROWS: &str = "\
+== outline
+{ a } => query { a };
 query { a } => query { a };
 query Q { a } => query Q { a };
 mutation { a } => mutation { a };
@@ -14,9 +17,9 @@ query Q { a } query Q { a } mutation { b } => query Q { a };query Q { a };mutati
 fragment F on T { a } => fragment F on T { a };
 fragment F on T @d(x: $v) @e { a ...F } => fragment F on T @d( x:$v ) @e { a ...F };
 ,,query,Q,{,a,}, => query Q { a };
-query{a}mutation{b} => query { a };mutation { b };"#;
-
-pub const SELECTIONS: &str = r#"{ a b: c d } => query { a b:c d };
+query{a}mutation{b} => query { a };mutation { b };
+== outline
+{ a b: c d } => query { a b:c d };
 { a: b(x: 1) @d { c } e } => query { a:b( x:1 ) @d { c } e };
 { a { b { c } d } e } => query { a { b { c } d } e };
 { a @d @d(x: 1) @e } => query { a @d @d( x:1 ) @e };
@@ -30,12 +33,10 @@ pub const SELECTIONS: &str = r#"{ a b: c d } => query { a b:c d };
 { ...@d{ a } b } => query { ... @d { a } b };
 { ...on T { a } } => query { ...on T { a } };
 { ... on T @d(x: $v) { a ...G } b } => query { ...on T @d( x:$v ) { a ...G } b };
-{ a { ... { ...on T { b ...F { c } } } } } => Unexpected token
 { a { ... { ...on T { b ...F c } } d } ...{ e } } => query { a { ... { ...on T { b ...F c } } d } ... { e } };
-{ ...{ ...{ a } } } => query { ... { ... { a } } };"#;
-
-/// What no rule has a place for.
-pub const REFUSED: &str = "\
+{ ...{ ...{ a } } } => query { ... { ... { a } } };
+== Unexpected token
+{ a { ... { ...on T { b ...F ^{ c } } } } }
 { a } ^&
 ^| { a }
 { a ^& b }
@@ -69,10 +70,8 @@ fragment F on T^}
 ^[a]
 ^:
 ^!
-^=";
-
-/// Texts that end too early.
-pub const ENDLESS: &str = "\
+^=
+== Unexpected end of input
 ^
  # { a }^
 {^
