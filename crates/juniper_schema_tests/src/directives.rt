@@ -1,9 +1,9 @@
 //! Directives: where they may stand, and those that every schema has (section 3.13 of the Specification).
 
 use crate::outline::Line;
-use crate::reader::Scalar;
 use juniper_builtins::directives;
 use juniper_meta::DirectiveLocation;
+use juniper_schema_text::Scalar;
 
 /// Where a directive may stand (3.13), in the order of the Specification's ExecutableDirectiveLocation and
 /// TypeSystemDirectiveLocation.
@@ -34,11 +34,11 @@ const LOCATION_NAMES: &str =
 
 #[test]
 fn locations_are_written_as_in_the_specification(rt: HostRuntime) {
-    let mut line = Line::new(&rt, rt.alloc());
+    let mut line = Line::new(rt.alloc());
     for location in &LOCATIONS {
         line.put_shown(" ", location);
     }
-    assert!(rt; line.text() == LOCATION_NAMES);
+    assert!(rt; line.says(LOCATION_NAMES));
 }
 
 /// The directives of every schema (3.13).
@@ -51,10 +51,10 @@ specifiedBy SCALAR url:String!
 
 #[test]
 fn every_schema_has_these_directives(rt: HostRuntime) {
-    let mut line = Line::new(&rt, rt.alloc());
+    let mut line = Line::new(rt.alloc());
     for directive in &directives::<Scalar>(rt.alloc()).expect(&rt, "memory") {
         line.put_directive(directive);
         line.put("", "\n");
     }
-    assert!(rt; line.text() == DIRECTIVES);
+    assert!(rt; line.says(DIRECTIVES));
 }

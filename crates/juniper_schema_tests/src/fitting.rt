@@ -1,8 +1,9 @@
 //! Which values fit which types (sections 3.5 to 3.12 and 5.6.1 of the Specification).
 
-use crate::reader::{Reader, Scalar, SchemaType, schema, spaced};
+use crate::rows::yes_or_no;
+use juniper_schema::SchemaType;
+use juniper_schema_text::{Reader, Scalar, schema_of};
 use std::alloc::Global;
-use std::process::Abort;
 
 const SCHEMA: &str = "\
 type Query { a: Int }
@@ -14,29 +15,35 @@ input Deep { i: In! }
 scalar Date int text
 scalar Any int text boolean";
 
-/// Ends the test at the first row that is not as it says; a row is `yes` or `no`, a type, `=` and a value, which fits or not.
-fn check_fits<R: Abort>(rt: &R, alloc: Global, given: bool, rows: &str) {
-    let schema = schema(rt, alloc, SCHEMA);
-    for row in rows.lines() {
-        check_fit(rt, alloc, &schema, given, row);
+/// The first row that is not so, in what is given for a variable or in what is written: a row is `yes` or `no`, a type, `=`
+/// and a value, which fits or not.
+fn first_other<'r>(alloc: Global, given: bool, rows: &'r str) -> Option<&'r str> {
+    let Some(schema) = schema_of(alloc, SCHEMA) else {
+        return Some(rows);
+    };
+    for row in rows.split('\n') {
+        if !is_so(alloc, schema, given, row) {
+            return Some(row);
+        }
+    }
+    None
+}
+
+/// The first row that is not so in either.
+fn first_other_in_both<'r>(alloc: Global, rows: &'r str) -> Option<&'r str> {
+    match first_other(alloc, false, rows) {
+        Some(row) => Some(row),
+        None => first_other(alloc, true, rows),
     }
 }
 
-fn check_fit<R: Abort>(rt: &R, alloc: Global, schema: &SchemaType<Scalar>, given: bool, row: &str) {
-    let line = spaced(rt, alloc, row);
-    let words: Vec<&str> = line.split_whitespace().collect(alloc).expect(rt, "memory");
-    let mut reader = Reader::new(rt, alloc, &words);
-    let wanted = reader.word() == "yes";
-    assert!(rt; fits(&mut reader, schema, given) == wanted, "{row}");
-}
-
-/// Whether the value behind a type and `=` fits that type.
-fn fits<R: Abort>(reader: &mut Reader<'_, R>, schema: &SchemaType<Scalar>, given: bool) -> bool {
+fn is_so(alloc: Global, schema: &SchemaType<Scalar>, given: bool, row: &str) -> bool {
+    let mut reader = Reader::new(alloc, row);
+    let wanted = reader.word();
     let reference = reader.read_type();
-    reader.expect_word("=");
+    reader.expect("=");
     let value = reader.read_value(8);
-    reader.expect_end();
-    schema.fits(&value, &reference, given)
+    yes_or_no(schema.fits(&value, &reference, given)) == wanted && reader.is_done()
 }
 
 const NULLS: &str = "\
@@ -65,9 +72,17 @@ yes Query! = $v
 yes Hero! = $v";
 
 #[test]
+fn wrong_values_are_found(rt: HostRuntime) {
+    let found = first_other_in_both(
+        rt.alloc(),
+        "yes Int = 1\nyes [Int] = 1\nno Int = 1\nno Int = A",
+    );
+    assert_eq!(rt; found, Some("no Int = 1"));
+}
+
+#[test]
 fn null_fits_nullable_types_and_variables_fit_all(rt: HostRuntime) {
-    check_fits(&rt, rt.alloc(), false, NULLS);
-    check_fits(&rt, rt.alloc(), true, NULLS);
+    assert_eq!(rt; first_other_in_both(rt.alloc(), NULLS), None);
 }
 
 const LISTS: &str = "\
@@ -96,8 +111,7 @@ yes [Hero] = []";
 
 #[test]
 fn a_value_stands_for_the_list_of_itself(rt: HostRuntime) {
-    check_fits(&rt, rt.alloc(), false, LISTS);
-    check_fits(&rt, rt.alloc(), true, LISTS);
+    assert_eq!(rt; first_other_in_both(rt.alloc(), LISTS), None);
 }
 
 const SIZES: &str = "\
@@ -125,7 +139,7 @@ no [In;2] = {k: 1}";
 
 #[test]
 fn lists_have_their_expected_sizes(rt: HostRuntime) {
-    check_fits(&rt, rt.alloc(), false, SIZES);
+    assert_eq!(rt; first_other(rt.alloc(), false, SIZES), None);
 }
 
 const SCALARS: &str = "\
@@ -164,8 +178,7 @@ no Hero = \"x\"";
 
 #[test]
 fn scalars_are_of_accepted_kinds(rt: HostRuntime) {
-    check_fits(&rt, rt.alloc(), false, SCALARS);
-    check_fits(&rt, rt.alloc(), true, SCALARS);
+    assert_eq!(rt; first_other_in_both(rt.alloc(), SCALARS), None);
 }
 
 const ENUMS: &str = "\
@@ -204,11 +217,18 @@ no Hero = \"RED\"
 no Query = \"RED\"";
 
 #[test]
-fn a_text_names_an_enum_value_in_variables_alone(rt: HostRuntime) {
-    check_fits(&rt, rt.alloc(), false, ENUMS);
-    check_fits(&rt, rt.alloc(), true, ENUMS);
-    check_fits(&rt, rt.alloc(), false, WRITTEN);
-    check_fits(&rt, rt.alloc(), true, GIVEN);
+fn a_name_is_a_value_of_its_enum(rt: HostRuntime) {
+    assert_eq!(rt; first_other_in_both(rt.alloc(), ENUMS), None);
+}
+
+#[test]
+fn a_text_names_no_enum_value_in_what_is_written(rt: HostRuntime) {
+    assert_eq!(rt; first_other(rt.alloc(), false, WRITTEN), None);
+}
+
+#[test]
+fn a_text_names_an_enum_value_in_variables(rt: HostRuntime) {
+    assert_eq!(rt; first_other(rt.alloc(), true, GIVEN), None);
 }
 
 const OBJECTS: &str = "\
@@ -241,6 +261,5 @@ no Hero = {}";
 
 #[test]
 fn input_objects_have_their_declared_fields(rt: HostRuntime) {
-    check_fits(&rt, rt.alloc(), false, OBJECTS);
-    check_fits(&rt, rt.alloc(), true, OBJECTS);
+    assert_eq!(rt; first_other_in_both(rt.alloc(), OBJECTS), None);
 }

@@ -15,6 +15,4 @@ mod lookups;
 #[cfg(test)]
 mod outline;
 #[cfg(test)]
-mod reader;
-#[cfg(test)]
 mod rows;

@@ -1,11 +1,11 @@
 //! What a schema that is made holds, and what is found in it (sections 3.3, 3.5 and 4 of the Specification).
 
-use crate::outline::{Line, check_told};
-use crate::reader::{Reader, Scalar, SchemaType, TypeType, schema, spaced};
-use juniper_meta::meta::declares_value;
-use juniper_syntax::Type;
+use crate::outline::{Line, is_told};
+use crate::rows::yes_or_no;
+use juniper_meta::declares_value;
+use juniper_schema::{SchemaType, TypeType};
+use juniper_schema_text::{Reader, Scalar, schema_of};
 use std::alloc::Global;
-use std::process::Abort;
 
 const SCHEMA: &str = "\
 mutation Cell
@@ -21,20 +21,73 @@ placeholder P
 list L
 nullable N";
 
-/// Ends the test where a row `name => outline` is not what the schema of a text tells at this name; `none` where nothing is
-/// found there.
-fn check_names<R: Abort>(rt: &R, alloc: Global, text: &str, rows: &str) {
-    let schema = schema(rt, alloc, text);
-    for row in rows.lines() {
-        check_name(rt, alloc, &schema, row);
+/// What a row asks of a schema.
+#[derive(Clone, Copy)]
+enum Question {
+    /// `NAME => OUTLINE`: what it tells at this name; `none` where nothing is found there.
+    Told,
+    /// `NAME => TYPE`: the type of this name.
+    Named,
+    /// `REFERENCE => TYPE`: the type of this reference.
+    Made,
+    /// `NAME NAME => yes` or `no`: whether the first is a subtype of the second.
+    Subtype,
+}
+
+/// The first row to which the schema of a text answers otherwise.
+fn first_other<'r>(
+    alloc: Global,
+    text: &str,
+    question: Question,
+    rows: &'r str,
+) -> Option<&'r str> {
+    let Some(schema) = schema_of(alloc, text) else {
+        return Some(rows);
+    };
+    for row in rows.split('\n') {
+        if !is_so(alloc, schema, question, row) {
+            return Some(row);
+        }
+    }
+    None
+}
+
+fn is_so(alloc: Global, schema: &SchemaType<Scalar>, question: Question, row: &str) -> bool {
+    let Some((asked, wanted)) = row.split_once(" => ") else {
+        return false;
+    };
+    match question {
+        Question::Told => match schema.concrete_type_by_name(asked) {
+            Some(meta) => is_told(alloc, meta, wanted),
+            None => wanted == "none",
+        },
+        Question::Named => is_found(alloc, schema.type_by_name(asked), wanted),
+        Question::Made => is_made(alloc, schema, asked, wanted),
+        Question::Subtype => match asked.split_once(' ') {
+            Some((name, wide)) => yes_or_no(schema.is_named_subtype(name, wide)) == wanted,
+            None => false,
+        },
     }
 }
 
-fn check_name<R: Abort>(rt: &R, alloc: Global, schema: &SchemaType<Scalar>, row: &str) {
-    let (name, wanted) = row.split_once(" => ").expect(rt, "a row");
-    match schema.concrete_type_by_name(name) {
-        Some(meta) => check_told(rt, alloc, meta, wanted),
-        None => assert!(rt; wanted == "none", "{row}"),
+/// Whether what is found has this name; `none` where nothing is found.
+fn is_found(alloc: Global, found: Option<TypeType<'_, Scalar>>, wanted: &str) -> bool {
+    match found {
+        Some(made) => {
+            let mut line = Line::new(alloc);
+            line.put_made(&made);
+            line.says(wanted)
+        }
+        None => wanted == "none",
+    }
+}
+
+/// Whether the type of a reference, where its name is known, is this.
+fn is_made(alloc: Global, schema: &SchemaType<Scalar>, asked: &str, wanted: &str) -> bool {
+    let reference = Reader::new(alloc, asked).read_type();
+    match schema.concrete_type_by_name(reference.innermost_name()) {
+        Some(_) => is_found(alloc, schema.make_type(alloc, &reference).ok(), wanted),
+        None => wanted == "none",
     }
 }
 
@@ -59,7 +112,8 @@ N => -";
 
 #[test]
 fn types_are_found_by_name(rt: HostRuntime) {
-    check_names(&rt, rt.alloc(), SCHEMA, TOLD);
+    let found = first_other(rt.alloc(), SCHEMA, Question::Told, TOLD);
+    assert_eq!(rt; found, None);
 }
 
 /// The types of introspection (4.2).
@@ -75,7 +129,13 @@ __DirectiveLocation => __DirectiveLocation leaf input QUERY MUTATION SUBSCRIPTIO
 
 #[test]
 fn introspection_types_are_found_by_name(rt: HostRuntime) {
-    check_names(&rt, rt.alloc(), "type Query { a: Int }", INTROSPECTION);
+    let found = first_other(
+        rt.alloc(),
+        "type Query { a: Int }",
+        Question::Told,
+        INTROSPECTION,
+    );
+    assert_eq!(rt; found, None);
 }
 
 /// Placeholders of the built-in scalars, and what stands there in a schema (3.5).
@@ -89,7 +149,7 @@ ID => ID leaf input int text";
 fn placeholders_of_built_in_scalars_are_replaced(rt: HostRuntime) {
     let text =
         "type Query { a: Int } placeholder String placeholder Boolean placeholder Int placeholder ID";
-    check_names(&rt, rt.alloc(), text, FILLED);
+    assert_eq!(rt; first_other(rt.alloc(), text, Question::Told, FILLED), None);
 }
 
 const DECLARED: &str = "\
@@ -102,7 +162,10 @@ ID => ID/scalar@there leaf input boolean";
 fn declared_built_in_scalars_stay(rt: HostRuntime) {
     let text =
         "type Query { a: Int } scalar String int enum Boolean { A } scalar Int text scalar ID boolean";
-    check_names(&rt, rt.alloc(), text, DECLARED);
+    assert_eq!(rt;
+        first_other(rt.alloc(), text, Question::Told, DECLARED),
+        None
+    );
 }
 
 /// What stands there where no scalar is declared.
@@ -114,152 +177,99 @@ ID => none";
 
 #[test]
 fn strings_and_booleans_are_added(rt: HostRuntime) {
-    check_names(&rt, rt.alloc(), "bare type Query { a: String }", ADDED);
-}
-
-/// Ends the test where what is found has another name; `none` where nothing is found.
-fn check_found<R: Abort>(rt: &R, alloc: Global, found: Option<TypeType<'_, Scalar>>, wanted: &str) {
-    match found {
-        Some(made) => {
-            let mut line = Line::new(rt, alloc);
-            line.put_made(&made);
-            assert!(rt; line.text() == wanted, "{wanted}");
-        }
-        None => assert!(rt; wanted == "none", "{wanted}"),
-    }
-}
-
-/// Ends the test where the root types of a schema are others.
-fn check_roots<R: Abort>(rt: &R, alloc: Global, text: &str, query: &str, mutation: &str) {
-    let schema = schema(rt, alloc, text);
-    assert!(rt; query == "none" || query == schema.query_name());
-    check_found(rt, alloc, schema.query_type(), query);
-    check_found(rt, alloc, schema.mutation_type(), mutation);
-}
-
-#[test]
-fn root_types_are_found(rt: HostRuntime) {
-    let alloc = rt.alloc();
-    check_roots(&rt, alloc, SCHEMA, "Query", "Cell");
-    check_roots(&rt, alloc, "type Query { a: Int }", "Query", "none");
-    check_roots(
-        &rt,
-        alloc,
-        "query Root type Root { a: Int }",
-        "Root",
-        "none",
+    let found = first_other(
+        rt.alloc(),
+        "bare type Query { a: String }",
+        Question::Told,
+        ADDED,
     );
-    check_roots(&rt, alloc, "type Root { a: Int }", "none", "none");
-    check_roots(
-        &rt,
-        alloc,
-        "mutation M type Query { a: Int }",
-        "Query",
-        "none",
-    );
-    check_roots(&rt, alloc, "query __Type mutation __Field", "none", "none");
+    assert_eq!(rt; found, None);
 }
+
+/// A type that is found is nullable.
+const NAMED: &str = "\
+Query => Query
+U => U
+Int => Int
+__Type => __Type
+__DirectiveLocation => __DirectiveLocation
+Hero => none";
 
 #[test]
 fn a_type_that_is_found_is_nullable(rt: HostRuntime) {
-    let schema = schema(&rt, rt.alloc(), SCHEMA);
-    for name in "Query U Int __Type __DirectiveLocation".split_whitespace() {
-        check_found(&rt, rt.alloc(), schema.type_by_name(name), name);
-    }
-    check_found(&rt, rt.alloc(), schema.type_by_name("Hero"), "none");
+    let found = first_other(rt.alloc(), SCHEMA, Question::Named, NAMED);
+    assert_eq!(rt; found, None);
 }
 
 /// Pairs of names, and whether the first is a subtype of the second (3.6 to 3.8).
 const SUBTYPES: &str = "\
-yes Query Query
-yes Query I
-no I Query
-yes J I
-no I J
-no Query J
-no Cell I
-yes Query U
-yes Cell U
-no U Cell
-no I U
-no Query Cell
-yes Int Int
-no Int String
-no Int ID
-yes Hero Hero
-no Hero I
-no Query Hero
-yes __Type __Type
-no __Type __Field";
-
-/// Ends the test where a row is not as it says.
-fn check_subtype<R: Abort>(rt: &R, schema: &SchemaType<Scalar>, row: &str) {
-    let (wanted, names) = row.split_once(' ').expect(rt, "a row");
-    let (name, wide) = names.split_once(' ').expect(rt, "a row");
-    assert!(rt;
-        schema.is_named_subtype(name, wide) == (wanted == "yes"),
-        "{row}"
-    );
-}
+Query Query => yes
+Query I => yes
+I Query => no
+J I => yes
+I J => no
+Query J => no
+Cell I => no
+Query U => yes
+Cell U => yes
+U Cell => no
+I U => no
+Query Cell => no
+Int Int => yes
+Int String => no
+Int ID => no
+Hero Hero => yes
+Hero I => no
+Query Hero => no
+__Type __Type => yes
+__Type __Field => no";
 
 #[test]
 fn names_are_subtypes(rt: HostRuntime) {
-    let schema = schema(&rt, rt.alloc(), SCHEMA);
-    for row in SUBTYPES.lines() {
-        check_subtype(&rt, &schema, row);
-    }
+    let found = first_other(rt.alloc(), SCHEMA, Question::Subtype, SUBTYPES);
+    assert_eq!(rt; found, None);
 }
 
-/// The type of a reference, where its name is known.
-fn made<'s, R: Abort>(
-    rt: &R,
-    alloc: Global,
-    schema: &'s SchemaType<Scalar>,
-    reference: &Type<String>,
-) -> Option<TypeType<'s, Scalar>> {
-    match schema.concrete_type_by_name(reference.innermost_name()) {
-        Some(_) => Some(schema.make_type(alloc, reference).expect(rt, "memory")),
-        None => None,
-    }
-}
-
-/// Ends the test where the type of a reference is another than this.
-fn check_made<R: Abort>(
-    rt: &R,
-    alloc: Global,
-    schema: &SchemaType<Scalar>,
-    text: &str,
-    wanted: &str,
-) {
-    let line = spaced(rt, alloc, text);
-    let words: Vec<&str> = line.split_whitespace().collect(alloc).expect(rt, "memory");
-    let reference = Reader::new(rt, alloc, &words).read_type();
-    check_found(rt, alloc, made(rt, alloc, schema, &reference), wanted);
-}
+/// References, and their types.
+const MADE: &str = "\
+Query => Query
+Int! => Int!
+[E] => [E]
+[In!] => [In!]
+[U]! => [U]!
+[Int!]! => [Int!]!
+[Int;2] => [Int;2]
+[Int!;2]! => [Int!;2]!
+[[I;1]!;3] => [[I;1]!;3]
+__Type! => __Type!
+[Hero!]! => none";
 
 #[test]
 fn types_are_made_of_references(rt: HostRuntime) {
-    let schema = schema(&rt, rt.alloc(), SCHEMA);
-    let texts = "Query Int! [E] [In!] [U]! [Int!]! [Int;2] [Int!;2]! [[I;1]!;3] __Type!";
-    for text in texts.split_whitespace() {
-        check_made(&rt, rt.alloc(), &schema, text, text);
-    }
-    check_made(&rt, rt.alloc(), &schema, "[Hero!]!", "none");
+    let found = first_other(rt.alloc(), SCHEMA, Question::Made, MADE);
+    assert_eq!(rt; found, None);
 }
 
-/// Ends the test where a part of a type is not found.
-fn check_parts<R: Abort>(rt: &R, schema: &SchemaType<Scalar>) {
-    let query = schema.concrete_type_by_name("Query").expect(rt, "Query");
-    assert!(rt; query.field_by_name("b").is_some());
-    let input = schema.concrete_type_by_name("In").expect(rt, "In");
-    assert!(rt; input.input_field_by_name("x").is_some());
-    let colours = schema.concrete_type_by_name("E").expect(rt, "E");
-    assert!(rt; declares_value(colours.values(), "RED"));
-    let date = schema.concrete_type_by_name("Date").expect(rt, "Date");
-    assert!(rt; date.accepts(&Scalar::Int(1)));
+#[test]
+fn wrong_answers_are_found(rt: HostRuntime) {
+    let rows = "Query Query => yes\nQuery I => no\nI Query => no";
+    let found = first_other(rt.alloc(), SCHEMA, Question::Subtype, rows);
+    assert_eq!(rt; found, Some("Query I => no"));
+}
+
+/// Whether the parts of types are found by their names; `None` where one is not.
+fn finds_parts(schema: &SchemaType<Scalar>) -> Option<bool> {
+    schema.concrete_type_by_name("Query")?.field_by_name("b")?;
+    schema
+        .concrete_type_by_name("In")?
+        .input_field_by_name("x")?;
+    let values = schema.concrete_type_by_name("E")?.values();
+    let date = schema.concrete_type_by_name("Date")?;
+    Some(declares_value(values, "RED") && date.accepts(&Scalar::Int(1)))
 }
 
 #[test]
 fn parts_of_types_are_found_by_name(rt: HostRuntime) {
-    check_parts(&rt, &schema(&rt, rt.alloc(), SCHEMA));
+    let schema = schema_of(rt.alloc(), SCHEMA).expect(&rt, "a schema");
+    assert_eq!(rt; finds_parts(schema), Some(true));
 }

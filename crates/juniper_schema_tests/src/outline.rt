@@ -1,39 +1,43 @@
 //! What declarations tell, in one line.
 
-use crate::reader::{Scalar, TypeType};
 use juniper_meta::meta::{Argument, Field};
 use juniper_meta::{DeprecationStatus, DirectiveType, EnumValue, MetaType};
+use juniper_schema::TypeType;
+use juniper_schema_text::Scalar;
 use std::alloc::Global;
 use std::fmt::Display;
-use std::process::Abort;
 
 /// A line that is written.
 #[derive(Drop)]
-pub struct Line<'r, R: Abort> {
-    rt: &'r R,
-    alloc: Global,
+pub struct Line {
     text: String,
+    is_whole: bool,
 }
 
-impl<'r, R: Abort> Line<'r, R> {
+impl Line {
     /// An empty line.
-    pub fn new(rt: &'r R, alloc: Global) -> Self {
+    pub fn new(alloc: Global) -> Self {
         Line {
-            rt,
-            alloc,
             text: String::new(alloc),
+            is_whole: true,
         }
     }
 
-    /// What was written.
-    pub fn text(&self) -> &str {
-        self.text.as_str()
+    /// Whether this was written, and memory was never refused.
+    pub fn says(&self, wanted: &str) -> bool {
+        self.is_whole && self.text.as_str() == wanted
     }
 
     /// Writes the text behind a mark.
     pub fn put(&mut self, mark: &str, text: &str) {
-        self.text.push_str(mark).expect(self.rt, "memory");
-        self.text.push_str(text).expect(self.rt, "memory");
+        self.put_text(mark);
+        self.put_text(text);
+    }
+
+    fn put_text(&mut self, text: &str) {
+        if self.text.push_str(text).is_err() {
+            self.is_whole = false;
+        }
     }
 
     /// Writes the text behind a mark, where there is one.
@@ -52,8 +56,10 @@ impl<'r, R: Abort> Line<'r, R> {
 
     /// Writes what is shown behind a mark.
     pub fn put_shown<T: Display>(&mut self, mark: &str, shown: &T) {
-        let text = shown.to_string(self.alloc).expect(self.rt, "memory");
-        self.put(mark, text.as_str());
+        self.put_text(mark);
+        if write!(self.text, "{shown}").is_err() {
+            self.is_whole = false;
+        }
     }
 
     /// `name:type` or `name:type=default`, and behind a `/` the description.
@@ -166,9 +172,9 @@ impl<'r, R: Abort> Line<'r, R> {
     }
 }
 
-/// Ends the test where the declaration does not tell this.
-pub fn check_told<R: Abort>(rt: &R, alloc: Global, meta: &MetaType<Scalar>, wanted: &str) {
-    let mut line = Line::new(rt, alloc);
+/// Whether the declaration tells this.
+pub fn is_told(alloc: Global, meta: &MetaType<Scalar>, wanted: &str) -> bool {
+    let mut line = Line::new(alloc);
     line.put_meta(meta);
-    assert!(rt; line.text() == wanted, "{wanted}");
+    line.says(wanted)
 }

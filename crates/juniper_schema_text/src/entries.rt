@@ -1,0 +1,152 @@
+//! Entries, and whole schemas.
+
+use crate::reader::{Reader, Scalar};
+use juniper_meta::{
+    EnumMeta, InputObjectMeta, InterfaceMeta, ListMeta, MetaType, NullableMeta, ObjectMeta,
+    PlaceholderMeta, ScalarKinds, ScalarMeta, UnionMeta,
+};
+use juniper_schema::SchemaType;
+use juniper_syntax::Type;
+use std::alloc::Global;
+use std::collections::HashMap;
+
+/// Types by name.
+type Types = HashMap<String, MetaType<Scalar>>;
+
+impl<'t> Reader<'t> {
+    fn read_scalar(&mut self, name: String) -> MetaType<Scalar> {
+        let kinds = ScalarKinds {
+            int: self.eats("int"),
+            text: self.eats("text"),
+            boolean: self.eats("boolean"),
+        };
+        let meta = ScalarMeta::new(name, kinds).description(self.text("scalar"));
+        meta.specified_by_url(self.text("there")).into_meta()
+    }
+
+    fn read_object(&mut self, name: String) -> MetaType<Scalar> {
+        self.eats("implements");
+        let interfaces = self.read_names("&");
+        self.expect("{");
+        let meta = ObjectMeta::new(self.alloc, name, self.read_fields());
+        match meta.interfaces(self.alloc, &interfaces) {
+            Ok(listed) => listed.description(self.text("type")).into_meta(),
+            Err(_) => self.nothing(),
+        }
+    }
+
+    fn read_interface(&mut self, name: String) -> MetaType<Scalar> {
+        self.eats("implements");
+        let interfaces = self.read_names("&");
+        self.expect("{");
+        let meta = InterfaceMeta::new(self.alloc, name, self.read_fields());
+        match meta.interfaces(self.alloc, &interfaces) {
+            Ok(listed) => listed.description(self.text("interface")).into_meta(),
+            Err(_) => self.nothing(),
+        }
+    }
+
+    fn read_union(&mut self, name: String) -> MetaType<Scalar> {
+        self.expect("=");
+        let members = self.read_names("|");
+        match UnionMeta::new(self.alloc, name, &members) {
+            Ok(meta) => meta.description(self.text("union")).into_meta(),
+            Err(_) => self.nothing(),
+        }
+    }
+
+    fn read_input_object(&mut self, name: String) -> MetaType<Scalar> {
+        self.expect("{");
+        let meta = InputObjectMeta::new(name, self.read_inputs());
+        meta.description(self.text("input")).into_meta()
+    }
+
+    fn read_enum(&mut self, name: String) -> MetaType<Scalar> {
+        self.expect("{");
+        let meta = EnumMeta::new(name, self.read_values());
+        meta.description(self.text("enum")).into_meta()
+    }
+
+    /// What stands where nothing can be read.
+    fn nothing(&mut self) -> MetaType<Scalar> {
+        self.refuse();
+        PlaceholderMeta::new(Type::Named(String::new(self.alloc))).into_meta()
+    }
+
+    /// What is declared behind these words.
+    fn read_meta(&mut self, kind: &str, name: String) -> MetaType<Scalar> {
+        match kind {
+            "scalar" => self.read_scalar(name),
+            "enum" => self.read_enum(name),
+            "type" => self.read_object(name),
+            "interface" => self.read_interface(name),
+            "union" => self.read_union(name),
+            "input" => self.read_input_object(name),
+            "list" => ListMeta::new(Type::Named(name), None).into_meta(),
+            "nullable" => NullableMeta::new(Type::Named(name)).into_meta(),
+            "placeholder" => PlaceholderMeta::new(Type::Named(name)).into_meta(),
+            _ => self.nothing(),
+        }
+    }
+
+    /// An entry, which is put into the types.
+    fn read_entry(&mut self, kind: &str, types: &mut Types) {
+        let name = self.word();
+        let mut key = name;
+        if self.eats("@") {
+            key = self.word();
+        }
+        let own = self.text(name);
+        let meta = self.read_meta(kind, own);
+        let key = self.text(key);
+        self.put(types, key, meta);
+    }
+
+    fn put_placeholder(&mut self, types: &mut Types, name: &str) {
+        let named = Type::Named(self.text(name));
+        let key = self.text(name);
+        self.put(types, key, PlaceholderMeta::new(named).into_meta());
+    }
+
+    fn read_types(&mut self) -> Types {
+        let mut types = HashMap::new(self.alloc);
+        self.is_bare = self.eats("bare");
+        if !self.is_bare {
+            self.put_placeholder(&mut types, "Int");
+            self.put_placeholder(&mut types, "ID");
+        }
+        for _turn in 0..self.left() {
+            if !self.ends() {
+                let kind = self.word();
+                self.read_entry(kind, &mut types);
+            }
+        }
+        types
+    }
+
+    /// A whole schema.
+    fn read_schema(&mut self) -> Option<SchemaType<Scalar>> {
+        let mut query = "Query";
+        if self.eats("query") {
+            query = self.word();
+        }
+        let mut mutation = None;
+        if self.eats("mutation") {
+            mutation = Some(self.name());
+        }
+        let types = self.read_types();
+        let query = self.text(query);
+        SchemaType::new(self.alloc, types, query, mutation).ok()
+    }
+}
+
+/// The schema of a text, which stays to the end of the program; `None` where the text has another form, or memory is refused.
+pub fn schema_of(alloc: Global, text: &str) -> Option<&'static SchemaType<Scalar>> {
+    let mut reader = Reader::new(alloc, text);
+    let schema = reader.read_schema()?;
+    let kept = Box::new(alloc, schema).ok()?;
+    if reader.is_done() {
+        return Some(Box::leak(kept));
+    }
+    None
+}

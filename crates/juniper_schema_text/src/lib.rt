@@ -1,0 +1,26 @@
+//! Schemas, types and values from texts, for tests.
+//!
+//! A text of a schema is written as in the language for type systems (section 3 of the Specification), with these own forms:
+//! - `query N`, then `mutation N` may stand first and name the root types; else `Query` is the query type, and there is no
+//!   mutation type.
+//! - `bare` may stand next: what no text declares is then left out, which is there else. That is placeholders `Int` and `ID`,
+//!   and a last field `__typename: String!` of objects and interfaces that declare no `__typename`.
+//! - Each interface that is listed stands behind a `&`, and each member of a union behind a `|`.
+//! - `scalar Date int text boolean` says which kinds it accepts, in this order.
+//! - `placeholder N`, `list N`, `nullable N` declare what stands in a registry alone.
+//! - `@ Key` behind the name of an entry puts it at that key, in place of its name.
+//! - `[Int;2]` is a list of the expected size 2.
+//! - A `#` ends the text.
+//!
+//! The description of an entry is its first word, and the URL of a scalar is `there`. Fields are described as `field` and
+//! deprecated as `old`, values of enums are described as `value` and deprecated without a reason, and arguments and fields of
+//! input objects are described as `argument`. A text among values has no blanks, commas and marks.
+#![tactic(auto)]
+
+mod entries;
+mod members;
+mod reader;
+mod values;
+
+pub use entries::schema_of;
+pub use reader::{Reader, Scalar};
