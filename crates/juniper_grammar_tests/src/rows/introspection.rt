@@ -141,7 +141,12 @@ const ENDS: &str = "0:0:0-282:15:1/283:16:0-713:38:1/714:39:0-811:44:1/812:45:0-
 
 fn both_are_read(alloc: Global) -> bool {
     is_so_long(alloc, ALL, 943, ALL_OUTLINE)
-        && is_so_long(alloc, WITHOUT_DESCRIPTIONS, 849, WITHOUT_DESCRIPTIONS_OUTLINE)
+        && is_so_long(
+            alloc,
+            WITHOUT_DESCRIPTIONS,
+            849,
+            WITHOUT_DESCRIPTIONS_OUTLINE,
+        )
         && is_read(alloc, "definitions", ALL, ENDS)
 }
 
