@@ -4,14 +4,10 @@ use juniper_position::{LexerError, ParseError};
 use std::alloc::{AllocError, Global};
 use std::test::Fail;
 
-fn is_copied(alloc: Global, error: &ParseError) -> Result<bool, AllocError> {
-    Ok(error.try_clone(alloc)? == *error)
-}
-
 /// Whether the error is shown so, and its copy is the same.
 fn is_shown(alloc: Global, error: &ParseError, text: &str) -> Result<bool, AllocError> {
-    let shown = error.to_string(alloc)?;
-    Ok(shown.as_str() == text && is_copied(alloc, error)?)
+    let copy = error.try_clone(alloc)?;
+    Ok(copy == *error && error.to_string(alloc)?.as_str() == text)
 }
 
 /// The errors that hold no text.

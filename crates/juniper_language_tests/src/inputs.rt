@@ -1,15 +1,14 @@
 //! Input values: how they are written, their copies, and what they are with values for their variables.
 
 use crate::rows::unmarked;
-use crate::scalar::TestScalar;
-use juniper_syntax::{DefaultScalarValue, InputValue, ScalarValue, Spanning, Variables};
+use juniper_syntax::{InputValue, ScalarValue, Span, Spanning, Variables};
 use std::alloc::{AllocError, Global};
 
 /// How a value is made, how it is written, and how what it is where the variable `a` is 1 is made: `=` where it has no
 /// variable, `none` where it has no value then. To make one, each word but the last two kinds is put on a pile: a text is
 /// written without its last quote and with marks, anything else as it is. A `,` puts the last value into the list before
 /// it, and a `k:` into the object before it.
-const ROWS: &str = "\
+pub(crate) const ROWS: &str = "\
 null => null => =
 -7 => -7 => =
 -2147483648 => -2147483648 => =
@@ -33,10 +32,14 @@ $episode => $episode => none
 {} $a x: => {x: $a} => {} 1 x:
 {} $b x: => {x: $b} => {}
 $b => $b => none
+[] $c , {} $d k: , => [$c, {k: $d}] => [] null , {} ,
+$c => $c => none
+{} [] $c , k: $d l: 1 m: => {k: [$c], l: $d, m: 1} => {} [] null , k: 1 m:
+a => a => =
 [] {} \"q1 x: , EMPIRE , => [{x: \"q1\"}, EMPIRE] => =";
 
 /// Rows that say something else, or nothing.
-const WRONG: &str = "\
+pub(crate) const WRONG: &str = "\
 1 => 1
 
  => =
@@ -79,6 +82,17 @@ fn leaf<S: ScalarValue>(alloc: Global, word: &str) -> Result<InputValue<S>, Allo
     }
 }
 
+type Field<S> = (Spanning<String, Span>, Spanning<InputValue<S>, Span>);
+
+fn field<S: ScalarValue>(
+    alloc: Global,
+    key: &str,
+    value: InputValue<S>,
+) -> Result<Field<S>, AllocError> {
+    let key = String::from_str(alloc, key)?;
+    Ok((Spanning::unlocated(key), Spanning::unlocated(value)))
+}
+
 /// Puts an item into a list, or at the key into an object.
 fn put_into<S: ScalarValue>(
     alloc: Global,
@@ -88,10 +102,7 @@ fn put_into<S: ScalarValue>(
 ) -> Result<(), AllocError> {
     match into {
         InputValue::List(items) => Ok(items.push(Spanning::unlocated(item))?),
-        InputValue::Object(fields) => {
-            let key = Spanning::unlocated(String::from_str(alloc, key)?);
-            Ok(fields.push((key, Spanning::unlocated(item)))?)
-        }
+        InputValue::Object(fields) => Ok(fields.push(field(alloc, key, item)?)?),
         InputValue::Null | InputValue::Scalar(_) | InputValue::Enum(_) | InputValue::Variable(_) =>
             Ok(()),
     }
@@ -155,13 +166,21 @@ fn wanted<S: ScalarValue>(
     }
 }
 
-/// Whether the value becomes what is said where `a` is 1.
+/// What the value is where `a` is 1.
+fn constant<S: ScalarValue>(
+    alloc: Global,
+    value: &InputValue<S>,
+) -> Result<Option<InputValue<S>>, AllocError> {
+    let variables = with_a(alloc)?;
+    value.into_const(alloc, &variables)
+}
+
 fn becomes<S: ScalarValue>(
     alloc: Global,
     value: &InputValue<S>,
     said: &str,
 ) -> Result<bool, AllocError> {
-    let found = value.into_const(alloc, &with_a(alloc)?)?;
+    let found = constant(alloc, value)?;
     Ok(found == wanted(alloc, value, said)? && value.is_const() == (said == "="))
 }
 
@@ -180,43 +199,14 @@ fn is_as_said<S: ScalarValue>(
     }
 }
 
-fn stands<S: ScalarValue>(alloc: Global, row: &str) -> Result<bool, AllocError> {
-    let Some((words, said)) = row.split_once(" => ") else {
-        return Ok(false);
-    };
+/// Whether the value that the words make is as said.
+pub(crate) fn is_made<S: ScalarValue>(
+    alloc: Global,
+    words: &str,
+    said: &str,
+) -> Result<bool, AllocError> {
     match made::<S>(alloc, words)? {
         None => Ok(false),
         Some(value) => is_as_said(alloc, &value, said),
     }
-}
-
-/// The first row that stands where none is to stand, or does not where each is to.
-fn first_other<'r, S: ScalarValue>(alloc: Global, rows: &'r str, all: bool) -> Option<&'r str> {
-    for row in rows.split('\n') {
-        if stands::<S>(alloc, row).unwrap_or(!all) != all {
-            return Some(row);
-        }
-    }
-    None
-}
-
-#[test]
-fn values_are_as_said(rt: HostRuntime) {
-    assert_eq!(rt;
-        first_other::<DefaultScalarValue>(rt.alloc(), ROWS, true),
-        None
-    );
-}
-
-#[test]
-fn values_of_other_scalars_are_as_said(rt: HostRuntime) {
-    assert_eq!(rt; first_other::<TestScalar>(rt.alloc(), ROWS, true), None);
-}
-
-#[test]
-fn no_wrong_row_stands(rt: HostRuntime) {
-    assert_eq!(rt;
-        first_other::<DefaultScalarValue>(rt.alloc(), WRONG, false),
-        None
-    );
 }

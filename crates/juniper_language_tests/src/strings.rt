@@ -6,7 +6,7 @@ use juniper_tokens::{decode_int, decode_string};
 use std::alloc::{AllocError, Global};
 
 /// What stands between the quotes, and what it stands for, or how it is refused.
-const STRINGS: &str = "\
+pub(crate) const STRINGS: &str = "\
 q1 => \"q1\"
  => \"\"
  # { , } => \" # { , }\"
@@ -44,7 +44,7 @@ a\u{1F} => Unknown character
 \u{B} => Unknown character";
 
 /// Words, and the Ints that they are, or how they are refused.
-const INTS: &str = "\
+pub(crate) const INTS: &str = "\
 0 => 0
 -0 => 0
 42 => 42
@@ -65,7 +65,7 @@ a => Unexpected token
 18446744073709551617 => Unexpected token";
 
 /// Rows that say something else, or nothing, of both kinds.
-const WRONG: &str = "\
+pub(crate) const WRONG: &str = "\
 1
 
 1 => 
@@ -82,64 +82,25 @@ fn is_told(alloc: Global, error: &ParseError, said: &str) -> Result<bool, AllocE
 }
 
 /// Whether the string stands for what is said between quotes, or is refused as is said.
-fn is_decoded(alloc: Global, raw: &str, said: &str) -> Result<bool, AllocError> {
-    match decode_string(alloc, raw) {
-        Ok(text) => match said.strip_prefix('"') {
-            None => Ok(false),
-            Some(said) => Ok(said.strip_suffix('"') == Some(text.as_str())),
-        },
+pub(crate) fn is_decoded(alloc: Global, raw: &str, said: &str) -> Result<bool, AllocError> {
+    let raw = unmarked(alloc, raw)?;
+    match decode_string(alloc, raw.as_str()) {
+        Ok(text) => is_quoted(alloc, text.as_str(), said),
         Err(error) => is_told(alloc, &error, said),
     }
 }
 
-fn is_int(alloc: Global, word: &str, said: &str) -> Result<bool, AllocError> {
+fn is_quoted(alloc: Global, text: &str, said: &str) -> Result<bool, AllocError> {
+    match said.strip_prefix('"') {
+        None => Ok(false),
+        Some(said) => Ok(unmarked(alloc, said)?.as_str().strip_suffix('"') == Some(text)),
+    }
+}
+
+/// Whether the word is the Int that is said, or is refused as is said.
+pub(crate) fn is_int(alloc: Global, word: &str, said: &str) -> Result<bool, AllocError> {
     match decode_int(word) {
         Ok(found) => Ok(found.to_string(alloc)?.as_str() == said),
         Err(error) => is_told(alloc, &error, said),
     }
-}
-
-/// Whether the row stands of strings, or of Ints.
-fn stands(alloc: Global, row: &str, of_ints: bool) -> Result<bool, AllocError> {
-    let row = unmarked(alloc, row)?;
-    match row.as_str().split_once(" => ") {
-        None => Ok(false),
-        Some((word, said)) if of_ints => is_int(alloc, word, said),
-        Some((raw, said)) => is_decoded(alloc, raw, said),
-    }
-}
-
-/// The first row that stands where none is to stand, or does not where each is to.
-fn first_other(
-    alloc: Global,
-    rows: &'static str,
-    of_ints: bool,
-    all: bool,
-) -> Option<&'static str> {
-    for row in rows.split('\n') {
-        if stands(alloc, row, of_ints).unwrap_or(!all) != all {
-            return Some(row);
-        }
-    }
-    None
-}
-
-#[test]
-fn strings_are_decoded(rt: HostRuntime) {
-    assert_eq!(rt; first_other(rt.alloc(), STRINGS, false, true), None);
-}
-
-#[test]
-fn ints_are_decoded(rt: HostRuntime) {
-    assert_eq!(rt; first_other(rt.alloc(), INTS, true, true), None);
-}
-
-#[test]
-fn no_wrong_string_stands(rt: HostRuntime) {
-    assert_eq!(rt; first_other(rt.alloc(), WRONG, false, false), None);
-}
-
-#[test]
-fn no_wrong_int_stands(rt: HostRuntime) {
-    assert_eq!(rt; first_other(rt.alloc(), WRONG, true, false), None);
 }

@@ -2,37 +2,35 @@
 
 use juniper_syntax::Type;
 use std::alloc::{AllocError, Global};
+use std::convert::AsStr;
 use std::test::Fail;
 
-/// `[Episode!]`, the same that is not null, and a list of these, as they are written.
-fn lists(alloc: Global) -> Result<String, AllocError> {
-    let items = Type::NonNullNamed("Episode").wrap_list(alloc, Some(3))?;
-    let first = items.to_string(alloc)?;
-    let list = items.wrap_non_null();
-    let second = format!(in alloc; "{first} {list}")?;
-    let outer = list.wrap_list(alloc, None)?;
-    format!(in alloc; "{second} {outer}")
+fn is_written<N: AsStr + Drop>(
+    alloc: Global,
+    given: &Type<N>,
+    written: &str,
+) -> Result<bool, AllocError> {
+    Ok(given.to_string(alloc)?.as_str() == written)
 }
 
-/// A name that may be null, and one that may not.
-fn names(alloc: Global) -> Result<String, AllocError> {
+fn names_are_written(alloc: Global) -> Result<bool, AllocError> {
     let owned = Type::NonNullNamed(String::from_str(alloc, "Int")?);
-    let lent = Type::Named("Episode");
-    format!(in alloc; "{owned} {lent}")
+    Ok(is_written(alloc, &owned, "Int!")? && is_written(alloc, &Type::Named("Episode"), "Episode")?)
+}
+
+/// A list, the same that is not null, and a list of these.
+fn lists_are_written(alloc: Global) -> Result<bool, AllocError> {
+    let list = Type::NonNullNamed("Episode").wrap_list(alloc, Some(3))?;
+    let first = is_written(alloc, &list, "[Episode!]")?;
+    let list = list.wrap_non_null();
+    let second = is_written(alloc, &list, "[Episode!]!")?;
+    let outer = list.wrap_list(alloc, None)?;
+    Ok(first && second && is_written(alloc, &outer, "[[Episode!]!]")?)
 }
 
 #[test]
-fn names_are_written(rt: HostRuntime) -> Result<(), Fail> {
-    assert_eq!(rt; names(rt.alloc())?.as_str(), "Int! Episode");
-    Ok(())
-}
-
-#[test]
-fn lists_are_written(rt: HostRuntime) -> Result<(), Fail> {
-    assert_eq!(rt;
-        lists(rt.alloc())?.as_str(),
-        "[Episode!] [Episode!]! [[Episode!]!]"
-    );
+fn types_are_written(rt: HostRuntime) -> Result<(), Fail> {
+    assert!(rt; names_are_written(rt.alloc())? && lists_are_written(rt.alloc())?);
     Ok(())
 }
 

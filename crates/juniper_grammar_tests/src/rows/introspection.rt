@@ -136,29 +136,23 @@ fn is_so_long(alloc: Global, text: &str, length: usize, outline: &str) -> bool {
     text.len() == length && is_read(alloc, "outline", text, outline)
 }
 
-#[test]
-fn all_is_read(rt: HostRuntime) {
-    assert!(rt; is_so_long(rt.alloc(), ALL, 943, ALL_OUTLINE));
-}
-
-#[test]
-fn the_rest_is_read(rt: HostRuntime) {
-    assert!(rt;
-        is_so_long(
-            rt.alloc(),
-            WITHOUT_DESCRIPTIONS,
-            849,
-            WITHOUT_DESCRIPTIONS_OUTLINE
-        )
-    );
-}
-
 /// Where the definitions begin and end: index, line and column.
 const ENDS: &str = "0:0:0-282:15:1/283:16:0-713:38:1/714:39:0-811:44:1/812:45:0-942:49:1/";
 
+fn both_are_read(alloc: Global) -> bool {
+    is_so_long(alloc, ALL, 943, ALL_OUTLINE)
+        && is_so_long(
+            alloc,
+            WITHOUT_DESCRIPTIONS,
+            849,
+            WITHOUT_DESCRIPTIONS_OUTLINE,
+        )
+        && is_read(alloc, "definitions", ALL, ENDS)
+}
+
 #[test]
-fn definitions_have_their_places(rt: HostRuntime) {
-    assert!(rt; is_read(rt.alloc(), "definitions", ALL, ENDS));
+fn both_are_read_with_their_places(rt: HostRuntime) {
+    assert!(rt; both_are_read(rt.alloc()));
 }
 
 /// How many definitions a beginning of so many bytes has; none where it is not read.

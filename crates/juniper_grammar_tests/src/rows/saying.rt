@@ -4,7 +4,7 @@ use juniper_language::ast::Arguments;
 use juniper_language::{
     DefaultScalarValue, Definition, Directive, Field, Fragment, InputValue, Operation,
     OperationType, Selection, SourcePosition, Span, Spanning, VariableDefinition,
-    VariableDefinitions, Variables,
+    VariableDefinitions,
 };
 use std::alloc::Global;
 use std::fmt::Display;
@@ -120,9 +120,6 @@ impl<'r> Saying<'r> {
             self.says(kind(&value.item));
             self.says("/");
         }
-        if self.kind == "constants" {
-            self.constant(&value.item);
-        }
         self.items(&value.item);
     }
 
@@ -145,16 +142,6 @@ impl<'r> Saying<'r> {
             | InputValue::Enum(_)
             | InputValue::Variable(_) => {}
         }
-    }
-
-    /// What the value is where no variable has one.
-    fn constant(&mut self, value: &InputValue<DefaultScalarValue>) {
-        match value.into_const(self.alloc, &Variables::new(self.alloc)) {
-            Err(_) => self.holds = false,
-            Ok(None) => self.says("none"),
-            Ok(Some(constant)) => self.shows(&constant, ""),
-        }
-        self.says(";");
     }
 
     fn arguments(&mut self, arguments: &Given<'_>) {

@@ -53,8 +53,6 @@ const WRONG: &str = "\
 { a(x: 1) } => 3:0:3-9:0:9/4:0:4-5:0:5/7:0:7-8:0:8/a Boolean/
 == kinds
 { a(x: on) } => a variable/
-== constants
-{ a(x: $a) } => null;
 == bare outline
 «2 {a»«2 }» => query«3  { a»«3  }»;
 «two {a»«2 }» => query«2  { a»«2  }»;
