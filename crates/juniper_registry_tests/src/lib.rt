@@ -5,3 +5,5 @@
 mod registry;
 #[cfg(test)]
 mod samples;
+#[cfg(test)]
+mod tables;

@@ -1,20 +1,156 @@
 //! Tests of the registry: what stands at its names, how types are referred to, what is built, and texts.
 
 use crate::samples::{Episode, Human};
+use crate::tables::{Told, check};
 use juniper_id::ID;
 use juniper_meta::meta::Field;
-use juniper_meta::{Argument, MetaType, ScalarKinds};
+use juniper_meta::{MetaType, ScalarKinds};
 use juniper_nullable::Nullable;
 use juniper_registry::{GraphQLReference, Registry, RegistryError, TypeKind};
 use juniper_syntax::DefaultScalarValue;
 use std::alloc::{AllocError, Global};
 use std::collections::HashMap;
-use std::test::Fail;
+
+/// For a type the reference to it.
+const REFERENCES: &str = "\
+Vec<Episode> => [Episode!]!
+Option<Vec<Option<Episode>>> => [Episode]
+[i32; 3] => [Int!]!
+Box<Option<bool>> => Boolean
+&String => String!
+Nullable<ID> => ID
+Vec<ID> => [ID!]!";
+
+/// The last field of what is built, and the field of a type that differs from what its resolver answers.
+const FIELDS: &str = "\
+object => __typename: String!
+interface => __typename: String!
+converted => id: ID!";
+
+/// What can be built.
+const BUILT: &str = "\
+scalar => built
+list => built
+nullable => built
+enum => built
+union => built
+input object => built
+argument => built";
+
+/// What stands at the name of an object before and after it is referred to, after it is registered, at the name of a type
+/// that it refers to, what a second registration is, what stands at the name then, and how many names there are.
+const STEPS: &str = "Human => nothing, placeholder, object, placeholder, refused, object, 3";
+
+/// Texts of errors and of kinds, and a default value as it is written.
+const SHOWN: &str = "\
+AlreadyRegistered => A type of this name is registered already
+Memory => Out of memory
+InputObject => INPUT_OBJECT
+default value => 7";
 
 /// An empty registry.
 #[tactic(auto, unfolding(graphql_spec::specs::Fields::entry_in))]
 fn empty(alloc: Global) -> Registry<DefaultScalarValue> {
     Registry::new(alloc, HashMap::new(alloc))
+}
+
+/// What is told of a case that no table has.
+fn unknown(alloc: Global) -> Result<String, AllocError> {
+    String::from_str(alloc, "no such case")
+}
+
+/// The reference to the type of this name.
+pub fn reference_of(alloc: Global, name: &str) -> Result<String, AllocError> {
+    match name {
+        "Vec<Episode>" => reference::<Vec<Episode>>(alloc),
+        "Option<Vec<Option<Episode>>>" => reference::<Option<Vec<Option<Episode>>>>(alloc),
+        "[i32; 3]" => reference::<[i32; 3]>(alloc),
+        "Box<Option<bool>>" => reference::<Box<Option<bool>>>(alloc),
+        "&String" => reference::<&String>(alloc),
+        "Nullable<ID>" => reference::<Nullable<ID>>(alloc),
+        "Vec<ID>" => reference::<Vec<ID>>(alloc),
+        _ => unknown(alloc),
+    }
+}
+
+/// The reference to a type.
+fn reference<T: GraphQLReference<DefaultScalarValue, TypeInfo = ()>>(
+    alloc: Global,
+) -> Result<String, AllocError> {
+    empty(alloc).get_type::<T>(&())?.to_string(alloc)
+}
+
+/// A field of what is built, as it is written.
+pub fn field_of(alloc: Global, kind: &str) -> Result<String, AllocError> {
+    match kind {
+        "object" => last_of_object(alloc),
+        "interface" => last_of_interface(alloc),
+        "converted" => converted(alloc),
+        _ => unknown(alloc),
+    }
+}
+
+/// The last field of an object that is built.
+fn last_of_object(alloc: Global) -> Result<String, AllocError> {
+    let object = empty(alloc).build_object_type::<Human>(&(), Vec::new(alloc))?;
+    written(alloc, object.fields.last())
+}
+
+/// The last field of an interface that is built.
+fn last_of_interface(alloc: Global) -> Result<String, AllocError> {
+    let interface = empty(alloc).build_interface_type::<Human>(&(), Vec::new(alloc))?;
+    written(alloc, interface.fields.last())
+}
+
+/// The field of a type that differs from what its resolver answers.
+fn converted(alloc: Global) -> Result<String, AllocError> {
+    let field = empty(alloc).field_convert::<Option<String>, ID, u8>("id", &())?;
+    written(alloc, Some(&field))
+}
+
+/// A field as it is written.
+fn written(alloc: Global, field: Option<&Field<DefaultScalarValue>>) -> Result<String, AllocError> {
+    match field {
+        Some(field) => {
+            let name = field.name.as_str();
+            let field_type = &field.field_type;
+            format!(in alloc; "{name}: {field_type}")
+        }
+        None => unknown(alloc),
+    }
+}
+
+/// Whether a declaration of this kind is built.
+pub fn built_of(alloc: Global, kind: &str) -> &'static str {
+    if is_built(empty(alloc), alloc, kind) {
+        "built"
+    } else {
+        "not built"
+    }
+}
+
+/// Whether a registry builds a declaration of this kind.
+fn is_built(registry: Registry<DefaultScalarValue>, alloc: Global, kind: &str) -> bool {
+    let mut registry = registry;
+    let ints = ScalarKinds {
+        int: true,
+        text: false,
+        boolean: false,
+    };
+    match kind {
+        "scalar" => registry.build_scalar_type::<i32>(&(), ints).is_ok(),
+        "list" => registry.build_list_type::<Human>(&(), Some(2)).is_ok(),
+        "nullable" => registry.build_nullable_type::<Human>(&()).is_ok(),
+        "enum" => registry
+            .build_enum_type::<Episode>(&(), Vec::new(alloc))
+            .is_ok(),
+        "union" => registry.build_union_type::<Human>(&(), &[]).is_ok(),
+        "input object" => registry
+            .build_input_object_type::<Human>(&(), Vec::new(alloc))
+            .is_ok(),
+        "argument" => registry.arg::<Option<i32>>("first", &()).is_ok(),
+        _ => false,
+    }
 }
 
 /// What stands at a name.
@@ -27,152 +163,85 @@ fn kind_at(registry: &Registry<DefaultScalarValue>, name: &str) -> &'static str 
     }
 }
 
-/// The reference to a type.
-fn reference<T: GraphQLReference<DefaultScalarValue, TypeInfo = ()>>(
-    alloc: Global,
-) -> Result<String, AllocError> {
-    empty(alloc).get_type::<T>(&())?.to_string(alloc)
+/// What stands at names while an object is referred to, registered, and registered again.
+pub fn steps(alloc: Global) -> Result<String, AllocError> {
+    let mut registry = empty(alloc);
+    let before = kind_at(&registry, "Human");
+    let referred = referred(&mut registry);
+    let registered = registered(&mut registry);
+    let awaited = kind_at(&registry, "Episode");
+    let again = again(&mut registry);
+    let kept = kind_at(&registry, "Human");
+    let count = registry.into_types().len();
+    format!(in alloc; "{before}, {referred}, {registered}, {awaited}, {again}, {kept}, {count}")
 }
 
-/// The last of the fields, as it is written.
-fn last_field(alloc: Global, fields: &[Field<DefaultScalarValue>]) -> Result<String, AllocError> {
-    match fields.last() {
-        Some(field) => {
-            let name = field.name.as_str();
-            let field_type = &field.field_type;
-            format!(in alloc; "{name}: {field_type}")
-        }
-        None => Ok(String::new(alloc)),
+/// What stands at the name of an object that is referred to.
+fn referred(registry: &mut Registry<DefaultScalarValue>) -> &'static str {
+    match registry.get_type::<Human>(&()) {
+        Ok(_) => kind_at(registry, "Human"),
+        Err(_) => "refused",
     }
 }
 
-/// The last field of an object that is built.
-fn last_of_object(alloc: Global) -> Result<String, AllocError> {
-    let object = empty(alloc).build_object_type::<Human>(&(), Vec::new(alloc))?;
-    last_field(alloc, object.fields.as_slice())
+/// What stands at the name of an object that is registered.
+fn registered(registry: &mut Registry<DefaultScalarValue>) -> &'static str {
+    match registry.register::<Human>(&()) {
+        Ok(_) => kind_at(registry, "Human"),
+        Err(_) => "refused",
+    }
 }
 
-/// The last field of an interface that is built.
-fn last_of_interface(alloc: Global) -> Result<String, AllocError> {
-    let interface = empty(alloc).build_interface_type::<Human>(&(), Vec::new(alloc))?;
-    last_field(alloc, interface.fields.as_slice())
+/// What a second registration is.
+fn again(registry: &mut Registry<DefaultScalarValue>) -> &'static str {
+    match registry.register::<Human>(&()) {
+        Err(RegistryError::AlreadyRegistered) => "refused",
+        Err(RegistryError::Memory) => "out of memory",
+        Ok(_) => "registered",
+    }
+}
+
+/// The text of an error or of a kind, and a default value as it is written.
+pub fn shown_of(alloc: Global, name: &str) -> Result<String, AllocError> {
+    match name {
+        "AlreadyRegistered" => RegistryError::AlreadyRegistered.to_string(alloc),
+        "Memory" => RegistryError::Memory.to_string(alloc),
+        "InputObject" => TypeKind::InputObject.to_string(alloc),
+        "default value" => default_value(alloc),
+        _ => unknown(alloc),
+    }
 }
 
 /// The default value of an argument as it is written.
-fn default_text(
-    alloc: Global,
-    argument: &Argument<DefaultScalarValue>,
-) -> Result<String, AllocError> {
+fn default_value(alloc: Global) -> Result<String, AllocError> {
+    let argument = empty(alloc).arg_with_default::<i32>("first", &7, &())?;
     match &argument.default_value {
         Some(value) => value.to_string(alloc),
-        None => Ok(String::new(alloc)),
+        None => unknown(alloc),
     }
 }
 
 #[test]
-fn placeholders_are_filled(rt: HostRuntime) -> Result<(), Fail> {
-    let alloc = rt.alloc();
-    let mut registry = empty(alloc);
-    assert_eq!(rt; kind_at(&registry, "Human"), "nothing");
-    assert!(rt; registry.get_type::<Human>(&()).is_ok());
-    assert_eq!(rt; kind_at(&registry, "Human"), "placeholder");
-    assert!(rt; registry.register::<Human>(&()).is_ok());
-    assert_eq!(rt; kind_at(&registry, "Human"), "object");
-    assert_eq!(rt; kind_at(&registry, "Episode"), "placeholder");
-    let again = registry.register::<Human>(&());
-    assert!(rt; matches!(&again, Err(RegistryError::AlreadyRegistered)));
-    assert_eq!(rt; kind_at(&registry, "Human"), "object");
-    assert_eq!(rt; registry.into_types().len(), 3);
-    Ok(())
+fn types_are_referred_to(rt: HostRuntime) {
+    check(&rt, rt.alloc(), Told::Reference, REFERENCES);
 }
 
 #[test]
-fn types_are_referred_to(rt: HostRuntime) -> Result<(), Fail> {
-    let alloc = rt.alloc();
-    assert_eq!(rt; reference::<Vec<Episode>>(alloc)?.as_str(), "[Episode!]!");
-    assert_eq!(rt;
-        reference::<Option<Vec<Option<Episode>>>>(alloc)?.as_str(),
-        "[Episode]"
-    );
-    assert_eq!(rt; reference::<[i32; 3]>(alloc)?.as_str(), "[Int!]!");
-    assert_eq!(rt; reference::<Box<Option<bool>>>(alloc)?.as_str(), "Boolean");
-    assert_eq!(rt; reference::<&String>(alloc)?.as_str(), "String!");
-    assert_eq!(rt; reference::<Nullable<ID>>(alloc)?.as_str(), "ID");
-    assert_eq!(rt; reference::<Vec<ID>>(alloc)?.as_str(), "[ID!]!");
-    Ok(())
-}
-
-#[test]
-fn objects_and_interfaces_have_their_typename(rt: HostRuntime) -> Result<(), Fail> {
-    let alloc = rt.alloc();
-    assert_eq!(rt; last_of_object(alloc)?.as_str(), "__typename: String!");
-    assert_eq!(rt; last_of_interface(alloc)?.as_str(), "__typename: String!");
-    Ok(())
+fn fields_have_their_types(rt: HostRuntime) {
+    check(&rt, rt.alloc(), Told::Field, FIELDS);
 }
 
 #[test]
 fn declarations_are_built(rt: HostRuntime) {
-    let alloc = rt.alloc();
-    let mut registry = empty(alloc);
-    let kinds = ScalarKinds {
-        int: true,
-        text: false,
-        boolean: false,
-    };
-    assert!(rt; registry.build_scalar_type::<i32>(&(), kinds).is_ok());
-    assert!(rt; registry.build_list_type::<Human>(&(), Some(2)).is_ok());
-    assert!(rt; registry.build_nullable_type::<Human>(&()).is_ok());
-    assert!(rt;
-        registry
-            .build_enum_type::<Episode>(&(), Vec::new(alloc))
-            .is_ok()
-    );
-    assert!(rt; registry.build_union_type::<Human>(&(), &[]).is_ok());
-    assert!(rt;
-        registry
-            .build_input_object_type::<Human>(&(), Vec::new(alloc))
-            .is_ok()
-    );
-}
-
-/// The field of a type that differs from what its resolver answers.
-fn converted(alloc: Global) -> Result<String, AllocError> {
-    let mut fields = Vec::new(alloc);
-    fields.push(empty(alloc).field_convert::<Option<String>, ID, u8>("id", &())?)?;
-    last_field(alloc, fields.as_slice())
+    check(&rt, rt.alloc(), Told::Built, BUILT);
 }
 
 #[test]
-fn fields_have_the_type_that_is_given(rt: HostRuntime) -> Result<(), Fail> {
-    assert_eq!(rt; converted(rt.alloc())?.as_str(), "id: ID!");
-    Ok(())
+fn placeholders_are_filled(rt: HostRuntime) {
+    check(&rt, rt.alloc(), Told::Steps, STEPS);
 }
 
 #[test]
-fn arguments_have_default_values(rt: HostRuntime) -> Result<(), Fail> {
-    let alloc = rt.alloc();
-    let mut registry = empty(alloc);
-    assert!(rt; registry.arg::<Option<i32>>("first", &()).is_ok());
-    let argument = registry.arg_with_default::<i32>("first", &7, &())?;
-    assert_eq!(rt; default_text(alloc, &argument)?.as_str(), "7");
-    Ok(())
-}
-
-#[test]
-fn errors_and_kinds_are_shown(rt: HostRuntime) -> Result<(), Fail> {
-    let alloc = rt.alloc();
-    let already = RegistryError::AlreadyRegistered.to_string(alloc)?;
-    assert_eq!(rt;
-        already.as_str(),
-        "A type of this name is registered already"
-    );
-    assert_eq!(rt;
-        RegistryError::Memory.to_string(alloc)?.as_str(),
-        "Out of memory"
-    );
-    assert_eq!(rt;
-        TypeKind::InputObject.to_string(alloc)?.as_str(),
-        "INPUT_OBJECT"
-    );
-    Ok(())
+fn texts_are_shown(rt: HostRuntime) {
+    check(&rt, rt.alloc(), Told::Shown, SHOWN);
 }
