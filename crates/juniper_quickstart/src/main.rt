@@ -59,6 +59,7 @@ fn resolve<S: ScalarValue>(
 }
 
 /// The answer to a request, as a line of JSON, or why there is none.
+#[tactic(auto, unfolding(graphql_spec::specs::Fields::entry_in))]
 fn answer(alloc: Global, request: &str) -> Result<String, AllocError> {
     let mut registry = Registry::new(alloc, HashMap::new(alloc));
     if registry.register::<Query>(&()).is_err() {
