@@ -63,15 +63,16 @@ fn every_row_stands_with_other_scalars(rt: HostRuntime) {
     assert_eq!(rt; first_of_all::<TestScalar>(rt.alloc()), None);
 }
 
-/// The first row of the wrong ones that stands.
+/// The first row of the wrong ones that stands, and a row that is right if there is none.
 fn first_wrong(alloc: Global) -> Option<&'static str> {
     first_other::<TestScalar>(alloc, Kind::String, strings::WRONG, false)
         .or(first_other::<TestScalar>(alloc, Kind::Int, strings::WRONG, false))
         .or(first_other::<TestScalar>(alloc, Kind::Input, inputs::WRONG, false))
         .or(first_other::<TestScalar>(alloc, Kind::Input, "", false))
+        .or(first_other::<TestScalar>(alloc, Kind::Int, "1 => 2\n2 => 2", false))
 }
 
 #[test]
 fn no_wrong_row_stands(rt: HostRuntime) {
-    assert_eq!(rt; first_wrong(rt.alloc()), None);
+    assert_eq!(rt; first_wrong(rt.alloc()), Some("2 => 2"));
 }
