@@ -175,13 +175,14 @@ fn constant<S: ScalarValue>(
     value.into_const(alloc, &variables)
 }
 
+/// Whether the value becomes what is said where `a` is 1.
 fn becomes<S: ScalarValue>(
     alloc: Global,
     value: &InputValue<S>,
     said: &str,
 ) -> Result<bool, AllocError> {
     let found = constant(alloc, value)?;
-    Ok(found == wanted(alloc, value, said)? && value.is_const() == (said == "="))
+    Ok(found == wanted(alloc, value, said)?)
 }
 
 fn is_as_said<S: ScalarValue>(
@@ -192,7 +193,8 @@ fn is_as_said<S: ScalarValue>(
     match said.split_once(" => ") {
         None => Ok(false),
         Some((written, constant)) => Ok(
-            is_written(alloc, value, written)?
+            value.is_const() == (constant == "=")
+                && is_written(alloc, value, written)?
                 && is_copied(alloc, value)?
                 && becomes(alloc, value, constant)?,
         ),

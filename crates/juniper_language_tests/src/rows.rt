@@ -7,9 +7,16 @@ use std::alloc::{AllocError, Global};
 
 /// The text where `␠` is a blank, `␤` is LF and `␍` is CR.
 pub(crate) fn unmarked(alloc: Global, row: &str) -> Result<String, AllocError> {
-    row.replace(alloc, "␠", " ")?
-        .replace(alloc, "␤", "\n")?
-        .replace(alloc, "␍", "\r")
+    let mut text = String::new(alloc);
+    for letter in row.chars() {
+        text.push(match letter {
+            '␠' => ' ',
+            '␤' => '\n',
+            '␍' => '\r',
+            other => other,
+        })?;
+    }
+    Ok(text)
 }
 
 /// What the rows of a table are of.
