@@ -30,17 +30,17 @@ fn answer<R: Files + AllocGlobal>(rt: &R, words: &[String]) -> Result<Answer, Al
                 "usage: juniper_bench parse FILE TIMES | validate FILE TIMES | scan FILE TIMES | make FIELDS DEPTH | schema TYPES TIMES",
             )?,
         }),
-        Some(Command::Parse(file, times)) => match fs::read_to_string(rt, file) {
-            Ok(text) => parse_answer(alloc, text.as_str(), times),
-            Err(_) => unread(alloc, file),
+        Some(Command::Parse(file, times)) => match text_of(rt, file) {
+            Some(text) => parse_answer(alloc, text.as_str(), times),
+            None => unread(alloc, file),
         },
-        Some(Command::Validate(file, times)) => match fs::read_to_string(rt, file) {
-            Ok(text) => validate_answer(alloc, text.as_str(), times),
-            Err(_) => unread(alloc, file),
+        Some(Command::Validate(file, times)) => match text_of(rt, file) {
+            Some(text) => validate_answer(alloc, text.as_str(), times),
+            None => unread(alloc, file),
         },
-        Some(Command::Scan(file, times)) => match fs::read_to_string(rt, file) {
-            Ok(text) => scan_answer(alloc, text.as_str(), times),
-            Err(_) => unread(alloc, file),
+        Some(Command::Scan(file, times)) => match text_of(rt, file) {
+            Some(text) => scan_answer(alloc, text.as_str(), times),
+            None => unread(alloc, file),
         },
         Some(Command::Make(size)) => Ok(Answer {
             status: 0,
@@ -48,6 +48,11 @@ fn answer<R: Files + AllocGlobal>(rt: &R, words: &[String]) -> Result<Answer, Al
         }),
         Some(Command::Schema(types, times)) => schema_answer(alloc, types, times),
     }
+}
+
+/// The text of a file, if it can be read.
+fn text_of<R: Files + AllocGlobal>(rt: &R, file: &str) -> Option<String> {
+    fs::read_to_string(rt, file).ok()
 }
 
 /// The answer for a file that cannot be read.

@@ -1,129 +1,182 @@
 //! What each command answers.
 
 use juniper_bench_tasks::{
-    Command, made_text, parse_answer, read_command, scan_answer, schema_answer, validate_answer,
+    Answer, Command, made_text, parse_answer, read_command, scan_answer, schema_answer,
+    validate_answer,
 };
-use std::test::Fail;
+use std::alloc::{AllocError, Global};
+use std::process::Abort;
 
-#[test]
-fn texts_are_counted_or_refused(rt: HostRuntime) -> Result<(), Fail> {
-    let alloc = rt.alloc();
-    let rows = [
-        ("{ a }", 0, "definitions: 1, fields: 1, bytes: 5"),
-        (
-            "{ a b { c ... on T { d } ...F } } fragment F on T { e { f } }",
-            0,
-            "definitions: 2, fields: 6, bytes: 61",
-        ),
-        ("{ a", 1, "refused: Unexpected end of input at 1:4"),
-        ("{\n  é", 1, "refused: Unknown character at 2:3"),
-    ];
-    for (text, status, line) in &rows {
-        let answer = parse_answer(alloc, text, 2)?;
-        assert_eq!(rt; answer.line.as_str(), *line, "{text}");
-        assert_eq!(rt; answer.status, *status, "{text}");
+/// For a text, with `\n` for a line feed, the status and what its document counts, or why it is refused.
+const COUNTS: &str = "\
+{ a } => 0 definitions: 1, fields: 1, bytes: 5
+{ a b { c ... on T { d } ...F } } fragment F on T { e { f } } => 0 definitions: 2, fields: 6, bytes: 61
+{ a => 1 refused: Unexpected end of input at 1:4
+{\\n  é => 1 refused: Unknown character at 2:3";
+
+/// For a text the status and how many errors are listed, or why it is refused.
+const ERRORS: &str = "\
+{ first { ...F } } fragment F on Node { id ... on T3 { others(first: 2) { id } } } => 0 definitions: 2, errors: 0
+{ first { id(of: 1) name } } query Q { id } => 0 definitions: 2, errors: 1
+{ first => 1 refused: Unexpected end of input at 1:8";
+
+/// For a text the status and what is read of it as JSON.
+const JSON: &str = "\
+[1, 2] => 0 bytes: 6
+[1 => 1 refused: not JSON";
+
+/// For the words of a command what the document counts that is made.
+const MADE: &str = "\
+make 3 1 => 0 definitions: 3, fields: 3, bytes: all
+make 12 3 => 0 definitions: 3, fields: 12, bytes: all
+make 600 250 => 0 definitions: 3, fields: 600, bytes: all
+make 1000 7 => 0 definitions: 3, fields: 1000, bytes: all";
+
+/// For the words of a command whether requests can be executed on the schema that is made.
+const SCHEMAS: &str = "\
+schema 1 2 => 0 types: 1, executable: yes
+schema 12 2 => 0 types: 12, executable: yes";
+
+/// Words that ask for a file, and words that ask for nothing.
+const OTHER_WORDS: &str = "\
+parse file 1 => a file
+validate file 1 => a file
+scan file 2 => a file
+make 2 1 => nothing
+make 3 251 => nothing
+make x 1 => nothing
+parse file 0 => nothing
+scan file many => nothing
+schema 0 1 => nothing
+print file 1 => nothing
+make 2 => nothing
+make 3 => nothing
+make x => nothing
+parse file => nothing
+scan file => nothing
+schema 0 => nothing
+print file => nothing";
+
+/// What a table tells of its cases.
+#[derive(Clone, Copy)]
+enum Told {
+    /// The case itself.
+    Case,
+    /// What a document counts.
+    Counts,
+    /// How many errors are listed.
+    Errors,
+    /// What is read as JSON.
+    Json,
+    /// What the words of a command ask for.
+    Words,
+}
+
+/// What is told of a case.
+fn told_of(alloc: Global, told: Told, case: &str) -> Result<String, AllocError> {
+    match told {
+        Told::Case => String::from_str(alloc, case),
+        Told::Counts => counted(alloc, case),
+        Told::Errors => said(alloc, &validate_answer(alloc, case, 2)?),
+        Told::Json => said(alloc, &scan_answer(alloc, case, 2)?),
+        Told::Words => asked(alloc, case),
     }
-    Ok(())
+}
+
+/// The status and the line of an answer.
+fn said(alloc: Global, answer: &Answer) -> Result<String, AllocError> {
+    let status = answer.status;
+    let line = answer.line.as_str();
+    format!(in alloc; "{status} {line}")
+}
+
+/// What the document of a text counts.
+fn counted(alloc: Global, text: &str) -> Result<String, AllocError> {
+    let text = text.replace(alloc, "\\n", "\n")?;
+    said(alloc, &parse_answer(alloc, text.as_str(), 2)?)
+}
+
+/// What the words of a command ask for.
+fn asked(alloc: Global, text: &str) -> Result<String, AllocError> {
+    let words = words_of(alloc, text)?;
+    match read_command(words.as_slice()) {
+        Some(Command::Make(size)) => made(alloc, made_text(alloc, size)?.as_str()),
+        Some(Command::Schema(types, times)) => said(alloc, &schema_answer(alloc, types, times)?),
+        Some(_) => String::from_str(alloc, "a file"),
+        None => String::from_str(alloc, "nothing"),
+    }
+}
+
+/// The words of a text.
+fn words_of(alloc: Global, text: &str) -> Result<Vec<String>, AllocError> {
+    let mut words = Vec::new(alloc);
+    for word in text.split(' ') {
+        words.push(String::from_str(alloc, word)?)?;
+    }
+    Ok(words)
+}
+
+/// What the document of a text that was made counts; `all` where the bytes are those of the text.
+fn made(alloc: Global, text: &str) -> Result<String, AllocError> {
+    let answer = parse_answer(alloc, text, 1)?;
+    let bytes = text.len();
+    let ending = format!(in alloc; "bytes: {bytes}")?;
+    said(alloc, &answer)?.replace(alloc, ending.as_str(), "bytes: all")
+}
+
+/// Ends the test at a row that says something else than what is told of its case.
+fn check(rt: &impl Abort, alloc: Global, told: Told, rows: &str) {
+    assert_eq!(rt; first_other(alloc, told, rows), Ok(None));
+}
+
+/// The first row that says something else than what is told; of an empty table its empty row.
+fn first_other<'r>(
+    alloc: Global,
+    told: Told,
+    rows: &'r str,
+) -> Result<Option<&'r str>, AllocError> {
+    for row in rows.split('\n') {
+        if !is_told(alloc, told, row)? {
+            return Ok(Some(row));
+        }
+    }
+    Ok(None)
+}
+
+/// Whether a row, `CASE => TEXT`, says what is told of its case.
+fn is_told(alloc: Global, told: Told, row: &str) -> Result<bool, AllocError> {
+    match row.split_once(" => ") {
+        Some((case, text)) => Ok(told_of(alloc, told, case)?.as_str() == text),
+        None => Ok(false),
+    }
+}
+
+/// Ends the test unless this is the first row that says something else than the case itself.
+fn find(rt: &impl Abort, alloc: Global, rows: &str, row: &str) {
+    assert_eq!(rt; first_other(alloc, Told::Case, rows), Ok(Some(row)));
 }
 
 #[test]
-fn errors_are_counted(rt: HostRuntime) -> Result<(), Fail> {
+fn other_rows_are_found(rt: HostRuntime) {
     let alloc = rt.alloc();
-    let rows = [
-        (
-            "{ first { ...F } } fragment F on Node { id ... on T3 { others(first: 2) { id } } }",
-            0,
-            "definitions: 2, errors: 0",
-        ),
-        (
-            "{ first { id(of: 1) name } } query Q { id }",
-            0,
-            "definitions: 2, errors: 1",
-        ),
-        ("{ first", 1, "refused: Unexpected end of input at 1:8"),
-    ];
-    for (text, status, line) in &rows {
-        let answer = validate_answer(alloc, text, 2)?;
-        assert_eq!(rt; answer.line.as_str(), *line, "{text}");
-        assert_eq!(rt; answer.status, *status, "{text}");
-    }
-    Ok(())
+    find(&rt, alloc, "a => a\nb => c\nd => e", "b => c");
+    find(&rt, alloc, "a => a\nb", "b");
+    find(&rt, alloc, "a => a\n\nb => b", "");
+    find(&rt, alloc, "", "");
 }
 
 #[test]
-fn json_is_read_or_refused(rt: HostRuntime) -> Result<(), Fail> {
+fn texts_are_counted_or_refused(rt: HostRuntime) {
     let alloc = rt.alloc();
-    let read = scan_answer(alloc, "[1, 2]", 2)?;
-    assert_eq!(rt; read.line.as_str(), "bytes: 6");
-    assert_eq!(rt; read.status, 0);
-    let refused = scan_answer(alloc, "[1", 1)?;
-    assert_eq!(rt; refused.line.as_str(), "refused: not JSON");
-    assert_eq!(rt; refused.status, 1);
-    Ok(())
+    check(&rt, alloc, Told::Counts, COUNTS);
+    check(&rt, alloc, Told::Errors, ERRORS);
+    check(&rt, alloc, Told::Json, JSON);
 }
 
 #[test]
-fn what_is_made_is_a_document(rt: HostRuntime) -> Result<(), Fail> {
+fn words_ask_for_what_is_made(rt: HostRuntime) {
     let alloc = rt.alloc();
-    let rows = [("3", "1"), ("12", "3"), ("600", "250"), ("1000", "7")];
-    for (fields, depth) in &rows {
-        let words = vec![in alloc;
-            String::from_str(alloc, "make")?,
-            String::from_str(alloc, fields)?,
-            String::from_str(alloc, depth)?,
-        ]?;
-        let Some(Command::Make(size)) = read_command(words.as_slice()) else {
-            assert!(rt; false, "{fields} {depth}");
-            return Ok(());
-        };
-        let text = made_text(alloc, size)?;
-        let answer = parse_answer(alloc, text.as_str(), 1)?;
-        let bytes = text.len();
-        let line = format!(in alloc; "definitions: 3, fields: {fields}, bytes: {bytes}")?;
-        assert_eq!(rt; answer.line.as_str(), line.as_str());
-        assert_eq!(rt; answer.status, 0);
-    }
-    Ok(())
-}
-
-#[test]
-fn what_is_made_can_be_executed(rt: HostRuntime) -> Result<(), Fail> {
-    let alloc = rt.alloc();
-    let rows = [
-        (1, "types: 1, executable: yes"),
-        (12, "types: 12, executable: yes"),
-    ];
-    for (types, line) in &rows {
-        let answer = schema_answer(alloc, *types, 2)?;
-        assert_eq!(rt; answer.line.as_str(), *line);
-        assert_eq!(rt; answer.status, 0);
-    }
-    Ok(())
-}
-
-#[test]
-fn other_words_ask_for_nothing(rt: HostRuntime) -> Result<(), Fail> {
-    let alloc = rt.alloc();
-    let rows = [
-        ("make", "2", "1"),
-        ("make", "3", "251"),
-        ("make", "x", "1"),
-        ("parse", "file", "0"),
-        ("scan", "file", "many"),
-        ("schema", "0", "1"),
-        ("print", "file", "1"),
-    ];
-    for (word, first, second) in &rows {
-        let words = vec![in alloc;
-            String::from_str(alloc, word)?,
-            String::from_str(alloc, first)?,
-            String::from_str(alloc, second)?,
-        ]?;
-        assert!(rt; read_command(words.as_slice()).is_none(), "{word}");
-        assert!(rt;
-            read_command(words.as_slice().split_at(2).0).is_none(),
-            "{word}"
-        );
-    }
-    Ok(())
+    check(&rt, alloc, Told::Words, MADE);
+    check(&rt, alloc, Told::Words, SCHEMAS);
+    check(&rt, alloc, Told::Words, OTHER_WORDS);
 }

@@ -18,12 +18,24 @@ pub fn read_input<'d, S: ScalarValue + 'd>(
 
 /// The first argument of the first field.
 fn argument<'d, S: ScalarValue>(definitions: &'d [Definition<'d, S>]) -> Option<&'d InputValue<S>> {
-    let Definition::Operation(operation) = definitions.first()? else {
-        return None;
-    };
-    let Selection::Field(field) = operation.item.selection_set.first()? else {
-        return None;
-    };
-    let (_, value) = field.item.arguments.as_ref()?.item.items.first()?;
-    Some(&value.item)
+    match definitions.first() {
+        Some(Definition::Operation(operation)) => {
+            first_argument(operation.item.selection_set.as_slice())
+        }
+        _ => None,
+    }
+}
+
+/// The first argument of the first of these, which is a field.
+fn first_argument<'d, S: ScalarValue>(
+    selections: &'d [Selection<'d, S>],
+) -> Option<&'d InputValue<S>> {
+    match selections.first() {
+        Some(Selection::Field(field)) => {
+            let arguments = field.item.arguments.as_ref()?;
+            let (_, value) = arguments.item.items.first()?;
+            Some(&value.item)
+        }
+        _ => None,
+    }
 }

@@ -166,7 +166,7 @@ fn told_at(
     }
 }
 
-/// What is told at a type that is an array.
+/// What is told at a type that is an array; of arrays in an array the answer alone.
 fn told_at_array(
     alloc: Global,
     question: Question,
@@ -177,7 +177,7 @@ fn told_at_array(
         "[i32; 0]" => told::<[i32; 0]>(alloc, question, value),
         "[i32; 3]" => told::<[i32; 3]>(alloc, question, value),
         "[Option<i32>; 3]" => told::<[Option<i32>; 3]>(alloc, question, value),
-        "[[i32; 1]; 3]" => told::<[[i32; 1]; 3]>(alloc, question, value),
+        "[[i32; 1]; 3]" => answered::<Scalar, [[i32; 1]; 3]>(alloc, value),
         _ => told_at_wrapper(alloc, question, kind, value),
     }
 }
