@@ -2,23 +2,19 @@
 #![tactic(auto)]
 
 #[cfg(test)]
-mod demo;
-#[cfg(test)]
 mod input_values;
 #[cfg(test)]
-mod listed;
-#[cfg(test)]
 mod lists;
+#[cfg(test)]
+mod looks;
 #[cfg(test)]
 mod names;
 #[cfg(test)]
 mod phases;
 #[cfg(test)]
-mod reports;
-#[cfg(test)]
 mod rows;
 #[cfg(test)]
-mod schema;
+mod schemas;
 #[cfg(test)]
 mod spreads;
 #[cfg(test)]

@@ -1,10 +1,8 @@
 //! The whole lists of errors, through the three phases, worked out by hand: each error with the line and the column,
 //! counted from zero, where its definition starts.
 
-use crate::reports::{found, is_found};
-use crate::schema::schema;
-use std::alloc::{AllocError, Global};
-use std::test::Fail;
+use crate::looks::{Look, check, first_other};
+use crate::schemas::SMALL;
 
 /// Texts, each with `=>` and its errors behind it, and a blank line between two.
 const ROWS: &str = "\
@@ -36,7 +34,7 @@ query A { number(plus: $n) } query B { nope } => Unknown field@0:29;
 
 query Q { __schema { types { name } } } =>";
 
-/// The same, where introspection is disabled.
+/// The same, where introspection is disabled. The last violates each of the four rules of the third phase.
 const DISABLED: &str = "\
 { __schema { types { name } } } => Introspection is disabled@0:0;
 
@@ -50,19 +48,12 @@ query Q { ...F } => Introspection is disabled@0:0;
 { id @skip(if: $b) __schema { types { name } } } => Variable is not defined@0:0; Introspection is disabled@0:0;
 
 query Q { id }
-mutation M { add(n: $n) { __schema { types { name } } } } =>";
+mutation M { add(n: $n) { __schema { types { name } } } } =>
 
-/// Each of the four rules of the third phase is violated.
-const ALL_FOUR: &str =
-    "query Q($n: Int) { x: id x: number(plus: $m) add(n: $n) { __schema { types { name } } } }";
+query Q($n: Int) { x: id x: number(plus: $m) add(n: $n) { __schema { types { name } } } } => Variable is not defined@0:0; Variable may not stand here@0:0; Fields cannot be merged@0:0; Introspection is disabled@0:0;";
 
-/// The fields of the last two definitions cannot be merged.
-const TWO_CANNOT_MERGE: &str = "\
-query A { id }
-query B { ...F }
- fragment F on Query { x: id x: number }";
-
-/// Whether fields can be merged, in sets that are written together, one inside the other, and in fragments.
+/// Whether fields can be merged, in sets that are written together, one inside the other, and in fragments. Those of the last
+/// two definitions cannot.
 const MERGING: &str = "\
 { x: id x: number } => Fields cannot be merged@0:0;
 
@@ -104,57 +95,45 @@ query Q { ...A } fragment A on Query { ...B ...B } fragment B on Query { ...C ..
 
 query Q { x: id ...A } fragment A on Query { ...B ...B } fragment B on Query { ...C ...C } fragment C on Query { x: number } => Fields cannot be merged@0:0;
 
-{ x: id x: number nope } => Unknown field@0:0;";
+{ x: id x: number nope } => Unknown field@0:0;
 
-/// The first row that says something else than what is found.
-fn first_other<'r>(
-    alloc: Global,
-    rows: &'r str,
-    introspection_disabled: bool,
-) -> Result<Option<&'r str>, AllocError> {
-    let schema = schema(alloc)?;
-    for row in rows.split("\n\n") {
-        if !is_found(alloc, &schema, row, introspection_disabled)? {
-            return Ok(Some(row));
-        }
-    }
-    Ok(None)
-}
+query A { id }
+query B { ...F }
+ fragment F on Query { x: id x: number } => Fields cannot be merged@1:0; Fields cannot be merged@2:1;";
 
 #[test]
-fn lists_are_whole(rt: HostRuntime) -> Result<(), Fail> {
-    assert_eq!(rt; first_other(rt.alloc(), ROWS, false)?, None);
-    Ok(())
-}
-
-#[test]
-fn introspection_is_listed(rt: HostRuntime) -> Result<(), Fail> {
-    assert_eq!(rt; first_other(rt.alloc(), DISABLED, true)?, None);
-    Ok(())
-}
-
-#[test]
-fn fields_are_merged(rt: HostRuntime) -> Result<(), Fail> {
-    assert_eq!(rt; first_other(rt.alloc(), MERGING, false)?, None);
-    Ok(())
-}
-
-#[test]
-fn merging_is_listed_third(rt: HostRuntime) -> Result<(), Fail> {
-    let list = found(rt.alloc(), &schema(rt.alloc())?, ALL_FOUR, true)?;
-    assert_eq!(rt;
-        list.as_str(),
-        " Variable is not defined@0:0; Variable may not stand here@0:0; Fields cannot be merged@0:0; Introspection is disabled@0:0;"
+fn lists_are_whole(rt: HostRuntime) {
+    check(
+        &rt,
+        first_other(rt.alloc(), &Look::Errors, SMALL, "\n\n", ROWS),
     );
-    Ok(())
 }
 
 #[test]
-fn merging_is_listed_at_each_definition(rt: HostRuntime) -> Result<(), Fail> {
-    let list = found(rt.alloc(), &schema(rt.alloc())?, TWO_CANNOT_MERGE, false)?;
-    assert_eq!(rt;
-        list.as_str(),
-        " Fields cannot be merged@1:0; Fields cannot be merged@2:1;"
+fn introspection_is_listed(rt: HostRuntime) {
+    check(
+        &rt,
+        first_other(
+            rt.alloc(),
+            &Look::ErrorsWithoutIntrospection,
+            SMALL,
+            "\n\n",
+            DISABLED,
+        ),
     );
-    Ok(())
+}
+
+#[test]
+fn fields_are_merged(rt: HostRuntime) {
+    check(
+        &rt,
+        first_other(rt.alloc(), &Look::Errors, SMALL, "\n\n", MERGING),
+    );
+}
+
+#[test]
+fn a_wrong_row_is_found(rt: HostRuntime) {
+    let rows = "{ id } =>\n{ nope } =>\n{ id } => Unknown field@0:0;";
+    let found = first_other(rt.alloc(), &Look::Errors, SMALL, "\n", rows);
+    assert_eq!(rt; found, Some("{ nope } =>"));
 }

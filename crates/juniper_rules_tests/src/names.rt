@@ -1,13 +1,15 @@
-//! What the rules on names find, worked out by hand.
+//! What the rules on names find, worked out by hand: what is found in each definition, with a `;` at its end.
 
-use juniper_language::{DefaultScalarValue, Definition, Document, parse_document_source};
+use crate::looks::{Look, Scalar, StaticDocument, check, first_other};
+use crate::schemas::SMALL;
+use juniper_language::Definition;
 use juniper_name_rules::{
     Earlier, count_operations, has_unknown_directive, is_not_alone, repeats_argument,
     repeats_input_field, repeats_variable,
 };
+use juniper_schema_text::{Line, kept, placed};
 use juniper_written::{argument_lists, written_in};
-use std::alloc::{AllocError, Global};
-use std::test::Fail;
+use std::alloc::Global;
 
 const ROWS: &str = "\
 { a(x: 1, y: 1) b(x: 1) } => ;
@@ -31,81 +33,41 @@ query A { a } query B { a } query A { a } mutation B { a } => ;;operation;operat
 query A { a } { b } fragment F on T { c } => ;alone;;
 fragment F on T { a } query F { a } fragment G on T { a } fragment F on T { b } => ;;;fragment;";
 
-/// The first row, `TEXT => FOUND`, in whose text something else is found.
-fn first_other<'r>(alloc: Global, rows: &'r str) -> Result<Option<&'r str>, AllocError> {
-    for row in rows.lines() {
-        if !is_found(alloc, row)? {
-            return Ok(Some(row));
-        }
-    }
-    Ok(None)
-}
-
-fn is_found(alloc: Global, row: &str) -> Result<bool, AllocError> {
-    match row.split_once(" => ") {
-        Some((text, said)) => Ok(found(alloc, text)?.as_str() == said),
-        None => Ok(false),
-    }
-}
-
-/// What is found in the definitions of a text, each with a `;` at its end.
-fn found(alloc: Global, text: &str) -> Result<String, AllocError> {
-    match parse_document_source::<DefaultScalarValue>(alloc, text) {
-        Ok(document) => found_in(alloc, &document),
-        Err(error) => error.item.to_string(alloc),
-    }
-}
-
-fn found_in(
-    alloc: Global,
-    document: &Document<'_, DefaultScalarValue>,
-) -> Result<String, AllocError> {
-    let mut line = String::new(alloc);
-    let mut earlier = Earlier::new(alloc);
+/// Writes what is found in the definitions; `None` where memory is refused.
+pub fn put_names(alloc: Global, document: StaticDocument, line: &mut Line) -> Option<()> {
+    let earlier = placed(alloc, Earlier::new(alloc))?;
     let operation_count = count_operations(document);
+    line.put(" ", "");
     for definition in document {
-        find_names(&earlier, definition, &mut line)?;
-        tell(
-            is_not_alone(definition, operation_count),
-            "alone",
-            &mut line,
-        )?;
-        find(alloc, definition, &mut line)?;
-        earlier.add(definition)?;
+        line.put_if(earlier.repeats_operation(definition), "", "operation");
+        line.put_if(earlier.repeats_fragment(definition), "", "fragment");
+        line.put_if(is_not_alone(definition, operation_count), "", "alone");
+        put_definition(alloc, definition, line)?;
+        earlier.add(definition).ok()?;
     }
-    Ok(line)
+    Some(())
 }
 
-fn find(
+fn put_definition(
     alloc: Global,
-    definition: &Definition<'_, DefaultScalarValue>,
-    line: &mut String,
-) -> Result<(), AllocError> {
-    tell(repeats_variable(alloc, definition)?, "variable", line)?;
-    let written = written_in(alloc, definition)?;
-    let arguments = argument_lists(alloc, &written)?;
-    tell(repeats_argument(alloc, &arguments)?, "argument", line)?;
-    let repeats = repeats_input_field(alloc, definition, &arguments)?;
-    tell(repeats, "field", line)?;
-    tell(has_unknown_directive(&written), "directive", line)?;
-    line.push_str(";")
-}
-
-fn find_names<'a>(
-    earlier: &Earlier<'a>,
-    definition: &Definition<'a, DefaultScalarValue>,
-    line: &mut String,
-) -> Result<(), AllocError> {
-    tell(earlier.repeats_operation(definition), "operation", line)?;
-    tell(earlier.repeats_fragment(definition), "fragment", line)
-}
-
-fn tell(is_so: bool, word: &str, line: &mut String) -> Result<(), AllocError> {
-    if is_so { line.push_str(word) } else { Ok(()) }
+    definition: &'static Definition<'static, Scalar>,
+    line: &mut Line,
+) -> Option<()> {
+    line.put_if(repeats_variable(alloc, definition).ok()?, "", "variable");
+    let written = kept(alloc, written_in(alloc, definition))?;
+    let arguments = kept(alloc, argument_lists(alloc, written))?;
+    line.put_if(repeats_argument(alloc, arguments).ok()?, "", "argument");
+    let repeats = repeats_input_field(alloc, definition, arguments).ok()?;
+    line.put_if(repeats, "", "field");
+    line.put_if(has_unknown_directive(written), "", "directive");
+    line.put(";", "");
+    Some(())
 }
 
 #[test]
-fn names_are_found(rt: HostRuntime) -> Result<(), Fail> {
-    assert_eq!(rt; first_other(rt.alloc(), ROWS)?, None);
-    Ok(())
+fn names_are_found(rt: HostRuntime) {
+    check(
+        &rt,
+        first_other(rt.alloc(), &Look::Names, SMALL, "\n", ROWS),
+    );
 }

@@ -1,12 +1,14 @@
 //! The lists of errors, phase by phase, worked out by hand: each error with the place where its definition starts.
 
-use crate::schema::{Scalar, schema};
-use juniper_language::{Definition, RuleError, parse_document_source};
+use crate::looks::{Look, Scalar, StaticDocument, check, first_other};
+use crate::schemas::SMALL;
+use juniper_language::RuleError;
 use juniper_phases::{name_errors, type_errors};
+use juniper_rules::validate;
 use juniper_schema::SchemaType;
+use juniper_schema_text::{Line, kept};
 use juniper_spreads::fragments_by_name;
-use std::alloc::{AllocError, Global};
-use std::test::Fail;
+use std::alloc::Global;
 
 /// A text, `=>`, and its errors, each a message, `@` and a place in bytes.
 const NAMES: &str = "\
@@ -42,88 +44,78 @@ query Q($n: Int = 1) { __typename __type(name: \"x\") { name } } =>
 fragment F on In { k } query Q { nope } => Fragment on a type without fields@0; Unknown field@23;
 mutation M @skip { nope(x: 1) } =>";
 
-/// A phase of validation.
-#[derive(Clone, Copy)]
-enum Phase {
-    Names,
-    Types,
-}
-
-/// The first row that says something else than what the phase finds.
-fn first_other<'r>(
+/// Writes the errors of the first phase; `None` where memory is refused.
+pub fn put_name_errors(
     alloc: Global,
-    phase: Phase,
-    rows: &'r str,
-) -> Result<Option<&'r str>, AllocError> {
-    let schema = schema(alloc)?;
-    for row in rows.lines() {
-        if !is_found(alloc, phase, &schema, row)? {
-            return Ok(Some(row));
-        }
-    }
-    Ok(None)
-}
-
-fn is_found(
-    alloc: Global,
-    phase: Phase,
     schema: &SchemaType<Scalar>,
-    row: &str,
-) -> Result<bool, AllocError> {
-    match row.split_once(" =>") {
-        Some((text, said)) => Ok(found(alloc, phase, schema, text)?.as_str() == said),
-        None => Ok(false),
-    }
+    document: StaticDocument,
+    line: &mut Line,
+) -> Option<()> {
+    let fragments = kept(alloc, fragments_by_name(alloc, document))?;
+    let errors = kept(alloc, name_errors(alloc, schema, document, fragments))?;
+    put_indices(errors, line);
+    Some(())
 }
 
-/// What is found in a text, each error behind a blank and with a `;` at its end.
-fn found(
+/// Writes the errors of the second phase; `None` where memory is refused.
+pub fn put_type_errors(
     alloc: Global,
-    phase: Phase,
     schema: &SchemaType<Scalar>,
-    text: &str,
-) -> Result<String, AllocError> {
-    match parse_document_source::<Scalar>(alloc, text) {
-        Ok(document) => found_in(alloc, phase, schema, &document),
-        Err(error) => error.item.to_string(alloc),
-    }
+    document: StaticDocument,
+    line: &mut Line,
+) -> Option<()> {
+    put_indices(kept(alloc, type_errors(alloc, schema, document))?, line);
+    Some(())
 }
 
-fn found_in(
-    alloc: Global,
-    phase: Phase,
-    schema: &SchemaType<Scalar>,
-    document: &[Definition<'_, Scalar>],
-) -> Result<String, AllocError> {
-    let errors = match phase {
-        Phase::Names => {
-            let fragments = fragments_by_name(alloc, document)?;
-            name_errors(alloc, schema, document, &fragments)?
-        }
-        Phase::Types => type_errors(alloc, schema, document)?,
-    };
-    told(alloc, &errors)
-}
-
-fn told(alloc: Global, errors: &[RuleError]) -> Result<String, AllocError> {
-    let mut line = String::new(alloc);
+/// Writes each error behind a blank and with a `;` at its end: its message, `@` and its place in bytes.
+fn put_indices(errors: &[RuleError], line: &mut Line) {
     for error in errors {
         for location in error.locations() {
-            let index = location.index();
-            line.push_str(&format!(in alloc; " {}@{index};", error.message())?)?;
+            line.put(" ", error.message());
+            line.put_shown("@", &location.index());
+            line.put(";", "");
         }
     }
-    Ok(line)
+}
+
+/// Writes the errors of validation; `None` where memory is refused.
+pub fn put_errors(
+    alloc: Global,
+    schema: &SchemaType<Scalar>,
+    document: StaticDocument,
+    introspection_disabled: bool,
+    line: &mut Line,
+) -> Option<()> {
+    let errors = validate(alloc, document, schema, introspection_disabled);
+    put_places(kept(alloc, errors)?, line);
+    Some(())
+}
+
+/// Writes each error behind a blank and with a `;` at its end: its message, `@`, and its line and column, counted from zero.
+pub fn put_places(errors: &[RuleError], line: &mut Line) {
+    for error in errors {
+        for location in error.locations() {
+            line.put(" ", error.message());
+            line.put_shown("@", &location.line());
+            line.put_shown(":", &location.column());
+            line.put(";", "");
+        }
+    }
 }
 
 #[test]
-fn names_are_listed(rt: HostRuntime) -> Result<(), Fail> {
-    assert_eq!(rt; first_other(rt.alloc(), Phase::Names, NAMES)?, None);
-    Ok(())
+fn names_are_listed(rt: HostRuntime) {
+    check(
+        &rt,
+        first_other(rt.alloc(), &Look::NameErrors, SMALL, "\n", NAMES),
+    );
 }
 
 #[test]
-fn types_are_listed(rt: HostRuntime) -> Result<(), Fail> {
-    assert_eq!(rt; first_other(rt.alloc(), Phase::Types, TYPES)?, None);
-    Ok(())
+fn types_are_listed(rt: HostRuntime) {
+    check(
+        &rt,
+        first_other(rt.alloc(), &Look::TypeErrors, SMALL, "\n", TYPES),
+    );
 }

@@ -1,12 +1,8 @@
 //! For each rule of validation a document that violates it alone, and one that just does not: the whole lists that
 //! [`validate`](juniper_phases::validate) answers, worked out by hand, over the schema of the demo.
 
-use crate::demo::demo_schema;
-use crate::reports::is_found;
-use crate::schema::Scalar;
-use juniper_schema::SchemaType;
-use std::alloc::{AllocError, Global};
-use std::test::Fail;
+use crate::looks::{Look, check, first_other};
+use crate::schemas::DEMO;
 
 /// Requests that each violate one rule, or none.
 const REQUESTS: &str = "\
@@ -190,27 +186,72 @@ query A { id } query B { __type(name: \"x\") { name } } => Introspection is disa
 { x: id x: name __schema { types { name } } } => Fields cannot be merged@0:0; Introspection is disabled@0:0;
 subscription S { __schema { types { name } } } =>";
 
-/// The first row that says something else than what is found.
-fn first_other<'r>(
-    alloc: Global,
-    schema: &SchemaType<Scalar>,
-    rows: &'r str,
-    introspection_disabled: bool,
-) -> Result<Option<&'r str>, AllocError> {
-    for row in rows.lines() {
-        if !is_found(alloc, schema, row, introspection_disabled)? {
-            return Ok(Some(row));
-        }
-    }
-    Ok(None)
+#[test]
+fn requests_violate_one_rule(rt: HostRuntime) {
+    check(
+        &rt,
+        first_other(rt.alloc(), &Look::Errors, DEMO, "\n", REQUESTS),
+    );
 }
 
 #[test]
-fn r5_rows(rt: HostRuntime) -> Result<(), Fail> {
-    let schema = demo_schema(&rt, rt.alloc());
-    for rows in [REQUESTS, NAMES, TYPES, USES, MERGING, ORDERS, PLACES] {
-        assert_eq!(rt; first_other(rt.alloc(), &schema, rows, false)?, None);
-    }
-    assert_eq!(rt; first_other(rt.alloc(), &schema, DISABLED, true)?, None);
-    Ok(())
+fn names_are_tested(rt: HostRuntime) {
+    check(
+        &rt,
+        first_other(rt.alloc(), &Look::Errors, DEMO, "\n", NAMES),
+    );
+}
+
+#[test]
+fn types_are_tested(rt: HostRuntime) {
+    check(
+        &rt,
+        first_other(rt.alloc(), &Look::Errors, DEMO, "\n", TYPES),
+    );
+}
+
+#[test]
+fn uses_are_tested(rt: HostRuntime) {
+    check(
+        &rt,
+        first_other(rt.alloc(), &Look::Errors, DEMO, "\n", USES),
+    );
+}
+
+#[test]
+fn merging_is_tested(rt: HostRuntime) {
+    check(
+        &rt,
+        first_other(rt.alloc(), &Look::Errors, DEMO, "\n", MERGING),
+    );
+}
+
+#[test]
+fn errors_are_listed_in_order(rt: HostRuntime) {
+    check(
+        &rt,
+        first_other(rt.alloc(), &Look::Errors, DEMO, "\n", ORDERS),
+    );
+}
+
+#[test]
+fn directives_are_tested_at_each_place(rt: HostRuntime) {
+    check(
+        &rt,
+        first_other(rt.alloc(), &Look::Errors, DEMO, "\n", PLACES),
+    );
+}
+
+#[test]
+fn introspection_is_tested(rt: HostRuntime) {
+    check(
+        &rt,
+        first_other(
+            rt.alloc(),
+            &Look::ErrorsWithoutIntrospection,
+            DEMO,
+            "\n",
+            DISABLED,
+        ),
+    );
 }

@@ -1,10 +1,12 @@
 //! Fragments by name, and what spreads lead to, worked out by hand.
 
-use juniper_language::{DefaultScalarValue, Definition, Document, parse_document_source};
+use crate::looks::{Look, Scalar, StaticDocument, check, first_other};
+use crate::schemas::SMALL;
+use juniper_language::Definition;
+use juniper_schema_text::{Line, kept};
 use juniper_spreads::{FragmentsByName, fragments_by_name};
 use juniper_written::written_in;
-use std::alloc::{AllocError, Global};
-use std::test::Fail;
+use std::alloc::Global;
 
 /// A text; of each definition `u` where it spreads what is unknown, `i` where it spreads itself, `f` where it is the
 /// first fragment of its name, and how many names its spreads lead to; and the fragments in an order in which each stands
@@ -20,70 +22,42 @@ fragment D on T { ...X } fragment C on T { ...D } fragment B on T { a { ...C } .
 query A { ...A } fragment A on T { ...B } fragment A on T { a } => 2;uf1;0; A
 query Q { a } fragment F on T { ...G } fragment G on T { ...F } => 0;if2;if2;";
 
-/// The first row of whose text something else is found.
-fn first_other<'r>(alloc: Global, rows: &'r str) -> Result<Option<&'r str>, AllocError> {
-    for row in rows.lines() {
-        if !is_found(alloc, row)? {
-            return Ok(Some(row));
-        }
-    }
-    Ok(None)
-}
-
-fn is_found(alloc: Global, row: &str) -> Result<bool, AllocError> {
-    match row.split_once(" => ") {
-        Some((text, said)) => Ok(found(alloc, text)?.as_str() == said),
-        None => Ok(false),
-    }
-}
-
-fn found(alloc: Global, text: &str) -> Result<String, AllocError> {
-    match parse_document_source::<DefaultScalarValue>(alloc, text) {
-        Ok(document) => found_in(alloc, &document),
-        Err(error) => error.item.to_string(alloc),
-    }
-}
-
-fn found_in(
-    alloc: Global,
-    document: &Document<'_, DefaultScalarValue>,
-) -> Result<String, AllocError> {
-    let known = fragments_by_name(alloc, document.as_slice())?;
-    let mut line = String::new(alloc);
+/// Writes what is found in the definitions; `None` where memory is refused.
+pub fn put_spreads(alloc: Global, document: StaticDocument, line: &mut Line) -> Option<()> {
+    let known = kept(alloc, fragments_by_name(alloc, document))?;
+    line.put(" ", "");
     for definition in document {
-        find(alloc, &known, definition, &mut line)?;
+        put_definition(alloc, known, definition, line)?;
     }
-    for fragment in known.in_order(alloc)? {
-        let name = fragment.item.name.item;
-        write!(line, " {name}")?;
+    let in_order = kept(alloc, known.in_order(alloc))?;
+    for index in 0..in_order.len() {
+        line.put(" ", in_order[index].item.name.item);
     }
-    Ok(line)
+    Some(())
 }
 
-fn find<'a>(
+fn put_definition(
     alloc: Global,
-    known: &FragmentsByName<'_, 'a, DefaultScalarValue>,
-    definition: &Definition<'a, DefaultScalarValue>,
-    line: &mut String,
-) -> Result<(), AllocError> {
-    let written = written_in(alloc, definition)?;
-    if known.spreads_unknown(&written.spreads) {
-        line.push_str("u")?;
-    }
-    if known.spreads_itself(alloc, definition, &written.spreads)? {
-        line.push_str("i")?;
-    }
-    if is_first(known, definition) {
-        line.push_str("f")?;
-    }
-    let reached = known.reached(alloc, &written.spreads)?.len();
-    write!(line, "{reached};")
+    known: &'static FragmentsByName<'static, 'static, Scalar>,
+    definition: &'static Definition<'static, Scalar>,
+    line: &mut Line,
+) -> Option<()> {
+    let written = kept(alloc, written_in(alloc, definition))?;
+    let spreads = written.spreads.as_slice();
+    line.put_if(known.spreads_unknown(spreads), "", "u");
+    let spreads_itself = known.spreads_itself(alloc, definition, spreads).ok()?;
+    line.put_if(spreads_itself, "", "i");
+    line.put_if(is_first(known, definition), "", "f");
+    let reached = kept(alloc, known.reached(alloc, spreads))?;
+    line.put_shown("", &reached.len());
+    line.put(";", "");
+    Some(())
 }
 
 /// Whether the definition is the fragment that stands at its name.
-fn is_first<'a>(
-    known: &FragmentsByName<'_, 'a, DefaultScalarValue>,
-    definition: &Definition<'a, DefaultScalarValue>,
+fn is_first(
+    known: &FragmentsByName<'static, 'static, Scalar>,
+    definition: &Definition<'static, Scalar>,
 ) -> bool {
     match definition {
         Definition::Operation(_) => false,
@@ -95,7 +69,9 @@ fn is_first<'a>(
 }
 
 #[test]
-fn spreads_are_followed(rt: HostRuntime) -> Result<(), Fail> {
-    assert_eq!(rt; first_other(rt.alloc(), ROWS)?, None);
-    Ok(())
+fn spreads_are_followed(rt: HostRuntime) {
+    check(
+        &rt,
+        first_other(rt.alloc(), &Look::Spreads, SMALL, "\n", ROWS),
+    );
 }

@@ -1,16 +1,18 @@
-//! What the rules on uses of variables and on introspection find, worked out by hand.
+//! What the rules on uses of variables and on introspection find, worked out by hand: what is found in each definition, with a
+//! `;` at its end.
 
-use crate::schema::{Scalar, schema};
-use juniper_language::{Definition, parse_document_source};
+use crate::looks::{Look, Scalar, StaticDocument, check, first_other};
+use crate::schemas::SMALL;
+use juniper_language::Definition;
 use juniper_placed::{calls, placed_in};
 use juniper_schema::SchemaType;
+use juniper_schema_text::{Line, kept, placed};
 use juniper_spreads::{FragmentsByName, fragments_by_name};
 use juniper_use_rules::{
     Used, looks_at_schema, misuses_variable, used_in, uses_of_fragments, uses_undefined,
 };
 use juniper_written::{argument_lists, written_in};
-use std::alloc::{AllocError, Global};
-use std::test::Fail;
+use std::alloc::Global;
 
 const ROWS: &str = "\
 { number(plus: $n) } => undefined;
@@ -29,100 +31,72 @@ fragment F on Query { number(plus: $n) } query Q($m: Int) { id } => ;;
 fragment F on Query { add(n: 1) { __type(name: \"x\") { name } } } => looks;
 mutation M { add(n: $n) { __schema { types { name } } } } => ;";
 
-/// The first row, `TEXT => FOUND`, in whose text something else is found.
-fn first_other<'r>(alloc: Global, rows: &'r str) -> Result<Option<&'r str>, AllocError> {
-    let schema = schema(alloc)?;
-    for row in rows.lines() {
-        if !is_found(alloc, &schema, row)? {
-            return Ok(Some(row));
-        }
-    }
-    Ok(None)
-}
-
-fn is_found(alloc: Global, schema: &SchemaType<Scalar>, row: &str) -> Result<bool, AllocError> {
-    match row.split_once(" => ") {
-        Some((text, said)) => Ok(found(alloc, schema, text)?.as_str() == said),
-        None => Ok(false),
-    }
-}
-
-/// What is found in the definitions of a text, each with a `;` at its end.
-fn found(alloc: Global, schema: &SchemaType<Scalar>, text: &str) -> Result<String, AllocError> {
-    match parse_document_source::<Scalar>(alloc, text) {
-        Ok(document) => found_in(alloc, schema, &document),
-        Err(error) => error.item.to_string(alloc),
-    }
-}
-
-fn found_in<'d, 'a>(
+/// Writes what is found in the definitions; `None` where memory is refused.
+pub fn put_uses(
     alloc: Global,
-    schema: &'d SchemaType<Scalar>,
-    document: &'d [Definition<'a, Scalar>],
-) -> Result<String, AllocError> {
-    let by_name = fragments_by_name(alloc, document)?;
-    let mut all = Vec::new(alloc);
+    schema: &'static SchemaType<Scalar>,
+    document: StaticDocument,
+    line: &mut Line,
+) -> Option<()> {
+    let by_name = kept(alloc, fragments_by_name(alloc, document))?;
+    let all = used_by_all(alloc, schema, document)?;
+    let fragments = kept(alloc, uses_of_fragments(alloc, all))?;
+    line.put(" ", "");
+    for index in 0..document.len() {
+        let definition = document.get(index)?;
+        let own = all.get(index)?;
+        put_definition(alloc, schema, by_name, definition, own, fragments, line)?;
+    }
+    Some(())
+}
+
+/// What each definition uses.
+fn used_by_all(
+    alloc: Global,
+    schema: &'static SchemaType<Scalar>,
+    document: StaticDocument,
+) -> Option<&'static Vec<Used<'static>>> {
+    let all = placed(alloc, Vec::new(alloc))?;
     for definition in document {
-        all.push(used(alloc, schema, definition)?)?;
+        all.push(used(alloc, schema, definition)?).ok()?;
     }
-    let fragments = uses_of_fragments(alloc, &all)?;
-    let mut line = String::new(alloc);
-    for (index, definition) in document.iter().enumerate() {
-        if let Some(own) = all.get(index) {
-            find(
-                alloc, schema, &by_name, definition, own, &fragments, &mut line,
-            )?;
-        }
-    }
-    Ok(line)
+    Some(all)
 }
 
-fn used<'u, 'd: 'u, 'a: 'u>(
+fn used(
     alloc: Global,
-    schema: &'d SchemaType<Scalar>,
-    definition: &'d Definition<'a, Scalar>,
-) -> Result<Used<'u>, AllocError> {
-    let written = written_in(alloc, definition)?;
-    let lists = argument_lists(alloc, &written)?;
-    let parts = placed_in(alloc, schema, definition)?;
-    used_in(
-        alloc,
-        schema,
-        definition,
-        &lists,
-        &calls(alloc, schema, &parts)?,
-    )
+    schema: &'static SchemaType<Scalar>,
+    definition: &'static Definition<'static, Scalar>,
+) -> Option<Used<'static>> {
+    let written = kept(alloc, written_in(alloc, definition))?;
+    let lists = kept(alloc, argument_lists(alloc, written))?;
+    let parts = kept(alloc, placed_in(alloc, schema, definition))?;
+    let calls = kept(alloc, calls(alloc, schema, parts))?;
+    used_in(alloc, schema, definition, lists, calls).ok()
 }
 
-fn find<'d, 'a, 'u>(
+fn put_definition(
     alloc: Global,
     schema: &SchemaType<Scalar>,
-    by_name: &FragmentsByName<'d, 'a, Scalar>,
-    definition: &'d Definition<'a, Scalar>,
-    own: &Used<'u>,
-    fragments: &Vec<&Used<'u>>,
-    line: &mut String,
-) -> Result<(), AllocError> {
-    let written = written_in(alloc, definition)?;
-    let reached = by_name.reached(alloc, &written.spreads)?;
-    let lacks = uses_undefined(alloc, schema, definition, own, fragments, &reached)?;
-    tell(lacks, "undefined", line)?;
-    let misuses = misuses_variable(alloc, schema, definition, own, fragments, &reached)?;
-    tell(misuses, "misused", line)?;
-    tell(
-        looks_at_schema(schema, true, definition, &written),
-        "looks",
-        line,
-    )?;
-    line.push_str(";")
-}
-
-fn tell(is_so: bool, word: &str, line: &mut String) -> Result<(), AllocError> {
-    if is_so { line.push_str(word) } else { Ok(()) }
+    by_name: &'static FragmentsByName<'static, 'static, Scalar>,
+    definition: &'static Definition<'static, Scalar>,
+    own: &'static Used<'static>,
+    fragments: &'static Vec<&'static Used<'static>>,
+    line: &mut Line,
+) -> Option<()> {
+    let written = kept(alloc, written_in(alloc, definition))?;
+    let reached = kept(alloc, by_name.reached(alloc, &written.spreads))?;
+    let lacks = uses_undefined(alloc, schema, definition, own, fragments, reached).ok()?;
+    line.put_if(lacks, "", "undefined");
+    let misuses = misuses_variable(alloc, schema, definition, own, fragments, reached).ok()?;
+    line.put_if(misuses, "", "misused");
+    let looks = looks_at_schema(schema, true, definition, written);
+    line.put_if(looks, "", "looks");
+    line.put(";", "");
+    Some(())
 }
 
 #[test]
-fn uses_are_found(rt: HostRuntime) -> Result<(), Fail> {
-    assert_eq!(rt; first_other(rt.alloc(), ROWS)?, None);
-    Ok(())
+fn uses_are_found(rt: HostRuntime) {
+    check(&rt, first_other(rt.alloc(), &Look::Uses, SMALL, "\n", ROWS));
 }

@@ -1,7 +1,7 @@
 //! What a schema has to be, so that requests can be executed on it: for each demand, schemas that break it alone, and like
 //! ones that keep it. `String` and `Boolean` cannot be missing, since a schema that is made has them.
 
-use crate::rows::first_other;
+use crate::questions::{ANY, Question, check, first_other};
 
 /// Names of entries, and what stands in them (2.1.9, 3.3).
 const ENTRIES: &str = "\
@@ -21,7 +21,11 @@ yes type Query { a: Int } scalar Hero text";
 
 #[test]
 fn entries_stand_at_their_own_names(rt: HostRuntime) {
-    assert_eq!(rt; first_other(rt.alloc(), ENTRIES), None);
+    check(
+        &rt,
+        first_other(rt.alloc(), &Question::Executable, ANY, ENTRIES),
+        None,
+    );
 }
 
 /// Names that begin with two underscores (4).
@@ -56,7 +60,11 @@ no type Query { a: Int } input In { __typename: String! }";
 
 #[test]
 fn names_of_two_underscores_are_reserved(rt: HostRuntime) {
-    assert_eq!(rt; first_other(rt.alloc(), RESERVED), None);
+    check(
+        &rt,
+        first_other(rt.alloc(), &Question::Executable, ANY, RESERVED),
+        None,
+    );
 }
 
 /// Root types (3.3.1).
@@ -80,7 +88,11 @@ no mutation Query type Query { a: Int } # it is the query type";
 
 #[test]
 fn root_types_are_different_objects(rt: HostRuntime) {
-    assert_eq!(rt; first_other(rt.alloc(), ROOTS), None);
+    check(
+        &rt,
+        first_other(rt.alloc(), &Question::Executable, ANY, ROOTS),
+        None,
+    );
 }
 
 /// Types for output and for input (3.4.2).
@@ -110,7 +122,11 @@ no type Query { a: Int } input In { x: Hero }";
 
 #[test]
 fn fields_end_in_output_and_arguments_in_input(rt: HostRuntime) {
-    assert_eq!(rt; first_other(rt.alloc(), KNOWN), None);
+    check(
+        &rt,
+        first_other(rt.alloc(), &Question::Executable, ANY, KNOWN),
+        None,
+    );
 }
 
 /// Names in lists (3.6 to 3.10).
@@ -145,7 +161,11 @@ no type Query { a: Int } union U = | Query | Hero";
 
 #[test]
 fn names_differ_in_each_list(rt: HostRuntime) {
-    assert_eq!(rt; first_other(rt.alloc(), DISTINCT), None);
+    check(
+        &rt,
+        first_other(rt.alloc(), &Question::Executable, ANY, DISTINCT),
+        None,
+    );
 }
 
 /// Interfaces that are listed, and those that these list (3.6, 3.7).
@@ -172,7 +192,11 @@ no type Query { a: Int } interface I { a: Int } interface J implements & I { b: 
 
 #[test]
 fn interfaces_are_listed_with_their_own(rt: HostRuntime) {
-    assert_eq!(rt; first_other(rt.alloc(), LISTED), None);
+    check(
+        &rt,
+        first_other(rt.alloc(), &Question::Executable, ANY, LISTED),
+        None,
+    );
 }
 
 /// Types of fields that an interface has too (3.6).
@@ -203,7 +227,11 @@ yes type Query { a: Int } interface I { a: Int } interface J implements & I { a:
 
 #[test]
 fn fields_are_no_wider_than_their_interfaces(rt: HostRuntime) {
-    assert_eq!(rt; first_other(rt.alloc(), NARROWER), None);
+    check(
+        &rt,
+        first_other(rt.alloc(), &Question::Executable, ANY, NARROWER),
+        None,
+    );
 }
 
 /// Arguments of fields that an interface has too (3.6).
@@ -229,7 +257,11 @@ yes type Query { a: Int } interface I { a: Int } interface J implements & I { a(
 
 #[test]
 fn fields_take_their_interfaces_arguments(rt: HostRuntime) {
-    assert_eq!(rt; first_other(rt.alloc(), ARGUMENTS), None);
+    check(
+        &rt,
+        first_other(rt.alloc(), &Question::Executable, ANY, ARGUMENTS),
+        None,
+    );
 }
 
 /// Default values (3.6.1, 3.10).
@@ -263,7 +295,11 @@ no type Query { a: Int } input In { x: Int y: Int = $v }";
 
 #[test]
 fn defaults_are_constants_that_fit(rt: HostRuntime) {
-    assert_eq!(rt; first_other(rt.alloc(), DEFAULTS), None);
+    check(
+        &rt,
+        first_other(rt.alloc(), &Question::Executable, ANY, DEFAULTS),
+        None,
+    );
 }
 
 /// Built-in scalars (3.5).
@@ -298,5 +334,9 @@ no bare type Query { a: Int } # an unknown type";
 
 #[test]
 fn built_in_scalars_accept_their_own_kinds(rt: HostRuntime) {
-    assert_eq!(rt; first_other(rt.alloc(), BUILT_IN), None);
+    check(
+        &rt,
+        first_other(rt.alloc(), &Question::Executable, ANY, BUILT_IN),
+        None,
+    );
 }

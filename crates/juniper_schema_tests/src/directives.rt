@@ -1,9 +1,9 @@
 //! Directives: where they may stand, and those that every schema has (section 3.13 of the Specification).
 
-use crate::outline::Line;
+use crate::outline::put_directive;
 use juniper_builtins::directives;
 use juniper_meta::DirectiveLocation;
-use juniper_schema_text::Scalar;
+use juniper_schema_text::{Line, Scalar};
 
 /// Where a directive may stand (3.13), in the order of the Specification's ExecutableDirectiveLocation and
 /// TypeSystemDirectiveLocation.
@@ -53,7 +53,7 @@ specifiedBy SCALAR url:String!
 fn every_schema_has_these_directives(rt: HostRuntime) {
     let mut line = Line::new(rt.alloc());
     for directive in &directives::<Scalar>(rt.alloc()).expect(&rt, "memory") {
-        line.put_directive(directive);
+        put_directive(directive, &mut line);
         line.put("", "\n");
     }
     assert!(rt; line.says(DIRECTIVES));

@@ -1,8 +1,8 @@
 //! Which values fit which types (sections 3.5 to 3.12 and 5.6.1 of the Specification).
 
-use crate::rows::yes_or_no;
+use crate::questions::{Question, check, first_other, yes_or_no};
 use juniper_schema::SchemaType;
-use juniper_schema_text::{Reader, Scalar, schema_of};
+use juniper_schema_text::{Reader, Scalar};
 use std::alloc::Global;
 
 const SCHEMA: &str = "\
@@ -15,35 +15,22 @@ input Deep { i: In! }
 scalar Date int text
 scalar Any int text boolean";
 
-/// The first row that is not so, in what is given for a variable or in what is written: a row is `yes` or `no`, a type, `=`
-/// and a value, which fits or not.
-fn first_other<'r>(alloc: Global, given: bool, rows: &'r str) -> Option<&'r str> {
-    let Some(schema) = schema_of(alloc, SCHEMA) else {
-        return Some(rows);
-    };
-    for row in rows.split('\n') {
-        if !is_so(alloc, schema, given, row) {
-            return Some(row);
-        }
-    }
-    None
-}
-
-/// The first row that is not so in either.
-fn first_other_in_both<'r>(alloc: Global, rows: &'r str) -> Option<&'r str> {
-    match first_other(alloc, false, rows) {
-        Some(row) => Some(row),
-        None => first_other(alloc, true, rows),
-    }
-}
-
-fn is_so(alloc: Global, schema: &SchemaType<Scalar>, given: bool, row: &str) -> bool {
+/// Whether a row, `yes` or `no`, a type, `=` and a value, says whether the value fits.
+pub fn fits(alloc: Global, schema: &SchemaType<Scalar>, given: bool, row: &str) -> bool {
     let mut reader = Reader::new(alloc, row);
-    let wanted = reader.word();
+    let said = reader.word();
     let reference = reader.read_type();
     reader.expect("=");
     let value = reader.read_value(8);
-    yes_or_no(schema.fits(&value, &reference, given)) == wanted && reader.is_done()
+    yes_or_no(schema.fits(&value, &reference, given)) == said && reader.is_done()
+}
+
+/// The first row that is not so in what is written, or in what is given for a variable.
+fn first_other_in_both(alloc: Global, rows: &'static str) -> Option<&'static str> {
+    match first_other(alloc, &Question::Written, SCHEMA, rows) {
+        Some(row) => Some(row),
+        None => first_other(alloc, &Question::Given, SCHEMA, rows),
+    }
 }
 
 const NULLS: &str = "\
@@ -72,17 +59,15 @@ yes Query! = $v
 yes Hero! = $v";
 
 #[test]
-fn wrong_values_are_found(rt: HostRuntime) {
-    let found = first_other_in_both(
-        rt.alloc(),
-        "yes Int = 1\nyes [Int] = 1\nno Int = 1\nno Int = A",
-    );
-    assert_eq!(rt; found, Some("no Int = 1"));
+fn a_wrong_value_is_found(rt: HostRuntime) {
+    let rows = "yes Int = 1\nyes [Int] = 1\nno Int = 1\nno Int = A";
+    let found = first_other_in_both(rt.alloc(), rows);
+    check(&rt, found, Some("no Int = 1"));
 }
 
 #[test]
 fn null_fits_nullable_types_and_variables_fit_all(rt: HostRuntime) {
-    assert_eq!(rt; first_other_in_both(rt.alloc(), NULLS), None);
+    check(&rt, first_other_in_both(rt.alloc(), NULLS), None);
 }
 
 const LISTS: &str = "\
@@ -111,7 +96,7 @@ yes [Hero] = []";
 
 #[test]
 fn a_value_stands_for_the_list_of_itself(rt: HostRuntime) {
-    assert_eq!(rt; first_other_in_both(rt.alloc(), LISTS), None);
+    check(&rt, first_other_in_both(rt.alloc(), LISTS), None);
 }
 
 const SIZES: &str = "\
@@ -139,7 +124,11 @@ no [In;2] = {k: 1}";
 
 #[test]
 fn lists_have_their_expected_sizes(rt: HostRuntime) {
-    assert_eq!(rt; first_other(rt.alloc(), false, SIZES), None);
+    check(
+        &rt,
+        first_other(rt.alloc(), &Question::Written, SCHEMA, SIZES),
+        None,
+    );
 }
 
 const SCALARS: &str = "\
@@ -178,7 +167,7 @@ no Hero = \"x\"";
 
 #[test]
 fn scalars_are_of_accepted_kinds(rt: HostRuntime) {
-    assert_eq!(rt; first_other_in_both(rt.alloc(), SCALARS), None);
+    check(&rt, first_other_in_both(rt.alloc(), SCALARS), None);
 }
 
 const ENUMS: &str = "\
@@ -218,17 +207,25 @@ no Query = \"RED\"";
 
 #[test]
 fn a_name_is_a_value_of_its_enum(rt: HostRuntime) {
-    assert_eq!(rt; first_other_in_both(rt.alloc(), ENUMS), None);
+    check(&rt, first_other_in_both(rt.alloc(), ENUMS), None);
 }
 
 #[test]
 fn a_text_names_no_enum_value_in_what_is_written(rt: HostRuntime) {
-    assert_eq!(rt; first_other(rt.alloc(), false, WRITTEN), None);
+    check(
+        &rt,
+        first_other(rt.alloc(), &Question::Written, SCHEMA, WRITTEN),
+        None,
+    );
 }
 
 #[test]
 fn a_text_names_an_enum_value_in_variables(rt: HostRuntime) {
-    assert_eq!(rt; first_other(rt.alloc(), true, GIVEN), None);
+    check(
+        &rt,
+        first_other(rt.alloc(), &Question::Given, SCHEMA, GIVEN),
+        None,
+    );
 }
 
 const OBJECTS: &str = "\
@@ -261,5 +258,5 @@ no Hero = {}";
 
 #[test]
 fn input_objects_have_their_declared_fields(rt: HostRuntime) {
-    assert_eq!(rt; first_other_in_both(rt.alloc(), OBJECTS), None);
+    check(&rt, first_other_in_both(rt.alloc(), OBJECTS), None);
 }

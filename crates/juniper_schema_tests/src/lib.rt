@@ -15,4 +15,6 @@ mod lookups;
 #[cfg(test)]
 mod outline;
 #[cfg(test)]
+mod questions;
+#[cfg(test)]
 mod rows;

@@ -1,10 +1,10 @@
 //! What a schema that is made holds, and what is found in it (sections 3.3, 3.5 and 4 of the Specification).
 
-use crate::outline::{Line, is_told};
-use crate::rows::yes_or_no;
+use crate::outline::put_type;
+use crate::questions::{ANY, Question, check, first_other, yes_or_no};
 use juniper_meta::declares_value;
 use juniper_schema::{SchemaType, TypeType};
-use juniper_schema_text::{Reader, Scalar, schema_of};
+use juniper_schema_text::{Line, Reader, Scalar};
 use std::alloc::Global;
 
 const SCHEMA: &str = "\
@@ -21,73 +21,40 @@ placeholder P
 list L
 nullable N";
 
-/// What a row asks of a schema.
-#[derive(Clone, Copy)]
-enum Question {
-    /// `NAME => OUTLINE`: what it tells at this name; `none` where nothing is found there.
-    Told,
-    /// `NAME => TYPE`: the type of this name.
-    Named,
-    /// `REFERENCE => TYPE`: the type of this reference.
-    Made,
-    /// `NAME NAME => yes` or `no`: whether the first is a subtype of the second.
-    Subtype,
-}
-
-/// The first row to which the schema of a text answers otherwise.
-fn first_other<'r>(
-    alloc: Global,
-    text: &str,
-    question: Question,
-    rows: &'r str,
-) -> Option<&'r str> {
-    let Some(schema) = schema_of(alloc, text) else {
-        return Some(rows);
-    };
-    for row in rows.split('\n') {
-        if !is_so(alloc, schema, question, row) {
-            return Some(row);
-        }
-    }
-    None
-}
-
-fn is_so(alloc: Global, schema: &SchemaType<Scalar>, question: Question, row: &str) -> bool {
-    let Some((asked, wanted)) = row.split_once(" => ") else {
-        return false;
-    };
-    match question {
-        Question::Told => match schema.concrete_type_by_name(asked) {
-            Some(meta) => is_told(alloc, meta, wanted),
-            None => wanted == "none",
-        },
-        Question::Named => is_found(alloc, schema.type_by_name(asked), wanted),
-        Question::Made => is_made(alloc, schema, asked, wanted),
-        Question::Subtype => match asked.split_once(' ') {
-            Some((name, wide)) => yes_or_no(schema.is_named_subtype(name, wide)) == wanted,
-            None => false,
-        },
-    }
-}
-
-/// Whether what is found has this name; `none` where nothing is found.
-fn is_found(alloc: Global, found: Option<TypeType<'_, Scalar>>, wanted: &str) -> bool {
+/// Writes the type that is found; `none` where none is.
+pub fn put_found(found: Option<TypeType<'_, Scalar>>, line: &mut Line) {
+    line.put(" ", "");
     match found {
-        Some(made) => {
-            let mut line = Line::new(alloc);
-            line.put_made(&made);
-            line.says(wanted)
-        }
-        None => wanted == "none",
+        Some(made) => put_type(&made, line),
+        None => line.put("none", ""),
     }
 }
 
-/// Whether the type of a reference, where its name is known, is this.
-fn is_made(alloc: Global, schema: &SchemaType<Scalar>, asked: &str, wanted: &str) -> bool {
+/// Writes the type of a reference; `none` where its name is not known.
+pub fn put_made(alloc: Global, schema: &SchemaType<Scalar>, asked: &str, line: &mut Line) {
     let reference = Reader::new(alloc, asked).read_type();
     match schema.concrete_type_by_name(reference.innermost_name()) {
-        Some(_) => is_found(alloc, schema.make_type(alloc, &reference).ok(), wanted),
-        None => wanted == "none",
+        Some(_) => put_found(schema.make_type(alloc, &reference).ok(), line),
+        None => line.put(" ", "none"),
+    }
+}
+
+/// Writes whether the first name is a subtype of the second.
+pub fn put_subtype(schema: &SchemaType<Scalar>, asked: &str, line: &mut Line) {
+    if let Some((name, wide)) = asked.split_once(' ') {
+        line.put(" ", yes_or_no(schema.is_named_subtype(name, wide)));
+    }
+}
+
+/// Writes what is found by a name in the type of another, and whether that accepts an Int.
+pub fn put_parts(schema: &SchemaType<Scalar>, asked: &str, line: &mut Line) {
+    if let Some((name, part)) = asked.split_once(' ')
+        && let Some(meta) = schema.concrete_type_by_name(name)
+    {
+        line.put_if(meta.field_by_name(part).is_some(), " ", "field");
+        line.put_if(meta.input_field_by_name(part).is_some(), " ", "input");
+        line.put_if(declares_value(meta.values(), part), " ", "value");
+        line.put_if(meta.accepts(&Scalar::Int(1)), " ", "int");
     }
 }
 
@@ -112,8 +79,11 @@ N => -";
 
 #[test]
 fn types_are_found_by_name(rt: HostRuntime) {
-    let found = first_other(rt.alloc(), SCHEMA, Question::Told, TOLD);
-    assert_eq!(rt; found, None);
+    check(
+        &rt,
+        first_other(rt.alloc(), &Question::Told, SCHEMA, TOLD),
+        None,
+    );
 }
 
 /// The types of introspection (4.2).
@@ -129,13 +99,11 @@ __DirectiveLocation => __DirectiveLocation leaf input QUERY MUTATION SUBSCRIPTIO
 
 #[test]
 fn introspection_types_are_found_by_name(rt: HostRuntime) {
-    let found = first_other(
-        rt.alloc(),
-        "type Query { a: Int }",
-        Question::Told,
-        INTROSPECTION,
+    check(
+        &rt,
+        first_other(rt.alloc(), &Question::Told, ANY, INTROSPECTION),
+        None,
     );
-    assert_eq!(rt; found, None);
 }
 
 /// Placeholders of the built-in scalars, and what stands there in a schema (3.5).
@@ -149,7 +117,11 @@ ID => ID leaf input int text";
 fn placeholders_of_built_in_scalars_are_replaced(rt: HostRuntime) {
     let text =
         "type Query { a: Int } placeholder String placeholder Boolean placeholder Int placeholder ID";
-    assert_eq!(rt; first_other(rt.alloc(), text, Question::Told, FILLED), None);
+    check(
+        &rt,
+        first_other(rt.alloc(), &Question::Told, text, FILLED),
+        None,
+    );
 }
 
 const DECLARED: &str = "\
@@ -162,9 +134,10 @@ ID => ID/scalar@there leaf input boolean";
 fn declared_built_in_scalars_stay(rt: HostRuntime) {
     let text =
         "type Query { a: Int } scalar String int enum Boolean { A } scalar Int text scalar ID boolean";
-    assert_eq!(rt;
-        first_other(rt.alloc(), text, Question::Told, DECLARED),
-        None
+    check(
+        &rt,
+        first_other(rt.alloc(), &Question::Told, text, DECLARED),
+        None,
     );
 }
 
@@ -177,13 +150,12 @@ ID => none";
 
 #[test]
 fn strings_and_booleans_are_added(rt: HostRuntime) {
-    let found = first_other(
-        rt.alloc(),
-        "bare type Query { a: String }",
-        Question::Told,
-        ADDED,
+    let text = "bare type Query { a: String }";
+    check(
+        &rt,
+        first_other(rt.alloc(), &Question::Told, text, ADDED),
+        None,
     );
-    assert_eq!(rt; found, None);
 }
 
 /// A type that is found is nullable.
@@ -197,8 +169,11 @@ Hero => none";
 
 #[test]
 fn a_type_that_is_found_is_nullable(rt: HostRuntime) {
-    let found = first_other(rt.alloc(), SCHEMA, Question::Named, NAMED);
-    assert_eq!(rt; found, None);
+    check(
+        &rt,
+        first_other(rt.alloc(), &Question::Named, SCHEMA, NAMED),
+        None,
+    );
 }
 
 /// Pairs of names, and whether the first is a subtype of the second (3.6 to 3.8).
@@ -226,8 +201,11 @@ __Type __Field => no";
 
 #[test]
 fn names_are_subtypes(rt: HostRuntime) {
-    let found = first_other(rt.alloc(), SCHEMA, Question::Subtype, SUBTYPES);
-    assert_eq!(rt; found, None);
+    check(
+        &rt,
+        first_other(rt.alloc(), &Question::Subtype, SCHEMA, SUBTYPES),
+        None,
+    );
 }
 
 /// References, and their types.
@@ -246,30 +224,35 @@ __Type! => __Type!
 
 #[test]
 fn types_are_made_of_references(rt: HostRuntime) {
-    let found = first_other(rt.alloc(), SCHEMA, Question::Made, MADE);
-    assert_eq!(rt; found, None);
+    check(
+        &rt,
+        first_other(rt.alloc(), &Question::Made, SCHEMA, MADE),
+        None,
+    );
 }
 
-#[test]
-fn wrong_answers_are_found(rt: HostRuntime) {
-    let rows = "Query Query => yes\nQuery I => no\nI Query => no";
-    let found = first_other(rt.alloc(), SCHEMA, Question::Subtype, rows);
-    assert_eq!(rt; found, Some("Query I => no"));
-}
-
-/// Whether the parts of types are found by their names; `None` where one is not.
-fn finds_parts(schema: &SchemaType<Scalar>) -> Option<bool> {
-    schema.concrete_type_by_name("Query")?.field_by_name("b")?;
-    schema
-        .concrete_type_by_name("In")?
-        .input_field_by_name("x")?;
-    let values = schema.concrete_type_by_name("E")?.values();
-    let date = schema.concrete_type_by_name("Date")?;
-    Some(declares_value(values, "RED") && date.accepts(&Scalar::Int(1)))
-}
+/// Parts of types.
+const PARTS: &str = "\
+Query b => field
+Query x =>
+In x => input
+In b =>
+E RED => value
+E BLUE =>
+Date x => int";
 
 #[test]
 fn parts_of_types_are_found_by_name(rt: HostRuntime) {
-    let schema = schema_of(rt.alloc(), SCHEMA).expect(&rt, "a schema");
-    assert_eq!(rt; finds_parts(schema), Some(true));
+    check(
+        &rt,
+        first_other(rt.alloc(), &Question::Parts, SCHEMA, PARTS),
+        None,
+    );
+}
+
+#[test]
+fn a_wrong_answer_is_found(rt: HostRuntime) {
+    let rows = "Query Query => yes\nQuery I => no\nI Query => no";
+    let found = first_other(rt.alloc(), &Question::Subtype, SCHEMA, rows);
+    check(&rt, found, Some("Query I => no"));
 }

@@ -7,7 +7,7 @@ use juniper_meta::{
 };
 use juniper_schema::SchemaType;
 use juniper_syntax::Type;
-use std::alloc::Global;
+use std::alloc::{AllocError, Global};
 use std::collections::HashMap;
 
 /// Types by name.
@@ -125,7 +125,7 @@ impl<'t> Reader<'t> {
     }
 
     /// A whole schema.
-    fn read_schema(&mut self) -> Option<SchemaType<Scalar>> {
+    fn read_schema(&mut self) -> Result<SchemaType<Scalar>, AllocError> {
         let mut query = "Query";
         if self.eats("query") {
             query = self.word();
@@ -136,17 +136,25 @@ impl<'t> Reader<'t> {
         }
         let types = self.read_types();
         let query = self.text(query);
-        SchemaType::new(self.alloc, types, query, mutation).ok()
+        SchemaType::new(self.alloc, types, query, mutation)
     }
 }
 
-/// The schema of a text, which stays to the end of the program; `None` where the text has another form, or memory is refused.
+/// A value, which stays to the end of the program; `None` where memory is refused.
+pub fn placed<'k, T: Drop + 'k>(alloc: Global, value: T) -> Option<&'k mut T> {
+    let place = Box::new(alloc, value).ok()?;
+    Some(Box::leak(place))
+}
+
+/// What was made, which stays to the end of the program; `None` where it was not made, or memory is refused.
+pub fn kept<'k, T: Drop + 'k, E: Drop>(alloc: Global, made: Result<T, E>) -> Option<&'k T> {
+    let place = placed(alloc, made.ok()?)?;
+    Some(place)
+}
+
+/// The schema of a text; `None` where the text has another form, or memory is refused.
 pub fn schema_of(alloc: Global, text: &str) -> Option<&'static SchemaType<Scalar>> {
     let mut reader = Reader::new(alloc, text);
-    let schema = reader.read_schema()?;
-    let kept = Box::new(alloc, schema).ok()?;
-    if reader.is_done() {
-        return Some(Box::leak(kept));
-    }
-    None
+    let schema = kept(alloc, reader.read_schema())?;
+    if reader.is_done() { Some(schema) } else { None }
 }

@@ -1,4 +1,4 @@
-//! Schemas, types and values from texts, for tests.
+//! Schemas, types and values from texts, and lines that tell what is found: for tests.
 //!
 //! A text of a schema is written as in the language for type systems (section 3 of the Specification), with these own forms:
 //! - `query N`, then `mutation N` may stand first and name the root types; else `Query` is the query type, and there is no
@@ -15,12 +15,16 @@
 //! The description of an entry is its first word, and the URL of a scalar is `there`. Fields are described as `field` and
 //! deprecated as `old`, values of enums are described as `value` and deprecated without a reason, and arguments and fields of
 //! input objects are described as `argument`. A text among values has no blanks, commas and marks.
+//!
+//! What tests make stays to the end of the program: so they hold references alone, and what is proved of them is short.
 #![tactic(auto)]
 
 mod entries;
+mod line;
 mod members;
 mod reader;
 mod values;
 
-pub use entries::schema_of;
+pub use entries::{kept, placed, schema_of};
+pub use line::Line;
 pub use reader::{Reader, Scalar};
