@@ -15,10 +15,10 @@ use Rattle.graphql_spec.proofs.Lists.{with_key-known}
 use Rattle.graphql_spec.proofs.Grouping.{in_append}
 use Rattle.graphql_spec.proofs.Nulls.{in_flat_map}
 
-abbrev Started : List Failure → Type 0
+abbrev pub Started : List Failure → Type 0
 Started fs = (g : Failure) → In g fs → g.starts ≡ [] → ⊥
 
-no_pairs : (fs : List Failure) → Started fs → pairs fs ≡ [] → fs ≡ []
+pub no_pairs : (fs : List Failure) → Started fs → pairs fs ≡ [] → fs ≡ []
 unfolding pairs
 no_pairs [] s e = refl
 no_pairs (f ∷ fs) s e = absurd (s f (inl refl) (none_mapped f.starts e))
@@ -57,13 +57,13 @@ module _ {N : Type 0} (W : World N) (at : Place → Place → Name → N → Lis
       | inr j ↦ items-started here (suc n) above t rest g j
     ]
 
-  reply-started : (here above : Place) (t : TypeRef) (r : Reply N) → Started (reply_faults W at here starts above t r)
+  pub reply-started : (here above : Place) (t : TypeRef) (r : Reply N) → Started (reply_faults W at here starts above t r)
   unfolding reply_faults
   reply-started here above t (answered a) = faults-started here above t a
   reply-started here above t (failed e) = alone _ refl
 
 module _ {N : Type 0} (W : World N) where
-  started : (d : ℕ) (here above : Place) (T : Name) (m : N) (os : List Occurrence) → Started (failures W d here above T m os)
+  pub started : (d : ℕ) (here above : Place) (T : Name) (m : N) (os : List Occurrence) → Started (failures W d here above T m os)
   unfolding failures key_failures starts_of
   started zero here above T m os g i = absurd i
   started (suc d) here above T m os g i =

@@ -1,9 +1,10 @@
-mod Listing
-mod Filling
-mod Completing
-mod Deepening
-mod Agreeing
-mod Telling
-mod Joining
-mod Walking
-mod SkeletonRows
+pub mod Listing
+pub mod Filling
+pub mod Completing
+pub mod Deepening
+pub mod Agreeing
+pub mod Telling
+pub mod Joining
+pub mod Walking
+pub mod SkeletonRows
+pub mod ByNodes

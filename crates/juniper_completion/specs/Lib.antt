@@ -1,3 +1,4 @@
 pub mod Skeletons
 pub mod CompletionLaws
 pub mod Walks
+pub mod NodeLaws

@@ -9,6 +9,7 @@ ghost use Rattle.graphql_spec.specs.Shown.{Name};
 ghost use Rattle.graphql_spec.specs.Values.{Value};
 ghost use Rattle.std.specs.Prelude.{List};
 ghost use Rattle.juniper_completion.specs.CompletionLaws.{CompletesApart};
+ghost use Rattle.juniper_completion.specs.NodeLaws.{GroupByNodes, OccurrenceByNodes};
 ghost use Rattle.juniper_completion.specs.Walks.{AgreesBelow, FieldsAreShallower, KeysStayApart, NoneWalked, OneMoreWalked, WalkAnswers};
 
 /// A reply whose holes are filled by the objects of its nodes is completed, and what is listed of it and of them meets what
@@ -26,4 +27,10 @@ pub fn walks_by_fields<N>()
     ensures shallower { FieldsAreShallower }
     ensures agree { (W : World N) → AgreesBelow W }
     ensures answers { (W : World N) → WalkAnswers W }
+{}
+
+/// A reply is completed for one occurrence by the objects of its nodes, and for all of them at once (section 6.4.3).
+pub fn completes_by_nodes<N>()
+    ensures occurrence { (W : World N) → OccurrenceByNodes W }
+    ensures group { (W : World N) → GroupByNodes W }
 {}

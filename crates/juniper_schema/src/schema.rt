@@ -144,6 +144,27 @@ impl<S: ScalarValue> SchemaType<S> {
             || self.has_member(super_name, sub_name)
     }
 
+    /// Whether the object type of the first name is the type of the second, implements it or is a member of it
+    /// (DoesFragmentTypeApply, 6.3.2); false where the first is no object type.
+    #[tactic(auto, unfolding(graphql_spec::specs::Fields::is_possible, graphql_spec::specs::Fields::is_named_subtype))]
+    pub fn is_possible(&self, object_name: &str, type_name: &str) -> bool
+        ensures { result ≡ fields.is_possible (view_schema S.shown self.now) object_name.now type_name.now }
+    {
+        self.has_object(object_name) && self.is_named_subtype(object_name, type_name)
+    }
+
+    /// Whether an answer may hold the scalar at the type of this name: a scalar type takes those of an accepted kind (3.5), an
+    /// enum the texts that name its values (3.9).
+    #[tactic(auto, unfolding(graphql_spec::specs::Fields::accepts, graphql_spec::specs::Fields::leaf_accepts))]
+    pub fn may_hold(&self, type_name: &str, scalar: &S) -> bool
+        ensures { result ≡ fields.accepts (view_schema S.shown self.now) type_name.now (S.shown scalar.now) }
+    {
+        match self.concrete_type_by_name(type_name) {
+            Some(meta) => meta.accepts(scalar),
+            None => false,
+        }
+    }
+
     /// The type of a reference: what its innermost name is declared as, in its lists and non-nulls (3.4.1). An error where
     /// memory is refused.
     #[tactic(auto, unfolding(graphql_spec::specs::Types::innermost, crate::specs::MadeTypes::around))]
@@ -173,6 +194,17 @@ impl<S: ScalarValue> SchemaType<S> {
         match self.entry(name) {
             Some(meta) => Some(TypeType::Concrete(meta)),
             None => None,
+        }
+    }
+
+    /// Whether the type of this name is an object type (3.6).
+    #[tactic(auto, unfolding(graphql_spec::specs::Fields::is_object))]
+    fn has_object(&self, name: &str) -> bool
+        ensures { result ≡ fields.is_object (fields.type_named (view_schema S.shown self.now) name.now) }
+    {
+        match self.concrete_type_by_name(name) {
+            Some(meta) => meta.is_object(),
+            None => false,
         }
     }
 

@@ -1,8 +1,8 @@
 //! Values of answers (section 7.1 of the Specification).
 
-ghost use Rattle.std.specs.Prelude.{◌≡◌, IfOk, OnOk, OnErr, option_map, string_bytes};
+ghost use Rattle.std.specs.Prelude.{◌≡◌, IfOk, IfSome, OnOk, OnErr, None, option_map, string_bytes};
 ghost use Rattle.std.specs.Slice.Iter.{iter_rest};
-ghost use Rattle.graphql_spec.specs.Values.{no_entries, look_up, has_entry, put, count_entries, is_null};
+ghost use Rattle.graphql_spec.specs.Values.{no_entries, look_up, has_entry, put, count_entries, is_null, null};
 ghost use Rattle.juniper_syntax.specs.ValueView.{view_value, view_object, view_values, view_entries};
 
 use crate::scalar::ScalarValue;
@@ -96,6 +96,22 @@ impl<S: ScalarValue> Object<S> {
         find(self.fields.as_slice(), key)
     }
 
+    /// Takes the value at a key, if the key is there, and leaves null in its place.
+    pub fn take_field(&mut self, key: &str) -> Option<Value<S>>
+        ensures value { option_map (view_value S.shown) result ≡ look_up key.now (view_object S.shown self.old) }
+        ensures some { IfSome result (λ v. view_object S.shown self.new ≡ put key.now null (view_object S.shown self.old)) }
+        ensures none { result ≡ None → view_object S.shown self.new ≡ view_object S.shown self.old }
+    {
+        take(&mut self.fields, key)
+    }
+
+    /// The keys with their values, handed over in order.
+    pub fn into_fields(self) -> Vec<(String, Value<S>)>
+        ensures { view_entries S.shown result.items ≡ view_object S.shown self }
+    {
+        self.fields
+    }
+
     /// How many keys there are.
     pub fn field_count(&self) -> usize
         ensures { result ≡ count_entries (view_object S.shown self.now) }
@@ -153,6 +169,19 @@ fn find<'a, S: ScalarValue>(fields: &'a [(String, Value<S>)], key: &str) -> Opti
     for (name, value) in fields {
         if key == name.as_str() {
             return Some(value);
+        }
+    }
+    None
+}
+
+fn take<S: ScalarValue>(fields: &mut Vec<(String, Value<S>)>, key: &str) -> Option<Value<S>>
+    ensures value { option_map (view_value S.shown) result ≡ look_up key.now (view_entries S.shown fields.old.items) }
+    ensures some { IfSome result (λ v. view_entries S.shown fields.new.items ≡ put key.now null (view_entries S.shown fields.old.items)) }
+    ensures none { result ≡ None → view_entries S.shown fields.new.items ≡ view_entries S.shown fields.old.items }
+{
+    for i in 0..fields.len() {
+        if key == fields[i].0.as_str() {
+            return Some(mem::replace(&mut fields[i].1, Value::Null));
         }
     }
     None

@@ -1,4 +1,5 @@
-use Rattle.juniper_errors.proofs.ErrorOrder.{compare_total, errors_equal, errors_same}
+use Rattle.graphql_spec.proofs.ErrorOrder.{compare_total}
+use Rattle.juniper_errors.proofs.ErrorOrder.{errors_equal, errors_same}
 use Rattle.juniper_errors.proofs.laws.errors_are_ordered.Goals as goal
 
 pub returns-clause-order : goal.returns-clause-order

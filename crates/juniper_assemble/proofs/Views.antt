@@ -1,0 +1,19 @@
+-- Skeletons beside what they stand for, level by level.
+use Rattle.std.proofs.Common.{◌≡◌, Bool, map, Vec, Global, rules}
+use Rattle.graphql_spec.specs.Shown.{Shown}
+use Rattle.juniper_completion.specs.Skeletons as plain
+use Rattle.juniper_assemble.specs.SkeletonView.{skeletons_of, view_skeleton}
+use Rattle.juniper_assemble.specs.declared.skeleton.Skeleton.{Skeleton, Absent, Filled, Several, Hole, the_lemmas as skeleton_lemmas}
+
+module _ {S : Type 0} (shown : S → Shown) where
+  pub skeleton-Absent : view_skeleton shown Absent ≡ plain.absent
+  skeleton-Absent = search (rules, skeleton_lemmas)
+
+  pub skeleton-Filled : (s : S) → view_skeleton shown (Filled s) ≡ plain.filled (shown s)
+  skeleton-Filled s = search (rules, skeleton_lemmas)
+
+  pub skeleton-Several : (r : Bool) (v : Vec (Skeleton S) Global) → view_skeleton shown (Several r v) ≡ plain.several r (skeletons_of (map (view_skeleton shown) v.items))
+  skeleton-Several r v = search (rules, skeleton_lemmas)
+
+  pub skeleton-Hole : view_skeleton shown Hole ≡ plain.hole
+  skeleton-Hole = search (rules, skeleton_lemmas)

@@ -1,0 +1,12 @@
+use Rattle.std.proofs.Common.{◌≡◌, drop, map}
+use Rattle.std.specs.Option.{option_or}
+use Rattle.graphql_spec.specs.Shown.{Name}
+use Rattle.graphql_spec.specs.Documents.{fragments}
+use Rattle.juniper_syntax.specs.DocumentView.{view_definition}
+use Rattle.juniper_collect.specs.FragmentView.{fragment_at, fragment_named}
+use Rattle.juniper_collect.proofs.fragments.first_fragments.Given as goal
+
+abbrev pub invariant-loop-definition : goal.invariant-loop-definition
+invariant-loop-definition g l =
+    let view = view_definition g.S.ScalarValue.shown in
+    (k : Name) → option_or (fragment_at g.S.ScalarValue.shown l.first k) (fragment_named (fragments (map view (drop l.definition-index l.document))) k) ≡ fragment_named (fragments (map view l.document)) k

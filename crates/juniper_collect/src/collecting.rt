@@ -1,0 +1,71 @@
+//! The fields that selections hold, in document order, through inline fragments and spreads (CollectFields, section 6.3.2 of the
+//! Specification).
+
+ghost use Rattle.std.specs.Prelude.{◌≡◌, ◌++◌, IfOk, OnOk};
+ghost use Rattle.graphql_spec.specs.Selections.{occurrences};
+ghost use Rattle.juniper_syntax.specs.DocumentView.{view_selections};
+ghost use Rattle.juniper_collect.specs.Collected.{IsReady, IsWithin, expansion, view_all};
+
+use crate::conditions::Conditions;
+use crate::fragments::FragmentMap;
+use crate::parts::{Part, part_of};
+use juniper_syntax::{Field, ScalarValue, Selection, Span, Spanning, Variables};
+use std::alloc::{AllocError, Global};
+
+/// What one request collects fields with.
+#[derive(Drop)]
+pub struct Collector<'r, 'd, S, P> {
+    pub fragments: FragmentMap<'d, S>,
+    pub variables: &'r Variables<S>,
+    pub possible: P,
+}
+
+/// A field that was collected.
+#[derive(Drop)]
+pub struct Occurrence<'d, S> {
+    pub field: &'d Spanning<Field<'d, S>, Span>,
+}
+
+/// The fields that were collected, in document order.
+pub type Collected<'d, S> = Vec<Occurrence<'d, S>>;
+
+/// The fields that selections hold for an object type. An error where memory is refused.
+pub fn collect<'d, S: ScalarValue, P: Conditions>(
+    alloc: Global,
+    collector: &Collector<'_, 'd, S, P>,
+    concrete: &str,
+    selections: &'d [Selection<'d, S>],
+) -> Result<Collected<'d, S>, AllocError>
+    requires { IsReady S.shown collector.now }
+    ensures { IfOk result (λ r. view_all S.shown collector.now r.items ≡ occurrences (P.possible collector.now.possible) concrete.now (expansion S.shown collector.now (view_selections S.shown selections.now))) }
+{
+    let mut fields = Vec::new(alloc);
+    let spreads_left = collector.fragments.count;
+    add_fields(collector, concrete, selections, spreads_left, &mut fields)?;
+    Ok(fields)
+}
+
+/// Adds the fields that selections hold, which have at most so many spreads inside one another.
+fn add_fields<'d, S: ScalarValue, P: Conditions>(
+    collector: &Collector<'_, 'd, S, P>,
+    concrete: &str,
+    selections: &'d [Selection<'d, S>],
+    spreads_left: usize,
+    fields: &mut Collected<'d, S>,
+) -> Result<(), AllocError>
+    requires ready { IsReady S.shown collector.now }
+    requires within { IsWithin S.shown collector.now spreads_left (view_selections S.shown selections.now) }
+    ensures { OnOk result (view_all S.shown collector.now fields.new.items
+        ≡ view_all S.shown collector.now fields.old.items ++ occurrences (P.possible collector.now.possible) concrete.now (expansion S.shown collector.now (view_selections S.shown selections.now))) }
+{
+    for selection in selections {
+        match part_of(collector, concrete, selection, spreads_left) {
+            Part::Nothing => {}
+            Part::Field(field) => fields.push(Occurrence { field })?,
+            Part::Selections(inner, left) => {
+                add_fields(collector, concrete, inner, left, fields)?;
+            }
+        }
+    }
+    Ok(())
+}

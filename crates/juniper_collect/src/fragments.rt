@@ -1,0 +1,108 @@
+//! The fragments of a document, each found by its name in constant time (section 2.8 of the Specification).
+
+ghost use Rattle.std.specs.Prelude.{◌≡◌, ◌≤◌, [], ◌∷◌, IfOk, OnOk, IfSome, map, length};
+ghost use Rattle.std.specs.Option.{option_or, option_map};
+ghost use Rattle.graphql_spec.specs.Shown.{Name};
+ghost use Rattle.graphql_spec.specs.Documents.{fragments};
+ghost use Rattle.juniper_syntax.specs.DocumentView.{view_definition};
+ghost use Rattle.juniper_collect.specs.FragmentView.{fragment_at, fragment_named, fragments_in, view_lent_fragment, nesting, deepest, IsMade};
+
+use juniper_syntax::{Definition, Fragment, Fragments, ScalarValue};
+use std::alloc::{AllocError, Global};
+use std::collections::HashMap;
+
+/// The fragments of a document, made once for a request.
+#[derive(Drop)]
+pub struct FragmentMap<'d, S> {
+    pub(crate) document: &'d [Definition<'d, S>],
+    pub(crate) first: Fragments<'d, S>,
+    pub(crate) count: usize,
+}
+
+/// The fragments of a document; the time grows with the number of definitions. An error where memory is refused.
+pub fn fragments_of<'d, S: ScalarValue>(
+    alloc: Global,
+    document: &'d [Definition<'d, S>],
+) -> Result<FragmentMap<'d, S>, AllocError>
+    ensures is { IfOk result (λ m. fragments_in S.shown m ≡ fragments (map (view_definition S.shown) document.now)) }
+    ensures made { IfOk result (λ m. IsMade S.shown m) }
+{
+    let first = first_fragments(alloc, document)?;
+    let count = count_fragments(document);
+    Ok(FragmentMap {
+        document,
+        first,
+        count,
+    })
+}
+
+/// How many fragments there are.
+fn count_fragments<S: ScalarValue>(document: &[Definition<'_, S>]) -> usize
+    ensures { result ≡ length (fragments (map (view_definition S.shown) document.now)) }
+{
+    let mut count = 0;
+    for definition in document {
+        match definition {
+            Definition::Fragment(_) => count += 1,
+            Definition::Operation(_) => {}
+        }
+    }
+    count
+}
+
+/// The first fragment of each name.
+fn first_fragments<'d, S: ScalarValue>(
+    alloc: Global,
+    document: &'d [Definition<'d, S>],
+) -> Result<Fragments<'d, S>, AllocError>
+    ensures { IfOk result (λ r. (k : Name) → fragment_at S.shown r k ≡ fragment_named (fragments (map (view_definition S.shown) document.now)) k) }
+{
+    let mut first = HashMap::new(alloc);
+    for definition in document {
+        put_fragment(definition, &mut first)?;
+    }
+    Ok(first)
+}
+
+/// Puts a fragment in, where none of its name is there.
+fn put_fragment<'d, S: ScalarValue>(
+    definition: &'d Definition<'d, S>,
+    first: &mut Fragments<'d, S>,
+) -> Result<(), AllocError>
+    ensures { OnOk result ((k : Name) → fragment_at S.shown first.new k ≡ option_or (fragment_at S.shown first.old k)
+        (fragment_named (fragments (view_definition S.shown definition.now ∷ [])) k)) }
+{
+    match definition {
+        Definition::Fragment(fragment) => {
+            let name = fragment.item.name.item;
+            if first.contains_key(name) {
+                return Ok(());
+            }
+            first.insert(name, &fragment.item)?;
+            Ok(())
+        }
+        Definition::Operation(_) => Ok(()),
+    }
+}
+
+impl<'d, S: ScalarValue> FragmentMap<'d, S> {
+    /// The fragments by name, of those of one name the first (2.8).
+    pub fn by_name(&self) -> &Fragments<'d, S>
+        requires { IsMade S.shown self.now }
+        ensures { (k : Name) → fragment_at S.shown result.now k ≡ fragment_named (fragments_in S.shown self.now) k }
+    {
+        &self.first
+    }
+
+    /// The fragment of a name: the first one (2.8).
+    pub(crate) fn named(&self, name: &str) -> Option<&'d Fragment<'d, S>>
+        requires { IsMade S.shown self.now }
+        ensures first { option_map (λ f. view_lent_fragment S.shown f.now) result ≡ fragment_named (fragments_in S.shown self.now) name.now }
+        ensures nested { IfSome result (λ f. nesting f.now.selection_set.items ≤ deepest self.now) }
+    {
+        match self.first.get(name) {
+            Some(fragment) => Some(*fragment),
+            None => None,
+        }
+    }
+}

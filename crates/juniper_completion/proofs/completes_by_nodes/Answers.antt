@@ -1,0 +1,8 @@
+use Rattle.juniper_completion.proofs.completes_by_nodes.Goals as goal
+use Rattle.juniper_completion.proofs.ByNodes.{occurrence-by-nodes, group-by-nodes}
+
+pub returns-clause-occurrence : goal.returns-clause-occurrence
+returns-clause-occurrence g c = λ W. occurrence-by-nodes W
+
+pub returns-clause-group : goal.returns-clause-group
+returns-clause-group g c = λ W. group-by-nodes W

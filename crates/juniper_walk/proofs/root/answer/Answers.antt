@@ -1,0 +1,24 @@
+use Rattle.std.proofs.Common.{refl, ap, ◌∙◌}
+use Rattle.graphql_spec.specs.Selections.{occurrences}
+use Rattle.juniper_syntax.specs.DocumentView.{view_selections}
+use Rattle.juniper_collect.specs.Collected.{expansion, view_all}
+use Rattle.juniper_walk.proofs.Answering.{root-agrees, walk-is-answer}
+use Rattle.juniper_walk.proofs.root.answer.Goals as goal
+
+pub object-requires-clause-agree : goal.object-requires-clause-agree
+object-requires-clause-agree g c =
+    let shown = g.S.ScalarValue.shown in
+    let W = g.R.Completer.world c.args.walk.now.collector.possible in
+    let s = expansion shown c.args.walk.now.collector (view_selections shown c.args.selections.now) in
+    let T = c.args.concrete.now in
+    let fields = ap (view_all shown c.args.walk.now.collector) c.deref.ensures.value ∙ (c.in_ok-fields.ensures ∙ ap (λ p. occurrences p T s) c.requires.ready.same) in
+    root-agrees W s c.args.root.now T _ fields c.requires.agree
+
+pub returns : goal.returns
+returns g c =
+    let shown = g.S.ScalarValue.shown in
+    let W = g.R.Completer.world c.args.walk.now.collector.possible in
+    let s = expansion shown c.args.walk.now.collector (view_selections shown c.args.selections.now) in
+    let T = c.args.concrete.now in
+    let fields = ap (view_all shown c.args.walk.now.collector) c.deref.ensures.value ∙ (c.in_ok-fields.ensures ∙ ap (λ p. occurrences p T s) c.requires.ready.same) in
+    walk-is-answer W s c.args.root.now T _ _ _ _ _ refl fields c.in_ok-walked.ensures c.in_ok-sort_errors.ensures.counted c.in_ok-sort_errors.ensures.sorted

@@ -1,0 +1,2 @@
+pub mod FieldWords
+pub mod Walking

@@ -1,0 +1,84 @@
+-- What a walk over objects within objects promises (6.3, 6.4).
+use Rattle.std.specs.Prelude.{◌≡◌, ℕ, ◌≤◌, suc, max, Bool, true, false, ◌&&◌, List, [], ◌∷◌, ◌++◌, map}
+use Rattle.std.specs.Borrow.{Bor}
+use Rattle.graphql_spec.specs.Shown.{Shown, Name}
+use Rattle.graphql_spec.specs.Documents.{response_key}
+use Rattle.graphql_spec.specs.Values.{Value, Entries, object, is_null}
+use Rattle.graphql_spec.specs.Types.{required}
+use Rattle.graphql_spec.specs.Errors.{Place, key, keys_only, Listed}
+use Rattle.graphql_spec.specs.Selections.{Forest, depth, Occurrence, occurrences}
+use Rattle.graphql_spec.specs.Resolvers.{World}
+use Rattle.graphql_spec.specs.Execution.{type_of, reply_of}
+use Rattle.graphql_spec.specs.Laws.{In, Agree}
+use Rattle.juniper_completion.specs.Skeletons.{Skeleton, reply_skeleton, reply_nodes, reply_errors, listed_at, fill}
+use Rattle.juniper_completion.specs.CompletionLaws.{all_listed}
+use Rattle.juniper_completion.specs.Walks.{AreWalkedAt, IsWalked, joined_in}
+use Rattle.juniper_collect.specs.Collected.{IsReady}
+use Rattle.juniper_assemble.specs.Keyed.{is_keyed}
+use Rattle.juniper_walk.specs.declared.asking.Walk.{Walk}
+
+-- response keys from the root, as a place
+abbrev pub place_of : List (Bor (List ℕ)) → Place
+place_of ks = map (λ k. key k.now) ks
+
+-- how deep what the fields select is nested, at most
+unfoldable pub deepest : List Occurrence → ℕ
+deepest [] = 0
+deepest (o ∷ os) = max (suc (depth o.below)) (deepest os)
+
+-- in each value the keys of objects differ
+unfoldable pub all_keyed : List Value → Bool
+all_keyed [] = true
+all_keyed (v ∷ vs) = is_keyed v && all_keyed vs
+
+-- the collector is ready, and takes for possible what the world takes
+pub record IsReadyWalk {N S R : Type 0} (shown : S → Shown) (possible : R → Name → Name → Bool) (W : World N) (walk : Walk S R) : Type 0 where
+  pub collector : IsReady shown walk.collector
+  pub same : possible walk.collector.possible ≡ W.possible
+
+module _ {N : Type 0} (W : World N) where
+  -- to every depth, occurrences of one response key agree
+  abbrev pub AllAgree : Name → List Occurrence → Type 0
+  AllAgree T os = (d : ℕ) → Agree W d T os
+
+  -- so do those that selections hold for each of these nodes
+  abbrev pub AreReached : List N → Forest → Type 0
+  AreReached ns s = (n : N) → In n ns → AllAgree (W.concrete n) (occurrences W.possible (W.concrete n) s)
+
+  -- to every depth the fields agree that selections hold for an object type, as those of a valid operation do
+  abbrev pub SelectionsAgree : Name → Forest → Type 0
+  SelectionsAgree T s = AllAgree T (occurrences W.possible T s)
+
+  -- the fields of a node were walked, wherever its place is told as `at`, and counted down from any depth that is deep enough
+  pub record IsWalkedThrough (at : Place) (T : Name) (n : N) (os : List Occurrence) (v : Value) (es : List Listed) : Type 0 where
+    pub walked : (d : ℕ) → deepest os ≤ d → (here lands : Place) → keys_only here ≡ at → IsWalked keys_only W d here lands T n os v es
+    pub keyed : is_keyed v ≡ true
+
+  -- so were the selections of each node, with the errors of the one behind those of the other
+  pub record AreAllWalked (at : Place) (s : Forest) (ns : List N) (vs : List Value) (es : List Listed) : Type 0 where
+    pub parts : List (List Listed)
+    pub walked : AreWalkedAt keys_only W at s ns vs parts
+    pub listed : es ≡ all_listed parts
+    pub keyed : all_keyed vs ≡ true
+
+  -- ## Only private clauses cite what follows
+
+  -- the answer to a field of a node, taken apart from its nodes
+  pub record IsPrepared (at : Place) (T : Name) (m : N) (o : Occurrence) (place : Place) (r : Bool) (s : Skeleton) (ns : List N) (es : List Listed) : Type 0 where
+    pub is_place : place ≡ at ++ key (response_key o.head) ∷ []
+    pub non_null : r ≡ required (type_of W T (o ∷ []))
+    pub skeleton : s ≡ reply_skeleton W (type_of W T (o ∷ [])) (reply_of W T m (o ∷ []))
+    pub nodes : ns ≡ reply_nodes W (type_of W T (o ∷ [])) (reply_of W T m (o ∷ []))
+    pub errors : es ≡ listed_at place o.head.span.start (reply_errors W (type_of W T (o ∷ [])) (reply_of W T m (o ∷ [])))
+
+  -- the first fields were walked, of all of them
+  pub record IsWalking (at : Place) (T : Name) (n : N) (all front : List Occurrence) (es : Entries) (errors : List Listed) : Type 0 where
+    pub walked : (d : ℕ) → deepest all ≤ d → (here lands : Place) → keys_only here ≡ at → IsWalked keys_only W d here lands T n front (object es) errors
+    pub keyed : is_keyed (object es) ≡ true
+
+-- a field's value was added to its object, but where its null rises
+pub record IsAdded (k : Name) (r : Bool) (s : Skeleton) (vs : List Value) (more : List Listed) (rises : Bool) (es made : Entries) (errors all : List Listed) : Type 0 where
+  pub errors_are : all ≡ errors ++ more
+  pub rising : rises ≡ (is_null (fill s vs).value && r)
+  pub put_in : rises ≡ false → made ≡ joined_in k (fill s vs).value es
+  pub keyed : rises ≡ false → is_keyed (object made) ≡ true

@@ -1,0 +1,92 @@
+//! What was walked of a field is added to its object (section 6.4.4 of the Specification).
+
+ghost use Rattle.std.specs.Prelude.{◌≡◌, ◌++◌, ◌∷◌, [], ◌&&◌, IfOk, OnOk, IsTrue, map};
+ghost use Rattle.graphql_spec.specs.Documents.{response_key as key_of};
+ghost use Rattle.graphql_spec.specs.Selections.{occurrences};
+ghost use Rattle.graphql_spec.specs.Values.{is_null, object};
+ghost use Rattle.juniper_syntax.specs.ValueView.{view_object, view_value};
+ghost use Rattle.juniper_errors.specs.ErrorView.{view_listed};
+ghost use Rattle.juniper_assemble.specs.Keyed.{is_keyed};
+ghost use Rattle.juniper_assemble.specs.SkeletonView.{view_skeleton};
+ghost use Rattle.juniper_collect.specs.Collected.{IsReady, view_all, view_collected};
+ghost use Rattle.juniper_walk.specs.FieldWords.{head_of};
+ghost use Rattle.juniper_walk.specs.Walking.{IsAdded, all_keyed};
+
+use crate::asking::{Resolver, Walk};
+use crate::preparing::{Prepared, response_key};
+use crate::walking::{AllWalked, Walked};
+use juniper_assemble::{fill, settle};
+use juniper_collect::{Collected, collect};
+use juniper_errors::ExecutionError;
+use juniper_syntax::{Field, Object, ScalarValue, Span, Spanning, Value};
+use std::alloc::{AllocError, Global};
+
+/// Adds a field's answer, with the objects of its nodes, to the object; whether its null rises past it (6.4.4).
+pub(crate) fn add_field<'d, N: Drop, S: ScalarValue>(
+    alloc: Global,
+    entries: &mut Object<S>,
+    errors: &mut Vec<ExecutionError<S>>,
+    field: &Spanning<Field<'d, S>, Span>,
+    prepared: Prepared<'d, N, S>,
+    walked: AllWalked<S>,
+) -> Result<bool, AllocError>
+    requires entries { IsTrue (is_keyed (object (view_object S.shown entries.old))) }
+    requires walked { IsTrue (all_keyed (map (view_value S.shown) walked.values.items)) }
+    ensures { IfOk result (λ rises. IsAdded (key_of (head_of S.shown field.now)) prepared.entry.is_non_null (view_skeleton S.shown prepared.entry.skeleton) (map (view_value S.shown) walked.values.items)
+        (map (view_listed S.shown) prepared.entry.errors.items ++ map (view_listed S.shown) walked.errors.items) rises
+        (view_object S.shown entries.old) (view_object S.shown entries.new) (map (view_listed S.shown) errors.old.items) (map (view_listed S.shown) errors.new.items)) }
+{
+    let mut listed = prepared.errors;
+    errors.append(&mut listed)?;
+    let mut below = walked.errors;
+    errors.append(&mut below)?;
+    let mut values = walked.values.into_iter();
+    let value = fill(alloc, prepared.skeleton, &mut values)?;
+    let rises = does_rise(&value, prepared.is_non_null);
+    if rises {
+        return Ok(true);
+    }
+    let key = String::from_str(alloc, response_key(field))?;
+    settle(alloc, entries, key, value)?;
+    Ok(false)
+}
+
+/// Whether a null rises past its field: the value is null at a non-null type.
+fn does_rise<S: ScalarValue>(value: &Value<S>, is_non_null: bool) -> bool
+    ensures { result ≡ (is_null (view_value S.shown value.now) && is_non_null) }
+{
+    value.is_null() && is_non_null
+}
+
+/// Adds the object of a node, and what fails in it, to those before it.
+pub(crate) fn add_object<S: ScalarValue>(
+    values: &mut Vec<Value<S>>,
+    errors: &mut Vec<ExecutionError<S>>,
+    walked: Walked<S>,
+) -> Result<(), AllocError>
+    ensures values { OnOk result (map (view_value S.shown) values.new.items ≡ map (view_value S.shown) values.old.items ++ view_value S.shown walked.value ∷ []) }
+    ensures errors { OnOk result (map (view_listed S.shown) errors.new.items ≡ map (view_listed S.shown) errors.old.items ++ map (view_listed S.shown) walked.errors.items) }
+{
+    let mut listed = walked.errors;
+    errors.append(&mut listed)?;
+    values.push(walked.value)?;
+    Ok(())
+}
+
+/// The fields that a field selects, for an object type (6.3.2).
+pub(crate) fn fields_below<'d, S: ScalarValue, R: Resolver<S>>(
+    walk: &Walk<'_, 'd, S, R>,
+    concrete: &str,
+    field: &'d Spanning<Field<'d, S>, Span>,
+) -> Result<Collected<'d, S>, AllocError>
+    requires { IsReady S.shown walk.now.collector }
+    ensures { IfOk result (λ r. view_all S.shown walk.now.collector r.items ≡ occurrences (R.possible walk.now.collector.possible) concrete.now (view_collected S.shown walk.now.collector field.now).below) }
+{
+    match &field.item.selection_set {
+        Some(selections) => {
+            let fields = collect(walk.alloc, &walk.collector, concrete, selections)?;
+            Ok(fields)
+        }
+        None => Ok(Vec::new(walk.alloc)),
+    }
+}

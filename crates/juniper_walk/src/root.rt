@@ -1,0 +1,41 @@
+//! The whole answer to selections on a root (section 6.2 of the Specification).
+
+ghost use Rattle.std.specs.Prelude.{◌≡◌, IfOk, map};
+ghost use Rattle.graphql_spec.specs.Errors.{keys_only};
+ghost use Rattle.graphql_spec.specs.Selections.{occurrences};
+ghost use Rattle.graphql_spec.specs.Walk.{IsAnswerFor};
+ghost use Rattle.juniper_syntax.specs.DocumentView.{view_selections};
+ghost use Rattle.juniper_syntax.specs.ValueView.{view_value};
+ghost use Rattle.juniper_errors.specs.ErrorView.{view_listed};
+ghost use Rattle.juniper_collect.specs.Collected.{expansion};
+ghost use Rattle.juniper_walk.specs.Walking.{IsReadyWalk, SelectionsAgree};
+
+use crate::asking::{Resolver, Walk};
+use crate::sort::sort_errors;
+use crate::walking::{Walked, object};
+use juniper_collect::collect;
+use juniper_syntax::{ScalarValue, Selection};
+use std::alloc::AllocError;
+
+/// The data of selections on a root node as an object of this type, and the errors in their order.
+pub fn answer<'d, S: ScalarValue, R: Resolver<S>>(
+    walk: &Walk<'_, 'd, S, R>,
+    concrete: &str,
+    root: &R::Node,
+    selections: &'d [Selection<'d, S>],
+) -> Result<Walked<S>, AllocError>
+    requires ready { IsReadyWalk S.shown R.possible (R.world walk.now.collector.possible) walk.now }
+    requires agree { SelectionsAgree (R.world walk.now.collector.possible) concrete.now (expansion S.shown walk.now.collector (view_selections S.shown selections.now)) }
+    ensures { IfOk result (λ r. IsAnswerFor keys_only (R.world walk.now.collector.possible) concrete.now root.now
+        (expansion S.shown walk.now.collector (view_selections S.shown selections.now))
+        (view_value S.shown r.value) (map (view_listed S.shown) r.errors.items)) }
+{
+    let fields = collect(walk.alloc, &walk.collector, concrete, selections)?;
+    let walked = object(walk, &[], concrete, root, &fields)?;
+    let mut errors = walked.errors;
+    sort_errors(&mut errors)?;
+    Ok(Walked {
+        value: walked.value,
+        errors,
+    })
+}
