@@ -7,8 +7,7 @@ use Rattle.graphql_spec.specs.Inputs.{Input}
 use Rattle.graphql_spec.specs.Types.{list_of}
 use Rattle.graphql_spec.specs.Documents.{Argument, Selections, end, field, query, operation}
 use Rattle.graphql_spec.specs.Schema.{Schema, InputDeclaration, object_type, plain_field, plain_input}
-use Rattle.graphql_spec.specs.Rules.{RuleError}
-use Rattle.graphql_spec.specs.FirstRules.{lacks_field, is_asked, first_calls, first_name_errors, first_type_errors, merge_errors, first_rule_errors}
+use Rattle.graphql_spec.specs.Rules.{RuleError, rule_errors}
 use Rattle.graphql_spec.proofs.Demo.{at, span, word, here, may, must, entry_of, kinds, typename_last}
 use Rattle.graphql_spec.proofs.Rows.{outcome}
 
@@ -59,8 +58,8 @@ abbrev bare_as : Text → Text → Selections → Selections
 bare_as a t rest = field (record { alias = Some (word a 2); name = word t 5; arguments = None; directives = []; has_set = false; span = span 2 3 }) end rest
 
 unfoldable found : Selections → List RuleError
-unfolding outcome schema plus lacks_field is_asked first_calls first_name_errors first_type_errors merge_errors first_rule_errors Rattle.graphql_spec.specs.Rules.gives_unknown Rattle.graphql_spec.specs.Rules.gives_too_few Rattle.graphql_spec.specs.Rules.gives_wrong
-found s = first_rule_errors schema (operation (record { kind = query; name = None; variables = None; directives = []; selections = s; span = span 0 9 }) ∷ [])
+unfolding outcome schema plus
+found s = rule_errors schema true (operation (record { kind = query; name = None; variables = None; directives = []; selections = s; span = span 0 9 }) ∷ [])
 
 abbrev says : Text → RuleError
 says t = record { message = t; start = at 0 }
@@ -91,10 +90,11 @@ known = (refl, refl, refl, refl, refl)
 
 -- ## Fields
 
--- { x(a: 1) }, { __type(a: 1) }, { __schema }: the field alone is unknown; { x number(minus: 1) }: both, in order
+-- { x(a: 1) }: the field alone is unknown; { __type(a: 1) }, { __schema }: fields that are known; { x number(minus: 1) }: both, in order
 fields_first : Says (call (codes "x") (give (codes "a") one ∷ []) end) (codes "Unknown field")
-    × Says (call (codes "__type") (give (codes "a") one ∷ []) end) (codes "Unknown field")
-    × Says (bare (codes "__schema") end) (codes "Unknown field")
+    × (found (call (codes "__type") (give (codes "a") one ∷ []) end)
+    ≡ says (codes "Selection set does not fit the field") ∷ says (codes "Unknown argument") ∷ says (codes "Argument is missing") ∷ [])
+    × Says (bare (codes "__schema") end) (codes "Selection set does not fit the field")
     × (found (bare (codes "x") (call (codes "number") (give (codes "minus") one ∷ []) end)) ≡ says (codes "Unknown field") ∷ says (codes "Unknown argument") ∷ [])
 unfolding found
 fields_first = (refl, refl, refl, refl)

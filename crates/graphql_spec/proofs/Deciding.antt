@@ -1,7 +1,7 @@
 -- The steps that decide what becomes of a request.
 use Rattle.std.proofs.Common.{◌≡◌, Some, None, refl, ◌∙◌, inl, inr}
 use Rattle.graphql_spec.specs.Documents.{Document, Operation}
-use Rattle.graphql_spec.specs.Requests.{choose, chosen, if_constant, if_valid, of_operation, of_choice, of_document_by, of_document}
+use Rattle.graphql_spec.specs.Requests.{choose, chosen, if_constant, if_valid, of_operation, of_choice, of_document}
 use Rattle.graphql_spec.specs.Outcomes.{Request, Service, refuses, responds, out_of_memory, KnownOutcome, IsReadAsValid, StepsDecide}
 
 module _ {C N : Type 0} (S : Service C N) where
@@ -13,7 +13,7 @@ module _ {C N : Type 0} (S : Service C N) where
 
   valid-on : (q : Request) (d : Document) → IsReadAsValid S q d → of_document S.schema S.introspection_disabled q.operation q.variables (Some d)
       ≡ of_choice S.schema q.variables d (choose d q.operation)
-  unfolding of_document of_document_by if_valid
+  unfolding of_document if_valid
   valid-on q d v = rw (v.1) refl
 
   chosen-on : (q : Request) (d : Document) (o : Operation) → IsReadAsValid S q d → choose d q.operation ≡ chosen o →
@@ -22,7 +22,7 @@ module _ {C N : Type 0} (S : Service C N) where
   chosen-on q d o v e = valid-on q d v ∙ rw e refl
 
   pub steps-decide : StepsDecide S
-  unfolding of_document of_document_by if_valid of_choice of_operation if_constant
+  unfolding of_document if_valid of_choice of_operation if_constant
   steps-decide = record {
     unread = λ q r. (None, r, refl);
     invalid = λ q d r e es m. (Some d, r, rw m refl);

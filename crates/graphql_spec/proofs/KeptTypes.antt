@@ -16,10 +16,9 @@ use Rattle.graphql_spec.specs.Tokens.{is_name}
 use Rattle.graphql_spec.specs.Laws.{ObjectsStandAlone, KeepsArguments, FieldsAreKept, ObjectsAreKept}
 use Rattle.graphql_spec.specs.Overlap.{names_object, declares_field, SchemasKeepTypes, SchemasMerge}
 use Rattle.graphql_spec.proofs.Lists.{same_true, same_refl}
-use Rattle.graphql_spec.proofs.FlatSchemas.{or_else_parts}
 use Rattle.graphql_spec.proofs.Coercion.{same_arguments_seen}
 use Rattle.graphql_spec.proofs.Thin.{written_merges}
-use Rattle.graphql_spec.proofs.Keeping.{entry_all, options, any_in, introspection_joins_none, Implementing, implementing, lists_interface, alone}
+use Rattle.graphql_spec.proofs.Keeping.{entry_all, options, or_else_parts, any_in, introspection_joins_none, Implementing, implementing, lists_interface, alone}
 
 -- ## The clauses that are needed
 

@@ -17,7 +17,7 @@ use Rattle.std.specs.Str.{bytes_eq}
 use Rattle.graphql_spec.specs.Resolvers.{World, world_of}
 use Rattle.graphql_spec.specs.Execution.{value_of}
 use Rattle.graphql_spec.specs.Rules.{RuleError, rule_errors}
-use Rattle.graphql_spec.specs.Requests.{Choice, chosen, many, unknown, is_named, choose_named, choose_only, choose, coerced_variables, variable_errors, first_not_constant, Outcome, refused, runs, of_kind, if_constant, if_valid, of_operation, of_choice, of_document_by, of_document, selected}
+use Rattle.graphql_spec.specs.Requests.{Choice, chosen, many, unknown, is_named, choose_named, choose_only, choose, coerced_variables, variable_errors, first_not_constant, Outcome, refused, runs, of_kind, if_constant, if_valid, of_operation, of_choice, of_document, selected}
 use Rattle.graphql_spec.specs.Selections.{Occurrence, chain, occurrences}
 use Rattle.graphql_spec.specs.Laws.{In, Agree, Merges}
 use Rattle.graphql_spec.specs.ValidityLaws.{IsValidDocument, RootsAreObjects, RunsAreValid, RunsAgree, RunsJoin, JoinBelow, RunsJoinBelow}
@@ -56,7 +56,7 @@ operations-in (operation p ∷ d) o (inl e) = inl (ap operation e)
 operations-in (operation p ∷ d) o (inr i) = inr (operations-in d o i)
 operations-in (fragment f ∷ d) o i = inr (operations-in d o i)
 
-choice-in : (d : Document) (n : Option Name) (o : Operation) → choose d n ≡ chosen o → In (operation o) d
+pub choice-in : (d : Document) (n : Option Name) (o : Operation) → choose d n ≡ chosen o → In (operation o) d
 unfolding choose
 choice-in d None o e = operations-in d o (only-in (operations d) o e)
 choice-in d (Some n) o e = elim (named-in n (operations d) unknown o e) [ inl i ↦ operations-in d o i | inr q ↦ other q ]
@@ -140,7 +140,7 @@ roots_are_possible s e subscription root r = cc
 -- ## The laws
 
 pub runs_are_valid : RunsAreValid
-unfolding of_document of_document_by
+unfolding of_document
 runs_are_valid s disabled n given None d o vars e = cc
 runs_are_valid s disabled n given (Some c) d o vars e =
     let a = valid-runs (rule_errors s disabled c) (of_choice s given c (choose c n)) d o vars e in

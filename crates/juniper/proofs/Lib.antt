@@ -1,12 +1,6 @@
-pub mod Collecting
-pub mod Completing
-pub mod ErrorSorting
-pub mod FieldCompletion
+mod Choosing
+mod Composing
+mod Executing
 pub mod Messages
-pub mod Outcomes
-pub mod PlainExecution
-pub mod Leaves
-pub mod ServedTypes
-pub mod Settling
-pub mod Steps
-pub mod Turns
+mod Undeclared
+mod VariableValues

@@ -1,27 +1,29 @@
 -- What a request is answered (6.1).
-use Rattle.std.specs.Prelude.{◌≡◌, List, Option, Some, None}
-use Rattle.graphql_spec.specs.Shown.{Text, Name}
-use Rattle.graphql_spec.specs.Values.{Value}
+use Rattle.std.specs.Prelude.{◌≡◌, ◌⊎◌, true, List, [], ◌∷◌, Option, Some, None, Result, Ok, Err, String, Vec, map, option_map}
+use Rattle.std.specs.Borrow.{Bor}
+use Rattle.std.specs.HashMap.{HashMap}
+use Rattle.std.specs.declared.alloc.Global.{Global}
+use Rattle.std.specs.declared.hash.BuildHasherDefault.{BuildHasherDefault}
+use Rattle.std.specs.declared.hash.FoldHasher.{FoldHasher}
+use Rattle.graphql_spec.specs.Shown.{Shown, Name, Text}
 use Rattle.graphql_spec.specs.Inputs.{Variables}
-use Rattle.graphql_spec.specs.Documents.{Document, Operation}
+use Rattle.graphql_spec.specs.Documents.{Document, Operation, variables_of}
 use Rattle.graphql_spec.specs.Schema.{Schema}
-use Rattle.graphql_spec.specs.Errors.{Listed, keys_only}
-use Rattle.graphql_spec.specs.Resolvers.{World}
-use Rattle.graphql_spec.specs.Grammar.{Spells}
-use Rattle.graphql_spec.specs.FirstRules.{served_rule_errors}
+use Rattle.graphql_spec.specs.Rules.{RuleError, rule_errors}
 use Rattle.graphql_spec.specs.Requests as spec
-use Rattle.graphql_spec.specs.Requests.{Refusal, Outcome, refused, runs, of_document_by, selected}
-use Rattle.graphql_spec.specs.Walk.{IsAnswerFor}
-use Rattle.juniper.specs.RequestErrors.{RequestError, not_parsed, not_valid, no_operation, multiple_operations, unknown_operation, is_subscription, not_subscription, no_mutation_type, variable_not_constant, out_of_memory}
-
--- what a text is read as: the one document that it spells, or none
-abbrev pub Reads : Text → Option Document → Type 0
-Reads text None = (d : Document) → Spells text d → ⊥
-Reads text (Some d) = Spells text d × ((e : Document) → Spells text e → e ≡ d)
-
--- what becomes of a request, by the rules that are served
-abbrev pub outcome : Schema → Option Name → Variables → Option Document → Outcome
-outcome s name given d = of_document_by (served_rule_errors s) s name given d
+use Rattle.graphql_spec.specs.Requests.{Choice, chosen, many, unknown, Refusal, Outcome, runs, of_kind}
+use Rattle.graphql_spec.specs.Requests.{variable_errors, first_not_constant, coerced_variables}
+use Rattle.graphql_spec.specs.Outcomes as outcome
+use Rattle.graphql_spec.specs.Outcomes.{Request, Response, refuses, responds}
+use Rattle.juniper_syntax.specs.InputView.{view_variables}
+use Rattle.juniper_syntax.specs.ValueView.{view_value}
+use Rattle.juniper_syntax.specs.declared.input.InputValue.{InputValue}
+use Rattle.juniper_syntax.specs.declared.value.Value.{Value}
+use Rattle.juniper_errors.specs.ErrorView.{view_listed}
+use Rattle.juniper_errors.specs.declared.execution_error.ExecutionError.{ExecutionError}
+use Rattle.juniper.specs.declared.error.GraphQLError.{GraphQLError}
+use Rattle.juniper.specs.RequestErrors.{RequestError, view_request_error, not_parsed, not_valid, no_operation, multiple_operations, unknown_operation}
+use Rattle.juniper.specs.RequestErrors.{is_subscription, not_subscription, no_mutation_type, variable_not_constant, out_of_memory}
 
 -- the refusal that an error stands for; two are never made
 abbrev pub refusal_of : RequestError → Option Refusal
@@ -36,26 +38,49 @@ refusal_of no_mutation_type = Some spec.no_mutation_type
 refusal_of (variable_not_constant n) = Some (spec.variable_not_constant n)
 refusal_of out_of_memory = None
 
--- the first step that fails refuses the request with this error
-abbrev pub FirstFails : Text → Schema → Option Name → Variables → RequestError → Type 0
-FirstFails text s name given e = (d : Option Document) × (r : Refusal) × Reads text d × (outcome s name given d ≡ refused r) × (refusal_of e ≡ Some r)
+-- an error as a response: its refusal, or want of memory
+abbrev pub Responds : (Response → Type 0) → RequestError → Type 0
+Responds P out_of_memory = P outcome.out_of_memory
+Responds P e = (r : Refusal) × (refusal_of e ≡ Some r) × P (refuses r)
 
--- a request is refused with an error: for want of memory, or since a step fails
-abbrev pub IsRefusedWith : Text → Schema → Option Name → Variables → RequestError → Type 0
-IsRefusedWith text s name given out_of_memory = Unit {0}
-IsRefusedWith text s name given e = FirstFails text s name given e
+-- what a call answers, as a response
+abbrev pub AnswersAs : {S : Type 0} → (S → Shown) → (Response → Type 0) → Result (Value S × Vec (ExecutionError S) Global) GraphQLError → Type 0
+AnswersAs shown P (Ok p) = P (responds (view_value shown p.0) (map (view_listed shown) p.1.items))
+AnswersAs shown P (Err e) = Responds P (view_request_error e)
 
--- No step fails, and the answer is that of the operation on the root m of the query type: the data is that of the grouped
--- execution, and the errors are sorted, those of its failures, and there are none exactly where nothing fails.
-abbrev pub IsAnswered : {N : Type 0} → Text → Schema → Option Name → Variables → (Variables → World N) → N → Value → List Listed → Type 0
-IsAnswered text s name given W m value errors =
-    (d : Document) × (o : Operation) × (vars : Variables) × Reads text (Some d) × (outcome s name given (Some d) ≡ runs d o vars) × IsAnswerFor keys_only (W vars) s.query m (selected d o vars) value errors
+-- a request of this text, this name of an operation, if one is given, and these values of variables (6.1)
+abbrev pub request_of : {S : Type 0} → (S → Shown) → Text → Option (Bor Text) → HashMap (String Global) (InputValue S) (BuildHasherDefault FoldHasher) → Request
+request_of shown text name given = record { text = text; operation = option_map (λ n. n.now) name; variables = view_variables shown given }
 
--- the same, of a document that was read
-abbrev pub IsRefusedDocument : Document → Schema → Option Name → Variables → RequestError → Type 0
-IsRefusedDocument d s name given out_of_memory = Unit {0}
-IsRefusedDocument d s name given e = (r : Refusal) × (outcome s name given (Some d) ≡ refused r) × (refusal_of e ≡ Some r)
+-- an error that stands for one of these refusals, or want of memory
+abbrev pub StandsFor : (Refusal → Type 0) → RequestError → Type 0
+StandsFor P out_of_memory = Unit {0}
+StandsFor P e = (r : Refusal) × (refusal_of e ≡ Some r) × P r
 
-abbrev pub IsAnsweredDocument : {N : Type 0} → Document → Schema → Option Name → Variables → (Variables → World N) → N → Value → List Listed → Type 0
-IsAnsweredDocument d s name given W m value errors =
-    (o : Operation) × (vars : Variables) × (outcome s name given (Some d) ≡ runs d o vars) × IsAnswerFor keys_only (W vars) s.query m (selected d o vars) value errors
+-- why no operation is chosen (GetOperation, 6.1)
+abbrev pub IsUnchosen : Choice → RequestError → Type 0
+IsUnchosen (chosen o) e = ⊥
+IsUnchosen many e = e ≡ multiple_operations
+IsUnchosen unknown e = e ≡ unknown_operation
+
+-- what becomes of an operation of a valid document with these given values, which fit and are constant: its kind decides (6.1)
+abbrev pub outcome_of : Schema → Document → Operation → Variables → Outcome
+outcome_of s d o given = of_kind s o.kind (runs d o (coerced_variables (variables_of o) given))
+
+-- the given values fit, and no variable stands in them (6.1.2)
+pub record AreCoercible (s : Schema) (o : Operation) (given : Variables) : Type 0 where
+  pub fitting : variable_errors s (variables_of o) given ≡ []
+  pub constant : first_not_constant (variables_of o) given ≡ None
+
+-- ## Only private clauses cite what follows
+
+-- why a document is not valid (5)
+abbrev pub IsInvalid : Schema → Document → Refusal → Type 0
+IsInvalid s d r = (e : RuleError) × (es : List RuleError) × (r ≡ spec.not_valid (e ∷ es)) × (rule_errors s true d ≡ e ∷ es)
+
+-- why the given values are refused (6.1.2)
+abbrev pub AreRefused : Schema → Operation → Variables → Refusal → Type 0
+AreRefused s o given r =
+    ((e : RuleError) × (es : List RuleError) × (r ≡ spec.not_valid (e ∷ es)) × (variable_errors s (variables_of o) given ≡ e ∷ es))
+    ⊎ ((variable_errors s (variables_of o) given ≡ [])
+    × ((n : Name) × (r ≡ spec.variable_not_constant n) × (first_not_constant (variables_of o) given ≡ Some n)))

@@ -1,4 +1,5 @@
 pub mod Answering
+pub mod Choices
 pub mod RequestErrors
 pub mod RootView
-pub mod Walking
+pub mod Services

@@ -7,8 +7,9 @@ ghost use Rattle.graphql_spec.specs.Documents.{written};
 ghost use Rattle.graphql_spec.specs.Inputs.{const};
 ghost use Rattle.juniper_syntax.specs.DocumentView.{view_argument};
 ghost use Rattle.juniper_syntax.specs.InputView.{view_variables};
-ghost use Rattle.juniper_values.specs.ArgumentView.{members_of, view_arguments, view_declared};
-ghost use Rattle.juniper_rules.specs.Occurrences.{view_occurrence};
+ghost use Rattle.juniper_meta.specs.MetaView.{view_argument as view_meta_argument};
+ghost use Rattle.juniper_values.specs.ArgumentView.{members_of, view_arguments};
+ghost use Rattle.juniper_walk.specs.FieldWords.{head_of};
 
 use indexmap::IndexMap;
 use juniper_language::{Field, InputValue, ScalarValue, Span, Spanning, Variables};
@@ -26,14 +27,14 @@ type Given<'a, S> = IndexMap<&'a str, Spanning<InputValue<S>, Span>>;
 /// written.
 pub(crate) fn coerce_arguments<'a, 'b, S: ScalarValue>(
     alloc: Global,
-    declared: Option<&'b [Argument<S>]>,
+    declared: &'b [Argument<S>],
     field: &'b Spanning<Field<'a, S>, Span>,
     variables: &Variables<S>,
 ) -> Result<Arguments<'b, S>, AllocError>
-    ensures { IfOk result (λ made. view_arguments S.shown made ≡ coerced_arguments (view_declared S.shown declared.entry) (view_variables S.shown variables.now) (written (view_occurrence S.shown field.now).head.arguments)) }
+    ensures { IfOk result (λ made. view_arguments S.shown made ≡ coerced_arguments (map (view_meta_argument S.shown) declared.now) (view_variables S.shown variables.now) (written (head_of S.shown field.now).arguments)) }
 {
     let given = give(alloc, written_arguments(field), variables)?;
-    Arguments::new(alloc, Some(given), declared)
+    Arguments::new(alloc, Some(given), Some(declared))
 }
 
 /// The arguments that are written at a field, in order (2.6).
@@ -41,7 +42,7 @@ pub(crate) fn coerce_arguments<'a, 'b, S: ScalarValue>(
 fn written_arguments<'a, 'b, S: ScalarValue>(
     field: &'b Spanning<Field<'a, S>, Span>,
 ) -> &'b [Written<'a, S>]
-    ensures { map (view_argument S.shown) result.now ≡ written (view_occurrence S.shown field.now).head.arguments }
+    ensures { map (view_argument S.shown) result.now ≡ written (head_of S.shown field.now).arguments }
 {
     match &field.item.arguments {
         Some(arguments) => arguments.item.items.as_slice(),

@@ -2,15 +2,16 @@
 #![tactic(auto)]
 
 mod coerce;
-mod collect;
 mod error;
 mod execute;
+mod operation;
+mod request;
 mod root;
-mod sort;
-mod walk;
+mod service;
+mod variables;
 
 pub use error::GraphQLError;
-pub use execute::execute_sync;
+pub use execute::execute_validated_query;
 pub use juniper_language::{
     DefaultScalarValue, Definition, Directive, Document, Field, Fragment, FragmentSpread,
     Fragments, InlineFragment, InputValue, LexerError, Object, Operation, OperationType,
@@ -34,4 +35,5 @@ pub use juniper_values::{
     FromInputValueArrayError, FromInputValueVecError, FromScalarValue, ID, IntoFieldError,
     Nullable, ResolveError, ToInputValue, ToScalarValue,
 };
+pub use request::{execute_sync, get_operation};
 pub use root::RootNode;

@@ -1,10 +1,12 @@
 //! The root of a server: a schema with its resolvers (section 3.3 of the Specification).
 
-ghost use Rattle.std.specs.Prelude.{◌≡◌, IsTrue};
-ghost use Rattle.juniper_schema.specs.SchemaView.{view_schema};
+ghost use Rattle.std.specs.Prelude.{◌≡◌, IsTrue, Some, is_none};
 ghost use Rattle.graphql_spec.specs.Executable.{is_executable};
+ghost use Rattle.juniper_meta.specs.MetaView.{view_meta};
+ghost use Rattle.juniper_schema.specs.SchemaView.{meta_named, view_schema};
 
 use juniper_language::ScalarValue;
+use juniper_meta::MetaType;
 use juniper_schema::SchemaType;
 use juniper_types::GraphQLType;
 
@@ -20,6 +22,7 @@ pub struct RootNode<Q: GraphQLType<S>, M: GraphQLType<S>, Sub: GraphQLType<S>, S
     pub(crate) mutation_info: M::TypeInfo,
     pub(crate) subscription_info: Sub::TypeInfo,
     ghost executable: { IsTrue (is_executable (view_schema S.shown schema)) },
+    ghost no_mutation: { IsTrue (is_none (view_schema S.shown schema).mutation) },
 }
 
 impl<Q: GraphQLType<S>, M: GraphQLType<S>, Sub: GraphQLType<S>, S: ScalarValue> RootNode<
@@ -30,8 +33,8 @@ impl<Q: GraphQLType<S>, M: GraphQLType<S>, Sub: GraphQLType<S>, S: ScalarValue> 
 > {
     ghost use Rattle.juniper.specs.RootView.{schema_of, resolver_of, info_of};
 
-    /// The root of these resolvers over an executable schema; [`juniper_schema::schema_is_executable`] tells whether it is.
-    /// Requests are served where the query type's fields are scalars.
+    /// The root of these resolvers over an executable schema without a mutation type;
+    /// [`juniper_schema::schema_is_executable`] tells whether it is executable.
     pub fn of_parts(
         query: Q,
         mutation: M,
@@ -41,7 +44,8 @@ impl<Q: GraphQLType<S>, M: GraphQLType<S>, Sub: GraphQLType<S>, S: ScalarValue> 
         mutation_info: M::TypeInfo,
         subscription_info: Sub::TypeInfo,
     ) -> Self
-        requires { IsTrue (is_executable (view_schema S.shown schema)) }
+        requires executable { IsTrue (is_executable (view_schema S.shown schema)) }
+        requires no_mutation { IsTrue (is_none (view_schema S.shown schema).mutation) }
         ensures schema { schema_of result ≡ schema }
         ensures resolver { resolver_of result ≡ query }
         ensures info { info_of result ≡ query_info }
@@ -54,6 +58,16 @@ impl<Q: GraphQLType<S>, M: GraphQLType<S>, Sub: GraphQLType<S>, S: ScalarValue> 
             query_info,
             mutation_info,
             subscription_info,
+        }
+    }
+
+    /// What is declared as the query type, which each executable schema has (3.3.1).
+    pub(crate) fn query_type(&self) -> &MetaType<S>
+        ensures { meta_named (view_schema S.shown (schema_of self.now)) (view_schema S.shown (schema_of self.now)).query ≡ Some (view_meta S.shown result.now) }
+    {
+        match self.schema.concrete_type_by_name(self.schema.query_name()) {
+            Some(meta) => meta,
+            None => unreachable!(),
         }
     }
 

@@ -1,15 +1,18 @@
-//! Measures the parser, validation and the test of schemas: `juniper_bench parse FILE TIMES` parses a file so many times and
+//! Measures the parser, validation, execution and the test of schemas: `juniper_bench parse FILE TIMES` parses a file so many times and
 //! prints what its document counts, `juniper_bench validate FILE TIMES` parses a file and validates its document so many times
-//! on a schema that is made, `juniper_bench scan FILE TIMES` reads a file of JSON so many times, `juniper_bench make FIELDS DEPTH`
+//! on a schema that is made, `juniper_bench execute FILE TIMES` answers a file's request so many times over the demo's root and
+//! prints its answer, `juniper_bench scan FILE TIMES` reads a file of JSON so many times, `juniper_bench make FIELDS DEPTH`
 //! prints a text to be parsed, and `juniper_bench schema TYPES TIMES` makes a schema of so many types, and tests so many times
 //! whether requests can be executed on it. The program takes no time itself: the one who runs it does.
 #![tactic(auto)]
 
 ghost use Rattle.std.specs.Prelude.{◌≡◌, ◌++◌, IfOk, codes, string_bytes};
 
+mod executing;
 #[cfg(test)]
 mod tests;
 
+use executing::execute_answer;
 use juniper_bench_tasks::{
     Answer, Command, made_text, parse_answer, read_command, scan_answer, schema_answer,
     validate_answer,
@@ -27,7 +30,7 @@ fn answer<R: Files + AllocGlobal>(rt: &R, words: &[String]) -> Result<Answer, Al
             status: 2,
             line: String::from_str(
                 alloc,
-                "usage: juniper_bench parse FILE TIMES | validate FILE TIMES | scan FILE TIMES | make FIELDS DEPTH | schema TYPES TIMES",
+                "usage: juniper_bench parse FILE TIMES | validate FILE TIMES | execute FILE TIMES | scan FILE TIMES | make FIELDS DEPTH | schema TYPES TIMES",
             )?,
         }),
         Some(Command::Parse(file, times)) => match text_of(rt, file) {
@@ -36,6 +39,10 @@ fn answer<R: Files + AllocGlobal>(rt: &R, words: &[String]) -> Result<Answer, Al
         },
         Some(Command::Validate(file, times)) => match text_of(rt, file) {
             Some(text) => validate_answer(alloc, text.as_str(), times),
+            None => unread(alloc, file),
+        },
+        Some(Command::Execute(file, times)) => match text_of(rt, file) {
+            Some(text) => execute_answer(alloc, text.as_str(), times),
             None => unread(alloc, file),
         },
         Some(Command::Scan(file, times)) => match text_of(rt, file) {

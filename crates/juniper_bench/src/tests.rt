@@ -1,5 +1,6 @@
 //! What each command answers.
 
+use crate::executing::execute_answer;
 use juniper_bench_tasks::{
     Answer, Command, made_text, parse_answer, read_command, scan_answer, schema_answer,
     validate_answer,
@@ -19,6 +20,11 @@ const ERRORS: &str = "\
 { first { ...F } } fragment F on Node { id ... on T3 { others(first: 2) { id } } } => 0 definitions: 2, errors: 0
 { first { id(of: 1) name } } query Q { id } => 0 definitions: 2, errors: 1
 { first => 1 refused: Unexpected end of input at 1:8";
+
+/// For a request the status and the demo's answer.
+const ANSWERS: &str = "\
+{ id } => 0 {\"data\":{\"id\":\"q1\"}}
+{ nowhere } => 1 refused: Unknown field";
 
 /// For a text the status and what is read of it as JSON.
 const JSON: &str = "\
@@ -41,6 +47,7 @@ schema 12 2 => 0 types: 12, executable: yes";
 const OTHER_WORDS: &str = "\
 parse file 1 => a file
 validate file 1 => a file
+execute file 1 => a file
 scan file 2 => a file
 make 2 1 => nothing
 make 3 251 => nothing
@@ -66,6 +73,8 @@ enum Told {
     Counts,
     /// How many errors are listed.
     Errors,
+    /// What a request is answered.
+    Answers,
     /// What is read as JSON.
     Json,
     /// What the words of a command ask for.
@@ -78,6 +87,7 @@ fn told_of(alloc: Global, told: Told, case: &str) -> Result<String, AllocError> 
         Told::Case => String::from_str(alloc, case),
         Told::Counts => counted(alloc, case),
         Told::Errors => said(alloc, &validate_answer(alloc, case, 2)?),
+        Told::Answers => said(alloc, &execute_answer(alloc, case, 2)?),
         Told::Json => said(alloc, &scan_answer(alloc, case, 2)?),
         Told::Words => asked(alloc, case),
     }
@@ -170,6 +180,7 @@ fn texts_are_counted_or_refused(rt: HostRuntime) {
     let alloc = rt.alloc();
     check(&rt, alloc, Told::Counts, COUNTS);
     check(&rt, alloc, Told::Errors, ERRORS);
+    check(&rt, alloc, Told::Answers, ANSWERS);
     check(&rt, alloc, Told::Json, JSON);
 }
 

@@ -22,6 +22,8 @@ pub enum Command<'a> {
     Parse(&'a str, usize),
     /// To read a file as a document, and to validate it so many times.
     Validate(&'a str, usize),
+    /// To execute the request of a file, so many times.
+    Execute(&'a str, usize),
     /// To read a file as JSON, so many times.
     Scan(&'a str, usize),
     /// To make a text.
@@ -30,8 +32,8 @@ pub enum Command<'a> {
     Schema(usize, usize),
 }
 
-/// What the words ask for; nothing where they are none of `parse FILE TIMES`, `validate FILE TIMES`, `scan FILE TIMES`,
-/// `make FIELDS DEPTH` and `schema TYPES TIMES`, or a number is not in its bounds.
+/// What the words ask for; nothing where they are none of `parse FILE TIMES`, `validate FILE TIMES`,
+/// `execute FILE TIMES`, `scan FILE TIMES`, `make FIELDS DEPTH` and `schema TYPES TIMES`, or a number is not in its bounds.
 pub fn read_command(words: &[String]) -> Option<Command<'_>> {
     let [word, first, second] = words else {
         return None;
@@ -40,6 +42,7 @@ pub fn read_command(words: &[String]) -> Option<Command<'_>> {
     match word.as_str() {
         "parse" => Some(Command::Parse(first.as_str(), last)),
         "validate" => Some(Command::Validate(first.as_str(), last)),
+        "execute" => Some(Command::Execute(first.as_str(), last)),
         "scan" => Some(Command::Scan(first.as_str(), last)),
         "make" => {
             let size = bounded_size(number(first.as_str())?, last)?;

@@ -14,28 +14,28 @@ use std::alloc::{AllocError, Global};
 
 /// What one request collects fields with.
 #[derive(Drop)]
-pub struct Collector<'r, 'd, S, P> {
-    pub fragments: FragmentMap<'d, S>,
+pub struct Collector<'r, 'd, 'a, S, P> {
+    pub fragments: FragmentMap<'d, 'a, S>,
     pub variables: &'r Variables<S>,
     pub possible: P,
 }
 
 /// A field that was collected.
 #[derive(Drop)]
-pub struct Occurrence<'d, S> {
-    pub field: &'d Spanning<Field<'d, S>, Span>,
+pub struct Occurrence<'d, 'a, S> {
+    pub field: &'d Spanning<Field<'a, S>, Span>,
 }
 
 /// The fields that were collected, in document order.
-pub type Collected<'d, S> = Vec<Occurrence<'d, S>>;
+pub type Collected<'d, 'a, S> = Vec<Occurrence<'d, 'a, S>>;
 
 /// The fields that selections hold for an object type. An error where memory is refused.
-pub fn collect<'d, S: ScalarValue, P: Conditions>(
+pub fn collect<'d, 'a, S: ScalarValue, P: Conditions>(
     alloc: Global,
-    collector: &Collector<'_, 'd, S, P>,
+    collector: &Collector<'_, 'd, 'a, S, P>,
     concrete: &str,
-    selections: &'d [Selection<'d, S>],
-) -> Result<Collected<'d, S>, AllocError>
+    selections: &'d [Selection<'a, S>],
+) -> Result<Collected<'d, 'a, S>, AllocError>
     requires { IsReady S.shown collector.now }
     ensures { IfOk result (λ r. view_all S.shown collector.now r.items ≡ occurrences (P.possible collector.now.possible) concrete.now (expansion S.shown collector.now (view_selections S.shown selections.now))) }
 {
@@ -46,12 +46,12 @@ pub fn collect<'d, S: ScalarValue, P: Conditions>(
 }
 
 /// Adds the fields that selections hold, which have at most so many spreads inside one another.
-fn add_fields<'d, S: ScalarValue, P: Conditions>(
-    collector: &Collector<'_, 'd, S, P>,
+fn add_fields<'d, 'a, S: ScalarValue, P: Conditions>(
+    collector: &Collector<'_, 'd, 'a, S, P>,
     concrete: &str,
-    selections: &'d [Selection<'d, S>],
+    selections: &'d [Selection<'a, S>],
     spreads_left: usize,
-    fields: &mut Collected<'d, S>,
+    fields: &mut Collected<'d, 'a, S>,
 ) -> Result<(), AllocError>
     requires ready { IsReady S.shown collector.now }
     requires within { IsWithin S.shown collector.now spreads_left (view_selections S.shown selections.now) }

@@ -13,17 +13,17 @@ use std::collections::HashMap;
 
 /// The fragments of a document, made once for a request.
 #[derive(Drop)]
-pub struct FragmentMap<'d, S> {
-    pub(crate) document: &'d [Definition<'d, S>],
-    pub(crate) first: Fragments<'d, S>,
+pub struct FragmentMap<'d, 'a, S> {
+    pub(crate) document: &'d [Definition<'a, S>],
+    pub(crate) first: Fragments<'d, 'a, S>,
     pub(crate) count: usize,
 }
 
 /// The fragments of a document; the time grows with the number of definitions. An error where memory is refused.
-pub fn fragments_of<'d, S: ScalarValue>(
+pub fn fragments_of<'d, 'a, S: ScalarValue>(
     alloc: Global,
-    document: &'d [Definition<'d, S>],
-) -> Result<FragmentMap<'d, S>, AllocError>
+    document: &'d [Definition<'a, S>],
+) -> Result<FragmentMap<'d, 'a, S>, AllocError>
     ensures is { IfOk result (λ m. fragments_in S.shown m ≡ fragments (map (view_definition S.shown) document.now)) }
     ensures made { IfOk result (λ m. IsMade S.shown m) }
 {
@@ -51,10 +51,10 @@ fn count_fragments<S: ScalarValue>(document: &[Definition<'_, S>]) -> usize
 }
 
 /// The first fragment of each name.
-fn first_fragments<'d, S: ScalarValue>(
+fn first_fragments<'d, 'a, S: ScalarValue>(
     alloc: Global,
-    document: &'d [Definition<'d, S>],
-) -> Result<Fragments<'d, S>, AllocError>
+    document: &'d [Definition<'a, S>],
+) -> Result<Fragments<'d, 'a, S>, AllocError>
     ensures { IfOk result (λ r. (k : Name) → fragment_at S.shown r k ≡ fragment_named (fragments (map (view_definition S.shown) document.now)) k) }
 {
     let mut first = HashMap::new(alloc);
@@ -65,9 +65,9 @@ fn first_fragments<'d, S: ScalarValue>(
 }
 
 /// Puts a fragment in, where none of its name is there.
-fn put_fragment<'d, S: ScalarValue>(
-    definition: &'d Definition<'d, S>,
-    first: &mut Fragments<'d, S>,
+fn put_fragment<'d, 'a, S: ScalarValue>(
+    definition: &'d Definition<'a, S>,
+    first: &mut Fragments<'d, 'a, S>,
 ) -> Result<(), AllocError>
     ensures { OnOk result ((k : Name) → fragment_at S.shown first.new k ≡ option_or (fragment_at S.shown first.old k)
         (fragment_named (fragments (view_definition S.shown definition.now ∷ [])) k)) }
@@ -85,9 +85,9 @@ fn put_fragment<'d, S: ScalarValue>(
     }
 }
 
-impl<'d, S: ScalarValue> FragmentMap<'d, S> {
+impl<'d, 'a, S: ScalarValue> FragmentMap<'d, 'a, S> {
     /// The fragments by name, of those of one name the first (2.8).
-    pub fn by_name(&self) -> &Fragments<'d, S>
+    pub fn by_name(&self) -> &Fragments<'d, 'a, S>
         requires { IsMade S.shown self.now }
         ensures { (k : Name) → fragment_at S.shown result.now k ≡ fragment_named (fragments_in S.shown self.now) k }
     {
@@ -95,7 +95,7 @@ impl<'d, S: ScalarValue> FragmentMap<'d, S> {
     }
 
     /// The fragment of a name: the first one (2.8).
-    pub(crate) fn named(&self, name: &str) -> Option<&'d Fragment<'d, S>>
+    pub(crate) fn named(&self, name: &str) -> Option<&'d Fragment<'a, S>>
         requires { IsMade S.shown self.now }
         ensures first { option_map (λ f. view_lent_fragment S.shown f.now) result ≡ fragment_named (fragments_in S.shown self.now) name.now }
         ensures nested { IfSome result (λ f. nesting f.now.selection_set.items ≤ deepest self.now) }

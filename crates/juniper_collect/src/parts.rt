@@ -26,22 +26,22 @@ use juniper_syntax::{
 
 /// What is left to collect of one selection.
 #[derive(Drop)]
-pub(crate) enum Part<'d, S> {
+pub(crate) enum Part<'d, 'a, S> {
     /// Nothing.
     Nothing,
     /// This field.
-    Field(&'d Spanning<Field<'d, S>, Span>),
+    Field(&'d Spanning<Field<'a, S>, Span>),
     /// The fields of these selections, with at most so many spreads inside one another.
-    Selections(&'d [Selection<'d, S>], usize),
+    Selections(&'d [Selection<'a, S>], usize),
 }
 
 /// What a selection holds for an object type.
-pub(crate) fn part_of<'d, S: ScalarValue, P: Conditions>(
-    collector: &Collector<'_, 'd, S, P>,
+pub(crate) fn part_of<'d, 'a, S: ScalarValue, P: Conditions>(
+    collector: &Collector<'_, 'd, 'a, S, P>,
     concrete: &str,
-    selection: &'d Selection<'d, S>,
+    selection: &'d Selection<'a, S>,
     spreads_left: usize,
-) -> Part<'d, S>
+) -> Part<'d, 'a, S>
     requires { IsReady S.shown collector.now }
     ensures { IsPart S.shown collector.now (P.possible collector.now.possible) concrete.now (put_selection S.shown selection.now) spreads_left (size-Selection S selection.now) result }
 {
@@ -57,10 +57,10 @@ pub(crate) fn part_of<'d, S: ScalarValue, P: Conditions>(
 }
 
 /// The field, where it is admitted.
-fn field_part<'d, S: ScalarValue, P: Conditions>(
-    collector: &Collector<'_, 'd, S, P>,
-    field: &'d Spanning<Field<'d, S>, Span>,
-) -> Part<'d, S>
+fn field_part<'d, 'a, S: ScalarValue, P: Conditions>(
+    collector: &Collector<'_, 'd, 'a, S, P>,
+    field: &'d Spanning<Field<'a, S>, Span>,
+) -> Part<'d, 'a, S>
     ensures { (T : _) (n size : _) → IsPart S.shown collector.now (P.possible collector.now.possible) T (document.field (view_head S.shown (out-Field S field.now.item) (view_span field.now.span)) (view_set S.shown (out-Field S field.now.item).selection_set)) n size result }
 {
     if is_taken(collector, &field.item.directives) {
@@ -71,12 +71,12 @@ fn field_part<'d, S: ScalarValue, P: Conditions>(
 }
 
 /// The selections of the fragment that is spread, where the spread is admitted and the fragment applies.
-fn spread_part<'d, S: ScalarValue, P: Conditions>(
-    collector: &Collector<'_, 'd, S, P>,
+fn spread_part<'d, 'a, S: ScalarValue, P: Conditions>(
+    collector: &Collector<'_, 'd, 'a, S, P>,
     concrete: &str,
-    spread: &Spanning<FragmentSpread<'d, S>, Span>,
+    spread: &Spanning<FragmentSpread<'a, S>, Span>,
     spreads_left: usize,
-) -> Part<'d, S>
+) -> Part<'d, 'a, S>
     requires { IsReady S.shown collector.now }
     ensures { (size : _) → IsPart S.shown collector.now (P.possible collector.now.possible) concrete.now (document.spread (view_spread S.shown spread.now.item (view_span spread.now.span))) spreads_left size result }
 {
@@ -102,12 +102,12 @@ fn spread_part<'d, S: ScalarValue, P: Conditions>(
 }
 
 /// The selections of an inline fragment, where it is admitted and applies.
-fn inline_part<'d, S: ScalarValue, P: Conditions>(
-    collector: &Collector<'_, 'd, S, P>,
+fn inline_part<'d, 'a, S: ScalarValue, P: Conditions>(
+    collector: &Collector<'_, 'd, 'a, S, P>,
     concrete: &str,
-    inline: &'d Spanning<InlineFragment<'d, S>, Span>,
+    inline: &'d Spanning<InlineFragment<'a, S>, Span>,
     spreads_left: usize,
-) -> Part<'d, S>
+) -> Part<'d, 'a, S>
     ensures { (size : _) → nesting (out-InlineFragment S inline.now.item).selection_set.items < size → IsPart S.shown collector.now (P.possible collector.now.possible) concrete.now (document.inline (inline_head S.shown (out-InlineFragment S inline.now.item) (view_span inline.now.span)) (view_selections S.shown (out-InlineFragment S inline.now.item).selection_set.items)) spreads_left size result }
 {
     if !is_taken(collector, &inline.item.directives) {
@@ -122,10 +122,10 @@ fn inline_part<'d, S: ScalarValue, P: Conditions>(
 
 /// Whether an inline fragment applies to an object type: it has no condition, or one at which the type is possible.
 #[tactic(auto, unfolding(graphql_spec::specs::Selections::applies, graphql_spec::specs::Fragments::asked))]
-fn applies<'d, S, P: Conditions>(
-    collector: &Collector<'_, 'd, S, P>,
+fn applies<'d, 'a, S, P: Conditions>(
+    collector: &Collector<'_, 'd, 'a, S, P>,
     concrete: &str,
-    condition: &Option<Spanning<&'d str, Span>>,
+    condition: &Option<Spanning<&'a str, Span>>,
 ) -> bool
     ensures { result ≡ applies_to (P.possible collector.now.possible) concrete.now (asked (option_map view_word condition.now)) }
 {
@@ -136,9 +136,9 @@ fn applies<'d, S, P: Conditions>(
 }
 
 /// The directives, lent.
-fn lent<'b, 'd, S: ScalarValue>(
-    directives: &'b Option<Vec<Spanning<Directive<'d, S>, Span>>>,
-) -> Option<&'b [Spanning<Directive<'d, S>, Span>]>
+fn lent<'b, 'a, S: ScalarValue>(
+    directives: &'b Option<Vec<Spanning<Directive<'a, S>, Span>>>,
+) -> Option<&'b [Spanning<Directive<'a, S>, Span>]>
     ensures { view_lent S.shown result ≡ view_directives S.shown directives.now }
 {
     match directives {
@@ -148,9 +148,9 @@ fn lent<'b, 'd, S: ScalarValue>(
 }
 
 /// Whether a selection with these directives is taken (3.13).
-fn is_taken<'d, S: ScalarValue, P>(
-    collector: &Collector<'_, 'd, S, P>,
-    directives: &Option<Vec<Spanning<Directive<'d, S>, Span>>>,
+fn is_taken<'d, 'a, S: ScalarValue, P>(
+    collector: &Collector<'_, 'd, 'a, S, P>,
+    directives: &Option<Vec<Spanning<Directive<'a, S>, Span>>>,
 ) -> bool
     ensures { result ≡ admitted (passes (view_variables S.shown collector.now.variables.now)) (view_directives S.shown directives.now) }
 {

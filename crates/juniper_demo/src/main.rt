@@ -1,4 +1,5 @@
-//! The demo server: `juniper_demo TEXT` executes the request of the text and prints its answer as one line of JSON.
+//! The demo server: `juniper_demo TEXT [NAME] [VARIABLES]` executes the request of the text, by the operation of the name and with
+//! the values of variables of a JSON object, and prints its answer as one line of JSON.
 #![tactic(auto)]
 
 #[cfg(test)]

@@ -4,93 +4,155 @@ use juniper_demo_server::{DemoContext, answer};
 use std::alloc::{AllocError, Global};
 use std::test::Fail;
 
-fn words_of(alloc: Global, texts: &[&str]) -> Result<Vec<String>, AllocError> {
-    let mut words = Vec::with_capacity(alloc, texts.len())?;
-    for text in texts {
-        words.push(String::from_str(alloc, text)?)?;
+/// Texts of requests alone, each with the status and the line that are answered.
+const TEXTS: &str =
+    r#"{ id again: id name @skip(if: true) fail id } => 0 {"data":{"id":"q1","again":"q1","fail":null},"errors":[{"message":"failed","locations":[{"line":1,"column":37}],"path":["fail"]}]}
+{ nothing __typename } => 0 {"data":{"nothing":null,"__typename":"Query"}}
+{ id @skip(if: true) @include(if: true) } => 0 {"data":{}}
+{ fail b: fail } => 0 {"data":{"fail":null,"b":null},"errors":[{"message":"failed","locations":[{"line":1,"column":3}],"path":["fail"]},{"message":"failed","locations":[{"line":1,"column":8}],"path":["b"]}]}
+{ number a: number(plus: -41) b: number(plus: null) } => 0 {"data":{"number":42,"a":0,"b":null}}
+{ number(plus: 2147483607) } => 0 {"data":{"number":null},"errors":[{"message":"Too large","locations":[{"line":1,"column":3}],"path":["number"]}]}
+{ number(plus: 2147483606) } => 0 {"data":{"number":2147483647}}
+{ odd } => 0 {"data":{"odd":null},"errors":[{"message":"Answer of a wrong shape","locations":[{"line":1,"column":3}],"path":["odd"]}]}
+{ ids } => 0 {"data":{"ids":null},"errors":[{"message":"Null at a non-null place","locations":[{"line":1,"column":3}],"path":["ids"]}]}
+{ x } => 1 refused: Unknown field
+{ __schema { types { name } } } => 1 refused: Introspection is disabled
+{ __schema } => 1 refused: Selection set does not fit the field
+{ a: id a: name } => 1 refused: Fields cannot be merged
+{ number(plus: true) } => 1 refused: Argument does not fit its type
+{ id @skip } => 1 refused: Argument is missing
+{ id } } => 1 refused: Unexpected token
+query Q { id } => 0 {"data":{"id":"q1"}}
+query A($n: Int!) { id } query B { id } => 1 refused: Multiple operations provided
+fragment F on Query { id } => 1 refused: Unknown operation name
+query Q($c: Boolean) { id @include(if: $c) name } => 1 refused: Variable may not stand here
+query Q($n: Int = 5) { number(plus: $n) } => 0 {"data":{"number":46}}
+query Q($n: Int) { number(plus: $n) } => 0 {"data":{"number":42}}
+query Q($n: Int!) { number(plus: $n) } => 1 refused: Variable `$n` has no fitting value
+mutation { add(n: 1) { total } } => 1 refused: Mutations are not supported
+subscription { x } => 1 refused: Operation is a subscription
+ => 1 refused: Unexpected end of input"#;
+
+/// The same of requests for objects.
+const OBJECTS: &str =
+    r#"{ hero { id } hero { name } } => 0 {"data":{"hero":{"id":"2001","name":"R2-D2"}}}
+{ hero { id } hero { secret } } => 0 {"data":{"hero":null},"errors":[{"message":"secret is secret","locations":[{"line":1,"column":22}],"path":["hero","secret"]}]}
+{ mustHero { id } mustHero { secret } } => 0 {"data":null,"errors":[{"message":"secret is secret","locations":[{"line":1,"column":30}],"path":["mustHero","secret"]}]}
+{ grid { a } grid { b } } => 0 {"data":{"grid":[[{"a":10,"b":20}],[{"a":11,"b":21}]]}}
+{ holes { a } } => 0 {"data":{"holes":[[{"a":10},null]]}}
+{ ...F ...F } fragment F on Query { hero { id } } => 0 {"data":{"hero":{"id":"2001"}}}
+{ ...F } fragment F on Query { ...F } => 1 refused: Fragment spreads itself
+{ hero { name @skip(if: true) } } => 0 {"data":{"hero":{}}}
+{ hero { name ... on Human { height } ... on Droid { primaryFunction } } } => 0 {"data":{"hero":{"name":"R2-D2","primaryFunction":"Astromech"}}}
+{ hero(episode: EMPIRE) { name friends { name } } } => 0 {"data":{"hero":{"name":"Luke Skywalker","friends":[{"name":"R2-D2"}]}}}
+{ hero(episode: JEDI) { __typename } } => 0 {"data":{"hero":{"__typename":"Droid"}}}
+{ hero(episode: null) { __typename } } => 0 {"data":{"hero":{"__typename":"Droid"}}}
+{ hero(episode: OTHER) { id } } => 1 refused: Argument does not fit its type
+{ hero(episode: EMPIRE) { id ... on Human { height } } } => 0 {"data":{"hero":{"id":"1000","height":172}}}
+{ hero { friends { id } } } => 0 {"data":{"hero":{"friends":[{"id":"1000"},null]}}}
+{ hero { friends { secret } } } => 0 {"data":{"hero":{"friends":[null,null]}},"errors":[{"message":"secret is secret","locations":[{"line":1,"column":20}],"path":["hero","friends","secret"]}]}
+{ hero { appearsIn } } => 0 {"data":{"hero":{"appearsIn":["NEWHOPE","EMPIRE","JEDI"]}}}"#;
+
+/// The same of several words, with ` | ` between each two: a text, the name of an operation, and values of variables.
+const WORDS: &str =
+    r#"query A($n: Int!) { id } query B { id } | C => 1 refused: Unknown operation name
+query A($n: Int!) { id } query B { id } | B => 0 {"data":{"id":"q1"}}
+{ id } |  => 0 {"data":{"id":"q1"}}
+{ id } |  | {} => 0 {"data":{"id":"q1"}}
+query Q($n: Int = 5) { number(plus: $n) } | Q | {"n":null} => 0 {"data":{"number":null}}
+query Q($n: Int = 5) { number(plus: $n) } |  | {"n":1} => 0 {"data":{"number":42}}
+query Q($n: Int) { number(plus: $n) } |  | {"n":"1"} => 1 refused: Variable `$n` has no fitting value
+query Q($c: Boolean) { id @include(if: $c) name } |  | {"c":null} => 1 refused: Variable may not stand here
+query Q($c: Boolean!) { id @include(if: $c) name } |  | {"c":false} => 0 {"data":{"name":"demo"}}
+query Q($e: Episode) { hero(episode: $e) { id } } |  | {"e":"EMPIRE"} => 0 {"data":{"hero":{"id":"1000"}}}
+query Q($e: Episode) { hero(episode: $e) { id } } |  | {"e":"OTHER"} => 1 refused: Variable `$e` has no fitting value
+{ id } |  | {"n":[2147483647,-2147483648,{"m":[]}]} => 0 {"data":{"id":"q1"}}
+{ id } |  | {"n":2147483648} => 2 variables: number out of range
+{ id } |  | {"n":[{"m":-2147483649}]} => 2 variables: number out of range
+{ id } |  | {"n":1.0} => 2 variables: float
+{ id } |  | {"n":2147483648,"m":[{"k":1e2}]} => 2 variables: float
+{ id } |  | [] => 2 variables: not a JSON object
+{ x } |  | { => 2 variables: not a JSON object
+{ x } |  |  => 2 variables: not a JSON object
+{ id } |  | {} | more => 2 usage: juniper_demo TEXT [NAME] [VARIABLES]"#;
+
+/// The first row that is answered otherwise, or at which the context changes; nothing where there is none.
+fn first_wrong<'r>(alloc: Global, rows: &'r str) -> Result<&'r str, AllocError> {
+    for row in rows.lines() {
+        if !is_answered(alloc, row)? {
+            return Ok(row);
+        }
+    }
+    Ok("")
+}
+
+/// Whether a row, `WORDS => STATUS LINE`, says what the words are answered.
+fn is_answered(alloc: Global, row: &str) -> Result<bool, AllocError> {
+    match row.split_once(" => ") {
+        Some((words, said)) => Ok(answer_to(alloc, words)?.as_str() == said),
+        None => Ok(false),
+    }
+}
+
+/// The status and the line that are answered to these words, and `changed` where the context was changed.
+fn answer_to(alloc: Global, row: &str) -> Result<String, AllocError> {
+    let words = words_of(alloc, row)?;
+    let mut context = DemoContext::new();
+    let answer = answer(alloc, words.as_slice(), &mut context)?;
+    if context != DemoContext::new() {
+        return String::from_str(alloc, "changed");
+    }
+    let status = answer.status;
+    let line = answer.line.as_str();
+    format!(in alloc; "{status} {line}")
+}
+
+/// The words of a row.
+fn words_of(alloc: Global, row: &str) -> Result<Vec<String>, AllocError> {
+    let mut words = Vec::new(alloc);
+    for word in row.split(" | ") {
+        words.push(String::from_str(alloc, word)?)?;
     }
     Ok(words)
 }
 
 #[test]
-fn requests_are_answered(rt: HostRuntime) -> Result<(), Fail> {
-    let alloc = rt.alloc();
-    let rows = [
-        (
-            "{ id again: id name @skip(if: true) fail id }",
-            0,
-            r#"{"data":{"id":"q1","again":"q1","fail":null},"errors":[{"message":"failed","locations":[{"line":1,"column":37}],"path":["fail"]}]}"#,
-        ),
-        (
-            "{ nothing __typename }",
-            0,
-            r#"{"data":{"nothing":null,"__typename":"Query"}}"#,
-        ),
-        (
-            "{ id @skip(if: true) @include(if: true) }",
-            0,
-            r#"{"data":{}}"#,
-        ),
-        (
-            "{ fail b: fail }",
-            0,
-            r#"{"data":{"fail":null,"b":null},"errors":[{"message":"failed","locations":[{"line":1,"column":3}],"path":["fail"]},{"message":"failed","locations":[{"line":1,"column":8}],"path":["b"]}]}"#,
-        ),
-        (
-            "{ id\n  name fail }",
-            0,
-            r#"{"data":{"id":"q1","name":"demo","fail":null},"errors":[{"message":"failed","locations":[{"line":2,"column":8}],"path":["fail"]}]}"#,
-        ),
-        (
-            "{ number a: number(plus: -41) b: number(plus: null) }",
-            0,
-            r#"{"data":{"number":42,"a":0,"b":null}}"#,
-        ),
-        (
-            "{ number(plus: 2147483607) }",
-            0,
-            r#"{"data":{"number":null},"errors":[{"message":"Too large","locations":[{"line":1,"column":3}],"path":["number"]}]}"#,
-        ),
-        ("{ x }", 1, "refused: Unknown field"),
-        (
-            "{ __schema }",
-            1,
-            "refused: Selection set does not fit the field",
-        ),
-        ("{ a: id a: name }", 1, "refused: Fields cannot be merged"),
-        (
-            "{ number(plus: true) }",
-            1,
-            "refused: Argument does not fit its type",
-        ),
-        ("{ id @skip }", 1, "refused: Argument is missing"),
-        ("query Q { id }", 1, "refused: Not supported yet"),
-        ("{ id } }", 1, "refused: Unexpected token"),
-        ("", 1, "refused: Unexpected end of input"),
-    ];
-    for (text, status, line) in &rows {
-        let words = words_of(alloc, &[*text])?;
-        let mut context = DemoContext::new();
-        let answer = answer(alloc, words.as_slice(), &mut context)?;
-        assert_eq!(rt; answer.line.as_str(), *line, "{text}");
-        assert_eq!(rt; answer.status, *status, "{text}");
-        assert!(rt; context == DemoContext::new(), "{text}");
-    }
+fn texts_are_answered(rt: HostRuntime) -> Result<(), Fail> {
+    assert_eq!(rt; first_wrong(rt.alloc(), TEXTS)?, "");
     Ok(())
 }
 
 #[test]
-fn other_words_get_the_usage(rt: HostRuntime) -> Result<(), Fail> {
-    let alloc = rt.alloc();
-    let usage = "usage: juniper_demo TEXT [NAME] [VARIABLES]";
+fn objects_are_answered(rt: HostRuntime) -> Result<(), Fail> {
+    assert_eq!(rt; first_wrong(rt.alloc(), OBJECTS)?, "");
+    Ok(())
+}
+
+#[test]
+fn names_and_variables_are_read(rt: HostRuntime) -> Result<(), Fail> {
+    assert_eq!(rt; first_wrong(rt.alloc(), WORDS)?, "");
+    Ok(())
+}
+
+#[test]
+fn a_place_is_told_by_line_and_column(rt: HostRuntime) -> Result<(), Fail> {
+    let line =
+        r#"0 {"data":{"id":"q1","name":"demo","fail":null},"errors":[{"message":"failed","locations":[{"line":2,"column":8}],"path":["fail"]}]}"#;
+    assert_eq!(rt;
+        answer_to(rt.alloc(), "{ id\n  name fail }")?.as_str(),
+        line
+    );
+    Ok(())
+}
+
+#[test]
+fn no_words_get_the_usage(rt: HostRuntime) -> Result<(), Fail> {
     let mut context = DemoContext::new();
-    let no_words = words_of(alloc, &[])?;
-    let nothing = answer(alloc, no_words.as_slice(), &mut context)?;
-    assert_eq!(rt; nothing.line.as_str(), usage);
+    let nothing = answer(rt.alloc(), &[], &mut context)?;
+    assert_eq!(rt;
+        nothing.line.as_str(),
+        "usage: juniper_demo TEXT [NAME] [VARIABLES]"
+    );
     assert_eq!(rt; nothing.status, 2);
-    let two_words = words_of(alloc, &["{ id }", ""])?;
-    let two = answer(alloc, two_words.as_slice(), &mut context)?;
-    assert_eq!(rt; two.line.as_str(), usage);
-    assert_eq!(rt; two.status, 2);
     Ok(())
 }

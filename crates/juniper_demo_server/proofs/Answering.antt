@@ -1,23 +1,25 @@
--- What is shown of an outcome answers the text.
-use Rattle.std.proofs.Common.{◌≡◌, ◌≤◌, ◌<◌, List, [], ◌∷◌, None, map, length, get_or, Vec, String, Global, string_bytes, Result, Ok, Err, inl, inr, ap, ◌∙◌, subst, arith}
-use Rattle.std.specs.Prelude.{MatchResult, IfOk}
-use Rattle.graphql_spec.specs.Shown.{Text}
+-- What is shown of an outcome answers the words.
+use Rattle.std.proofs.Common.{◌≡◌, true, Option, None, map, Vec, Global, Result, Ok, Err, inl, inr, subst}
+use Rattle.std.specs.Prelude.{MatchResult}
+use Rattle.graphql_spec.specs.Shown.{Text, Name}
+use Rattle.graphql_spec.specs.Errors.{keys_only}
 use Rattle.graphql_spec.specs.Inputs.{Variables}
 use Rattle.graphql_spec.specs.Schema.{Schema}
 use Rattle.graphql_spec.specs.Executable.{IsSameSchema}
-use Rattle.graphql_spec.specs.Resolvers.{world_of}
-use Rattle.juniper.specs.Answering.{IsAnswered, IsRefusedWith}
-use Rattle.juniper_errors.specs.ErrorView.{view_listed}
+use Rattle.graphql_spec.specs.Outcomes.{IsOutcome, Request, Service}
+use Rattle.juniper.specs.Answering.{AnswersAs}
 use Rattle.juniper.specs.RequestErrors.{view_request_error}
 use Rattle.juniper.specs.declared.error.GraphQLError.{GraphQLError}
+use Rattle.juniper_errors.specs.ErrorView.{view_listed}
 use Rattle.juniper_errors.specs.declared.execution_error.ExecutionError.{ExecutionError}
 use Rattle.juniper_syntax.specs.Scalars.{default_shown}
 use Rattle.juniper_syntax.specs.ValueView.{view_value}
 use Rattle.juniper_syntax.specs.declared.scalar.DefaultScalarValue.{DefaultScalarValue}
 use Rattle.juniper_syntax.specs.declared.value.Value.{Value}
-use Rattle.juniper_demo_server.specs.Answers.{ShowsData, ShowsRefusal, IsAnswerToText, IsAnswerTo, no_values}
+use Rattle.juniper_demo_server.specs.Answers.{IsAnswerWith, ShowsData, ShowsRefusal}
 use Rattle.juniper_demo_server.specs.Demo.{concrete_type, reply}
 use Rattle.juniper_demo_server.specs.DemoSchema.{demo_schema}
+use Rattle.juniper_demo_server.specs.declared.demo.DemoContext.{DemoContext}
 use Rattle.juniper_demo_server.specs.declared.demo.DemoNode.{DemoNode}
 use Rattle.juniper_demo_server.specs.declared.demo.DemoNode.TheVariants.{Query}
 use Rattle.juniper_demo_server.specs.declared.outcome.Answer.{Answer}
@@ -28,27 +30,26 @@ Data = Value DefaultScalarValue × Vec (ExecutionError DefaultScalarValue) Globa
 abbrev Outcome : Type 0
 Outcome = Result Data GraphQLError
 
-module _ (t : Text) where
-  -- how the outcome of a request comes about, on a schema, with variables, from a root
-  abbrev pub IsOutcome : Schema → Variables → DemoNode → Outcome → Type 0
-  IsOutcome s vars m o = MatchResult o
-      (λ p. IsAnswered t s None vars (λ values. world_of s values concrete_type reply) m (view_value default_shown p.0) (map (view_listed default_shown) p.1.items))
-      (λ e. IsRefusedWith t s None vars (view_request_error e))
+-- what requests are executed with, from a root
+abbrev pub service_from : DemoNode → Schema → Service DemoContext DemoNode
+service_from m s = record { schema = s; introspection_disabled = true; concrete = λ c. concrete_type; answer = λ c. reply; root = m; mutation = None }
 
-  abbrev pub IsShown : Outcome → Answer → Type 0
-  IsShown o a = MatchResult o (λ p. ShowsData (view_value default_shown p.0) (map (view_listed default_shown) p.1.items) a) (λ e. ShowsRefusal (view_request_error e) a)
+-- how the outcome of a request comes about
+abbrev pub Comes : DemoNode → Schema → Request → DemoContext → DemoContext → Outcome → Type 0
+Comes m s q c after o = AnswersAs default_shown (λ r. IsOutcome (service_from m s) keys_only q c r after) o
 
-  shown : (s : Schema) → IsSameSchema demo_schema s → (o : Outcome) (a : Answer) → IsOutcome s no_values Query o → IsShown o a → IsAnswerToText t a
-  shown s same (Ok p) a comes shows = (s, same, inl (_, _, comes, shows))
-  shown s same (Err e) a comes shows = (s, same, inr (_, comes, shows))
+-- what is shown of it
+abbrev pub IsShown : Outcome → Answer → Type 0
+IsShown o a = MatchResult o (λ p. ShowsData (view_value default_shown p.0) (map (view_listed default_shown) p.1.items) a) (λ e. ShowsRefusal (view_request_error e) a)
 
-  pub text_answered : (s : Schema) (vars : Variables) (m : DemoNode) (o : Outcome) (a : Answer) → IsSameSchema demo_schema s → vars ≡ no_values → m ≡ Query → IsOutcome s vars m o → IsShown o a → IsAnswerToText t a
-  text_answered s vars m o a same is_vars is_root comes shows =
-      shown s same o a (subst (λ x. IsOutcome s x Query o) is_vars (subst (λ x. IsOutcome s vars x o) is_root comes)) shows
+module _ (t : Text) (c after : DemoContext) where
+  shown : (n : Option Name) (vars : Variables) (s : Schema) → IsSameSchema demo_schema s → (o : Outcome) (a : Answer) → Comes Query s (record { text = t; operation = n; variables = vars }) c after o → IsShown o a
+      → IsAnswerWith t n vars c a after
+  shown n vars s same (Ok p) a comes shows = (s, same, inl (_, _, comes, shows))
+  shown n vars s same (Err e) a comes shows = (s, same, inr (_, comes, shows))
 
--- the words are one word
-pub one_answered : {E : Type 0} (words : List (String Global)) (word : String Global) (t : Text) (r : Result Answer E) → 1 ≤ length words → length words < 2 → word ≡ get_or words 0 word → t ≡ string_bytes word →
-    IfOk r (IsAnswerToText t) → IfOk r (IsAnswerTo (map (λ w. string_bytes w) words))
-one_answered [] word t r some one is_word is_text answers = absurd (omega arith)
-one_answered (w ∷ []) word t r some one is_word is_text answers = subst (λ x. IfOk r (IsAnswerToText x)) (is_text ∙ ap (λ x. string_bytes x) is_word) answers
-one_answered (w ∷ (x ∷ rest)) word t r some one is_word is_text answers = absurd (omega arith)
+  pub request_answered : (n l : Option Name) (vars : Variables) (m : DemoNode) (s : Schema) (o : Outcome) (a : Answer) → l ≡ n → m ≡ Query → IsSameSchema demo_schema s
+      → Comes m s (record { text = t; operation = l; variables = vars }) c after o → IsShown o a → IsAnswerWith t n vars c a after
+  request_answered n l vars m s o a is_name is_root same comes shows =
+      shown n vars s same o a (subst (λ x. Comes Query s (record { text = t; operation = x; variables = vars }) c after o) is_name
+      (subst (λ x. Comes x s (record { text = t; operation = l; variables = vars }) c after o) is_root comes)) shows

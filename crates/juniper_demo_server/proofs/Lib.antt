@@ -1,4 +1,4 @@
-pub mod Sums
-pub mod Answering
-pub mod ServedDemo
-pub mod DemoTypes
+mod Answering
+mod AwaitedEach
+mod PutTypes
+mod ServedDemo

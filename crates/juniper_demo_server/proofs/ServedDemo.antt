@@ -1,14 +1,15 @@
 -- The demo's schema is executable, and what is made of the demo's types is this schema.
 use Rattle.std.proofs.Common.{◌≡◌, IsTrue, true, codes, List, None, refl, ap, ◌∙◌, sym, subst, bytes_eq, inl, inr}
 use Rattle.std.proofs.lemmas.Bool.{cases_Bool}
-use Rattle.graphql_spec.specs.Schema.{Schema, Entry, plain_field}
+use Rattle.graphql_spec.specs.BuiltIns.{value_named}
+use Rattle.graphql_spec.specs.Schema.{Schema, Entry, plain_field, plain_input}
 use Rattle.graphql_spec.specs.Fits.{fits, through, scalar_fits}
 use Rattle.graphql_spec.specs.Inputs.{is_const}
-use Rattle.graphql_spec.specs.Types.{innermost, same_type, required}
+use Rattle.graphql_spec.specs.Types.{innermost, nullable, same_type, required}
 use Rattle.graphql_spec.specs.Tokens.{is_name, starts_name, continues_name}
 use Rattle.graphql_spec.specs.Shown.{Name, same_bool}
-use Rattle.graphql_spec.specs.Fields.{accepts_kind, entry_in, or_else, typename_field, shape_of, entry_named, type_named, is_object, is_interface, is_composite, is_leaf, is_input, interfaces_of, members_of, fields_of}
-use Rattle.graphql_spec.specs.Executable.{values_of, input_fields_of, shape_fields, names_differ, is_filled, is_reserved, no_declarations, is_typename_field, input_is_free, field_is_free, is_own_name, entry_is_named, entries_are_named, mutation_is_apart, roots_are_objects, ends_in_output, ends_in_input, field_is_known, types_are_known, input_names_differ, is_value_name, entry_names_differ, all_names_differ, implements, interfaces_are_met, default_is_right, defaults_fit, accepts_just, scalar_if_there, built_ins_are_right, is_executable, IsSameSchema}
+use Rattle.graphql_spec.specs.Fields.{field_in, is_subtype, is_named_subtype, accepts_kind, entry_in, or_else, typename_field, shape_of, entry_named, type_named, is_object, is_interface, is_composite, is_leaf, is_input, interfaces_of, members_of, fields_of}
+use Rattle.graphql_spec.specs.Executable.{implements_field, values_of, input_fields_of, shape_fields, names_differ, is_filled, is_reserved, no_declarations, is_typename_field, input_is_free, field_is_free, is_own_name, entry_is_named, entries_are_named, mutation_is_apart, roots_are_objects, ends_in_output, ends_in_input, field_is_known, types_are_known, input_names_differ, is_value_name, entry_names_differ, all_names_differ, implements, interfaces_are_met, default_is_right, defaults_fit, accepts_just, scalar_if_there, built_ins_are_right, is_executable, IsSameSchema}
 use Rattle.graphql_spec.proofs.Lists.{same_true}
 use Rattle.graphql_spec.proofs.Reordered.{order_is_open}
 use Rattle.juniper_meta.specs.MetaView.{is_placeholder}
@@ -16,7 +17,7 @@ use Rattle.juniper_schema.specs.SchemaView.{AreCompleted, with_built_ins}
 use Rattle.juniper_demo_server.specs.DemoSchema.{demo_schema, demo_types}
 
 demo_is_executable : is_executable demo_schema ≡ true
-unfolding typename_field is_const fits through scalar_fits accepts_kind type_named or_else required plain_field innermost same_type is_name starts_name continues_name same_bool entry_in shape_of entry_named is_object is_interface is_composite is_leaf is_input interfaces_of members_of fields_of values_of input_fields_of shape_fields names_differ is_filled is_reserved no_declarations is_typename_field input_is_free field_is_free is_own_name entry_is_named entries_are_named mutation_is_apart roots_are_objects ends_in_output ends_in_input field_is_known types_are_known input_names_differ is_value_name entry_names_differ all_names_differ implements interfaces_are_met default_is_right defaults_fit accepts_just scalar_if_there built_ins_are_right is_executable
+unfolding typename_field is_const fits through scalar_fits accepts_kind type_named or_else required plain_field innermost same_type is_name starts_name continues_name same_bool entry_in shape_of entry_named is_object is_interface is_composite is_leaf is_input interfaces_of members_of fields_of values_of input_fields_of shape_fields names_differ is_filled is_reserved no_declarations is_typename_field input_is_free field_is_free is_own_name entry_is_named entries_are_named mutation_is_apart roots_are_objects ends_in_output ends_in_input field_is_known types_are_known input_names_differ is_value_name entry_names_differ all_names_differ implements interfaces_are_met default_is_right defaults_fit accepts_just scalar_if_there built_ins_are_right is_executable plain_input value_named nullable implements_field field_in is_subtype is_named_subtype
 demo_is_executable = refl
 
 -- the demo's types, with the built-in scalars, are the entries of its schema

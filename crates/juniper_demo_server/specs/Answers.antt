@@ -1,24 +1,40 @@
 -- What the program answers.
-use Rattle.std.specs.Prelude.{◌≡◌, ◌⊎◌, List, [], ◌∷◌, ◌++◌, None, codes, string_bytes}
-use Rattle.graphql_spec.specs.Shown.{Text}
+use Rattle.std.specs.Prelude.{◌≡◌, ◌⊎◌, true, List, [], ◌∷◌, ◌++◌, Option, Some, None, Result, Ok, Err, codes, string_bytes}
+use Rattle.graphql_spec.specs.Shown.{Text, Name}
 use Rattle.graphql_spec.specs.Values.{Value}
 use Rattle.graphql_spec.specs.Inputs.{Variables}
-use Rattle.graphql_spec.specs.Errors.{Listed}
+use Rattle.graphql_spec.specs.Errors.{Listed, keys_only}
 use Rattle.graphql_spec.specs.Schema.{Schema}
 use Rattle.graphql_spec.specs.Executable.{IsSameSchema}
-use Rattle.graphql_spec.specs.Resolvers.{World, world_of}
-use Rattle.juniper.specs.Answering.{IsAnswered, IsRefusedWith}
+use Rattle.graphql_spec.specs.Outcomes.{IsOutcome, Request, Service, responds}
+use Rattle.juniper.specs.Answering.{Responds}
 use Rattle.juniper.specs.RequestErrors.{RequestError, request_error_text}
 use Rattle.juniper_response.specs.AnswerText.{answer_text}
+use Rattle.juniper_variables.specs.Given.{variables_by}
+use Rattle.juniper_variables.specs.declared.read.VariablesError.{VariablesError}
+use Rattle.juniper_variables.specs.declared.read.VariablesError.TheVariants.{NotAnObject, Float, OutOfRange}
 use Rattle.juniper_demo_server.specs.Demo.{concrete_type, reply}
 use Rattle.juniper_demo_server.specs.DemoSchema.{demo_schema}
+use Rattle.juniper_demo_server.specs.declared.demo.DemoContext.{DemoContext}
 use Rattle.juniper_demo_server.specs.declared.demo.DemoNode.{DemoNode}
 use Rattle.juniper_demo_server.specs.declared.demo.DemoNode.TheVariants.{Query}
 use Rattle.juniper_demo_server.specs.declared.outcome.Answer.{Answer}
 
--- the usage, with status 2
+-- ## Lines
+
+-- words that are not understood: this line, with status 2
+abbrev pub IsRefusal : Text → Answer → Type 0
+IsRefusal line a = (a.status ≡ 2) × (string_bytes a.line ≡ line)
+
+-- the usage
 abbrev pub IsUsage : Answer → Type 0
-IsUsage a = (a.status ≡ 2) × (string_bytes a.line ≡ codes "usage: juniper_demo TEXT [NAME] [VARIABLES]")
+IsUsage a = IsRefusal (codes "usage: juniper_demo TEXT [NAME] [VARIABLES]") a
+
+-- why a text gives no values of variables
+abbrev pub variables_text : VariablesError → Text
+variables_text NotAnObject = codes "variables: not a JSON object"
+variables_text Float = codes "variables: float"
+variables_text OutOfRange = codes "variables: number out of range"
 
 -- the text of an answer with these data and errors, with status 0
 abbrev pub ShowsData : Value → List Listed → Answer → Type 0
@@ -28,26 +44,41 @@ ShowsData v es a = (a.status ≡ 0) × (string_bytes a.line ≡ answer_text v es
 abbrev pub ShowsRefusal : RequestError → Answer → Type 0
 ShowsRefusal e a = (a.status ≡ 1) × (string_bytes a.line ≡ codes "refused: " ++ request_error_text e)
 
+-- ## Requests
+
 -- no variable has a value
 abbrev pub no_values : Variables
 no_values = λ name. None
 
--- what an execution on the demo asks, for the values of the variables (6.4.2)
-abbrev pub demo_world : Schema → Variables → World DemoNode
-demo_world s vars = world_of s vars concrete_type reply
+-- the name of an operation: an empty word is none
+abbrev pub name_in : Text → Option Name
+name_in [] = None
+name_in (b ∷ bs) = Some (b ∷ bs)
 
--- the request of a text, without name and variables, on a schema: what its execution gives, or why it is refused (6.1)
-abbrev pub IsAnswerOn : Schema → Text → Answer → Type 0
-IsAnswerOn s t a =
-    ((v : Value) × (es : List Listed) × IsAnswered t s None no_values (demo_world s) Query v es × ShowsData v es a)
-    ⊎ ((e : RequestError) × IsRefusedWith t s None no_values e × ShowsRefusal e a)
+-- what requests to the demo are executed with, on a schema (6.1): introspection is disabled, and there is no mutation
+abbrev pub demo_service : Schema → Service DemoContext DemoNode
+demo_service s = record { schema = s; introspection_disabled = true; concrete = λ c. concrete_type; answer = λ c. reply; root = Query; mutation = None }
+
+-- a request on a schema, in a context: what its execution gives, or why it is refused (6.1)
+abbrev pub IsAnswerOn : Schema → Request → DemoContext → Answer → DemoContext → Type 0
+IsAnswerOn s q c a after =
+    ((v : Value) × (es : List Listed) × IsOutcome (demo_service s) keys_only q c (responds v es) after × ShowsData v es a)
+    ⊎ ((e : RequestError) × Responds (λ r. IsOutcome (demo_service s) keys_only q c r after) e × ShowsRefusal e a)
 
 -- the same on the demo's schema, in whatever order it has its types
-abbrev pub IsAnswerToText : Text → Answer → Type 0
-IsAnswerToText t a = (s : Schema) × IsSameSchema demo_schema s × IsAnswerOn s t a
+abbrev pub IsAnswerWith : Text → Option Name → Variables → DemoContext → Answer → DemoContext → Type 0
+IsAnswerWith t n vars c a after = (s : Schema) × IsSameSchema demo_schema s × IsAnswerOn s (record { text = t; operation = n; variables = vars }) c a after
 
--- one word is the text of a request, and any other number of them gets the usage
-abbrev pub IsAnswerTo : List Text → Answer → Type 0
-IsAnswerTo [] a = IsUsage a
-IsAnswerTo (t ∷ []) a = IsAnswerToText t a
-IsAnswerTo (t ∷ (u ∷ rest)) a = IsUsage a
+-- with the values of variables, or why there are none
+abbrev pub IsAnswerGiven : Text → Option Name → Result Variables VariablesError → DemoContext → Answer → DemoContext → Type 0
+IsAnswerGiven t n (Ok vars) c a after = IsAnswerWith t n vars c a after
+IsAnswerGiven t n (Err e) c a after = IsRefusal (variables_text e) a
+
+-- the words are the text of a request, the name of an operation and the values of variables, of which the last may be left
+-- out; any other number of them gets the usage
+abbrev pub IsAnswerTo : List Text → DemoContext → Answer → DemoContext → Type 0
+IsAnswerTo [] c a after = IsUsage a
+IsAnswerTo (t ∷ []) c a after = IsAnswerWith t None no_values c a after
+IsAnswerTo (t ∷ (n ∷ [])) c a after = IsAnswerWith t (name_in n) no_values c a after
+IsAnswerTo (t ∷ (n ∷ (given ∷ []))) c a after = IsAnswerGiven t (name_in n) (variables_by given) c a after
+IsAnswerTo (t ∷ (n ∷ (given ∷ (word ∷ rest)))) c a after = IsUsage a

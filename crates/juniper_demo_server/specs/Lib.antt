@@ -1,3 +1,5 @@
 pub mod Answers
+pub mod DeclaredTypes
 pub mod Demo
 pub mod DemoSchema
+pub mod DemoTypes

@@ -1,16 +1,13 @@
-//! The demo's resolver.
+//! The demo's root, what stands for its objects, and its resolver.
 
-ghost use Rattle.std.specs.Prelude.{◌≡◌, codes, pos};
-ghost use Rattle.graphql_spec.specs.Constants.{find};
-ghost use Rattle.graphql_spec.specs.Resolvers.{failed};
-ghost use Rattle.juniper_values.specs.ArgumentView.{view_arguments};
-ghost use Rattle.juniper_errors.specs.Messages.{message_alone};
-ghost use Rattle.juniper_resolvable.specs.ResolvedView.{Answers};
-ghost use Rattle.juniper_demo_server.specs.Demo.{concrete_type, number_reply, query_reply, reply, root_of, sum_reply};
+ghost use Rattle.std.specs.Prelude.{◌≡◌, pos};
+ghost use Rattle.juniper_demo_server.specs.Demo.{concrete_type, episode_named, reply, root_of};
 ghost use Rattle.juniper_demo_server.specs.declared.demo.DemoNode.TheVariants.{Query};
 
-use juniper::{Arguments, Executor, FieldError, GraphQLValue, ResolveError, Resolved};
-use juniper_language::{ScalarValue, Value};
+use crate::resolvers::{cell_field, droid_field, human_field, query_field};
+use juniper_language::ScalarValue;
+use juniper_types::{Context, Executor, GraphQLValue, Resolved};
+use juniper_values::{Arguments, EnumName, ResolveError};
 use std::alloc::Global;
 
 /// What requests to the demo bring along: a running total, and how many additions made it.
@@ -31,11 +28,43 @@ impl DemoContext {
     }
 }
 
+impl Context for DemoContext {}
+
+/// `enum Episode { NEWHOPE EMPIRE JEDI }`.
+#[derive(Clone, Copy, Debug, PartialEq, Eq, Drop)]
+pub enum Episode {
+    /// `NEWHOPE`.
+    NewHope,
+    /// `EMPIRE`.
+    Empire,
+    /// `JEDI`.
+    Jedi,
+}
+
+impl EnumName for Episode {
+    ghost named = { episode_named };
+
+    fn from_name(name: &str) -> Option<Episode> {
+        match name {
+            "NEWHOPE" => Some(Episode::NewHope),
+            "EMPIRE" => Some(Episode::Empire),
+            "JEDI" => Some(Episode::Jedi),
+            _ => None,
+        }
+    }
+}
+
 /// What stands for an object of the demo.
 #[derive(Clone, Copy, Debug, PartialEq, Eq, Drop)]
 pub enum DemoNode {
     /// The root of queries.
     Query,
+    /// The droid.
+    Droid,
+    /// The human.
+    Human,
+    /// A cell, by its number.
+    Cell(u8),
 }
 
 /// The demo's root.
@@ -82,6 +111,9 @@ impl<S: ScalarValue> GraphQLValue<S> for Demo {
     ) -> &'r str {
         match node {
             DemoNode::Query => "Query",
+            DemoNode::Droid => "Droid",
+            DemoNode::Human => "Human",
+            DemoNode::Cell(_) => "Cell",
         }
     }
 
@@ -92,59 +124,13 @@ impl<S: ScalarValue> GraphQLValue<S> for Demo {
         node: &Self::Node,
         field_name: &str,
         arguments: &Arguments<'_, S>,
-        _executor: &Executor<'_, '_, Self::Context, S>,
+        _executor: &Executor<Self::Context, S>,
     ) -> Result<Resolved<Self::Node, S>, ResolveError<S>> {
-        match node {
-            DemoNode::Query => of_query(alloc, field_name, arguments),
+        match *node {
+            DemoNode::Query => query_field(alloc, field_name, arguments),
+            DemoNode::Droid => droid_field(alloc, field_name),
+            DemoNode::Human => human_field(alloc, field_name),
+            DemoNode::Cell(number) => cell_field(number, field_name),
         }
     }
-}
-
-/// The answer to a field of the root.
-fn of_query<S: ScalarValue>(
-    alloc: Global,
-    field_name: &str,
-    arguments: &Arguments<'_, S>,
-) -> Result<Resolved<DemoNode, S>, ResolveError<S>>
-    ensures { Answers S.shown result (query_reply field_name.now (view_arguments S.shown arguments.now)) }
-{
-    match field_name {
-        "id" => Ok(Resolved::Scalar(S::from_text(String::from_str(alloc, "q1")?)?)),
-        "name" => Ok(Resolved::Scalar(S::from_text(String::from_str(alloc, "demo")?)?)),
-        "fail" => Err(ResolveError::Field(FieldError::new(alloc, "failed", Value::Null)?)),
-        "number" => number(alloc, arguments),
-        _ => Ok(Resolved::Null),
-    }
-}
-
-/// The answer to `number`: the sum of 41 and its argument `plus`, and null where that is null.
-fn number<S: ScalarValue>(
-    alloc: Global,
-    arguments: &Arguments<'_, S>,
-) -> Result<Resolved<DemoNode, S>, ResolveError<S>>
-    ensures { Answers S.shown result (number_reply (find (codes "plus") (view_arguments S.shown arguments.now))) }
-{
-    let plus: Option<Option<i32>> = arguments.get(alloc, "plus")?;
-    match plus {
-        None => Ok(Resolved::Null),
-        Some(None) => Ok(Resolved::Null),
-        Some(Some(plus)) => sum(alloc, plus),
-    }
-}
-
-/// The sum of 41 and a number; an error where 32 bits do not hold it.
-fn sum<S: ScalarValue>(alloc: Global, plus: i32) -> Result<Resolved<DemoNode, S>, ResolveError<S>>
-    ensures { Answers S.shown result (sum_reply plus) }
-{
-    match plus.checked_add(41) {
-        Some(sum) => Ok(Resolved::Scalar(S::from_int(sum))),
-        None => too_large(alloc),
-    }
-}
-
-/// The error of a sum that 32 bits do not hold.
-fn too_large<S: ScalarValue>(alloc: Global) -> Result<Resolved<DemoNode, S>, ResolveError<S>>
-    ensures { Answers S.shown result (failed (message_alone (codes "Too large"))) }
-{
-    Err(ResolveError::Field(FieldError::new(alloc, "Too large", Value::Null)?))
 }

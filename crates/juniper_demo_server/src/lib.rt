@@ -1,12 +1,16 @@
 //! The demo server: its schema, its resolvers, and what it answers to the words of a request.
 #![tactic(auto)]
 
+mod declare;
 mod demo;
 mod outcome;
+mod resolvers;
 mod schema;
+mod types;
 mod words;
 
-pub use demo::{Demo, DemoContext, DemoNode};
+pub use demo::{Demo, DemoContext, DemoNode, Episode};
 pub use outcome::{Answer, Outcome, show};
 pub use schema::{DemoRoot, demo_root};
+pub use types::{Cell, Character, Droid, Human};
 pub use words::answer;

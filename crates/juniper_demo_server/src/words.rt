@@ -1,49 +1,101 @@
 //! What the program answers to the words that it is given.
 
-ghost use Rattle.std.specs.Prelude.{◌≡◌, IfOk, string_bytes, map};
+ghost use Rattle.std.specs.Prelude.{◌≡◌, IfOk, codes, map, option_map, string_bytes};
 ghost use Rattle.juniper_syntax.specs.InputView.{view_variables};
 ghost use Rattle.juniper_syntax.specs.Scalars.{default_shown};
-ghost use Rattle.juniper_demo_server.specs.Answers.{IsAnswerTo, IsAnswerToText, no_values};
+ghost use Rattle.juniper_variables.specs.Given.{variables_by};
+ghost use Rattle.juniper_demo_server.specs.Answers.{IsAnswerGiven, IsAnswerTo, IsAnswerWith, IsRefusal, IsUsage, name_in, no_values, variables_text};
 
 use crate::demo::DemoContext;
 use crate::outcome::{Answer, show};
 use crate::schema::demo_root;
 use juniper::execute_sync;
 use juniper_language::{DefaultScalarValue, Variables};
+use juniper_variables::{VariablesError, read_variables};
 use std::alloc::{AllocError, Global};
 
-/// What the program answers to its words: one word is the text of a request to the demo, and any other number of them gets
-/// the usage. An error where memory is refused.
+/// What the program answers to its words: the text of a request to the demo, the name of an operation, where an empty one
+/// means none, and the values of variables as a JSON object. The last one or two may be left out, and any other number of
+/// words gets the usage. An error where memory is refused.
 pub fn answer(
     alloc: Global,
     words: &[String],
     context: &mut DemoContext,
 ) -> Result<Answer, AllocError>
-    ensures answer { IfOk result (IsAnswerTo (map (λ w. string_bytes w) words.now)) }
+    ensures answer { IfOk result (λ a. IsAnswerTo (map (λ w. string_bytes w) words.now) context.old a context.new) }
     ensures context { context.new ≡ context.old }
 {
     match words {
-        [text] => answer_to_text(alloc, text.as_str(), context),
-        _ => Ok(Answer {
-            status: 2,
-            line: String::from_str(alloc, "usage: juniper_demo TEXT [NAME] [VARIABLES]")?,
-        }),
+        [] => usage(alloc),
+        [text] => answer_without(alloc, text.as_str(), "", context),
+        [text, name] => answer_without(alloc, text.as_str(), name.as_str(), context),
+        [text, name, given] => {
+            answer_given(alloc, text.as_str(), name.as_str(), given.as_str(), context)
+        }
+        [_, _, _, _, ..] => usage(alloc),
     }
 }
 
-/// What the program answers to the text of a request. An error where memory is refused.
-fn answer_to_text(
+/// Any other number of words gets this.
+fn usage(alloc: Global) -> Result<Answer, AllocError>
+    ensures { IfOk result IsUsage }
+{
+    refuse(alloc, "usage: juniper_demo TEXT [NAME] [VARIABLES]")
+}
+
+/// What the program answers to a request without values of variables.
+fn answer_without(
     alloc: Global,
     text: &str,
+    name: &str,
     context: &mut DemoContext,
 ) -> Result<Answer, AllocError>
-    ensures answer { IfOk result (IsAnswerToText text.now) }
+    ensures answer { IfOk result (λ a. IsAnswerWith text.now (name_in name.now) no_values context.old a context.new) }
+    ensures context { context.new ≡ context.old }
+{
+    let variables = no_variables(alloc);
+    answer_with(alloc, text, name, &variables, context)
+}
+
+/// What the program answers to a request with a JSON object of values of variables.
+fn answer_given(
+    alloc: Global,
+    text: &str,
+    name: &str,
+    given: &str,
+    context: &mut DemoContext,
+) -> Result<Answer, AllocError>
+    ensures answer { IfOk result (λ a. IsAnswerGiven text.now (name_in name.now) (variables_by given.now) context.old a context.new) }
+    ensures context { context.new ≡ context.old }
+{
+    match read_variables(alloc, given)? {
+        Ok(variables) => answer_with(alloc, text, name, &variables, context),
+        Err(error) => refuse(alloc, line_of(error)),
+    }
+}
+
+/// What the program answers to a request with these values of variables.
+fn answer_with(
+    alloc: Global,
+    text: &str,
+    name: &str,
+    variables: &Variables<DefaultScalarValue>,
+    context: &mut DemoContext,
+) -> Result<Answer, AllocError>
+    ensures answer { IfOk result (λ a. IsAnswerWith text.now (name_in name.now) (view_variables default_shown variables.now) context.old a context.new) }
     ensures context { context.new ≡ context.old }
 {
     let root = demo_root(alloc)?;
-    let variables = no_variables(alloc);
-    let outcome = execute_sync(alloc, text, None, &root, &variables, context);
+    let name = operation_name(name);
+    let outcome = execute_sync(alloc, text, name, &root, variables, context);
     show(alloc, &outcome)
+}
+
+/// The name of an operation; an empty word is none.
+fn operation_name(word: &str) -> Option<&str>
+    ensures { option_map (λ n. n.now) result ≡ name_in word.now }
+{
+    if word.is_empty() { None } else { Some(word) }
 }
 
 /// The values of no variables.
@@ -51,4 +103,25 @@ fn no_variables(alloc: Global) -> Variables<DefaultScalarValue>
     ensures { view_variables default_shown result ≡ no_values }
 {
     Variables::new(alloc)
+}
+
+/// Words that are not understood: this line, and status 2.
+fn refuse(alloc: Global, line: &str) -> Result<Answer, AllocError>
+    ensures { IfOk result (IsRefusal line.now) }
+{
+    Ok(Answer {
+        status: 2,
+        line: String::from_str(alloc, line)?,
+    })
+}
+
+/// The line for a text that gives no values of variables.
+fn line_of(error: VariablesError) -> &'static str
+    ensures { result.now ≡ variables_text error }
+{
+    match error {
+        VariablesError::NotAnObject => "variables: not a JSON object",
+        VariablesError::Float => "variables: float",
+        VariablesError::OutOfRange => "variables: number out of range",
+    }
 }

@@ -1,2 +1,3 @@
 pub mod ErrorView
 pub mod Messages
+pub mod PathView

@@ -70,22 +70,100 @@ fn has_entries(
     first: (&str, i32),
     second: (&str, i32),
 ) -> bool {
-    match object.iter().as_slice() {
-        [one, other] => is_entry(one, first)
-            && is_entry(other, second)
-            && object.field_count() == 2,
-        _ => false,
-    }
+    let mut entries = object.iter();
+    is_entry(entries.next(), first)
+        && is_entry(entries.next(), second)
+        && entries.next().is_none()
+        && object.field_count() == 2
 }
 
-fn is_entry(entry: &(String, Value<DefaultScalarValue>), wanted: (&str, i32)) -> bool {
-    entry.0.as_str() == wanted.0 && int_of(&entry.1) == Some(wanted.1)
+fn is_entry(entry: Option<(&String, &Value<DefaultScalarValue>)>, wanted: (&str, i32)) -> bool {
+    match entry {
+        Some((key, value)) => key.as_str() == wanted.0 && int_of(value) == Some(wanted.1),
+        None => false,
+    }
 }
 
 fn keeps_places(object: Object<DefaultScalarValue>) -> bool {
     has_entries(&object, ("a", 3), ("b", 2))
         && object.contains_field("b")
         && object.get_field_value("c").is_none()
+}
+
+/// Whether an entry has the key, and the Int or null.
+fn hands(entry: Option<(String, Value<DefaultScalarValue>)>, key: &str, int: Option<i32>) -> bool {
+    match entry {
+        Some((name, value)) => name.as_str() == key && int_of(&value) == int,
+        None => false,
+    }
+}
+
+/// Whether taking a value leaves null at its key, and the entries are handed over in order.
+fn leaves_null(object: Object<DefaultScalarValue>) -> bool {
+    let mut object = object;
+    let taken = object.take_field("a");
+    let absent = object.take_field("c");
+    let mut entries = object.into_fields();
+    let first = hands(entries.next(), "a", None);
+    let second = hands(entries.next(), "b", Some(2));
+    let ended = entries.next().is_none();
+    is_int(taken, 3) && absent.is_none() && first && second && ended
+}
+
+fn is_int(value: Option<Value<DefaultScalarValue>>, int: i32) -> bool {
+    match value {
+        Some(value) => int_of(&value) == Some(int),
+        None => false,
+    }
+}
+
+#[test]
+fn what_is_taken_leaves_null(rt: HostRuntime) -> Result<(), Fail> {
+    assert!(rt; leaves_null(object_of_two(rt.alloc())?));
+    Ok(())
+}
+
+/// The entries of `object_of_two` in the other order.
+fn turned(alloc: Global) -> Result<Object<DefaultScalarValue>, AllocError> {
+    let mut object = Object::with_capacity(alloc, 2)?;
+    put(alloc, &mut object, "b", 2)?;
+    put(alloc, &mut object, "a", 3)?;
+    Ok(object)
+}
+
+#[test]
+fn the_order_of_keys_counts(rt: HostRuntime) -> Result<(), Fail> {
+    let alloc = rt.alloc();
+    assert!(rt; object_of_two(alloc)? == object_of_two(alloc)?);
+    assert!(rt; object_of_two(alloc)? != turned(alloc)?);
+    Ok(())
+}
+
+/// Whether each of so many keys is found again, and no other.
+fn finds_each(alloc: Global, count: i32) -> Result<bool, AllocError> {
+    let mut object = Object::with_capacity(alloc, 0)?;
+    for n in 0..count {
+        let key = format!(in alloc; "key{n}")?;
+        put(alloc, &mut object, key.as_str(), n)?;
+    }
+    for n in 0..count {
+        let key = format!(in alloc; "key{n}")?;
+        match object.get_field_value(key.as_str()) {
+            Some(value) => {
+                if int_of(value) != Some(n) {
+                    return Ok(false);
+                }
+            }
+            None => return Ok(false),
+        }
+    }
+    Ok(object.get_field_value("key").is_none())
+}
+
+#[test]
+fn each_of_many_keys_is_found(rt: HostRuntime) -> Result<(), Fail> {
+    assert!(rt; finds_each(rt.alloc(), 1000)?);
+    Ok(())
 }
 
 #[test]

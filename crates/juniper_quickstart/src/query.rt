@@ -93,7 +93,7 @@ impl<S: ScalarValue> GraphQLValue<S> for Query {
         _node: &Self::Node,
         field_name: &str,
         arguments: &Arguments<'_, S>,
-        _executor: &Executor<'_, '_, Self::Context, S>,
+        _executor: &Executor<Self::Context, S>,
     ) -> Result<Resolved<Self::Node, S>, ResolveError<S>> {
         resolve(alloc, field_name, arguments)
     }

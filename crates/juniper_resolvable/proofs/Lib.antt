@@ -1,2 +1,3 @@
 mod ListReplies
 pub mod Resolutions
+mod Sums

@@ -1,6 +1,7 @@
 //! What resolvers answer, and what converts to it (sections 3.5 and 6.4.2 of the Specification).
 #![tactic(auto)]
 
+mod answers;
 mod into_resolvable;
 mod resolved;
 mod scalars;
@@ -8,5 +9,6 @@ mod scalars;
 mod tests;
 mod wrappers;
 
+pub use answers::{add, fails, int, list, null, object, text};
 pub use into_resolvable::{IntoResolvable, OfNode};
 pub use resolved::Resolved;

@@ -1,5 +1,5 @@
 -- What a scalar shows decides how it is sent.
-use Rattle.std.proofs.Common.{◌≡◌, ℤ, Bool, Option, Some, None}
+use Rattle.std.proofs.Common.{◌≡◌, ℤ, Bool, Option, Some}
 use Rattle.graphql_spec.specs.Shown.{Text, Shown, int, text, boolean, shown_int, shown_text, shown_boolean}
 use Rattle.serde_json.specs.Data as json
 use Rattle.serde_json.specs.Data.{Data}

@@ -1,5 +1,5 @@
 -- Sending lists item by item.
-use Rattle.std.proofs.Common.{◌≡◌, ℕ, ◌≤◌, List, [], ◌∷◌, String, Global, map, drop, length, suc, Some, refl, ap, sym, subst, arith, ◌∙◌}
+use Rattle.std.proofs.Common.{◌≡◌, ℕ, ◌≤◌, List, [], ◌∷◌, String, Global, map, drop, length, suc, Some, refl, ap, sym, subst, ◌∙◌}
 use Rattle.std.proofs.lemmas.List.{drop_all, length-map}
 use Rattle.graphql_spec.specs.Shown.{Shown}
 use Rattle.graphql_spec.specs.Values.{Entries, no_entries, entry, count_entries}
@@ -37,10 +37,6 @@ module _ {A B : Type 0} (f : B → Data) (view : A → B) where
       let len : n ≡ items_len (items_data f (map view xs)) = e ∙ sym (len-items_data f (map view xs) ∙ length-map xs view) in
       (first, subst (λ k. Logs old first (seq_begins (Some k))) len begun, goes new (subst (λ ys. SendsItems (items_data f (map view ys)) last new) (sym none) ended))
 
-empty : {A : Type 0} (xs : List A) → length xs ≡ 0 → xs ≡ []
-empty [] e = refl
-empty (x ∷ xs) e = absurd (omega arith)
-
 -- the same for the items of a value, and for its entries
 module _ {S : Type 0} (shown : S → Shown) where
   len-values_data : (vs : List (Value S)) → items_len (values_data (view_values shown vs)) ≡ length vs
@@ -56,10 +52,9 @@ module _ {S : Type 0} (shown : S → Shown) where
       let len : n ≡ items_len (values_data (view_values shown vs)) = e ∙ sym (len-values_data vs) in
       (first, subst (λ k. Logs old first (seq_begins (Some k))) len begun, goes new (subst (λ ys. SendsItems (values_data (view_values shown ys)) last new) (sym none) ended))
 
-  pub entries_sent : (es : Entries) (left : List (String Global × Value S)) (n : ℕ) (old first last new : Log) → n ≡ count_entries es → length left ≡ 0 → Logs old first (map_begins (Some n)) →
+  pub entries_sent : (es : Entries) (left : List (String Global × Value S)) (n : ℕ) (old first last new : Log) → n ≡ count_entries es → left ≡ [] → Logs old first (map_begins (Some n)) →
       GoesInside (entries_data es) first (entries_data (view_entries shown left)) last → Logs last new map_ends → SendsValue (object (entries_data es)) old new
   unfolding entries_data
-  entries_sent es left n old first last new e past begun goes ended =
-      let none : left ≡ [] = empty left past in
+  entries_sent es left n old first last new e none begun goes ended =
       let len : n ≡ members_len (entries_data es) = e ∙ sym (len-entries_data es) in
       (first, subst (λ k. Logs old first (map_begins (Some k))) len begun, goes new (subst (λ ys. SendsMembers (entries_data (view_entries shown ys)) last new) (sym none) ended))

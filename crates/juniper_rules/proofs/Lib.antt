@@ -1,5 +1,1 @@
-pub mod ArgumentMaps
 pub mod Misfits
-pub mod PlainErrors
-pub mod PlainRules
-pub mod ServedDocuments

@@ -1,7 +1,6 @@
 pub mod Lookups
 pub mod Fitting
 pub mod BuiltIns
-pub mod ServedFields
 pub mod Executables
 pub mod TypeLevels
 pub mod Sorting

@@ -1,7 +1,7 @@
 -- The field of a name: a declared one, or one of those that types have beside (4.1, 4.2).
-use Rattle.std.specs.Prelude.{Bool, true, false, ◌≡◌, List, [], ◌∷◌, Option, Some, None, cond, ◌||◌}
+use Rattle.std.specs.Prelude.{Bool, true, false, ◌≡◌, [], ◌∷◌, Option, Some, None, cond, ◌||◌}
 use Rattle.std.specs.Str.{bytes_eq}
-use Rattle.std.proofs.Common.{refl, sym, ap, ◌∙◌}
+use Rattle.std.proofs.Common.{refl}
 use Rattle.graphql_spec.specs.Shown.{Name}
 use Rattle.graphql_spec.specs.Schema.{FieldDeclaration, Schema, Shape, plain_field}
 use Rattle.graphql_spec.specs.Fields.{field_in, field_of, fields_of, is_composite, meta_fields, or_else, root_fields, type_named, typename, typename_field}

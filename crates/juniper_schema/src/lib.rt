@@ -8,7 +8,6 @@ mod fits;
 mod lists;
 mod names;
 mod schema;
-mod served;
 mod subtypes;
 mod type_type;
 
@@ -19,5 +18,4 @@ pub use juniper_meta::{
     ScalarKinds, ScalarMeta, UnionMeta, meta,
 };
 pub use schema::SchemaType;
-pub use served::LeafType;
 pub use type_type::TypeType;

@@ -153,8 +153,13 @@ pub fn kept<'k, T: Drop + 'k, E: Drop>(alloc: Global, made: Result<T, E>) -> Opt
 }
 
 /// The schema of a text; `None` where the text has another form, or memory is refused.
-pub fn schema_of(alloc: Global, text: &str) -> Option<&'static SchemaType<Scalar>> {
+pub fn read_schema(alloc: Global, text: &str) -> Option<SchemaType<Scalar>> {
     let mut reader = Reader::new(alloc, text);
-    let schema = kept(alloc, reader.read_schema())?;
+    let schema = reader.read_schema().ok()?;
     if reader.is_done() { Some(schema) } else { None }
+}
+
+/// The same, which stays to the end of the program.
+pub fn schema_of(alloc: Global, text: &str) -> Option<&'static SchemaType<Scalar>> {
+    kept(alloc, read_schema(alloc, text).ok_or(()))
 }

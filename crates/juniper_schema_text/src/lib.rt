@@ -25,6 +25,6 @@ mod members;
 mod reader;
 mod values;
 
-pub use entries::{kept, placed, schema_of};
+pub use entries::{kept, placed, read_schema, schema_of};
 pub use line::Line;
 pub use reader::{Reader, Scalar};

@@ -11,6 +11,7 @@ use Rattle.std.specs.contracts.cmp.PartialEq.TheBound.{Lawful}
 use Rattle.graphql_spec.specs.Shown.{Shown, same_shown}
 use Rattle.graphql_spec.specs.Values as spec
 use Rattle.graphql_spec.specs.Values.{same_value, same_items, same_entries}
+use Rattle.juniper_syntax.specs.FieldWords.{fields_eq}
 use Rattle.juniper_syntax.specs.ValueView.{view_value, view_object, view_values, view_entries}
 use Rattle.juniper_syntax.specs.declared.value.Value.{Value, Value-F, out-Value, roll-Value, out-roll-Value, roll-out-Value, map-Value, ind-Value}
 use Rattle.juniper_syntax.specs.declared.value.Value.TheOpen as open_value
@@ -20,10 +21,6 @@ use Rattle.juniper_syntax.specs.declared.value.Object.{Object, Object-F, out-Obj
 use Rattle.juniper_syntax.specs.contracts.value.ValuePartialEq.TheImpl as impl
 use Rattle.juniper_syntax.specs.contracts.value.ValuePartialEq.TheImpl.Laws as laws
 use Rattle.juniper_syntax.proofs.Values.{Pair, view-Null, view-Scalar, view-List, view-Object, view-out, view-roll}
-
--- a key and its value
-abbrev pair_eq : {S : Type 0} → (Value S → Value S → Bool) → Pair S → Pair S → Bool
-pair_eq E p q = string_eq p.0 q.0 && E p.1 q.1
 
 module _ {S : Type 0} (shown : S → Shown) (E : Value S → Value S → Bool) where
   -- a value that is compared as what it shows
@@ -42,7 +39,7 @@ module _ {S : Type 0} (shown : S → Shown) (E : Value S → Value S → Bool) w
   and-last false b c = refl
 
   entries-same : (us : List (String Global × ((u : Value S) × Seen u))) (vs : List (Pair S))
-      → pointwise (pair_eq E) (map (λ u. (u.0, u.1.0)) us) vs ≡ same_entries (view_entries shown (map (λ u. (u.0, u.1.0)) us)) (view_entries shown vs)
+      → fields_eq E (map (λ u. (u.0, u.1.0)) us) vs ≡ same_entries (view_entries shown (map (λ u. (u.0, u.1.0)) us)) (view_entries shown vs)
   unfolding same_value
   entries-same [] [] = refl
   entries-same [] (v ∷ vs) = refl
@@ -92,7 +89,7 @@ module _ (T : RattleType) (E : Ghosts T.Denot) (E-dict : Dict) (lawful : Lawful 
   eq-rolled : (x y : Value-F T.Denot (Value T.Denot) (Object T.Denot)) → eq-value (roll-Value T.Denot x) (roll-Value T.Denot y) ≡ layers x y
   eq-rolled x y = laws.is T E E-dict lawful (roll-Value T.Denot x) (roll-Value T.Denot y) ∙ by-layers x y (roll-Value T.Denot x) (roll-Value T.Denot y) (out-roll-Value T.Denot x) (out-roll-Value T.Denot y)
 
-  eq-opened : (o p : Object T.Denot) → eq-object o p ≡ pointwise (pair_eq eq-value) (out-Object T.Denot o).fields.items (out-Object T.Denot p).fields.items
+  eq-opened : (o p : Object T.Denot) → eq-object o p ≡ fields_eq eq-value (out-Object T.Denot o).fields (out-Object T.Denot p).fields
   eq-opened o p =
       compared_is (block.the_members T.Denot) (Carrier.Values (block.the_members T.Denot) (block.the_sigs T.Denot) (block.the_carrier T.Denot)) (block.the_depth T.Denot) Bool true
       (impl.the_step T E E-dict) (laws.local T E E-dict lawful) block.member-Object o p
@@ -158,8 +155,8 @@ module _ (T : RattleType) (E : Ghosts T.Denot) (E-dict : Dict) (lawful : Lawful 
     object-step x p =
         let y = out-Object T.Denot p in
         eq-opened (roll-Object T.Denot (bare-fields x)) p
-        ∙ (ap (λ o. pointwise (pair_eq eq-value) o.fields.items y.fields.items) (out-roll-Object T.Denot (bare-fields x))
-        ∙ (entries-same shown eq-value x.fields.items y.fields.items
+        ∙ (ap (λ o. fields_eq eq-value o.fields y.fields) (out-roll-Object T.Denot (bare-fields x))
+        ∙ (entries-same shown eq-value x.fields y.fields
         ∙ sym (ap₂ same_entries (view-roll shown (bare-fields x).fields) (view-out shown p))))
 
     pub values-same : (u v : Value T.Denot) → eq-value u v ≡ same_value (view_value shown u) (view_value shown v)

@@ -1,9 +1,14 @@
 -- A value beside what it stands for: level by level, and changes at a key.
-use Rattle.std.proofs.Common.{◌≡◌, ℕ, zero, suc, ◌<◌, List, [], ◌∷◌, ◌++◌, length, get_or, take, Option, Some, None, is_some, option_map, Bool, true, false, ◌||◌, cond, Vec, String, Global, string_bytes, bytes_eq, refl, ap, ◌∙◌, rules, arith}
-use Rattle.std.proofs.Math.ListN.{set}
+use Rattle.std.proofs.Common.{◌≡◌, suc, List, [], ◌∷◌, length, Option, Some, None, is_some, option_map, IfSome, Result, Ok, Err, IfOk, Bor, Bool, true, false, ◌||◌, cond, Vec, String, Global, string_bytes, bytes_eq, inl, inr, refl, sym, ap, ◌∙◌, rules}
+use Rattle.std.proofs.lemmas.Bool.{cases_Bool}
+use Rattle.std.specs.Map.{lookup, set_value}
+use Rattle.std.specs.Option.{option_copied}
+use Rattle.std.specs.String.{string_eq}
+use Rattle.indexmap.specs.IndexMap.{insert_entry}
 use Rattle.graphql_spec.specs.Shown.{Shown, Name}
 use Rattle.graphql_spec.specs.Values as spec
 use Rattle.graphql_spec.specs.Values.{Entries, no_entries, entry, look_up, has_entry, put, count_entries}
+use Rattle.juniper_syntax.specs.FieldWords.{is_key}
 use Rattle.juniper_syntax.specs.ValueView.{view_value, view_object, view_values, view_entries}
 use Rattle.juniper_syntax.specs.declared.value.Value.{Value, Null, Scalar, List as ListOf, Object as ObjectOf, the_lemmas}
 use Rattle.juniper_syntax.specs.declared.value.Object.{Object, out-Object, roll-Object}
@@ -24,11 +29,11 @@ module _ {S : Type 0} (shown : S → Shown) where
   pub view-Object : (o : Object S) → view_value shown (ObjectOf o) ≡ spec.object (view_object shown o)
   view-Object o = search (rules, the_lemmas)
 
-  pub view-out : (o : Object S) → view_object shown o ≡ view_entries shown (out-Object S o).fields.items
+  pub view-out : (o : Object S) → view_object shown o ≡ view_entries shown (out-Object S o).fields
   view-out o = search (rules, the_lemmas)
 
-  pub view-roll : (v : Vec (Pair S) Global) → view_object shown (roll-Object S (record { fields = v })) ≡ view_entries shown v.items
-  view-roll v = search (rules, the_lemmas)
+  pub view-roll : (es : List (Pair S)) → view_object shown (roll-Object S (record { fields = es })) ≡ view_entries shown es
+  view-roll es = search (rules, the_lemmas)
 
   pub count-view : (es : List (Pair S)) → count_entries (view_entries shown es) ≡ length es
   unfolding count_entries
@@ -55,49 +60,57 @@ still_some f (Some x) = refl
 pub found_some : {A : Type 0} (f : A → spec.Value) (o : Option A) (k : Name) (es : Entries) → option_map f o ≡ look_up k es → is_some o ≡ has_entry k es
 found_some f o k es e = still_some f o ∙ (ap is_some e ∙ found_is_there k es)
 
-miss : (b : Bool) (a : spec.Value) (r : Option spec.Value) → cond b (Some a) r ≡ None → (b ≡ false) × (r ≡ None)
-miss true a r h = cc
-miss false a r h = (refl, h)
-
--- at the first place of the key
+-- what is found at a key, and what a change at it shows
 module _ {S : Type 0} (shown : S → Shown) (key : Name) where
-  pub found_at : (es : List (Pair S)) (i : ℕ) (d : Pair S) → i < length es → look_up key (view_entries shown (take i es)) ≡ None
-      → bytes_eq key (string_bytes (get_or es i d).0) ≡ true → look_up key (view_entries shown es) ≡ Some (view_value shown (get_or es i d).1)
+  looked : (b : Bool) (v : Value S) (o : Option (Value S)) → cond b (Some (view_value shown v)) (option_map (view_value shown) o) ≡ option_map (view_value shown) (cond b (Some v) o)
+  looked true v o = refl
+  looked false v o = refl
+
+  pub look_up-view : (es : List (Pair S)) → look_up key (view_entries shown es) ≡ option_map (view_value shown) (lookup (is_key key) es)
   unfolding look_up
-  found_at [] i d h none here = absurd (omega arith)
-  found_at (e ∷ es) zero d h none here = rw here
-  found_at (e ∷ es) (suc i) d h none here =
-      let m = miss (bytes_eq key (string_bytes e.0)) (view_value shown e.1) (look_up key (view_entries shown (take i es))) none in
-      rw (m.0) (found_at es i d (omega arith) m.1 here)
+  look_up-view [] = refl
+  look_up-view (e ∷ es) =
+      ap (cond (bytes_eq key (string_bytes e.0)) (Some (view_value shown e.1))) (look_up-view es) ∙ looked (bytes_eq key (string_bytes e.0)) e.1 (lookup (is_key key) es)
 
-  pub put_at : (es : List (Pair S)) (i : ℕ) (d new : Pair S) → i < length es → look_up key (view_entries shown (take i es)) ≡ None
-      → bytes_eq key (string_bytes (get_or es i d).0) ≡ true → string_bytes new.0 ≡ string_bytes (get_or es i d).0
-      → view_entries shown (set es i new) ≡ put key (view_value shown new.1) (view_entries shown es)
-  unfolding look_up put
-  put_at [] i d new h none here same = absurd (omega arith)
-  put_at (e ∷ es) zero d new h none here same = rw (here, same)
-  put_at (e ∷ es) (suc i) d new h none here same =
-      let m = miss (bytes_eq key (string_bytes e.0)) (view_value shown e.1) (look_up key (view_entries shown (take i es))) none in
-      rw (m.0) (ap (entry (string_bytes e.0) (view_value shown e.1)) (put_at es i d new (omega arith) m.1 here same))
+  -- a value written where the key is
+  pub put-set : (es : List (Pair S)) (v w : Value S) → lookup (is_key key) es ≡ Some v → view_entries shown (set_value (is_key key) es w) ≡ put key (view_value shown w) (view_entries shown es)
+  unfolding put
+  put-set [] v w there = cc
+  put-set (e ∷ es) v w there =
+      elim (cases_Bool (bytes_eq key (string_bytes e.0))) [
+        | inl here ↦ rw here refl
+        | inr here ↦ rw here (ap (entry (string_bytes e.0) (view_value shown e.1)) (put-set es v w (sym (ap (λ b. cond b (Some e.1) (lookup (is_key key) es)) here) ∙ there)))
+      ]
 
-  pub not_yet : (es : List (Pair S)) (i : ℕ) (d : Pair S) → i < length es → look_up key (view_entries shown (take i es)) ≡ None
-      → bytes_eq key (string_bytes (get_or es i d).0) ≡ false → look_up key (view_entries shown (take (suc i) es)) ≡ None
-  unfolding look_up
-  not_yet [] i d h none here = absurd (omega arith)
-  not_yet (e ∷ es) zero d h none here = rw here
-  not_yet (e ∷ es) (suc i) d h none here =
-      let m = miss (bytes_eq key (string_bytes e.0)) (view_value shown e.1) (look_up key (view_entries shown (take i es))) none in
-      rw (m.0) (not_yet es i d (omega arith) m.1 here)
+  -- nothing is written where it is not
+  pub set-none : (es : List (Pair S)) (w : Value S) → lookup (is_key key) es ≡ None → set_value (is_key key) es w ≡ es
+  set-none [] w none = refl
+  set-none (e ∷ es) w none =
+      elim (cases_Bool (bytes_eq key (string_bytes e.0))) [
+        | inl here ↦ cc
+        | inr here ↦ rw here (ap (λ l. e ∷ l) (set-none es w (sym (ap (λ b. cond b (Some e.1) (lookup (is_key key) es)) here) ∙ none)))
+      ]
 
-  pub nothing_yet : (es : List (Pair S)) → look_up key (view_entries shown (take 0 es)) ≡ None
-  unfolding look_up
-  nothing_yet [] = refl
-  nothing_yet (e ∷ es) = refl
+-- a value put at a key
+pub put-insert : {S : Type 0} (shown : S → Shown) (es : List (Pair S)) (k : String Global) (w : Value S)
+    → view_entries shown (insert_entry string_eq es k w) ≡ put (string_bytes k) (view_value shown w) (view_entries shown es)
+unfolding put
+put-insert shown [] k w = refl
+put-insert shown (e ∷ es) k w =
+    elim (cases_Bool (bytes_eq (string_bytes k) (string_bytes e.0))) [
+      | inl here ↦ rw here refl
+      | inr here ↦ rw here (ap (entry (string_bytes e.0) (view_value shown e.1)) (put-insert shown es k w))
+    ]
 
-  pub put_last : (es : List (Pair S)) (new : Pair S) → look_up key (view_entries shown es) ≡ None → string_bytes new.0 ≡ key
-      → view_entries shown (es ++ new ∷ []) ≡ put key (view_value shown new.1) (view_entries shown es)
-  unfolding look_up put
-  put_last [] new none same = ap (λ k. entry k (view_value shown new.1) no_entries) same
-  put_last (e ∷ es) new none same =
-      let m = miss (bytes_eq key (string_bytes e.0)) (view_value shown e.1) (look_up key (view_entries shown es)) none in
-      rw (m.0) (ap (entry (string_bytes e.0) (view_value shown e.1)) (put_last es new m.1 same))
+-- what is seen behind the reference, and what follows of an answer's value
+pub option_map-copied : {A B : Type 0} (f : A → B) (o : Option (Bor A)) → option_map (λ v. f v.now) o ≡ option_map f (option_copied o)
+option_map-copied f None = refl
+option_map-copied f (Some v) = refl
+
+pub if_ok_weaker : {T E : Type 0} (r : Result T E) (P Q : T → Type 0) → ((x : T) → P x → Q x) → IfOk r P → IfOk r Q
+if_ok_weaker (Ok x) P Q f h = f x h
+if_ok_weaker (Err e) P Q f h = tt
+
+pub if_some : {T : Type 0} (o : Option T) (P : T → Type 0) → ((x : T) → o ≡ Some x → P x) → IfSome o P
+if_some None P f = tt
+if_some (Some x) P f = f x refl

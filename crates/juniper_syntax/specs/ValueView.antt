@@ -24,7 +24,7 @@ value_step shown (Value-F.List v) = spec.list (values_of v.items)
 value_step shown (Value-F.Object es) = spec.object es
 
 abbrev pub object_step : {S : Type 0} → Object-F S spec.Value Entries → Entries
-object_step o = entries_of o.fields.items
+object_step o = entries_of o.fields
 
 abbrev pub view_value : {S : Type 0} → (S → Shown) → Value S → spec.Value
 view_value {S} shown = fold-Value S spec.Value Entries (value_step shown) (object_step {S = S})

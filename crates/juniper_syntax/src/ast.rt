@@ -113,5 +113,5 @@ pub enum Definition<'a, S> {
 /// A document: its definitions in order (2.2).
 pub type Document<'a, S> = Vec<Definition<'a, S>>;
 
-/// The fragments of a document by name.
-pub type Fragments<'a, S> = HashMap<&'a str, &'a Fragment<'a, S>>;
+/// The fragments of a document, lent for `'d`, by their names in the text.
+pub type Fragments<'d, 'a, S> = HashMap<&'a str, &'d Fragment<'a, S>>;

@@ -4,6 +4,8 @@
 
 pub mod ast;
 mod display;
+mod entries;
+mod fields;
 mod input;
 pub mod laws;
 mod map_scalars;
@@ -15,6 +17,7 @@ pub use ast::{
     Definition, Directive, Document, Field, Fragment, FragmentSpread, Fragments, InlineFragment,
     Operation, OperationType, Selection, VariableDefinition, VariableDefinitions,
 };
+pub use entries::{Entries, IntoEntries};
 pub use input::{InputValue, Variables};
 pub use juniper_position::{LexerError, ParseError, RuleError, SourcePosition, Span, Spanning};
 pub use scalar::{DefaultScalarValue, ScalarValue};

@@ -4,7 +4,7 @@ ghost use Rattle.std.specs.Prelude.{◌≡◌, IfOk};
 ghost use Rattle.juniper_syntax.specs.ValueView.{view_value, view_object, view_values};
 
 use crate::scalar::ScalarValue;
-use crate::value::{Object, Value, value_of};
+use crate::value::{Object, Value};
 use std::alloc::{AllocError, Global};
 
 impl<S: ScalarValue> Value<S> {
@@ -54,13 +54,9 @@ fn map_object<S: ScalarValue, T: ScalarValue>(
 ) -> Result<Object<T>, AllocError>
     ensures { IfOk result (λ made. view_object T.shown made ≡ view_object S.shown object.now) }
 {
-    let mut made = Vec::with_capacity(alloc, object.fields.len())?;
-    for entry in &object.fields {
-        let copy = map_value(alloc, value_of(entry))?;
-        let key = String::from_str(alloc, entry.0.as_str())?;
-        made.push((key, copy))?;
-    }
-    Ok(Object { fields: made })
+    let values = map_values(alloc, object.fields.values())?;
+    let fields = object.fields.with_values(values)?;
+    Ok(Object { fields })
 }
 
 /// The scalar of another type that shows the same.

@@ -1,13 +1,13 @@
 //! Values of answers (section 7.1 of the Specification).
 
 ghost use Rattle.std.specs.Prelude.{◌≡◌, IfOk, IfSome, OnOk, OnErr, None, option_map, string_bytes};
-ghost use Rattle.std.specs.Slice.Iter.{iter_rest};
 ghost use Rattle.graphql_spec.specs.Values.{no_entries, look_up, has_entry, put, count_entries, is_null, null};
 ghost use Rattle.juniper_syntax.specs.ValueView.{view_value, view_object, view_values, view_entries};
 
+use crate::entries::{Entries, IntoEntries};
+use crate::fields::Fields;
 use crate::scalar::ScalarValue;
 use std::alloc::{AllocError, Global};
-use std::{mem, slice};
 
 /// A value of an answer.
 #[cycle(value)]
@@ -55,7 +55,7 @@ impl<S: ScalarValue> Value<S> {
 #[cycle(value)]
 #[derive(Debug, PartialEq, Eq, Drop)]
 pub struct Object<S> {
-    pub(crate) fields: Vec<(String, Value<S>)>,
+    pub(crate) fields: Fields<Value<S>>,
 }
 
 impl<S: ScalarValue> Object<S> {
@@ -64,7 +64,7 @@ impl<S: ScalarValue> Object<S> {
         ensures { IfOk result (λ o. view_object S.shown o ≡ no_entries) }
     {
         Ok(Object {
-            fields: Vec::with_capacity(alloc, capacity)?,
+            fields: Fields::with_capacity(alloc, capacity)?,
         })
     }
 
@@ -79,7 +79,7 @@ impl<S: ScalarValue> Object<S> {
         ensures ok { OnOk result (view_object S.shown self.new ≡ put (string_bytes key) (view_value S.shown value) (view_object S.shown self.old)) }
         ensures err { OnErr result (view_object S.shown self.new ≡ view_object S.shown self.old) }
     {
-        add(&mut self.fields, key, value)
+        self.fields.insert(key, value)
     }
 
     /// Whether the key is there.
@@ -93,7 +93,7 @@ impl<S: ScalarValue> Object<S> {
     pub fn get_field_value(&self, key: &str) -> Option<&Value<S>>
         ensures { option_map (λ v. view_value S.shown v.now) result ≡ look_up key.now (view_object S.shown self.now) }
     {
-        find(self.fields.as_slice(), key)
+        self.fields.get(key)
     }
 
     /// Takes the value at a key, if the key is there, and leaves null in its place.
@@ -102,14 +102,14 @@ impl<S: ScalarValue> Object<S> {
         ensures some { IfSome result (λ v. view_object S.shown self.new ≡ put key.now null (view_object S.shown self.old)) }
         ensures none { result ≡ None → view_object S.shown self.new ≡ view_object S.shown self.old }
     {
-        take(&mut self.fields, key)
+        self.fields.replace(key, Value::Null)
     }
 
     /// The keys with their values, handed over in order.
-    pub fn into_fields(self) -> Vec<(String, Value<S>)>
-        ensures { view_entries S.shown result.items ≡ view_object S.shown self }
+    pub fn into_fields(self) -> IntoEntries<Value<S>>
+        ensures { view_entries S.shown result ≡ view_object S.shown self }
     {
-        self.fields
+        self.fields.into_entries()
     }
 
     /// How many keys there are.
@@ -120,8 +120,8 @@ impl<S: ScalarValue> Object<S> {
     }
 
     /// The keys with their values, in order.
-    pub fn iter(&self) -> slice::Iter<'_, (String, Value<S>)>
-        ensures { view_entries S.shown (iter_rest result) ≡ view_object S.shown self.now }
+    pub fn iter(&self) -> Entries<'_, Value<S>>
+        ensures { view_entries S.shown result ≡ view_object S.shown self.now }
     {
         self.fields.iter()
     }
@@ -146,61 +146,7 @@ fn clone_values<S: ScalarValue>(
 fn clone_object<S: ScalarValue>(alloc: Global, object: &Object<S>) -> Result<Object<S>, AllocError>
     ensures { IfOk result (λ made. view_object S.shown made ≡ view_object S.shown object.now) }
 {
-    let mut made = Vec::with_capacity(alloc, object.fields.len())?;
-    for entry in &object.fields {
-        let copy = value_of(entry).try_clone(alloc)?;
-        let key = String::from_str(alloc, entry.0.as_str())?;
-        made.push((key, copy))?;
-    }
-    Ok(Object { fields: made })
-}
-
-/// The value of an entry. A name for it keeps the terms of a proof small.
-pub(crate) fn value_of<S>(entry: &(String, Value<S>)) -> &Value<S>
-    ensures { result.now ≡ entry.now.1 }
-{
-    &entry.1
-}
-
-#[tactic(auto, unfolding(graphql_spec::specs::Values::look_up))]
-fn find<'a, S: ScalarValue>(fields: &'a [(String, Value<S>)], key: &str) -> Option<&'a Value<S>>
-    ensures { option_map (λ v. view_value S.shown v.now) result ≡ look_up key.now (view_entries S.shown fields.now) }
-{
-    for (name, value) in fields {
-        if key == name.as_str() {
-            return Some(value);
-        }
-    }
-    None
-}
-
-fn take<S: ScalarValue>(fields: &mut Vec<(String, Value<S>)>, key: &str) -> Option<Value<S>>
-    ensures value { option_map (view_value S.shown) result ≡ look_up key.now (view_entries S.shown fields.old.items) }
-    ensures some { IfSome result (λ v. view_entries S.shown fields.new.items ≡ put key.now null (view_entries S.shown fields.old.items)) }
-    ensures none { result ≡ None → view_entries S.shown fields.new.items ≡ view_entries S.shown fields.old.items }
-{
-    for i in 0..fields.len() {
-        if key == fields[i].0.as_str() {
-            return Some(mem::replace(&mut fields[i].1, Value::Null));
-        }
-    }
-    None
-}
-
-fn add<S: ScalarValue>(
-    fields: &mut Vec<(String, Value<S>)>,
-    key: String,
-    value: Value<S>,
-) -> Result<Option<Value<S>>, AllocError>
-    ensures old { IfOk result (λ o. option_map (view_value S.shown) o ≡ look_up (string_bytes key) (view_entries S.shown fields.old.items)) }
-    ensures ok { OnOk result (view_entries S.shown fields.new.items ≡ put (string_bytes key) (view_value S.shown value) (view_entries S.shown fields.old.items)) }
-    ensures err { OnErr result (view_entries S.shown fields.new.items ≡ view_entries S.shown fields.old.items) }
-{
-    for i in 0..fields.len() {
-        if key == fields[i].0 {
-            return Ok(Some(mem::replace(&mut fields[i].1, value)));
-        }
-    }
-    fields.push((key, value))?;
-    Ok(None)
+    let values = clone_values(alloc, object.fields.values())?;
+    let fields = object.fields.with_values(values)?;
+    Ok(Object { fields })
 }

@@ -1,1 +1,1 @@
-pub mod TestRoot
+pub mod Scripts

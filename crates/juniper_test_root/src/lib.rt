@@ -1,4 +1,18 @@
-//! The root to which the tests of requests are put.
+//! A root whose schema and answers are texts, and tables of requests to it: for tests.
 #![tactic(auto)]
 
-pub mod root;
+mod answering;
+mod reader;
+mod replies;
+mod root;
+mod script;
+mod table;
+mod tally;
+mod variables;
+
+pub use answering::{ScriptRoot, Unread, printed, read_root};
+pub use reader::read_script;
+pub use script::{Answer, Line, Node, Script, Tree};
+pub use table::{Request, Row, read_table};
+pub use tally::{Tally, report};
+pub use variables::read_variables;

@@ -1,9 +1,19 @@
-//! Tests over all crates: requests to a root, and what they are answered; the errors of requests; names.
+//! Tests over all crates: requests to scripted roots, and what they are answered; the errors of requests; names.
 #![tactic(auto)]
 
 #[cfg(test)]
 mod errors;
 #[cfg(test)]
+mod flat;
+#[cfg(test)]
 mod names;
 #[cfg(test)]
-mod requests;
+mod nulls;
+#[cfg(test)]
+mod objects;
+#[cfg(test)]
+mod shapes;
+#[cfg(test)]
+mod tables;
+#[cfg(test)]
+mod variables;

@@ -1,11 +1,69 @@
 -- What an executor shows (6.4.2).
+use Rattle.std.specs.Prelude.{ℕ, List, Option, option_map, String}
+use Rattle.std.specs.Borrow.{Bor}
+use Rattle.std.specs.HashMap.{HashMap, get_by}
+use Rattle.std.specs.Str.{bytes_eq}
+use Rattle.std.specs.declared.alloc.Global.{Global}
+use Rattle.std.specs.declared.cmp.PartialEq.{Ghosts as Equality}
+use Rattle.std.specs.declared.fmt.Debug.{Ghosts as Shows}
+use Rattle.std.specs.declared.hash.BuildHasherDefault.{BuildHasherDefault}
+use Rattle.std.specs.declared.hash.FoldHasher.{FoldHasher}
 use Rattle.graphql_spec.specs.Positions.{Position}
+use Rattle.graphql_spec.specs.Shown.{Name}
 use Rattle.juniper_position.specs.Positions.{view_position}
+use Rattle.juniper_position.specs.declared.position.Span.{Span}
+use Rattle.juniper_position.specs.declared.position.Spanning.{Spanning}
+use Rattle.juniper_syntax.specs.declared.ast.Field.{Field}
+use Rattle.juniper_syntax.specs.declared.ast.Fragment.{Fragment}
+use Rattle.juniper_syntax.specs.declared.ast.Selection.{Selection}
+use Rattle.juniper_syntax.specs.declared.input.InputValue.{InputValue}
+use Rattle.juniper_syntax.specs.declared.scalar.ScalarValue.{Ghosts as Scalars}
+use Rattle.juniper_errors.specs.declared.field_path.FieldPath.{FieldPath}
+use Rattle.juniper_schema.specs.declared.schema.SchemaType.{SchemaType}
+use Rattle.juniper_schema.specs.declared.type_type.TypeType.{TypeType}
 use Rattle.juniper_types.specs.declared.executor.Executor.{Executor}
 
--- the context of the request, and the start of the field now resolved
-abbrev pub context_of : {C S : Type 0} → Executor C S → C
-context_of e = e.context.now
+module _ {C S : Type 0} {scalar : Scalars S} {equality : Equality S} {shows : Shows S} where
+  -- the context of the request
+  abbrev pub context_of : Executor C S scalar equality shows → C
+  context_of e = e.context.now
 
-abbrev pub start_of : {C S : Type 0} → Executor C S → Position
-start_of e = view_position e.occurrence.now.span.start
+  -- the schema
+  abbrev pub schema_of : Executor C S scalar equality shows → SchemaType S scalar equality shows
+  schema_of e = e.schema.now
+
+  -- the values of the variables
+  abbrev pub variables_of : Executor C S scalar equality shows → HashMap (String Global) (InputValue S) (BuildHasherDefault FoldHasher)
+  variables_of e = e.variables.now
+
+  -- the fragments of the document by name
+  abbrev pub fragments_of : Executor C S scalar equality shows → HashMap (Bor (List ℕ)) (Bor (Fragment S)) (BuildHasherDefault FoldHasher)
+  fragments_of e = e.fragments.now
+
+  -- the response keys from the root to the field now resolved
+  abbrev pub path_of : Executor C S scalar equality shows → FieldPath
+  path_of e = e.path.now
+
+  -- the type that the field is declared with
+  abbrev pub type_of : Executor C S scalar equality shows → TypeType S
+  type_of e = e.declared_type.now
+
+  -- the name of the object type that the field is resolved at
+  abbrev pub concrete_of : Executor C S scalar equality shows → Name
+  concrete_of e = e.concrete_type.now
+
+  -- the selections that the field is among
+  abbrev pub enclosing_of : Executor C S scalar equality shows → List (Selection S)
+  enclosing_of e = e.enclosing.now
+
+  -- the field as it is written
+  abbrev pub occurrence_of : Executor C S scalar equality shows → Spanning (Field S) Span
+  occurrence_of e = e.occurrence.now
+
+  -- the start of the field
+  abbrev pub start_of : Executor C S scalar equality shows → Position
+  start_of e = view_position e.occurrence.now.span.start
+
+-- the fragment that the map has at a name
+abbrev pub fragment_at : {S H : Type 0} → HashMap (Bor (List ℕ)) (Bor (Fragment S)) H → Name → Option (Fragment S)
+fragment_at fragments name = option_map (λ f. f.now) (get_by (λ n. bytes_eq name n.now) fragments)

@@ -1,12 +1,21 @@
 //! Types of GraphQL by Rust types, resolvers, and what they are asked with.
 #![tactic(auto)]
 
+mod boxes;
+mod context;
 mod empty;
 mod executor;
+mod references;
 mod resolver;
+#[cfg(test)]
+mod samples;
+#[cfg(test)]
+mod tests;
 
+pub use context::{Context, FromContext};
 pub use empty::{EmptyMutation, EmptySubscription};
 pub use executor::Executor;
+pub use juniper_errors::FieldPath;
 pub use juniper_registry::{GraphQLReference, GraphQLType, Registry, RegistryError, TypeKind};
 pub use juniper_resolvable::{IntoResolvable, OfNode, Resolved};
 pub use resolver::GraphQLValue;

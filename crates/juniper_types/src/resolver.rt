@@ -58,7 +58,7 @@ pub trait GraphQLValue<S: ScalarValue>: GraphQLType<S> {
         node: &Self::Node,
         field_name: &str,
         arguments: &Arguments<'_, S>,
-        executor: &Executor<'_, '_, Self::Context, S>,
+        executor: &Executor<Self::Context, S>,
     ) -> Result<Resolved<Self::Node, S>, ResolveError<S>>
         ensures { Answers S.shown result (answer self.now info.now (context_of executor.now) node.now field_name.now (view_arguments S.shown arguments.now)) };
 }

@@ -1,1 +1,2 @@
 pub mod ArgumentView
+pub mod ArgumentsRead

@@ -2,6 +2,7 @@
 #![tactic(auto)]
 
 mod arguments;
+mod reading;
 
 pub use arguments::Arguments;
 pub use juniper_conversions::{
@@ -13,3 +14,4 @@ pub use juniper_errors::{
 pub use juniper_id::ID;
 pub use juniper_nullable::Nullable;
 pub use juniper_scalars::{FromScalarValue, ToScalarValue};
+pub use reading::{EnumName, NamedValue, enum_argument, int_argument};

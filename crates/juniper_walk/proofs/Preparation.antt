@@ -1,5 +1,5 @@
 -- A field's answer, taken apart from its nodes.
-use Rattle.std.proofs.Common.{rules, ◌≡◌, ℕ, ◌+◌, ◌<◌, ◌≤◌, Bool, List, [], ◌∷◌, ◌++◌, Bor, length, get_or, drop, map, append_assoc, refl, sym, ap, ◌∙◌, subst}
+use Rattle.std.proofs.Common.{rules, Result, Ok, Err, ◌≡◌, ℕ, ◌+◌, ◌<◌, ◌≤◌, Bool, List, [], ◌∷◌, ◌++◌, length, get_or, drop, map, append_assoc, refl, sym, ap, ◌∙◌, subst}
 use Rattle.std.proofs.lemmas.List.{append-nil, drop_all, get_or_default}
 use Rattle.graphql_spec.specs.Shown.{Shown, Name}
 use Rattle.graphql_spec.specs.Positions.{Position}
@@ -7,12 +7,16 @@ use Rattle.graphql_spec.specs.Documents.{response_key}
 use Rattle.graphql_spec.specs.Types.{TypeRef, required}
 use Rattle.graphql_spec.specs.Errors.{Place, key, Listed}
 use Rattle.graphql_spec.specs.Selections.{Occurrence}
-use Rattle.graphql_spec.specs.Resolvers.{Error, World, Tree, answered, failed}
+use Rattle.graphql_spec.specs.Resolvers.{Error, World, Tree, Reply, answered, failed}
 use Rattle.graphql_spec.specs.Execution.{type_of, reply_of, reply_to}
 use Rattle.juniper_completion.specs.Skeletons.{Skeleton, absent, reply_skeleton, reply_nodes, reply_errors, listed_at}
-use Rattle.juniper_syntax.proofs.Lists.{left-is, seen-last, seen-push}
+use Rattle.juniper_syntax.proofs.Lists.{left-is, seen-push}
 use Rattle.juniper_errors.specs.ErrorView.{view_error, view_listed}
 use Rattle.juniper_errors.specs.declared.field_error.FieldError.{FieldError}
+use Rattle.juniper_errors.specs.declared.field_error.ResolveError.{ResolveError}
+use Rattle.juniper_errors.specs.declared.field_error.ResolveError.TheVariants as error
+use Rattle.juniper_resolvable.specs.ResolvedView.{Answers, FailsWith, view_resolved}
+use Rattle.juniper_resolvable.specs.declared.resolved.Resolved.{Resolved}
 use Rattle.juniper_errors.specs.declared.execution_error.ExecutionError.{ExecutionError}
 use Rattle.juniper_assemble.specs.SkeletonView.{view_fault}
 use Rattle.juniper_assemble.specs.declared.apart.Fault.{Fault}
@@ -23,10 +27,7 @@ use Rattle.juniper_syntax.specs.declared.ast.Field.{Field as FieldType}
 use Rattle.juniper_collect.specs.Collected.{view_collected}
 use Rattle.juniper_collect.specs.declared.collecting.Collector.{Collector}
 use Rattle.juniper_walk.specs.FieldWords.{head_of}
-use Rattle.juniper_walk.specs.Walking.{IsPrepared, place_of}
-
-pub place-below : (at made : List (Bor (List ℕ))) (k : Bor (List ℕ)) (n : Name) → made ≡ at ++ k ∷ [] → k.now ≡ n → place_of made ≡ place_of at ++ key n ∷ []
-place-below at made k n e is = ap place_of e ∙ (seen-last (λ x. key x.now) at k ∙ ap (λ m. place_of at ++ key m ∷ []) is)
+use Rattle.juniper_walk.specs.Walking.{IsPrepared}
 
 module _ {N : Type 0} (W : World N) (at : Place) (T : Name) (m : N) (o : Occurrence) (place : Place) (r : Bool) (s : Skeleton) (ns : List N) (es : List Listed) where
   pub prepared-answer : (a : Tree N) (errors : List Error) → place ≡ at ++ key (response_key o.head) ∷ [] → r ≡ required (W.field_type T o.head.name.item) → reply_to W T m o.head ≡ answered a →
@@ -86,6 +87,16 @@ module _ {S : Type 0} (shown : S → Shown) (place : Place) (start : Position) (
   pub faults-listed : (made : List (ExecutionError S)) → length fs ≤ i → map (view_listed shown) made ++ listed_all (drop i fs) ≡ listed_all fs → map (view_listed shown) made ≡ listed_all fs
   faults-listed made past so_far = sym (ap (λ l. map (view_listed shown) made ++ l) (ap listed_all (drop_all i fs past) ∙ none-listed) ∙ append-nil (map (view_listed shown) made)) ∙ so_far
 
+  pub no-faults : (made : List (ExecutionError S)) → made ≡ [] → fs ≡ [] → map (view_listed shown) made ≡ listed_all fs
+  no-faults made none e = ap (map (view_listed shown)) none ∙ sym (ap listed_all e ∙ none-listed)
+
+module _ {N S : Type 0} (shown : S → Shown) (a : Result (Resolved N S) (ResolveError S)) (r : Reply N) where
+  pub reply-answers : (x : Resolved N S) → a ≡ Ok x → Answers shown a r → r ≡ answered (view_resolved shown x)
+  reply-answers x e given = subst (λ z. Answers shown z r) {y = Ok x} e given
+
+  pub reply-fails : (f : ResolveError S) (x : FieldError S) → a ≡ Err f → f ≡ error.Field x → Answers shown a r → r ≡ failed (view_error shown x)
+  reply-fails f x e is given = subst (λ z. FailsWith shown z r) {y = error.Field x} is (subst (λ z. Answers shown z r) {y = Err f} e given)
+
 pub same-head : {S P : Type 0} (shown : S → Shown) (c : Collector S P) (f : Spanning (FieldType S) Span) → (view_collected shown c f).head ≡ head_of shown f
 unfolding view_collected
 same-head shown c f = refl
@@ -97,7 +108,5 @@ apart-at W t u a s ns more es further e n f p = subst (λ x. IsApart W u a s [] 
 pub listed-same : (p q : Place) (a b : Position) (xs ys : List Error) → p ≡ q → a ≡ b → xs ≡ ys → listed_at p a xs ≡ listed_at q b ys
 listed-same p q a b xs ys e f g = ap (λ x. listed_at x a xs) e ∙ (ap (λ x. listed_at q x xs) f ∙ ap (listed_at q b) g)
 
-pub one-listed-error : {S : Type 0} (shown : S → Shown) (none made : List (ExecutionError S)) (y : ExecutionError S) (p q : Place) (a b : Position) (e : Error) → none ≡ [] → made ≡ none ++ y ∷ [] →
-    view_listed shown y ≡ record { path = p; start = a; error = e } → p ≡ q → a ≡ b → map (view_listed shown) made ≡ record { path = q; start = b; error = e } ∷ []
-one-listed-error shown none made y p q a b e empty push new same at =
-    ap (map (view_listed shown)) (push ∙ ap (λ l. l ++ y ∷ []) empty) ∙ ap (λ z. z ∷ []) (new ∙ (ap (λ x. record { path = x; start = a; error = e }) same ∙ ap (λ x. record { path = q; start = x; error = e }) at))
+pub one-error : (p q : Place) (a b : Position) (e : Error) (xs : List Listed) → p ≡ q → a ≡ b → xs ≡ record { path = p; start = a; error = e } ∷ [] → xs ≡ record { path = q; start = b; error = e } ∷ []
+one-error p q a b e xs same at is = is ∙ (ap (λ x. record { path = x; start = a; error = e } ∷ []) same ∙ ap (λ x. record { path = q; start = x; error = e } ∷ []) at)

@@ -1,6 +1,5 @@
 -- What a walk over objects within objects promises (6.3, 6.4).
 use Rattle.std.specs.Prelude.{◌≡◌, ℕ, ◌≤◌, suc, max, Bool, true, false, ◌&&◌, List, [], ◌∷◌, ◌++◌, map}
-use Rattle.std.specs.Borrow.{Bor}
 use Rattle.graphql_spec.specs.Shown.{Shown, Name}
 use Rattle.graphql_spec.specs.Documents.{response_key}
 use Rattle.graphql_spec.specs.Values.{Value, Entries, object, is_null}
@@ -16,10 +15,6 @@ use Rattle.juniper_completion.specs.Walks.{AreWalkedAt, IsWalked, joined_in}
 use Rattle.juniper_collect.specs.Collected.{IsReady}
 use Rattle.juniper_assemble.specs.Keyed.{is_keyed}
 use Rattle.juniper_walk.specs.declared.asking.Walk.{Walk}
-
--- response keys from the root, as a place
-abbrev pub place_of : List (Bor (List ℕ)) → Place
-place_of ks = map (λ k. key k.now) ks
 
 -- how deep what the fields select is nested, at most
 unfoldable pub deepest : List Occurrence → ℕ

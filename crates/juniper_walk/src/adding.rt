@@ -2,32 +2,30 @@
 
 ghost use Rattle.std.specs.Prelude.{◌≡◌, ◌++◌, ◌∷◌, [], ◌&&◌, IfOk, OnOk, IsTrue, map};
 ghost use Rattle.graphql_spec.specs.Documents.{response_key as key_of};
-ghost use Rattle.graphql_spec.specs.Selections.{occurrences};
 ghost use Rattle.graphql_spec.specs.Values.{is_null, object};
+ghost use Rattle.juniper_syntax.specs.DocumentView.{view_selections, view_set};
 ghost use Rattle.juniper_syntax.specs.ValueView.{view_object, view_value};
+ghost use Rattle.juniper_syntax.specs.declared.ast.Field.{out-Field};
 ghost use Rattle.juniper_errors.specs.ErrorView.{view_listed};
 ghost use Rattle.juniper_assemble.specs.Keyed.{is_keyed};
 ghost use Rattle.juniper_assemble.specs.SkeletonView.{view_skeleton};
-ghost use Rattle.juniper_collect.specs.Collected.{IsReady, view_all, view_collected};
 ghost use Rattle.juniper_walk.specs.FieldWords.{head_of};
 ghost use Rattle.juniper_walk.specs.Walking.{IsAdded, all_keyed};
 
-use crate::asking::{Resolver, Walk};
 use crate::preparing::{Prepared, response_key};
 use crate::walking::{AllWalked, Walked};
 use juniper_assemble::{fill, settle};
-use juniper_collect::{Collected, collect};
 use juniper_errors::ExecutionError;
-use juniper_syntax::{Field, Object, ScalarValue, Span, Spanning, Value};
+use juniper_syntax::{Field, Object, ScalarValue, Selection, Span, Spanning, Value};
 use std::alloc::{AllocError, Global};
 
 /// Adds a field's answer, with the objects of its nodes, to the object; whether its null rises past it (6.4.4).
-pub(crate) fn add_field<'d, N: Drop, S: ScalarValue>(
+pub(crate) fn add_field<'a, N: Drop, S: ScalarValue>(
     alloc: Global,
     entries: &mut Object<S>,
     errors: &mut Vec<ExecutionError<S>>,
-    field: &Spanning<Field<'d, S>, Span>,
-    prepared: Prepared<'d, N, S>,
+    field: &Spanning<Field<'a, S>, Span>,
+    prepared: Prepared<'a, N, S>,
     walked: AllWalked<S>,
 ) -> Result<bool, AllocError>
     requires entries { IsTrue (is_keyed (object (view_object S.shown entries.old))) }
@@ -73,20 +71,14 @@ pub(crate) fn add_object<S: ScalarValue>(
     Ok(())
 }
 
-/// The fields that a field selects, for an object type (6.3.2).
-pub(crate) fn fields_below<'d, S: ScalarValue, R: Resolver<S>>(
-    walk: &Walk<'_, 'd, S, R>,
-    concrete: &str,
-    field: &'d Spanning<Field<'d, S>, Span>,
-) -> Result<Collected<'d, S>, AllocError>
-    requires { IsReady S.shown walk.now.collector }
-    ensures { IfOk result (λ r. view_all S.shown walk.now.collector r.items ≡ occurrences (R.possible walk.now.collector.possible) concrete.now (view_collected S.shown walk.now.collector field.now).below) }
+/// What a field selects; nothing where it has no selections (2.4).
+pub(crate) fn selections_of<'d, 'a, S: ScalarValue>(
+    field: &'d Spanning<Field<'a, S>, Span>,
+) -> &'d [Selection<'a, S>]
+    ensures { view_selections S.shown result.now ≡ view_set S.shown (out-Field S field.now.item).selection_set }
 {
     match &field.item.selection_set {
-        Some(selections) => {
-            let fields = collect(walk.alloc, &walk.collector, concrete, selections)?;
-            Ok(fields)
-        }
-        None => Ok(Vec::new(walk.alloc)),
+        Some(selections) => selections.as_slice(),
+        None => &[],
     }
 }

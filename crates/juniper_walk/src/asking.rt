@@ -8,10 +8,32 @@ ghost use Rattle.juniper_walk.specs.FieldWords.{head_of};
 
 use juniper_assemble::Completer;
 use juniper_collect::{Collector, Conditions};
-use juniper_errors::ResolveError;
+use juniper_errors::{FieldPath, ResolveError};
 use juniper_resolvable::Resolved;
-use juniper_syntax::{Field, ScalarValue, Span, Spanning, Type};
+use juniper_syntax::{Field, Fragments, ScalarValue, Selection, Span, Spanning, Type};
 use std::alloc::Global;
+
+/// Where a field is asked for.
+#[derive(Drop)]
+pub struct Site<'r, 'd, 'a, S> {
+    /// The fragments of the document by name.
+    pub fragments: &'r Fragments<'d, 'a, S>,
+    /// The response keys from the root to the field.
+    pub path: &'r FieldPath<'a>,
+    /// The selections that hold the field, perhaps within fragments.
+    pub enclosing: &'d [Selection<'a, S>],
+    /// The field as it is written.
+    pub field: &'d Spanning<Field<'a, S>, Span>,
+}
+
+/// What a field of a node answers.
+#[derive(Drop)]
+pub struct Asked<'t, N, S> {
+    /// The type that the field declares.
+    pub declared: &'t Type<String>,
+    /// Its answer, or the error with which it fails.
+    pub answer: Result<Resolved<N, S>, ResolveError<S>>,
+}
 
 /// What answers the fields of nodes; it stands for the schema, the variables and the resolver of a request.
 pub trait Resolver<S: ScalarValue>: Completer<S> + Conditions {
@@ -19,25 +41,22 @@ pub trait Resolver<S: ScalarValue>: Completer<S> + Conditions {
     fn concrete_type_name<'n>(&'n self, node: &'n Self::Node) -> &'n str
         ensures { result.now ≡ (Self.world self.now).concrete node.now };
 
-    /// The declared type of a field of an object type.
-    fn field_type(&self, concrete: &str, name: &str) -> &Type<String>
-        ensures { view_type (λ n. string_bytes n) result.now ≡ (Self.world self.now).field_type concrete.now name.now };
-
-    /// What a field of a node answers, `__typename` too (ResolveFieldValue, 6.4.2).
-    fn reply<'d>(
-        &self,
+    /// What a field of a node answers, `__typename` too (ResolveFieldValue, 6.4.2), with its declared type.
+    fn ask<'t, 'd, 'a>(
+        &'t self,
         alloc: Global,
         concrete: &str,
         node: &Self::Node,
-        field: &Spanning<Field<'d, S>, Span>,
-    ) -> Result<Resolved<Self::Node, S>, ResolveError<S>>
-        ensures { Answers S.shown result (reply_to (Self.world self.now) concrete.now node.now (head_of S.shown field.now)) };
+        site: &Site<'_, 'd, 'a, S>,
+    ) -> Asked<'t, Self::Node, S>
+        ensures declared { view_type (λ n. string_bytes n) result.declared.now ≡ (Self.world self.now).field_type concrete.now (head_of S.shown site.now.field.now).name.item }
+        ensures answer { Answers S.shown result.answer (reply_to (Self.world self.now) concrete.now node.now (head_of S.shown site.now.field.now)) };
 }
 
 /// What one request gives to each of its fields.
 #[derive(Drop)]
-pub struct Walk<'r, 'd, S, R> {
+pub struct Walk<'r, 'd, 'a, S, R> {
     pub alloc: Global,
     /// What answers its fields, with what they are collected by.
-    pub collector: Collector<'r, 'd, S, R>,
+    pub collector: Collector<'r, 'd, 'a, S, R>,
 }

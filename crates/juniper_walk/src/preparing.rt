@@ -4,23 +4,26 @@ ghost use Rattle.std.specs.Prelude.{◌≡◌, ◌++◌, ◌∷◌, [], IfOk, ma
 ghost use Rattle.graphql_spec.specs.Documents.{response_key};
 ghost use Rattle.juniper_completion.specs.Skeletons.{listed_at};
 ghost use Rattle.juniper_position.specs.Positions.{view_position};
+ghost use Rattle.graphql_spec.specs.Errors.{key};
 ghost use Rattle.juniper_errors.specs.ErrorView.{view_error, view_listed};
+ghost use Rattle.juniper_errors.specs.PathView.{path_place};
 ghost use Rattle.juniper_assemble.specs.SkeletonView.{view_fault, view_skeleton};
-ghost use Rattle.juniper_collect.specs.Collected.{view_collected};
+ghost use Rattle.juniper_collect.specs.Collected.{IsReady, view_collected};
 ghost use Rattle.juniper_walk.specs.FieldWords.{head_of};
-ghost use Rattle.juniper_walk.specs.Walking.{IsPrepared, place_of};
+ghost use Rattle.juniper_walk.specs.Walking.{IsPrepared};
 
-use crate::asking::{Resolver, Walk};
+use crate::asking::{Asked, Resolver, Site, Walk};
 use juniper_assemble::{Fault, Skeleton, take_apart};
-use juniper_errors::{ExecutionError, FieldError, ResolveError};
-use juniper_syntax::{Field, ScalarValue, SourcePosition, Span, Spanning, Value};
+use juniper_errors::{ExecutionError, FieldError, FieldPath, ResolveError};
+use juniper_syntax::{Field, ScalarValue, Selection, SourcePosition, Span, Spanning, Value};
 use std::alloc::{AllocError, Global};
+use std::rc::Rc;
 
 /// A field's answer without the objects of its nodes.
 #[derive(Drop)]
-pub(crate) struct Prepared<'d, N, S> {
+pub(crate) struct Prepared<'a, N, S> {
     /// The response keys from the root to the field.
-    pub(crate) path: Vec<&'d str>,
+    pub(crate) path: Rc<FieldPath<'a>>,
     /// Whether its type is non-null.
     pub(crate) is_non_null: bool,
     /// The answer, with a hole for each node.
@@ -33,7 +36,7 @@ pub(crate) struct Prepared<'d, N, S> {
 
 /// The response key of a field: its alias, else its name (2.7).
 #[tactic(auto, unfolding(graphql_spec::specs::Documents::response_key, graphql_spec::specs::Documents::name_or))]
-pub(crate) fn response_key<'d, S: ScalarValue>(field: &Spanning<Field<'d, S>, Span>) -> &'d str
+pub(crate) fn response_key<'a, S: ScalarValue>(field: &Spanning<Field<'a, S>, Span>) -> &'a str
     ensures { result.now ≡ response_key (head_of S.shown field.now) }
 {
     match field.item.alias {
@@ -42,13 +45,30 @@ pub(crate) fn response_key<'d, S: ScalarValue>(field: &Spanning<Field<'d, S>, Sp
     }
 }
 
-/// The keys with a further one behind them.
-fn path_below<'d>(alloc: Global, path: &[&'d str], key: &'d str) -> Result<Vec<&'d str>, AllocError>
-    ensures { IfOk result (λ made. made.items ≡ path.now ++ key.entry ∷ []) }
+/// The path of the root: no keys.
+pub(crate) fn root_path<'a>(
+    alloc: Global,
+    start: SourcePosition,
+) -> Result<Rc<FieldPath<'a>>, AllocError>
+    ensures { IfOk result (λ made. path_place made.value ≡ []) }
 {
-    let mut made = Vec::with_capacity(alloc, path.len())?;
-    made.extend_from_slice(path)?;
-    made.push(key)?;
+    let made = Rc::new(alloc, FieldPath::Root(start))?;
+    Ok(made)
+}
+
+/// The path to a field below this path.
+fn path_below<'a, S: ScalarValue>(
+    alloc: Global,
+    path: &Rc<FieldPath<'a>>,
+    field: &Spanning<Field<'a, S>, Span>,
+) -> Result<Rc<FieldPath<'a>>, AllocError>
+    ensures { IfOk result (λ made. path_place made.value ≡ path_place path.now.value ++ key (response_key (head_of S.shown field.now)) ∷ []) }
+{
+    let parent = path.clone()?;
+    let made = Rc::new(
+        alloc,
+        FieldPath::Field(response_key(field), field.span.start, parent),
+    )?;
     Ok(made)
 }
 
@@ -71,40 +91,49 @@ fn fault_error<S: ScalarValue>(alloc: Global, fault: Fault) -> Result<FieldError
 /// The errors of faults of one field.
 fn list_faults<S: ScalarValue>(
     alloc: Global,
-    path: &[&str],
+    path: &FieldPath<'_>,
     start: SourcePosition,
     faults: &[Fault],
 ) -> Result<Vec<ExecutionError<S>>, AllocError>
-    ensures { IfOk result (λ made. map (view_listed S.shown) made.items ≡ listed_at (place_of path.now) (view_position start) (map view_fault faults.now)) }
+    ensures { IfOk result (λ made. map (view_listed S.shown) made.items ≡ listed_at (path_place path.now) (view_position start) (map view_fault faults.now)) }
 {
+    if faults.is_empty() {
+        return Ok(Vec::new(alloc));
+    }
+    let keys = path.keys(alloc)?;
     let mut made = Vec::with_capacity(alloc, faults.len())?;
     for fault in faults {
         let error = fault_error(alloc, *fault)?;
-        let listed = ExecutionError::new(alloc, start, path, error)?;
+        let listed = ExecutionError::new(alloc, start, &keys, error)?;
         made.push(listed)?;
     }
     Ok(made)
 }
 
 /// A field of a node: its answer, taken apart.
-pub(crate) fn prepare<'d, S: ScalarValue, R: Resolver<S>>(
-    walk: &Walk<'_, 'd, S, R>,
-    path: &[&'d str],
+pub(crate) fn prepare<'d, 'a, S: ScalarValue, R: Resolver<S>>(
+    walk: &Walk<'_, 'd, 'a, S, R>,
+    path: &Rc<FieldPath<'a>>,
     concrete: &str,
     node: &R::Node,
-    field: &'d Spanning<Field<'d, S>, Span>,
-) -> Result<Prepared<'d, R::Node, S>, AllocError>
-    ensures { IfOk result (λ p. IsPrepared (R.world walk.now.collector.possible) (place_of path.now) concrete.now node.now (view_collected S.shown walk.now.collector field.now)
-        (place_of p.path.items) p.is_non_null (view_skeleton S.shown p.skeleton) p.nodes.items (map (view_listed S.shown) p.errors.items)) }
+    enclosing: &'d [Selection<'a, S>],
+    field: &'d Spanning<Field<'a, S>, Span>,
+) -> Result<Prepared<'a, R::Node, S>, AllocError>
+    requires { IsReady S.shown walk.now.collector }
+    ensures { IfOk result (λ p. IsPrepared (R.world walk.now.collector.possible) (path_place path.now.value) concrete.now node.now (view_collected S.shown walk.now.collector field.now)
+        (path_place p.path.value) p.is_non_null (view_skeleton S.shown p.skeleton) p.nodes.items (map (view_listed S.shown) p.errors.items)) }
 {
     let alloc = walk.alloc;
-    let here = path_below(alloc, path, response_key(field))?;
-    let declared = walk
-        .collector
-        .possible
-        .field_type(concrete, field.item.name.item);
+    let here = path_below(alloc, path, field)?;
+    let site = Site {
+        fragments: walk.collector.fragments.by_name(),
+        path: here.as_ref(),
+        enclosing,
+        field,
+    };
+    let Asked { declared, answer } = walk.collector.possible.ask(alloc, concrete, node, &site);
     let mut nodes = Vec::new(alloc);
-    match walk.collector.possible.reply(alloc, concrete, node, field) {
+    match answer {
         Ok(resolved) => {
             let mut faults = Vec::new(alloc);
             let skeleton = take_apart(
@@ -115,7 +144,7 @@ pub(crate) fn prepare<'d, S: ScalarValue, R: Resolver<S>>(
                 &mut nodes,
                 &mut faults,
             )?;
-            let errors = list_faults(alloc, &here, field.span.start, &faults)?;
+            let errors = list_faults(alloc, here.as_ref(), field.span.start, &faults)?;
             Ok(Prepared {
                 path: here,
                 is_non_null: declared.is_non_null(),
@@ -125,8 +154,7 @@ pub(crate) fn prepare<'d, S: ScalarValue, R: Resolver<S>>(
             })
         }
         Err(ResolveError::Field(error)) => {
-            let mut errors = Vec::new(alloc);
-            errors.push(ExecutionError::new(alloc, field.span.start, &here, error)?)?;
+            let errors = list_error(alloc, here.as_ref(), field.span.start, error)?;
             Ok(Prepared {
                 path: here,
                 is_non_null: declared.is_non_null(),
@@ -137,4 +165,20 @@ pub(crate) fn prepare<'d, S: ScalarValue, R: Resolver<S>>(
         }
         Err(ResolveError::Memory) => Err(AllocError),
     }
+}
+
+/// The error of a field, alone.
+fn list_error<S: ScalarValue>(
+    alloc: Global,
+    path: &FieldPath<'_>,
+    start: SourcePosition,
+    error: FieldError<S>,
+) -> Result<Vec<ExecutionError<S>>, AllocError>
+    ensures { IfOk result (λ made. map (view_listed S.shown) made.items ≡ record { path = path_place path.now; start = view_position start; error = view_error S.shown error } ∷ []) }
+{
+    let keys = path.keys(alloc)?;
+    let listed = ExecutionError::new(alloc, start, &keys, error)?;
+    let mut made = Vec::new(alloc);
+    made.push(listed)?;
+    Ok(made)
 }

@@ -11,18 +11,21 @@ ghost use Rattle.juniper_collect.specs.Collected.{expansion};
 ghost use Rattle.juniper_walk.specs.Walking.{IsReadyWalk, SelectionsAgree};
 
 use crate::asking::{Resolver, Walk};
+use crate::preparing::root_path;
 use crate::sort::sort_errors;
 use crate::walking::{Walked, object};
 use juniper_collect::collect;
-use juniper_syntax::{ScalarValue, Selection};
+use juniper_syntax::{ScalarValue, Selection, SourcePosition};
 use std::alloc::AllocError;
 
-/// The data of selections on a root node as an object of this type, and the errors in their order.
-pub fn answer<'d, S: ScalarValue, R: Resolver<S>>(
-    walk: &Walk<'_, 'd, S, R>,
+/// The data of selections on a root node as an object of this type, and the errors in their order; the operation starts at
+/// this place.
+pub fn answer<'d, 'a, S: ScalarValue, R: Resolver<S>>(
+    walk: &Walk<'_, 'd, 'a, S, R>,
     concrete: &str,
     root: &R::Node,
-    selections: &'d [Selection<'d, S>],
+    start: SourcePosition,
+    selections: &'d [Selection<'a, S>],
 ) -> Result<Walked<S>, AllocError>
     requires ready { IsReadyWalk S.shown R.possible (R.world walk.now.collector.possible) walk.now }
     requires agree { SelectionsAgree (R.world walk.now.collector.possible) concrete.now (expansion S.shown walk.now.collector (view_selections S.shown selections.now)) }
@@ -31,7 +34,8 @@ pub fn answer<'d, S: ScalarValue, R: Resolver<S>>(
         (view_value S.shown r.value) (map (view_listed S.shown) r.errors.items)) }
 {
     let fields = collect(walk.alloc, &walk.collector, concrete, selections)?;
-    let walked = object(walk, &[], concrete, root, &fields)?;
+    let path = root_path(walk.alloc, start)?;
+    let walked = object(walk, &path, concrete, root, selections, &fields)?;
     let mut errors = walked.errors;
     sort_errors(&mut errors)?;
     Ok(Walked {

@@ -4,16 +4,18 @@
 ghost use Rattle.std.specs.Prelude.{◌≡◌, IfOk, map};
 ghost use Rattle.juniper_syntax.specs.ValueView.{view_value};
 ghost use Rattle.juniper_errors.specs.ErrorView.{view_listed};
+ghost use Rattle.juniper_errors.specs.PathView.{path_place};
 ghost use Rattle.juniper_collect.specs.Collected.{view_all, view_collected};
-ghost use Rattle.juniper_walk.specs.Walking.{AllAgree, AreAllWalked, AreReached, IsReadyWalk, IsWalkedThrough, place_of};
+ghost use Rattle.juniper_walk.specs.Walking.{AllAgree, AreAllWalked, AreReached, IsReadyWalk, IsWalkedThrough};
 
-use crate::adding::{add_field, add_object, fields_below};
+use crate::adding::{add_field, add_object, selections_of};
 use crate::asking::{Resolver, Walk};
 use crate::preparing::prepare;
-use juniper_collect::Occurrence;
-use juniper_errors::ExecutionError;
-use juniper_syntax::{Field, Object, ScalarValue, Span, Spanning, Value};
-use std::alloc::{AllocError, Global};
+use juniper_collect::{Occurrence, collect};
+use juniper_errors::{ExecutionError, FieldPath};
+use juniper_syntax::{Field, Object, ScalarValue, Selection, Span, Spanning, Value};
+use std::alloc::AllocError;
+use std::rc::Rc;
 
 /// The object of a node, and what fails in it.
 #[derive(Drop)]
@@ -29,26 +31,27 @@ pub(crate) struct AllWalked<S> {
     pub(crate) errors: Vec<ExecutionError<S>>,
 }
 
-/// The object of a node of an object type, under these response keys from the root, for these fields, and the errors of
+/// The object of a node of an object type, at this path, for these fields of the enclosing selections, and the errors of
 /// those that fail. A null at a non-null field ends the walk, and the object is null (6.4.4).
 #[cycle(walking)]
-pub fn object<'d, S: ScalarValue, R: Resolver<S>>(
-    walk: &Walk<'_, 'd, S, R>,
-    path: &[&'d str],
+pub fn object<'d, 'a, S: ScalarValue, R: Resolver<S>>(
+    walk: &Walk<'_, 'd, 'a, S, R>,
+    path: &Rc<FieldPath<'a>>,
     concrete: &str,
     node: &R::Node,
-    fields: &[Occurrence<'d, S>],
+    enclosing: &'d [Selection<'a, S>],
+    fields: &[Occurrence<'d, 'a, S>],
 ) -> Result<Walked<S>, AllocError>
     requires ready { IsReadyWalk S.shown R.possible (R.world walk.now.collector.possible) walk.now }
     requires agree { AllAgree (R.world walk.now.collector.possible) concrete.now (view_all S.shown walk.now.collector fields.now) }
-    ensures { IfOk result (λ r. IsWalkedThrough (R.world walk.now.collector.possible) (place_of path.now) concrete.now node.now (view_all S.shown walk.now.collector fields.now)
+    ensures { IfOk result (λ r. IsWalkedThrough (R.world walk.now.collector.possible) (path_place path.now.value) concrete.now node.now (view_all S.shown walk.now.collector fields.now)
         (view_value S.shown r.value) (map (view_listed S.shown) r.errors.items)) }
 {
     let mut entries = Object::with_capacity(walk.alloc, fields.len())?;
     let mut errors = Vec::new(walk.alloc);
     for occurrence in fields {
         let field = occurrence.field;
-        let prepared = prepare(walk, path, concrete, node, field)?;
+        let prepared = prepare(walk, path, concrete, node, enclosing, field)?;
         let walked = objects_of(walk, &prepared.path, &prepared.nodes, field)?;
         let rises = add_field(
             walk.alloc,
@@ -73,23 +76,24 @@ pub fn object<'d, S: ScalarValue, R: Resolver<S>>(
 
 /// The objects of nodes for what a field selects, one after the other.
 #[cycle(walking)]
-fn objects_of<'d, S: ScalarValue, R: Resolver<S>>(
-    walk: &Walk<'_, 'd, S, R>,
-    path: &[&'d str],
+fn objects_of<'d, 'a, S: ScalarValue, R: Resolver<S>>(
+    walk: &Walk<'_, 'd, 'a, S, R>,
+    path: &Rc<FieldPath<'a>>,
     nodes: &[R::Node],
-    field: &'d Spanning<Field<'d, S>, Span>,
+    field: &'d Spanning<Field<'a, S>, Span>,
 ) -> Result<AllWalked<S>, AllocError>
     requires ready { IsReadyWalk S.shown R.possible (R.world walk.now.collector.possible) walk.now }
     requires agree { AreReached (R.world walk.now.collector.possible) nodes.now (view_collected S.shown walk.now.collector field.now).below }
-    ensures { IfOk result (λ r. AreAllWalked (R.world walk.now.collector.possible) (place_of path.now) (view_collected S.shown walk.now.collector field.now).below nodes.now
+    ensures { IfOk result (λ r. AreAllWalked (R.world walk.now.collector.possible) (path_place path.now.value) (view_collected S.shown walk.now.collector field.now).below nodes.now
         (map (view_value S.shown) r.values.items) (map (view_listed S.shown) r.errors.items)) }
 {
+    let selections = selections_of(field);
     let mut values = Vec::new(walk.alloc);
     let mut errors = Vec::new(walk.alloc);
     for node in nodes {
         let concrete = walk.collector.possible.concrete_type_name(node);
-        let fields = fields_below(walk, concrete, field)?;
-        let walked = object(walk, path, concrete, node, &fields)?;
+        let fields = collect(walk.alloc, &walk.collector, concrete, selections)?;
+        let walked = object(walk, path, concrete, node, selections, &fields)?;
         add_object(&mut values, &mut errors, walked)?;
     }
     Ok(AllWalked { values, errors })

@@ -1,6 +1,55 @@
+use Rattle.std.proofs.Common.{map, false, refl, ap, ◌∙◌}
+use Rattle.graphql_spec.specs.Documents.{fragments}
+use Rattle.graphql_spec.specs.Directives.{passes}
+use Rattle.graphql_spec.specs.Fragments.{expand}
+use Rattle.graphql_spec.specs.Requests.{selected}
+use Rattle.graphql_spec.specs.Resolvers.{world_of}
+use Rattle.juniper_syntax.specs.DocumentView.{view_definition, view_document, view_operation, view_selections}
+use Rattle.juniper_syntax.specs.InputView.{view_variables}
 use Rattle.juniper_schema.specs.SchemaView.{view_schema}
-use Rattle.juniper.proofs.ServedTypes.{schema-is-served}
+use Rattle.juniper_collect.specs.Collected.{IsReady, expansion}
+use Rattle.juniper_walk.specs.Walking.{IsReadyWalk}
+use Rattle.juniper.specs.Services.{is_undeclared, world_in}
+use Rattle.juniper.proofs.Executing.{no-cycle, query-agrees, answer-moves}
 use Rattle.juniper.proofs.execute.execute_query.Goals as goal
 
-pub walk_query-requires-clause-schema : goal.walk_query-requires-clause-schema
-walk_query-requires-clause-schema g c = schema-is-served (view_schema g.S.ScalarValue.shown c.args.root_node.now.schema) c.args.root_node.now.executable c.requires.served
+pub invariant_of-service : goal.invariant_of-service
+unfolding is_undeclared
+invariant_of-service g c = record { unnamed = ap is_undeclared c.undeclared_type.ensures }
+
+pub answer-requires-clause-ready : goal.answer-requires-clause-ready
+unfolding world_of
+answer-requires-clause-ready g c =
+    let shown = g.S.ScalarValue.shown in
+    let s = view_schema shown c.args.root_node.now.schema in
+    let d = view_document shown c.args.document.now in
+    let is = c.in_ok-fragments.ensures.is ∙ ap (λ ds. fragments (map (view_definition shown) ds)) c.as_slice.ensures.value in
+    record { collector = record { made = c.in_ok-fragments.ensures.made; acyclic = no-cycle s d c.requires.valid _ is }; same = refl }
+
+pub answer-requires-clause-agree : goal.answer-requires-clause-agree
+unfolding expansion
+answer-requires-clause-agree g c =
+    let shown = g.S.ScalarValue.shown in
+    let root = c.args.root_node.now in
+    let s = view_schema shown root.schema in
+    let d = view_document shown c.args.document.now in
+    let o = view_operation shown c.args.operation.now in
+    let is = c.in_ok-fragments.ensures.is ∙ ap (λ ds. fragments (map (view_definition shown) ds)) c.as_slice.ensures.value in
+    query-agrees s root.executable d c.requires.valid o c.requires.member c.requires.query (view_variables shown c.args.variables.now)
+    (g.Q.GraphQLValue.concrete root.query root.query_info c.args.context.now) (g.Q.GraphQLValue.answer root.query root.query_info c.args.context.now)
+    c.query_name.result.now c.query_name.ensures _ is (view_selections shown c.as_slice-2.result.now) (ap (view_selections shown) c.as_slice-2.ensures.value)
+
+pub returns : goal.returns
+unfolding expansion selected
+returns g c =
+    let shown = g.S.ScalarValue.shown in
+    let root = c.args.root_node.now in
+    let s = view_schema shown root.schema in
+    let vars = view_variables shown c.args.variables.now in
+    let d = view_document shown c.args.document.now in
+    let o = view_operation shown c.args.operation.now in
+    let W = world_in g.Q.GraphQLValue.concrete g.Q.GraphQLValue.answer root.query root.query_info c.args.context.now s vars in
+    let is = c.in_ok-fragments.ensures.is ∙ ap (λ ds. fragments (map (view_definition shown) ds)) c.as_slice.ensures.value in
+    answer-moves W _ _ _ _ _ _ _ _ c.query_name.ensures c.root_node.ensures
+    (ap (λ fs. expand (passes vars) fs (view_selections shown c.as_slice-2.result.now)) is ∙ ap (λ ss. expand (passes vars) (fragments d) (view_selections shown ss)) c.as_slice-2.ensures.value)
+    c.in_ok-walked.ensures

@@ -1,18 +1,13 @@
-use Rattle.std.proofs.Common.{◌≡◌, None, refl, ap, ◌∙◌}
-use Rattle.graphql_spec.specs.Fields.{entry_in}
-use Rattle.graphql_spec.specs.Shown.{Name}
-use Rattle.juniper_registry.specs.Entries.{Table, table}
-use Rattle.juniper_registry.specs.RegistryView.{view_registry}
+use Rattle.std.proofs.Common.{◌≡◌, [], refl}
+use Rattle.juniper_schema.specs.SchemaView.{view_entries}
 use Rattle.juniper_syntax.specs.Scalars.{default_shown}
-use Rattle.juniper_demo_server.proofs.DemoTypes.{registered_is}
+use Rattle.juniper_demo_server.proofs.PutTypes.{all_put}
 use Rattle.juniper_demo_server.proofs.schema.types.Goals as goal
 
-pub new-registry-requires : goal.new-registry-requires
-unfolding entry_in
-new-registry-requires c n = rw c.new.ensures.empty refl
-
-pub returns-in-Ok : goal.returns-in-Ok
-unfolding entry_in
-returns-in-Ok c =
-    let nothing : (n : Name) → table default_shown c.new.result n ≡ None = λ n. rw c.new.ensures.empty refl in
-    registered_is (view_registry default_shown c.new-registry.result) (view_registry default_shown c.register.new.self) (table default_shown c.into_types.result) (λ n. ap (λ (t : Table). t n) c.new-registry.ensures ∙ nothing n) c.in-Ok.ensures c.into_types.ensures.same
+pub returns : goal.returns
+returns c =
+    let start : view_entries default_shown c.new-types.result ≡ [] = rw c.new-types.ensures.empty refl in
+    all_put (view_entries default_shown c.new-types.result) (view_entries default_shown c.put_placeholder.new.types) (view_entries default_shown c.put_placeholder-2.new.types)
+    (view_entries default_shown c.put_type.new.types) (view_entries default_shown c.put_type-2.new.types) (view_entries default_shown c.put_type-3.new.types)
+    (view_entries default_shown c.put_type-4.new.types) (view_entries default_shown c.put_type-5.new.types) (view_entries default_shown c.put_type-6.new.types)
+    start c.in_ok-put_placeholder.ensures c.in_ok-put_placeholder-2.ensures c.in_ok-put_type.ensures c.in_ok-put_type-2.ensures c.in_ok-put_type-3.ensures c.in_ok-put_type-4.ensures c.in_ok-put_type-5.ensures c.in_ok-put_type-6.ensures

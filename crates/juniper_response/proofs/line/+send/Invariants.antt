@@ -1,5 +1,4 @@
 use Rattle.std.proofs.Common.{◌≤◌, drop}
-use Rattle.std.specs.Slice.Iter.{iter_rest}
 use Rattle.juniper_syntax.specs.ValueView.{view_value, view_values, view_object, view_entries}
 use Rattle.juniper_response.specs.AnswerText.{values_data, entries_data}
 use Rattle.juniper_response.proofs.Sending.{Goes, GoesInside}
@@ -25,6 +24,6 @@ abbrev pub invariant-send_entries-loop-key : goal.invariant-send_entries-loop-ke
 invariant-send_entries-loop-key g l =
     (goal.iterator-send_entries-loop-key g).can_next l.key-iterator ×
     (goal.iterator-send_entries-loop-key g).is_finite l.key-iterator ×
-    (entries_size (view_entries g.S.ScalarValue.shown (iter_rest l.key-iterator)) ≤ entries_size (view_object g.S.ScalarValue.shown l.fn.entries)) ×
+    (entries_size (view_entries g.S.ScalarValue.shown l.key-iterator) ≤ entries_size (view_object g.S.ScalarValue.shown l.fn.entries)) ×
     GoesInside (entries_data (view_object g.S.ScalarValue.shown l.fn.entries)) (g.W.Serializer.written l.initial.out)
-    (entries_data (view_entries g.S.ScalarValue.shown (iter_rest l.key-iterator))) (g.W.Serializer.written l.out)
+    (entries_data (view_entries g.S.ScalarValue.shown l.key-iterator)) (g.W.Serializer.written l.out)

@@ -1,9 +1,12 @@
 use Rattle.std.proofs.Common.{sym, ap, ◌∙◌, arith}
+use Rattle.std.proofs.lemmas.Map.Entries.{length-values_of}
+use Rattle.std.specs.Map.{values_of}
 use Rattle.graphql_spec.specs.Values as spec
-use Rattle.juniper_syntax.specs.ValueView.{view_value, view_values, view_entries}
+use Rattle.juniper_syntax.specs.ValueView.{view_value, view_values}
+use Rattle.juniper_syntax.specs.declared.value.Object.{out-Object}
 use Rattle.juniper_syntax.proofs.Values.{view-Null, view-Scalar, view-List, view-Object, view-out, view-roll}
-use Rattle.juniper_syntax.proofs.ValueLists.{append_values, append_entries}
-use Rattle.juniper_syntax.proofs.Mapped.{mapped_turn, mapped_end, mapped_entries_turn, mapped_entries_end}
+use Rattle.juniper_syntax.proofs.ValueLists.{append_values, values_long, entries_same}
+use Rattle.juniper_syntax.proofs.Mapped.{mapped_turn, mapped_end}
 use Rattle.juniper_syntax.proofs.map_scalars.+map_scalars.Goals as goal
 
 pub map_values-loop-item-init : goal.map_values-loop-item-init
@@ -21,26 +24,19 @@ pub map_values-returns : goal.map_values-returns
 map_values-returns g t c =
     mapped_end g.S.ScalarValue.shown g.T.ScalarValue.shown c.args.items.now c.loop-item.made.items c.loop-item.item-index (omega arith) ∙ c.loop-item.invariant
 
-pub map_object-loop-entry-init : goal.map_object-loop-entry-init
-map_object-loop-entry-init g t c =
-    let seen = g.S.ScalarValue.shown in
-    ap (λ vs. append_entries (view_entries g.T.ScalarValue.shown vs) (view_entries seen c.deref-entry-items.result.now)) c.in_ok-made.ensures.items
-
-pub map_object-loop-entry-preserved : goal.map_object-loop-entry-preserved
-map_object-loop-entry-preserved g t c =
-    let seen = g.S.ScalarValue.shown in
-    let l = c.loop-entry in
-    mapped_entries_turn seen g.T.ScalarValue.shown c.deref-entry-items.result.now l.made.items c.push.new.self.items l.entry-index c.entry-item.result (c.in_ok-key.key, c.in_ok-copy.copy) c.in_ok-push.ensures.items (omega arith)
-    c.entry-item.is (c.in_ok-key.ensures.ok ∙ c.as_str.ensures.value) (c.in_ok-copy.ensures ∙ ap (view_value seen) c.value_of.ensures)
-    ∙ l.invariant
-
 pub map_object-returns : goal.map_object-returns
 map_object-returns g t c =
     let seen = g.S.ScalarValue.shown in
     let shown = g.T.ScalarValue.shown in
-    view-roll shown c.loop-entry.made
-    ∙ (mapped_entries_end seen shown c.deref-entry-items.result.now c.loop-entry.made.items c.loop-entry.entry-index (omega arith)
-    ∙ (c.loop-entry.invariant ∙ (ap (view_entries seen) c.deref-entry-items.ensures.value ∙ sym (view-out seen c.args.object.now))))
+    let fields = (out-Object g.row.S.Denot c.args.object.now).fields in
+    let values = ap (view_values shown) c.in_ok-fields.ensures.values ∙ c.in_ok-values.ensures ∙ ap (view_values seen) c.values.ensures in
+    view-roll shown c.in_ok-fields.fields ∙ entries_same seen shown c.in_ok-fields.fields fields c.in_ok-fields.ensures.keys values ∙ sym (view-out seen c.args.object.now)
+
+pub map_object-with_values-requires : goal.map_object-with_values-requires
+map_object-with_values-requires g t c =
+    let seen = g.S.ScalarValue.shown in
+    let fields = (out-Object g.row.S.Denot c.args.object.now).fields in
+    values_long seen g.T.ScalarValue.shown c.in_ok-values.values.items (values_of fields) (c.in_ok-values.ensures ∙ ap (view_values seen) c.values.ensures) ∙ length-values_of fields
 
 pub map_value-returns-in-Null : goal.map_value-returns-in-Null
 map_value-returns-in-Null g t c =

@@ -1,6 +1,6 @@
 use Rattle.std.proofs.Common.{◌≡◌, drop}
-use Rattle.juniper_syntax.specs.ValueView.{view_values, view_entries}
-use Rattle.juniper_syntax.proofs.ValueLists.{append_values, append_entries}
+use Rattle.juniper_syntax.specs.ValueView.{view_values}
+use Rattle.juniper_syntax.proofs.ValueLists.{append_values}
 use Rattle.juniper_syntax.proofs.map_scalars.+map_scalars.Given as goal
 
 -- what is made, and then what is left, are all
@@ -8,8 +8,3 @@ abbrev pub invariant-map_values-loop-item : goal.invariant-map_values-loop-item
 invariant-map_values-loop-item g l =
     let seen = g.S.ScalarValue.shown in
     append_values (view_values g.T.ScalarValue.shown l.made.items) (view_values seen (drop l.item-index l.items)) ≡ view_values seen l.items
-
-abbrev pub invariant-map_object-loop-entry : goal.invariant-map_object-loop-entry
-invariant-map_object-loop-entry g l =
-    let seen = g.S.ScalarValue.shown in
-    append_entries (view_entries g.T.ScalarValue.shown l.made.items) (view_entries seen (drop l.entry-index l.entry-items)) ≡ view_entries seen l.entry-items

@@ -1,8 +1,11 @@
 use Rattle.std.proofs.Common.{sym, ap, ◌∙◌, arith}
+use Rattle.std.proofs.lemmas.Map.Entries.{length-values_of}
+use Rattle.std.specs.Map.{values_of}
 use Rattle.graphql_spec.specs.Values as spec
-use Rattle.juniper_syntax.specs.ValueView.{view_value, view_values, view_entries}
+use Rattle.juniper_syntax.specs.ValueView.{view_value, view_values}
+use Rattle.juniper_syntax.specs.declared.value.Object.{out-Object}
 use Rattle.juniper_syntax.proofs.Values.{view-Scalar, view-List, view-Object, view-out, view-roll}
-use Rattle.juniper_syntax.proofs.ValueLists.{append_values, append_entries, values_turn, values_end, entries_turn, entries_end}
+use Rattle.juniper_syntax.proofs.ValueLists.{append_values, values_turn, values_end, values_long, entries_same}
 use Rattle.juniper_syntax.proofs.value.+try_clone.Goals as goal
 
 pub clone_values-loop-item-preserved : goal.clone_values-loop-item-preserved
@@ -15,20 +18,18 @@ pub clone_values-returns : goal.clone_values-returns
 clone_values-returns g t c =
     values_end g.S.ScalarValue.shown c.args.items.now c.loop-item.made.items c.loop-item.item-index (omega arith) ∙ c.loop-item.invariant
 
-pub clone_object-loop-entry-preserved : goal.clone_object-loop-entry-preserved
-clone_object-loop-entry-preserved g t c =
-    let shown = g.S.ScalarValue.shown in
-    let l = c.loop-entry in
-    entries_turn shown c.deref-entry-items.result.now l.made.items c.push.new.self.items l.entry-index c.entry-item.result (c.in_ok-key.key, c.in_ok-copy.copy) c.in_ok-push.ensures.items (omega arith)
-    c.entry-item.is (c.in_ok-key.ensures.ok ∙ c.as_str.ensures.value) (c.in_ok-copy.ensures ∙ ap (view_value shown) c.value_of.ensures)
-    ∙ l.invariant
-
 pub clone_object-returns : goal.clone_object-returns
 clone_object-returns g t c =
     let shown = g.S.ScalarValue.shown in
-    view-roll shown c.loop-entry.made
-    ∙ (entries_end shown c.deref-entry-items.result.now c.loop-entry.made.items c.loop-entry.entry-index (omega arith)
-    ∙ (c.loop-entry.invariant ∙ (ap (view_entries shown) c.deref-entry-items.ensures.value ∙ sym (view-out shown c.args.object.now))))
+    let fields = (out-Object g.row.S.Denot c.args.object.now).fields in
+    let values = ap (view_values shown) c.in_ok-fields.ensures.values ∙ c.in_ok-values.ensures ∙ ap (view_values shown) c.values.ensures in
+    view-roll shown c.in_ok-fields.fields ∙ entries_same shown shown c.in_ok-fields.fields fields c.in_ok-fields.ensures.keys values ∙ sym (view-out shown c.args.object.now)
+
+pub clone_object-with_values-requires : goal.clone_object-with_values-requires
+clone_object-with_values-requires g t c =
+    let shown = g.S.ScalarValue.shown in
+    let fields = (out-Object g.row.S.Denot c.args.object.now).fields in
+    values_long shown shown c.in_ok-values.values.items (values_of fields) (c.in_ok-values.ensures ∙ ap (view_values shown) c.values.ensures) ∙ length-values_of fields
 
 pub Value::try_clone-returns-in-Null : goal.Value::try_clone-returns-in-Null
 Value::try_clone-returns-in-Null g t c = sym (ap (view_value g.S.ScalarValue.shown) c.in-Null.is)
@@ -55,8 +56,3 @@ pub clone_values-loop-item-init : goal.clone_values-loop-item-init
 clone_values-loop-item-init g t c =
     let shown = g.S.ScalarValue.shown in
     ap (λ vs. append_values (view_values shown vs) (view_values shown c.args.items.now)) c.in_ok-made.ensures.items
-
-pub clone_object-loop-entry-init : goal.clone_object-loop-entry-init
-clone_object-loop-entry-init g t c =
-    let shown = g.S.ScalarValue.shown in
-    ap (λ vs. append_entries (view_entries shown vs) (view_entries shown c.deref-entry-items.result.now)) c.in_ok-made.ensures.items

@@ -1,6 +1,6 @@
 use Rattle.std.proofs.Common.{◌≡◌, drop}
-use Rattle.juniper_syntax.specs.ValueView.{view_values, view_entries}
-use Rattle.juniper_syntax.proofs.ValueLists.{append_values, append_entries}
+use Rattle.juniper_syntax.specs.ValueView.{view_values}
+use Rattle.juniper_syntax.proofs.ValueLists.{append_values}
 use Rattle.juniper_syntax.proofs.value.+try_clone.Given as goal
 
 -- what is made, and then what is left, are all
@@ -8,8 +8,3 @@ abbrev pub invariant-clone_values-loop-item : goal.invariant-clone_values-loop-i
 invariant-clone_values-loop-item g l =
     let shown = g.S.ScalarValue.shown in
     append_values (view_values shown l.made.items) (view_values shown (drop l.item-index l.items)) ≡ view_values shown l.items
-
-abbrev pub invariant-clone_object-loop-entry : goal.invariant-clone_object-loop-entry
-invariant-clone_object-loop-entry g l =
-    let shown = g.S.ScalarValue.shown in
-    append_entries (view_entries shown l.made.items) (view_entries shown (drop l.entry-index l.entry-items)) ≡ view_entries shown l.entry-items

@@ -1,15 +1,15 @@
-use Rattle.std.proofs.Common.{◌≡◌, map, sym, ap, ◌∙◌}
+use Rattle.std.proofs.Common.{◌≡◌, [], ◌∷◌, ◌++◌, map, sym, ap, ◌∙◌}
 use Rattle.graphql_spec.specs.Documents.{response_key}
+use Rattle.graphql_spec.specs.Errors.{key}
 use Rattle.graphql_spec.specs.Execution.{reply_to}
-use Rattle.graphql_spec.specs.Resolvers.{failed}
 use Rattle.graphql_spec.specs.Types.{required}
 use Rattle.juniper_errors.specs.ErrorView.{view_error}
+use Rattle.juniper_errors.specs.PathView.{path_place}
 use Rattle.juniper_assemble.specs.SkeletonView.{view_fault}
 use Rattle.juniper_assemble.proofs.Views.{skeleton-Absent}
 use Rattle.juniper_collect.specs.Collected.{view_collected}
 use Rattle.juniper_walk.specs.FieldWords.{head_of}
-use Rattle.juniper_walk.specs.Walking.{place_of}
-use Rattle.juniper_walk.proofs.Preparation.{apart-at, listed-same, one-listed-error, prepared-answer, prepared-failure, place-below, same-head}
+use Rattle.juniper_walk.proofs.Preparation.{apart-at, listed-same, one-error, prepared-answer, prepared-failure, reply-answers, reply-fails, same-head}
 use Rattle.juniper_walk.proofs.preparing.prepare.Goals as goal
 
 pub returns-in-Ok : goal.returns-in-Ok
@@ -19,12 +19,12 @@ returns-in-Ok g c =
     let T = c.args.concrete.now in
     let o = view_collected shown c.args.walk.now.collector c.args.field.now in
     let head = same-head shown c.args.walk.now.collector c.args.field.now in
-    let place = place-below c.args.path.now c.in_ok-here.here.items c.response_key.result _ c.in_ok-here.ensures (c.response_key.ensures ∙ ap response_key (sym head)) in
-    let typed = c.field_type-declared.ensures ∙ ap (λ h. W.field_type T h.name.item) (sym head) in
-    let answer = ap (reply_to W T c.args.node.now) head ∙ c.in-Ok.ensures in
+    let place = c.in_ok-here.ensures ∙ ap (λ h. path_place c.args.path.now.value ++ key (response_key h) ∷ []) (sym head) in
+    let typed = c.ask-answer.ensures.declared ∙ ap (λ h. W.field_type T h.name.item) (sym head) in
+    let answer = ap (reply_to W T c.args.node.now) head ∙ reply-answers shown c.ask-answer.result.answer (reply_to W T c.args.node.now (head_of shown c.args.field.now)) c.in-Ok.resolved c.in-Ok.is c.ask-answer.ensures.answer in
     let apart = apart-at W _ _ _ _ _ _ _ _ typed c.new-nodes.ensures.items (ap (map view_fault) c.new-faults.ensures.items) c.in_ok-skeleton-in-Ok.ensures in
     prepared-answer W _ _ _ o _ _ _ _ _ _ _ place (c.is_non_null.ensures ∙ ap required typed) answer apart
-    (c.in_ok-errors-in-Ok.ensures ∙ listed-same _ _ _ _ _ _ (ap place_of c.deref.ensures.value) (ap (λ h. h.span.start) (sym head)) (ap (map view_fault) c.deref-in-Ok.ensures.value))
+    (c.in_ok-errors-in-Ok.ensures ∙ listed-same _ _ _ _ _ _ (ap path_place c.as_ref-in-Ok.ensures) (ap (λ h. h.span.start) (sym head)) (ap (map view_fault) c.deref.ensures.value))
 
 pub returns-in-Err-Field : goal.returns-in-Err-Field
 returns-in-Err-Field g c =
@@ -33,9 +33,7 @@ returns-in-Err-Field g c =
     let T = c.args.concrete.now in
     let o = view_collected shown c.args.walk.now.collector c.args.field.now in
     let head = same-head shown c.args.walk.now.collector c.args.field.now in
-    let place = place-below c.args.path.now c.in_ok-here.here.items c.response_key.result _ c.in_ok-here.ensures (c.response_key.ensures ∙ ap response_key (sym head)) in
-    let typed = c.field_type-declared.ensures ∙ ap (λ h. W.field_type T h.name.item) (sym head) in
-    let failed-reply : reply_to W T c.args.node.now (head_of shown c.args.field.now) ≡ failed (view_error shown c.in-Err-Field.error) = rw c.in-Err-Field.field-0-is at c.in-Err-Field.ensures in
-    let answer = ap (reply_to W T c.args.node.now) head ∙ failed-reply in
-    prepared-failure W _ _ _ o _ _ _ _ _ (view_error shown c.in-Err-Field.error) place (c.is_non_null-in-Err-Field.ensures ∙ ap required typed) answer (skeleton-Absent shown) c.new-nodes.ensures.items
-    (one-listed-error shown _ _ _ _ _ _ _ _ c.new-errors.ensures.items c.in_ok-push-in-Err-Field.ensures.items c.in_ok-new-in-Err-Field.ensures (ap place_of c.deref-in-Err-Field.ensures.value) (ap (λ h. h.span.start) (sym head)))
+    let place = c.in_ok-here.ensures ∙ ap (λ h. path_place c.args.path.now.value ++ key (response_key h) ∷ []) (sym head) in
+    let typed = c.ask-answer.ensures.declared ∙ ap (λ h. W.field_type T h.name.item) (sym head) in
+    let answer = ap (reply_to W T c.args.node.now) head ∙ reply-fails shown c.ask-answer.result.answer (reply_to W T c.args.node.now (head_of shown c.args.field.now)) c.in-Err-Field.field-0 c.in-Err-Field.error c.in-Err-Field.is c.in-Err-Field.field-0-is c.ask-answer.ensures.answer in
+    prepared-failure W _ _ _ o _ _ _ _ _ (view_error shown c.in-Err-Field.error) place (c.is_non_null-in-Err-Field.ensures ∙ ap required typed) answer (skeleton-Absent shown) c.new-nodes.ensures.items (one-error _ _ _ _ _ _ (ap path_place c.as_ref-in-Err-Field.ensures) (ap (λ h. h.span.start) (sym head)) c.in_ok-errors-in-Err-Field.ensures)

@@ -21,4 +21,4 @@ returns g c =
     let s = expansion shown c.args.walk.now.collector (view_selections shown c.args.selections.now) in
     let T = c.args.concrete.now in
     let fields = ap (view_all shown c.args.walk.now.collector) c.deref.ensures.value ∙ (c.in_ok-fields.ensures ∙ ap (λ p. occurrences p T s) c.requires.ready.same) in
-    walk-is-answer W s c.args.root.now T _ _ _ _ _ refl fields c.in_ok-walked.ensures c.in_ok-sort_errors.ensures.counted c.in_ok-sort_errors.ensures.sorted
+    walk-is-answer W s c.args.root.now T _ _ _ _ _ c.in_ok-path.ensures fields c.in_ok-walked.ensures c.in_ok-sort_errors.ensures.counted c.in_ok-sort_errors.ensures.sorted

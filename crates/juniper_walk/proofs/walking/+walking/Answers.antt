@@ -7,7 +7,8 @@ use Rattle.juniper_syntax.proofs.Values.{view-Null, view-Object}
 use Rattle.juniper_errors.specs.ErrorView.{view_listed}
 use Rattle.juniper_collect.specs.Collected.{view_all, view_collected}
 use Rattle.juniper_collect.specs.declared.collecting.Occurrence.{Occurrence}
-use Rattle.juniper_walk.specs.Walking.{AllAgree, AreReached, deepest, place_of}
+use Rattle.juniper_walk.specs.Walking.{AllAgree, AreReached, deepest}
+use Rattle.juniper_walk.proofs.Additions.{collected-below}
 use Rattle.juniper_walk.proofs.Preparation.{same-head}
 use Rattle.juniper_walk.proofs.Depths.{shallower-than}
 use Rattle.juniper_walk.proofs.Slices.{added-for, agree-at, is-in, next-one, nodes-at, reached-at, shallow-at, split-one, taken-all, taken-one}
@@ -30,8 +31,8 @@ object-objects_of-requires g t c κs within =
     let split = split-one view os i x c.loop-occurrence-test.true c.occurrence-item.is in
     let less : depth (view x).below < deepest (map view os) = shallower-than (map view os) (map view (take i os)) (map view (drop (i + 1) os)) (view x) split in
     let agree : AllAgree W T (map view os) = c.requires.1.1.1.1.1.1 in
-    let reached : AreReached W c.deref-in-loop-occurrence.result.now (view x).below =
-    reached-at W (view x).below _ _ c.deref-in-loop-occurrence.ensures.value (reached-agree W _ T c.args.node.now (map view os) agree _ _ (view x) split _ _ _ _ _ c.in_ok-prepared.ensures) in
+    let reached : AreReached W c.deref.result.now (view x).below =
+    reached-at W (view x).below _ _ c.deref.ensures.value (reached-agree W _ T c.args.node.now (map view os) agree _ _ (view x) split _ _ _ _ _ c.in_ok-prepared.ensures) in
     (omega (arith, less), search (rules, reached))
 
 pub object-add_field-requires : goal.object-add_field-requires
@@ -48,7 +49,7 @@ object-loop-occurrence-preserved g t c =
     let x = c.occurrence-item.result in
     let split = split-one view os i x c.loop-occurrence-test.true c.occurrence-item.is in
     let agree : AllAgree W T (map view os) = c.requires.1.1.1.1.1.1 in
-    let nodes = nodes-at W _ _ _ _ _ _ _ (ap place_of c.deref.ensures.value) c.deref-in-loop-occurrence.ensures.value c.in_ok-walked.ensures in
+    let nodes = nodes-at W _ _ _ _ _ _ _ refl c.deref.ensures.value c.in_ok-walked.ensures in
     let head = same-head shown c.args.walk.now.collector x.field.now in
     let added = added-for _ _ _ _ _ _ _ _ _ _ _ (ap response_key (sym head)) c.in_ok-rises.ensures in
     walking-on W _ T c.args.node.now (map view os) agree _ _ (view x) split _ _ _ _ c.loop-occurrence.invariant _ _ _ _ _ _ _ c.in_ok-prepared.ensures nodes _ added _ (taken-one view os i x c.loop-occurrence-test.true c.occurrence-item.is) c.if-rises.false
@@ -64,7 +65,7 @@ object-returns-then-rises g t c =
     let x = c.occurrence-item.result in
     let split = split-one view os i x c.loop-occurrence-test.true c.occurrence-item.is in
     let agree : AllAgree W T (map view os) = c.requires.1.1.1.1.1.1 in
-    let nodes = nodes-at W _ _ _ _ _ _ _ (ap place_of c.deref.ensures.value) c.deref-in-loop-occurrence.ensures.value c.in_ok-walked.ensures in
+    let nodes = nodes-at W _ _ _ _ _ _ _ refl c.deref.ensures.value c.in_ok-walked.ensures in
     let head = same-head shown c.args.walk.now.collector x.field.now in
     let added = added-for _ _ _ _ _ _ _ _ _ _ _ (ap response_key (sym head)) c.in_ok-rises.ensures in
     through-null W _ _ _ _ _ _ (view-Null shown)
@@ -88,7 +89,7 @@ objects_of-object-requires g t c κs within =
     let below = (view_collected shown c.args.walk.now.collector c.args.field.now).below in
     let T = c.concrete_type_name-concrete.result.now in
     let fields : view_all shown c.args.walk.now.collector c.deref.result.now ≡ occurrences W.possible T below =
-    ap (view_all shown c.args.walk.now.collector) c.deref.ensures.value ∙ (c.in_ok-fields.ensures ∙ ap (λ p. occurrences p T below) c.requires.ready.same) in
+    ap (view_all shown c.args.walk.now.collector) c.deref.ensures.value ∙ collected-below shown c.args.walk.now.collector c.args.field.now _ _ W.possible T _ c.requires.ready.same c.selections_of-selections.ensures c.in_ok-fields.ensures in
     let shallow : deepest (view_all shown c.args.walk.now.collector c.deref.result.now) ≤ depth below = shallow-at W below T _ fields in
     let agree : AllAgree W T (view_all shown c.args.walk.now.collector c.deref.result.now) =
     agree-at W below c.args.nodes.now c.node-item.result T _ c.requires.agree (is-in c.args.nodes.now c.loop-node.node-index c.node-item.result c.loop-node-test.true c.node-item.is) c.concrete_type_name-concrete.ensures fields in
@@ -100,7 +101,7 @@ objects_of-loop-node-preserved g t c =
     let W = g.R.Completer.world c.args.walk.now.collector.possible in
     let below = (view_collected shown c.args.walk.now.collector c.args.field.now).below in
     let T = c.concrete_type_name-concrete.result.now in
-    let fields = ap (view_all shown c.args.walk.now.collector) c.deref.ensures.value ∙ (c.in_ok-fields.ensures ∙ ap (λ p. occurrences p T below) c.requires.ready.same) in
+    let fields = ap (view_all shown c.args.walk.now.collector) c.deref.ensures.value ∙ collected-below shown c.args.walk.now.collector c.args.field.now _ _ W.possible T _ c.requires.ready.same c.selections_of-selections.ensures c.in_ok-fields.ensures in
     one-more W _ below _ _ _ _ _ _ _ c.node-item.result _ c.loop-node.invariant
     (walked-at W _ below c.node-item.result T _ _ _ c.concrete_type_name-concrete.ensures fields c.in_ok-walked.ensures) c.in_ok-walked.ensures.keyed
     (next-one c.args.nodes.now c.loop-node.node-index c.node-item.result c.loop-node-test.true c.node-item.is) c.in_ok-add_object.ensures.values c.in_ok-add_object.ensures.errors

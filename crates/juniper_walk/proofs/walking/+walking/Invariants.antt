@@ -2,8 +2,9 @@ use Rattle.std.proofs.Common.{◌+◌, ◌*◌, map, take}
 use Rattle.graphql_spec.specs.Selections.{depth}
 use Rattle.juniper_syntax.specs.ValueView.{view_object, view_value}
 use Rattle.juniper_errors.specs.ErrorView.{view_listed}
+use Rattle.juniper_errors.specs.PathView.{path_place}
 use Rattle.juniper_collect.specs.Collected.{view_all, view_collected}
-use Rattle.juniper_walk.specs.Walking.{AreAllWalked, IsWalking, deepest, place_of}
+use Rattle.juniper_walk.specs.Walking.{AreAllWalked, IsWalking, deepest}
 use Rattle.juniper_walk.proofs.walking.+walking.Given as goal
 
 -- twice how deep what is selected is nested, and one more for the nodes of an answer
@@ -18,11 +19,11 @@ abbrev pub invariant-object-loop-occurrence : goal.invariant-object-loop-occurre
 invariant-object-loop-occurrence g l =
     let shown = g.S.ScalarValue.shown in
     let view = view_all shown l.walk.collector in
-    IsWalking (g.R.Completer.world l.walk.collector.possible) (place_of l.path) l.concrete l.node (view l.fields) (view (take l.occurrence-index l.fields)) (view_object shown l.entries) (map (view_listed shown) l.errors.items)
+    IsWalking (g.R.Completer.world l.walk.collector.possible) (path_place l.path.value) l.concrete l.node (view l.fields) (view (take l.occurrence-index l.fields)) (view_object shown l.entries) (map (view_listed shown) l.errors.items)
 
 -- and the nodes so far
 abbrev pub invariant-objects_of-loop-node : goal.invariant-objects_of-loop-node
 invariant-objects_of-loop-node g l =
     let shown = g.S.ScalarValue.shown in
-    AreAllWalked (g.R.Completer.world l.walk.collector.possible) (place_of l.path) (view_collected shown l.walk.collector l.field).below (take l.node-index l.nodes)
+    AreAllWalked (g.R.Completer.world l.walk.collector.possible) (path_place l.path.value) (view_collected shown l.walk.collector l.field).below (take l.node-index l.nodes)
     (map (view_value shown) l.values.items) (map (view_listed shown) l.errors.items)

@@ -6,4 +6,4 @@ use Rattle.juniper_syntax.proofs.value.Object.field_count.Goals as goal
 pub returns : goal.returns
 returns g c =
     let shown = g.S.ScalarValue.shown in
-    c.len.ensures ∙ c.args.self.now.fields.ok.0 ∙ sym (ap count_entries (view-out shown c.args.self.now) ∙ count-view shown _)
+    c.len.ensures ∙ sym (ap count_entries (view-out shown c.args.self.now) ∙ count-view shown _)

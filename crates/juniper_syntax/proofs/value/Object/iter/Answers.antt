@@ -6,4 +6,4 @@ use Rattle.juniper_syntax.proofs.value.Object.iter.Goals as goal
 pub returns : goal.returns
 returns g c =
     let shown = g.S.ScalarValue.shown in
-    ap (view_entries shown) (c.iter.ensures.rest ∙ c.deref.ensures.value) ∙ sym (view-out shown c.args.self.now)
+    ap (view_entries shown) c.iter.ensures ∙ sym (view-out shown c.args.self.now)

@@ -6,4 +6,4 @@ use Rattle.juniper_syntax.proofs.value.Object.with_capacity.Goals as goal
 pub returns : goal.returns
 returns g c =
     let shown = g.S.ScalarValue.shown in
-    view-roll shown c.in_ok-with_capacity.field-0 ∙ ap (view_entries shown) c.in_ok-with_capacity.ensures.items
+    view-roll shown c.in_ok-with_capacity.field-0 ∙ ap (view_entries shown) c.in_ok-with_capacity.ensures

@@ -1,0 +1,56 @@
+-- A query of a valid document, on an executable schema.
+use Rattle.std.proofs.Common.{◌≡◌, Bool, true, false, List, [], None, IsTrue, refl, sym, ap, subst, ◌∙◌}
+use Rattle.std.proofs.lemmas.Bool.{and_parts, both_ways}
+use Rattle.graphql_spec.specs.Shown.{Name}
+use Rattle.graphql_spec.specs.Values.{Value}
+use Rattle.graphql_spec.specs.Inputs.{Variables}
+use Rattle.graphql_spec.specs.Constants.{Members}
+use Rattle.graphql_spec.specs.Documents.{Document, Operation, Selections, Fragment, operation, fragments, query}
+use Rattle.graphql_spec.specs.Directives.{passes}
+use Rattle.graphql_spec.specs.Fields.{is_object, is_possible, type_named}
+use Rattle.graphql_spec.specs.Fragments.{HasNoCycle, expand}
+use Rattle.graphql_spec.specs.Schema.{Schema}
+use Rattle.graphql_spec.specs.Executable.{is_executable}
+use Rattle.graphql_spec.specs.Errors.{Listed, keys_only}
+use Rattle.graphql_spec.specs.Selections.{Forest}
+use Rattle.graphql_spec.specs.Resolvers.{Reply, World, world_of}
+use Rattle.graphql_spec.specs.Placed.{root_type}
+use Rattle.graphql_spec.specs.Rules.{rule_errors}
+use Rattle.graphql_spec.specs.Laws.{In}
+use Rattle.graphql_spec.specs.Walk.{IsAnswerFor}
+use Rattle.graphql_spec.proofs.Found.{phases-hold}
+use Rattle.graphql_spec.proofs.KnownSpreads.{names_end_spreads}
+use Rattle.graphql_spec.proofs.ValidSets.{valid_operations_merge}
+use Rattle.graphql_spec.proofs.ValidRuns.{roots_are_possible}
+use Rattle.juniper_walk.specs.Walking.{SelectionsAgree}
+
+-- something is declared as the query type
+pub query-is-there : {A : Type 0} (s : Schema) → IsTrue (is_executable s) → (n : Name) → n ≡ s.query → type_named s n ≡ None → A
+unfolding is_possible is_object root_type
+query-is-there s executable n is none =
+    let there = and_parts (is_object (type_named s s.query)) _ (roots_are_possible s executable query s.query refl) in
+    absurd (both_ways false refl (ap is_object (sym none) ∙ (ap (λ x. is_object (type_named s x)) is ∙ there.0)))
+
+-- no fragment reaches itself
+pub no-cycle : (s : Schema) (d : Document) → rule_errors s true d ≡ [] → (fs : List Fragment) → fs ≡ fragments d → HasNoCycle fs
+no-cycle s d valid fs is = subst HasNoCycle (sym is) (names_end_spreads s true d (phases-hold s true d valid).names)
+
+kind-root : (s : Schema) (o : Operation) → o.kind ≡ query → root_type s o.kind ≡ root_type s query
+kind-root s o is = ap (root_type s) is
+
+module _ {N : Type 0} (s : Schema) (executable : IsTrue (is_executable s)) (d : Document) (valid : rule_errors s true d ≡ []) (o : Operation) (member : In (operation o) d) (kind : o.kind ≡ query)
+    (vars : Variables) (concrete : N → Name) (answer : N → Name → Members → Reply N) where
+  agrees : SelectionsAgree (world_of s vars concrete answer) s.query (expand (passes vars) (fragments d) o.selections)
+  unfolding world_of root_type
+  agrees = λ depth. valid_operations_merge s executable true d valid vars concrete answer (passes vars) o member s.query (kind-root s o kind) depth s.query (roots_are_possible s executable query s.query refl)
+
+  -- what the query selects agrees
+  pub query-agrees : (T : Name) → T ≡ s.query → (fs : List Fragment) → fs ≡ fragments d → (set : Selections) → set ≡ o.selections →
+      SelectionsAgree (world_of s vars concrete answer) T (expand (passes vars) fs set)
+  query-agrees T t fs f set e =
+      subst (λ U. SelectionsAgree (world_of s vars concrete answer) U (expand (passes vars) fs set)) (sym t)
+      (subst (λ x. SelectionsAgree (world_of s vars concrete answer) s.query x) (sym (ap (λ gs. expand (passes vars) gs set) f ∙ ap (expand (passes vars) (fragments d)) e)) agrees)
+
+-- an answer, by other names for its parts
+pub answer-moves : {N : Type 0} (W : World N) (T U : Name) (m n : N) (x y : Forest) (v : Value) (es : List Listed) → T ≡ U → m ≡ n → x ≡ y → IsAnswerFor keys_only W T m x v es → IsAnswerFor keys_only W U n y v es
+answer-moves W T U m n x y v es t e f a = subst (λ z. IsAnswerFor keys_only W U n z v es) f (subst (λ z. IsAnswerFor keys_only W U z x v es) e (subst (λ z. IsAnswerFor keys_only W z m x v es) t a))

@@ -1,0 +1,140 @@
+//! Requests: from a query text to data and errors (section 6.1 of the Specification).
+
+ghost use Rattle.std.specs.Prelude.{◌≡◌, MatchResult, None, Some, [], option_map, true};
+ghost use Rattle.graphql_spec.specs.Errors.{keys_only};
+ghost use Rattle.graphql_spec.specs.Outcomes.{IsOutcome, Reads};
+ghost use Rattle.graphql_spec.specs.Requests as requests;
+ghost use Rattle.graphql_spec.specs.Rules.{rule_errors};
+ghost use Rattle.juniper_syntax.specs.DocumentView.{view_document, view_operation};
+ghost use Rattle.juniper_syntax.specs.InputView.{view_variables};
+ghost use Rattle.juniper_schema.specs.SchemaView.{view_schema};
+ghost use Rattle.juniper.specs.Answering.{AnswersAs, AreCoercible, AreRefused, IsInvalid, IsUnchosen, StandsFor, request_of};
+ghost use Rattle.juniper.specs.RequestErrors.{view_request_error};
+ghost use Rattle.juniper.specs.RootView.{service_of};
+
+use crate::error::GraphQLError;
+use crate::execute::execute_validated_query;
+use crate::operation::{Chosen, choose};
+use crate::root::RootNode;
+use crate::variables::first_not_constant;
+use juniper_language::{
+    Document, Operation, ScalarValue, Span, Spanning, Value, Variables, parse_document_source,
+};
+use juniper_rules::{validate, validate_input_values};
+use juniper_schema::SchemaType;
+use juniper_types::{GraphQLType, GraphQLValue};
+use juniper_values::ExecutionError;
+use std::alloc::Global;
+
+/// The operation that a request executes (GetOperation, 6.1): that of the name, of several of one name the last; without a
+/// name the only one. [`GraphQLError::MultipleOperationsProvided`] where there are several and no name is given;
+/// [`GraphQLError::UnknownOperationName`] where there is none of the name, or none at all.
+pub fn get_operation<'d, 'a, S: ScalarValue>(
+    document: &'d Document<'a, S>,
+    operation_name: Option<&str>,
+) -> Result<&'d Spanning<Operation<'a, S>, Span>, GraphQLError>
+    ensures { MatchResult result
+        (λ o. requests.choose (view_document S.shown document.now) (option_map (λ n. n.now) operation_name.entry)
+        ≡ requests.chosen (view_operation S.shown o.now))
+        (λ e. IsUnchosen (requests.choose (view_document S.shown document.now) (option_map (λ n. n.now) operation_name.entry)) (view_request_error e)) }
+{
+    match choose(document.as_slice(), operation_name) {
+        Chosen::One(operation) => Ok(operation),
+        Chosen::Many => Err(GraphQLError::MultipleOperationsProvided),
+        Chosen::Unknown => Err(GraphQLError::UnknownOperationName),
+    }
+}
+
+/// Reads the text.
+fn read<'a, S: ScalarValue>(alloc: Global, text: &'a str) -> Result<Document<'a, S>, GraphQLError>
+    ensures { MatchResult result
+        (λ d. Reads text.now (Some (view_document S.shown d)))
+        (λ e. StandsFor (λ r. (r ≡ requests.not_parsed) × Reads text.now None) (view_request_error e)) }
+{
+    match parse_document_source(alloc, text) {
+        Ok(document) => Ok(document),
+        Err(error) => Err(GraphQLError::from(error)),
+    }
+}
+
+/// Whether all rules of validation hold (5).
+fn check_document<S: ScalarValue>(
+    alloc: Global,
+    document: &Document<'_, S>,
+    schema: &SchemaType<S>,
+) -> Result<(), GraphQLError>
+    ensures { MatchResult result
+        (λ _. rule_errors (view_schema S.shown schema.now) true (view_document S.shown document.now) ≡ [])
+        (λ e. StandsFor (IsInvalid (view_schema S.shown schema.now) (view_document S.shown document.now)) (view_request_error e)) }
+{
+    let errors = validate(alloc, document, schema, true)?;
+    if errors.is_empty() {
+        Ok(())
+    } else {
+        Err(GraphQLError::from(errors))
+    }
+}
+
+/// Whether the given values of the operation's variables fit, and hold no variables (CoerceVariableValues, 6.1.2).
+fn check_variables<S: ScalarValue>(
+    alloc: Global,
+    operation: &Spanning<Operation<'_, S>, Span>,
+    variables: &Variables<S>,
+    schema: &SchemaType<S>,
+) -> Result<(), GraphQLError>
+    ensures { MatchResult result
+        (λ _. AreCoercible (view_schema S.shown schema.now) (view_operation S.shown operation.now) (view_variables S.shown variables.now))
+        (λ e. StandsFor (AreRefused (view_schema S.shown schema.now) (view_operation S.shown operation.now) (view_variables S.shown variables.now))
+        (view_request_error e)) }
+{
+    let errors = validate_input_values(alloc, variables, operation, schema)?;
+    if !errors.is_empty() {
+        return Err(GraphQLError::from(errors));
+    }
+    match first_not_constant(operation, variables) {
+        Some(name) => {
+            let held = String::from_str(alloc, name)?;
+            Err(GraphQLError::VariableNotConstant(held))
+        }
+        None => Ok(()),
+    }
+}
+
+/// Executes a request: reads the text, validates the document, chooses the operation, tests the values of its variables and
+/// executes it (6.1). The answer is the data, which is that of the grouped execution on the query type and the root's node,
+/// and errors of fields that fail, sorted by place, path and message; there are none exactly where nothing fails. Otherwise
+/// the first step that fails gives the error; [`GraphQLError::OutOfMemory`] may stand in place of any step. The context stays
+/// as it was.
+pub fn execute_sync<Q: GraphQLValue<S>, M: GraphQLType<S>, Sub: GraphQLType<S>, S: ScalarValue>(
+    alloc: Global,
+    document_source: &str,
+    operation_name: Option<&str>,
+    root_node: &RootNode<Q, M, Sub, S>,
+    variables: &Variables<S>,
+    context: &mut Q::Context,
+) -> Result<(Value<S>, Vec<ExecutionError<S>>), GraphQLError>
+    ensures { AnswersAs S.shown
+        (λ r. IsOutcome (service_of Q.concrete Q.answer Q.root S.shown root_node.now) keys_only
+        (request_of S.shown document_source.now operation_name.entry variables.now) context.old r context.new) result }
+{
+    let document = match read(alloc, document_source) {
+        Err(error) => return Err(error),
+        Ok(document) => document,
+    };
+    match check_document(alloc, &document, &root_node.schema) {
+        Err(error) => return Err(error),
+        Ok(_) => {}
+    }
+    let operation = match get_operation(&document, operation_name) {
+        Err(error) => return Err(error),
+        Ok(operation) => operation,
+    };
+    match check_variables(alloc, operation, variables, &root_node.schema) {
+        Err(error) => return Err(error),
+        Ok(_) => {}
+    }
+    match execute_validated_query(alloc, &document, operation, root_node, variables, context) {
+        Err(error) => Err(error),
+        Ok(answered) => Ok(answered),
+    }
+}

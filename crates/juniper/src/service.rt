@@ -1,0 +1,202 @@
+//! What a request asks of its schema, its variables and its resolver (section 6.4 of the Specification).
+
+ghost use Rattle.std.specs.Prelude.{◌≡◌, [], IsTrue, false, map, option_map, string_bytes};
+ghost use Rattle.graphql_spec.specs.Arguments.{coerced_arguments};
+ghost use Rattle.graphql_spec.specs.Documents.{written};
+ghost use Rattle.graphql_spec.specs.Execution.{reply_to};
+ghost use Rattle.graphql_spec.specs.Fields.{declared_arguments, declared_type, field_of, is_possible};
+ghost use Rattle.graphql_spec.specs.Resolvers.{answered, leaf};
+ghost use Rattle.graphql_spec.specs.Shown.{text};
+ghost use Rattle.graphql_spec.specs.Types.{named};
+ghost use Rattle.juniper_syntax.specs.InputView.{view_variables};
+ghost use Rattle.juniper_syntax.specs.TypeView.{view_type};
+ghost use Rattle.juniper_meta.specs.MetaView.{view_argument, view_field};
+ghost use Rattle.juniper_resolvable.specs.ResolvedView.{Answers};
+ghost use Rattle.juniper_schema.specs.SchemaView.{view_schema};
+ghost use Rattle.juniper_walk.specs.FieldWords.{head_of};
+ghost use Rattle.juniper.specs.Services.{is_undeclared, world_in};
+
+use crate::coerce::coerce_arguments;
+use juniper_assemble::Completer;
+use juniper_collect::Conditions;
+use juniper_language::{ScalarValue, Type, Variables};
+use juniper_meta::MetaType;
+use juniper_meta::meta::{Argument, Field};
+use juniper_schema::{SchemaType, TypeType};
+use juniper_types::{Executor, GraphQLValue, Resolved};
+use juniper_values::ResolveError;
+use juniper_walk::{Asked, Resolver, Site};
+use std::alloc::{AllocError, Global};
+
+/// What one request asks for each of its fields.
+#[derive(Drop)]
+pub(crate) struct Service<'r, Q: GraphQLValue<S>, S: ScalarValue> {
+    pub(crate) resolver: &'r Q,
+    pub(crate) info: &'r Q::TypeInfo,
+    pub(crate) context: &'r Q::Context,
+    pub(crate) schema: &'r SchemaType<S>,
+    pub(crate) variables: &'r Variables<S>,
+    /// What resolvers are shown as the type of a field that is not declared, which no valid document has.
+    pub(crate) query_type: &'r MetaType<S>,
+    /// Its declared type.
+    pub(crate) undeclared: Type<String>,
+    ghost unnamed: { IsTrue (is_undeclared (view_type (λ n. string_bytes n) undeclared)) },
+}
+
+impl<'r, Q: GraphQLValue<S>, S: ScalarValue> Conditions for Service<'r, Q, S> {
+    ghost possible = { λ r. is_possible (view_schema S.shown r.schema.now) };
+
+    fn is_possible(&self, concrete: &str, condition: &str) -> bool {
+        self.schema.is_possible(concrete, condition)
+    }
+}
+
+impl<'r, Q: GraphQLValue<S>, S: ScalarValue> Completer<S> for Service<'r, Q, S> {
+    type Node = Q::Node;
+
+    ghost world = { λ r. world_in Q.concrete Q.answer r.resolver.now r.info.now r.context.now (view_schema S.shown r.schema.now) (view_variables S.shown r.variables.now) };
+
+    #[tactic(auto, unfolding(graphql_spec::specs::Resolvers::world_of))]
+    fn accepts(&self, type_name: &str, scalar: &S) -> bool {
+        self.schema.may_hold(type_name, scalar)
+    }
+
+    #[tactic(auto, unfolding(graphql_spec::specs::Resolvers::world_of))]
+    fn takes_node(&self, type_name: &str, node: &Self::Node) -> bool {
+        let concrete = self
+            .resolver
+            .concrete_type_name(self.context, self.info, node);
+        self.schema.is_possible(concrete, type_name)
+    }
+}
+
+impl<'r, Q: GraphQLValue<S>, S: ScalarValue> Resolver<S> for Service<'r, Q, S> {
+    #[tactic(auto, unfolding(graphql_spec::specs::Resolvers::world_of))]
+    fn concrete_type_name<'n>(&'n self, node: &'n Self::Node) -> &'n str {
+        self.resolver
+            .concrete_type_name(self.context, self.info, node)
+    }
+
+    fn ask<'t, 'd, 'a>(
+        &'t self,
+        alloc: Global,
+        concrete: &str,
+        node: &Self::Node,
+        site: &Site<'_, 'd, 'a, S>,
+    ) -> Asked<'t, Self::Node, S> {
+        let written = site.field;
+        let field = self.schema.field_of(concrete, written.item.name.item);
+        let declared = self.declared_type(field);
+        let answer = self.reply(alloc, concrete, node, site, declared, arguments_of(field));
+        Asked { declared, answer }
+    }
+}
+
+impl<'r, Q: GraphQLValue<S>, S: ScalarValue> Service<'r, Q, S> {
+    /// What a field of a node answers, `__typename` too (6.4.2), with the type and the arguments that it declares.
+    #[tactic(auto, unfolding(graphql_spec::specs::Execution::reply_to, graphql_spec::specs::Resolvers::world_of))]
+    fn reply(
+        &self,
+        alloc: Global,
+        concrete: &str,
+        node: &Q::Node,
+        site: &Site<S>,
+        declared: &Type<String>,
+        arguments: &[Argument<S>],
+    ) -> Result<Resolved<Q::Node, S>, ResolveError<S>>
+        requires { map (view_argument S.shown) arguments.now ≡ declared_arguments (field_of (view_schema S.shown self.now.schema.now) concrete.now (head_of S.shown site.now.field.now).name.item) }
+        ensures { Answers S.shown result (reply_to (world_in Q.concrete Q.answer self.now.resolver.now self.now.info.now self.now.context.now (view_schema S.shown self.now.schema.now)
+            (view_variables S.shown self.now.variables.now)) concrete.now node.now (head_of S.shown site.now.field.now)) }
+    {
+        let written = site.field;
+        if written.item.name.item == "__typename" {
+            type_name(alloc, concrete)
+        } else {
+            self.resolve(alloc, concrete, node, site, declared, arguments)
+        }
+    }
+
+    /// What the resolver answers to a field of a node (ResolveFieldValue, 6.4.2).
+    fn resolve(
+        &self,
+        alloc: Global,
+        concrete: &str,
+        node: &Q::Node,
+        site: &Site<S>,
+        declared: &Type<String>,
+        arguments: &[Argument<S>],
+    ) -> Result<Resolved<Q::Node, S>, ResolveError<S>>
+        ensures { Answers S.shown result (Q.answer self.now.resolver.now self.now.info.now self.now.context.now node.now (head_of S.shown site.now.field.now).name.item
+            (coerced_arguments (map (view_argument S.shown) arguments.now) (view_variables S.shown self.now.variables.now) (written (head_of S.shown site.now.field.now).arguments))) }
+    {
+        let arguments = coerce_arguments(alloc, arguments, site.field, self.variables)?;
+        let declared = self.shown_type(alloc, declared)?;
+        let executor = Executor::at_field(
+            self.context,
+            self.schema,
+            self.variables,
+            site.fragments,
+            site.path,
+            &declared,
+            concrete,
+            site.enclosing,
+            site.field,
+        );
+        let written = site.field;
+        let name = written.item.name.item;
+        self.resolver
+            .resolve_field(alloc, self.info, node, name, &arguments, &executor)
+    }
+
+    /// The type that a field declares.
+    #[tactic(auto, unfolding(graphql_spec::specs::Fields::declared_type))]
+    fn declared_type<'t>(&'t self, field: Option<&'t Field<S>>) -> &'t Type<String>
+        ensures { view_type (λ n. string_bytes n) result.now ≡ declared_type (option_map (λ f. view_field S.shown f.now) field.entry) }
+    {
+        match field {
+            Some(field) => &field.field_type,
+            None => &self.undeclared,
+        }
+    }
+
+    /// The type that a resolver is shown for a field: the declared one.
+    fn shown_type(
+        &self,
+        alloc: Global,
+        declared: &Type<String>,
+    ) -> Result<TypeType<'r, S>, AllocError> {
+        match self.schema.concrete_type_by_name(declared.innermost_name()) {
+            Some(_) => self.schema.make_type(alloc, declared),
+            None => Ok(TypeType::Concrete(self.query_type)),
+        }
+    }
+}
+
+/// What stands for the type of a field that is not declared: nullable, without a name.
+pub(crate) fn undeclared_type(alloc: Global) -> Type<String>
+    ensures { view_type (λ n. string_bytes n) result ≡ named false [] }
+{
+    Type::Named(String::new(alloc))
+}
+
+/// The arguments that a field declares (3.6.1).
+#[tactic(auto, unfolding(graphql_spec::specs::Fields::declared_arguments))]
+fn arguments_of<S: ScalarValue>(field: Option<&Field<S>>) -> &[Argument<S>]
+    ensures { map (view_argument S.shown) result.now ≡ declared_arguments (option_map (λ f. view_field S.shown f.now) field.entry) }
+{
+    match field {
+        Some(field) => field.declared_arguments(),
+        None => &[],
+    }
+}
+
+/// What `__typename` answers: the name of the object type (4.1).
+fn type_name<N: Drop, S: ScalarValue>(
+    alloc: Global,
+    concrete: &str,
+) -> Result<Resolved<N, S>, ResolveError<S>>
+    ensures { Answers S.shown result (answered (leaf (text concrete.now))) }
+{
+    let name = String::from_str(alloc, concrete)?;
+    Ok(Resolved::Scalar(S::from_text(name)?))
+}

@@ -1,0 +1,55 @@
+-- How the demo's types are declared (3.6, 3.7, 3.9).
+use Rattle.std.specs.Prelude.{pos, codes, List, [], ◌∷◌, ◌++◌}
+use Rattle.graphql_spec.specs.BuiltIns.{value_named}
+use Rattle.graphql_spec.specs.Schema.{FieldDeclaration, plain_field, plain_input}
+use Rattle.juniper_meta.specs.MetaView.{Meta}
+use Rattle.juniper_demo_server.specs.DeclaredTypes.{enum, int_with_default, interface, list_type, object, optional, type_named}
+
+-- `type Query`
+abbrev pub query_declaration : Meta
+query_declaration = object (codes "Query") (
+    plain_field (codes "id") [] (type_named (codes "ID"))
+    ∷ plain_field (codes "name") [] (type_named (codes "String"))
+    ∷ plain_field (codes "number") (int_with_default (codes "plus") (pos 1) ∷ []) (optional (type_named (codes "Int")))
+    ∷ plain_field (codes "nothing") [] (optional (type_named (codes "String")))
+    ∷ plain_field (codes "fail") [] (optional (type_named (codes "Int")))
+    ∷ plain_field (codes "odd") [] (optional (type_named (codes "Int")))
+    ∷ plain_field (codes "hero") (plain_input (codes "episode") (optional (type_named (codes "Episode"))) ∷ []) (optional (type_named (codes "Character")))
+    ∷ plain_field (codes "mustHero") [] (type_named (codes "Character"))
+    ∷ plain_field (codes "ids") [] (optional (list_type (type_named (codes "Int"))))
+    ∷ plain_field (codes "grid") [] (optional (list_type (list_type (type_named (codes "Cell")))))
+    ∷ plain_field (codes "holes") [] (list_type (list_type (optional (type_named (codes "Cell")))))
+    ∷ []) []
+
+-- the fields of `interface Character`, which its objects have first
+abbrev pub character_fields : List FieldDeclaration
+character_fields =
+    plain_field (codes "id") [] (type_named (codes "ID"))
+    ∷ plain_field (codes "name") [] (type_named (codes "String"))
+    ∷ plain_field (codes "appearsIn") [] (list_type (type_named (codes "Episode")))
+    ∷ plain_field (codes "friends") [] (optional (list_type (optional (type_named (codes "Character")))))
+    ∷ plain_field (codes "secret") [] (type_named (codes "String"))
+    ∷ []
+
+-- `interface Character`
+abbrev pub character_declaration : Meta
+character_declaration = interface (codes "Character") character_fields
+
+-- `type Droid implements Character`
+abbrev pub droid_declaration : Meta
+droid_declaration = object (codes "Droid") (character_fields ++ plain_field (codes "primaryFunction") [] (optional (type_named (codes "String"))) ∷ []) (codes "Character" ∷ [])
+
+-- `type Human implements Character`
+abbrev pub human_declaration : Meta
+human_declaration = object (codes "Human") (character_fields ++ plain_field (codes "height") [] (optional (type_named (codes "Int"))) ∷ []) (codes "Character" ∷ [])
+
+-- `type Cell`
+abbrev pub cell_declaration : Meta
+cell_declaration = object (codes "Cell") (
+    plain_field (codes "a") [] (type_named (codes "Int"))
+    ∷ plain_field (codes "b") [] (type_named (codes "Int"))
+    ∷ []) []
+
+-- `enum Episode`
+abbrev pub episode_declaration : Meta
+episode_declaration = enum (codes "Episode") (value_named (codes "NEWHOPE") ∷ value_named (codes "EMPIRE") ∷ value_named (codes "JEDI") ∷ [])

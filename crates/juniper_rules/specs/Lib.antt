@@ -1,2 +1,0 @@
-pub mod Occurrences
-pub mod PlainSelections

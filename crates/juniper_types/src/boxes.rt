@@ -1,0 +1,50 @@
+//! Resolvers in boxes: the resolver inside.
+
+use crate::executor::Executor;
+use crate::resolver::GraphQLValue;
+use juniper_resolvable::Resolved;
+use juniper_syntax::ScalarValue;
+use juniper_values::{Arguments, ResolveError};
+use std::alloc::Global;
+
+/// The resolver inside.
+impl<T: GraphQLValue<S>, S: ScalarValue> GraphQLValue<S> for Box<T> {
+    type Context = T::Context;
+
+    type Node = T::Node;
+
+    ghost concrete = { λ resolver. T.concrete resolver.value };
+
+    ghost answer = { λ resolver. T.answer resolver.value };
+
+    ghost root = { λ resolver. T.root resolver.value };
+
+    fn type_name<'i>(&self, info: &'i T::TypeInfo) -> Option<&'i str> {
+        (**self).type_name(info)
+    }
+
+    fn root_node(&self) -> &T::Node {
+        (**self).root_node()
+    }
+
+    fn concrete_type_name<'r>(
+        &'r self,
+        context: &'r T::Context,
+        info: &'r T::TypeInfo,
+        node: &'r T::Node,
+    ) -> &'r str {
+        (**self).concrete_type_name(context, info, node)
+    }
+
+    fn resolve_field(
+        &self,
+        alloc: Global,
+        info: &T::TypeInfo,
+        node: &T::Node,
+        field_name: &str,
+        arguments: &Arguments<'_, S>,
+        executor: &Executor<T::Context, S>,
+    ) -> Result<Resolved<T::Node, S>, ResolveError<S>> {
+        (**self).resolve_field(alloc, info, node, field_name, arguments, executor)
+    }
+}

@@ -1,0 +1,50 @@
+//! Resolvers by reference: the resolver that is referred to.
+
+use crate::executor::Executor;
+use crate::resolver::GraphQLValue;
+use juniper_resolvable::Resolved;
+use juniper_syntax::ScalarValue;
+use juniper_values::{Arguments, ResolveError};
+use std::alloc::Global;
+
+/// The resolver that is referred to.
+impl<'t, T: GraphQLValue<S>, S: ScalarValue> GraphQLValue<S> for &'t T {
+    type Context = T::Context;
+
+    type Node = T::Node;
+
+    ghost concrete = { λ resolver. T.concrete resolver.now };
+
+    ghost answer = { λ resolver. T.answer resolver.now };
+
+    ghost root = { λ resolver. T.root resolver.now };
+
+    fn type_name<'i>(&self, info: &'i T::TypeInfo) -> Option<&'i str> {
+        (**self).type_name(info)
+    }
+
+    fn root_node(&self) -> &T::Node {
+        (**self).root_node()
+    }
+
+    fn concrete_type_name<'r>(
+        &'r self,
+        context: &'r T::Context,
+        info: &'r T::TypeInfo,
+        node: &'r T::Node,
+    ) -> &'r str {
+        (**self).concrete_type_name(context, info, node)
+    }
+
+    fn resolve_field(
+        &self,
+        alloc: Global,
+        info: &T::TypeInfo,
+        node: &T::Node,
+        field_name: &str,
+        arguments: &Arguments<'_, S>,
+        executor: &Executor<T::Context, S>,
+    ) -> Result<Resolved<T::Node, S>, ResolveError<S>> {
+        (**self).resolve_field(alloc, info, node, field_name, arguments, executor)
+    }
+}

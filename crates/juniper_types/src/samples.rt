@@ -1,0 +1,171 @@
+//! A resolver, contexts and the parts of a request, for tests.
+
+ghost use Rattle.std.specs.Prelude.{[], ◌∷◌, Some, codes, true};
+ghost use Rattle.graphql_spec.specs.Fields.{typename_field};
+ghost use Rattle.graphql_spec.specs.Resolvers.{answered, leaf};
+ghost use Rattle.graphql_spec.specs.Schema.{object_type};
+ghost use Rattle.graphql_spec.specs.Shown.{int};
+ghost use Rattle.graphql_spec.specs.Types.{named as named_type};
+ghost use Rattle.juniper_meta.specs.MetaView.{named_meta};
+
+use crate::context::Context;
+use crate::executor::Executor;
+use crate::resolver::GraphQLValue;
+use juniper_errors::FieldPath;
+use juniper_meta::MetaType;
+use juniper_registry::{GraphQLReference, GraphQLType, Registry};
+use juniper_resolvable::Resolved;
+use juniper_syntax::{
+    DefaultScalarValue, Field, Fragment, InputValue, ScalarValue, SourcePosition, Span, Spanning,
+    Type, Variables,
+};
+use juniper_values::{Arguments, ResolveError};
+use std::alloc::{AllocError, Global};
+use std::collections::HashMap;
+use std::rc::Rc;
+
+/// What requests bring along.
+#[derive(Clone, Copy)]
+pub struct Requests {
+    /// Their count.
+    pub count: i32,
+}
+
+impl Context for Requests {}
+
+/// A type of one object, whose fields all answer the context.
+#[derive(Drop)]
+pub struct Counter {
+    /// Its object.
+    pub root: i32,
+}
+
+impl<S: ScalarValue> GraphQLReference<S> for Counter {
+    type TypeInfo = ();
+
+    ghost named = { λ _. Some (codes "Counter") };
+
+    ghost reference = { λ _. named_type true (codes "Counter") };
+
+    fn name(_info: &()) -> Option<&str> {
+        Some("Counter")
+    }
+
+    #[tactic(auto, unfolding(graphql_spec::specs::Types::innermost))]
+    fn type_in(
+        _alloc: Global,
+        _info: &(),
+        registry: &mut Registry<S>,
+    ) -> Result<Type<String>, AllocError> {
+        registry.named_type("Counter")
+    }
+}
+
+impl<S: ScalarValue> GraphQLType<S> for Counter {
+    ghost declaration = { λ _. named_meta (codes "Counter") (object_type (typename_field ∷ []) []) };
+
+    #[tactic(auto, unfolding(graphql_spec::specs::Fields::typename_field, graphql_spec::specs::Schema::plain_field, graphql_spec::specs::Types::innermost))]
+    fn meta(
+        alloc: Global,
+        info: &(),
+        registry: &mut Registry<S>,
+    ) -> Result<MetaType<S>, AllocError> {
+        let object = registry.build_object_type::<Counter>(info, Vec::new(alloc))?;
+        Ok(object.into_meta())
+    }
+
+    ghost keeps_name = { λ _ _ e. e };
+}
+
+impl<S: ScalarValue> GraphQLValue<S> for Counter {
+    type Context = i32;
+
+    type Node = i32;
+
+    ghost concrete = { λ _ _ _ _. codes "Counted" };
+
+    ghost answer = { λ _ _ context _ _ _. answered (leaf (int context)) };
+
+    ghost root = { λ counter. counter.root };
+
+    fn type_name<'i>(&self, _info: &'i ()) -> Option<&'i str> {
+        Some("Counter")
+    }
+
+    fn root_node(&self) -> &i32 {
+        &self.root
+    }
+
+    fn concrete_type_name<'r>(
+        &'r self,
+        _context: &'r i32,
+        _info: &'r (),
+        _node: &'r i32,
+    ) -> &'r str {
+        "Counted"
+    }
+
+    fn resolve_field(
+        &self,
+        _alloc: Global,
+        _info: &(),
+        _node: &i32,
+        _field_name: &str,
+        _arguments: &Arguments<'_, S>,
+        executor: &Executor<i32, S>,
+    ) -> Result<Resolved<i32, S>, ResolveError<S>> {
+        Ok(Resolved::Scalar(S::from_int(*executor.context())))
+    }
+}
+
+/// The place after so many characters of a text's first line.
+fn at(column: usize) -> SourcePosition {
+    SourcePosition::new(column, 0, column)
+}
+
+/// `fragment Named on Human { .. }`
+pub fn fragment(alloc: Global) -> Fragment<'static, DefaultScalarValue> {
+    Fragment {
+        name: Spanning::unlocated("Named"),
+        type_condition: Spanning::unlocated("Human"),
+        directives: None,
+        selection_set: Vec::new(alloc),
+    }
+}
+
+/// `mate: friend`, in `{ hero { mate: friend } }`
+pub fn occurrence() -> Spanning<Field<'static, DefaultScalarValue>, Span> {
+    let field = Field {
+        alias: Some(Spanning::unlocated("mate")),
+        name: Spanning::unlocated("friend"),
+        arguments: None,
+        directives: None,
+        selection_set: None,
+    };
+    Spanning::new(
+        Span {
+            start: at(9),
+            end: at(21),
+        },
+        field,
+    )
+}
+
+/// The response keys down to it, which share those down to `hero` with a copy that is gone.
+pub fn path(alloc: Global) -> Result<FieldPath<'static>, AllocError> {
+    let root = Rc::new(alloc, FieldPath::Root(SourcePosition::new_origin()))?;
+    let hero = FieldPath::Field("hero", at(2), root);
+    let copy = hero.clone()?;
+    drop(hero);
+    Ok(FieldPath::Field("mate", at(9), Rc::new(alloc, copy)?))
+}
+
+/// The variable `size` with the value 3.
+pub fn variables(alloc: Global) -> Result<Variables<DefaultScalarValue>, AllocError> {
+    let mut variables = HashMap::new(alloc);
+    variables.insert(
+        String::from_str(alloc, "size")?,
+        InputValue::Scalar(DefaultScalarValue::Int(3)),
+    )?;
+    Ok(variables)
+}

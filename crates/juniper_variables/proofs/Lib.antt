@@ -1,0 +1,4 @@
+mod Ints
+mod Made
+mod Put
+mod Refused
