@@ -27,13 +27,13 @@ pub use juniper_schema::{
     ScalarKinds, ScalarMeta, SchemaType, TypeType, UnionMeta, meta, schema_is_executable,
 };
 pub use juniper_types::{
-    EmptyMutation, EmptySubscription, Executor, GraphQLReference, GraphQLType, GraphQLValue,
-    IntoResolvable, OfNode, Registry, RegistryError, Resolved, TypeKind,
+    Context, EmptyMutation, EmptySubscription, Executor, FieldPath, FromContext, GraphQLReference,
+    GraphQLType, GraphQLValue, IntoResolvable, OfNode, Registry, RegistryError, Resolved, TypeKind,
 };
 pub use juniper_values::{
-    Arguments, ExecutionError, ExecutionResult, FieldError, FieldResult, FromInputValue,
+    Arguments, EnumName, ExecutionError, ExecutionResult, FieldError, FieldResult, FromInputValue,
     FromInputValueArrayError, FromInputValueVecError, FromScalarValue, ID, IntoFieldError,
-    Nullable, ResolveError, ToInputValue, ToScalarValue,
+    NamedValue, Nullable, ResolveError, ToInputValue, ToScalarValue, enum_argument, int_argument,
 };
 pub use request::{execute_sync, get_operation};
 pub use root::RootNode;

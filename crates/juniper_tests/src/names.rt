@@ -3,19 +3,20 @@
 use juniper::ast::Arguments as WrittenArguments;
 use juniper::meta::Field as DeclaredField;
 use juniper::{
-    Argument, Arguments, DefaultScalarValue, Definition, DeprecationStatus, Directive,
+    Argument, Arguments, Context, DefaultScalarValue, Definition, DeprecationStatus, Directive,
     DirectiveLocation, DirectiveType, Document, EmptyMutation, EmptySubscription, EnumMeta,
-    EnumValue, ExecutionError, ExecutionResult, Executor, Field, FieldError, FieldResult, Fragment,
-    FragmentSpread, Fragments, FromInputValue, FromInputValueArrayError, FromInputValueVecError,
-    FromScalarValue, GraphQLError, GraphQLReference, GraphQLType, GraphQLValue, ID, InlineFragment,
-    InputObjectMeta, InputValue, InterfaceMeta, IntoFieldError, IntoResolvable, LexerError,
-    ListMeta, MetaType, Nullable, NullableMeta, Object, ObjectMeta, OfNode, Operation,
-    OperationType, ParseError, PlaceholderMeta, Registry, RegistryError, ResolveError, Resolved,
-    RootNode, RuleError, ScalarKinds, ScalarMeta, ScalarToken, ScalarValue, SchemaType, Selection,
-    SourcePosition, Span, Spanning, ToInputValue, ToScalarValue, Type, TypeKind, TypeType,
-    UnionMeta, Value, VariableDefinition, VariableDefinitions, Variables, admits, decode_int,
-    decode_string, execute_sync, parse_document_source, schema_is_executable, validate,
-    validate_input_values,
+    EnumValue, ExecutionError, ExecutionResult, Executor, Field, FieldError, FieldPath,
+    FieldResult, Fragment, FragmentSpread, Fragments, FromContext, FromInputValue,
+    FromInputValueArrayError, FromInputValueVecError, FromScalarValue, GraphQLError,
+    GraphQLReference, GraphQLType, GraphQLValue, ID, InlineFragment, InputObjectMeta, InputValue,
+    InterfaceMeta, IntoFieldError, IntoResolvable, LexerError, ListMeta, MetaType, Nullable,
+    NullableMeta, Object, ObjectMeta, OfNode, Operation, OperationType, ParseError,
+    PlaceholderMeta, Registry, RegistryError, ResolveError, Resolved, RootNode, RuleError,
+    ScalarKinds, ScalarMeta, ScalarToken, ScalarValue, SchemaType, Selection, SourcePosition, Span,
+    Spanning, ToInputValue, ToScalarValue, Type, TypeKind, TypeType, UnionMeta, Value,
+    VariableDefinition, VariableDefinitions, Variables, admits, decode_int, decode_string,
+    execute_sync, execute_validated_query, get_operation, parse_document_source,
+    schema_is_executable, validate, validate_input_values,
 };
 use std::test::Fail;
 
