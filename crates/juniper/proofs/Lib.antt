@@ -4,3 +4,4 @@ mod Executing
 pub mod Messages
 mod Undeclared
 mod VariableValues
+pub mod Asked

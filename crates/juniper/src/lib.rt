@@ -12,28 +12,107 @@ mod variables;
 
 pub use error::GraphQLError;
 pub use execute::execute_validated_query;
-pub use juniper_language::{
-    DefaultScalarValue, Definition, Directive, Document, Field, Fragment, FragmentSpread,
-    Fragments, InlineFragment, InputValue, LexerError, Object, Operation, OperationType,
-    ParseError, ScalarToken, ScalarValue, Selection, SourcePosition, Span, Spanning, Type, Value,
-    VariableDefinition, VariableDefinitions, Variables, ast, decode_int, decode_string,
-    parse_document_source,
-};
+pub use juniper_language::DefaultScalarValue;
+pub use juniper_language::Definition;
+pub use juniper_language::Directive;
+pub use juniper_language::Document;
+pub use juniper_language::Field;
+pub use juniper_language::Fragment;
+pub use juniper_language::FragmentSpread;
+pub use juniper_language::Fragments;
+pub use juniper_language::InlineFragment;
+pub use juniper_language::InputValue;
+pub use juniper_language::LexerError;
+pub use juniper_language::Object;
+pub use juniper_language::Operation;
+pub use juniper_language::OperationType;
+pub use juniper_language::ParseError;
+pub use juniper_language::ScalarToken;
+pub use juniper_language::ScalarValue;
+pub use juniper_language::Selection;
+pub use juniper_language::SourcePosition;
+pub use juniper_language::Span;
+pub use juniper_language::Spanning;
+pub use juniper_language::Type;
+pub use juniper_language::Value;
+pub use juniper_language::VariableDefinition;
+pub use juniper_language::VariableDefinitions;
+pub use juniper_language::Variables;
+pub use juniper_language::ast;
+pub use juniper_language::decode_int;
+pub use juniper_language::decode_string;
+pub use juniper_language::parse_document_source;
+pub use juniper_lookahead::Applies;
+pub use juniper_lookahead::ArgumentsIter;
+pub use juniper_lookahead::ChildrenIntoIter;
+pub use juniper_lookahead::ChildrenIter;
+pub use juniper_lookahead::LookAheadArgument;
+pub use juniper_lookahead::LookAheadChildren;
+pub use juniper_lookahead::LookAheadList;
+pub use juniper_lookahead::LookAheadObject;
+pub use juniper_lookahead::LookAheadSelection;
+pub use juniper_lookahead::LookAheadValue;
+pub use juniper_lookahead::NamesIter;
 pub use juniper_lookahead::admits;
-pub use juniper_rules::{RuleError, validate, validate_input_values};
-pub use juniper_schema::{
-    Argument, DeprecationStatus, DirectiveLocation, DirectiveType, EnumMeta, EnumValue,
-    InputObjectMeta, InterfaceMeta, ListMeta, MetaType, NullableMeta, ObjectMeta, PlaceholderMeta,
-    ScalarKinds, ScalarMeta, SchemaType, TypeType, UnionMeta, meta, schema_is_executable,
-};
-pub use juniper_types::{
-    Context, EmptyMutation, EmptySubscription, Executor, FieldPath, FromContext, GraphQLReference,
-    GraphQLType, GraphQLValue, IntoResolvable, OfNode, Registry, RegistryError, Resolved, TypeKind,
-};
-pub use juniper_values::{
-    Arguments, EnumName, ExecutionError, ExecutionResult, FieldError, FieldResult, FromInputValue,
-    FromInputValueArrayError, FromInputValueVecError, FromScalarValue, ID, IntoFieldError,
-    NamedValue, Nullable, ResolveError, ToInputValue, ToScalarValue, enum_argument, int_argument,
-};
-pub use request::{execute_sync, get_operation};
+pub use juniper_lookahead::look_ahead_list;
+pub use juniper_lookahead::look_ahead_object;
+pub use juniper_rules::RuleError;
+pub use juniper_rules::validate;
+pub use juniper_rules::validate_input_values;
+pub use juniper_schema::Argument;
+pub use juniper_schema::DeprecationStatus;
+pub use juniper_schema::DirectiveLocation;
+pub use juniper_schema::DirectiveType;
+pub use juniper_schema::EnumMeta;
+pub use juniper_schema::EnumValue;
+pub use juniper_schema::InputObjectMeta;
+pub use juniper_schema::InterfaceMeta;
+pub use juniper_schema::ListMeta;
+pub use juniper_schema::MetaType;
+pub use juniper_schema::NullableMeta;
+pub use juniper_schema::ObjectMeta;
+pub use juniper_schema::PlaceholderMeta;
+pub use juniper_schema::ScalarKinds;
+pub use juniper_schema::ScalarMeta;
+pub use juniper_schema::SchemaType;
+pub use juniper_schema::TypeType;
+pub use juniper_schema::UnionMeta;
+pub use juniper_schema::meta;
+pub use juniper_schema::schema_is_executable;
+pub use juniper_types::Context;
+pub use juniper_types::EmptyMutation;
+pub use juniper_types::EmptySubscription;
+pub use juniper_types::Executor;
+pub use juniper_types::FieldPath;
+pub use juniper_types::FromContext;
+pub use juniper_types::GraphQLReference;
+pub use juniper_types::GraphQLType;
+pub use juniper_types::GraphQLValue;
+pub use juniper_types::IntoResolvable;
+pub use juniper_types::OfNode;
+pub use juniper_types::Registry;
+pub use juniper_types::RegistryError;
+pub use juniper_types::Resolved;
+pub use juniper_types::TypeKind;
+pub use juniper_values::Arguments;
+pub use juniper_values::EnumName;
+pub use juniper_values::ExecutionError;
+pub use juniper_values::ExecutionResult;
+pub use juniper_values::FieldError;
+pub use juniper_values::FieldResult;
+pub use juniper_values::FromInputValue;
+pub use juniper_values::FromInputValueArrayError;
+pub use juniper_values::FromInputValueVecError;
+pub use juniper_values::FromScalarValue;
+pub use juniper_values::ID;
+pub use juniper_values::IntoFieldError;
+pub use juniper_values::NamedValue;
+pub use juniper_values::Nullable;
+pub use juniper_values::ResolveError;
+pub use juniper_values::ToInputValue;
+pub use juniper_values::ToScalarValue;
+pub use juniper_values::enum_argument;
+pub use juniper_values::int_argument;
+pub use request::execute_sync;
+pub use request::get_operation;
 pub use root::RootNode;

@@ -13,6 +13,8 @@ ghost use Rattle.juniper_syntax.specs.TypeView.{view_type};
 ghost use Rattle.juniper_meta.specs.MetaView.{view_argument, view_field};
 ghost use Rattle.juniper_resolvable.specs.ResolvedView.{Answers};
 ghost use Rattle.juniper_schema.specs.SchemaView.{view_schema};
+ghost use Rattle.juniper_lookahead.specs.Expansion.{IsAcyclic};
+ghost use Rattle.juniper_lookahead.specs.Selected.{IsSelected};
 ghost use Rattle.juniper_walk.specs.FieldWords.{head_of};
 ghost use Rattle.juniper.specs.Services.{is_undeclared, world_in};
 
@@ -71,6 +73,8 @@ impl<'r, Q: GraphQLValue<S>, S: ScalarValue> Completer<S> for Service<'r, Q, S> 
 }
 
 impl<'r, Q: GraphQLValue<S>, S: ScalarValue> Resolver<S> for Service<'r, Q, S> {
+    ghost values = { λ r. r.variables.now };
+
     #[tactic(auto, unfolding(graphql_spec::specs::Resolvers::world_of))]
     fn concrete_type_name<'n>(&'n self, node: &'n Self::Node) -> &'n str {
         self.resolver
@@ -104,7 +108,10 @@ impl<'r, Q: GraphQLValue<S>, S: ScalarValue> Service<'r, Q, S> {
         declared: &Type<String>,
         arguments: &[Argument<S>],
     ) -> Result<Resolved<Q::Node, S>, ResolveError<S>>
-        requires { map (view_argument S.shown) arguments.now ≡ declared_arguments (field_of (view_schema S.shown self.now.schema.now) concrete.now (head_of S.shown site.now.field.now).name.item) }
+        requires arguments { map (view_argument S.shown) arguments.now ≡ declared_arguments (field_of (view_schema S.shown self.now.schema.now) concrete.now (head_of S.shown site.now.field.now).name.item) }
+        requires acyclic { IsAcyclic S.shown site.now.fragments.now }
+        requires selected { IsSelected S.shown (is_possible (view_schema S.shown self.now.schema.now)) self.now.variables.now site.now.fragments.now concrete.now site.now.enclosing.now
+            site.now.field.now }
         ensures { Answers S.shown result (reply_to (world_in Q.concrete Q.answer self.now.resolver.now self.now.info.now self.now.context.now (view_schema S.shown self.now.schema.now)
             (view_variables S.shown self.now.variables.now)) concrete.now node.now (head_of S.shown site.now.field.now)) }
     {
@@ -126,6 +133,10 @@ impl<'r, Q: GraphQLValue<S>, S: ScalarValue> Service<'r, Q, S> {
         declared: &Type<String>,
         arguments: &[Argument<S>],
     ) -> Result<Resolved<Q::Node, S>, ResolveError<S>>
+        requires arguments { map (view_argument S.shown) arguments.now ≡ declared_arguments (field_of (view_schema S.shown self.now.schema.now) concrete.now (head_of S.shown site.now.field.now).name.item) }
+        requires acyclic { IsAcyclic S.shown site.now.fragments.now }
+        requires selected { IsSelected S.shown (is_possible (view_schema S.shown self.now.schema.now)) self.now.variables.now site.now.fragments.now concrete.now site.now.enclosing.now
+            site.now.field.now }
         ensures { Answers S.shown result (Q.answer self.now.resolver.now self.now.info.now self.now.context.now node.now (head_of S.shown site.now.field.now).name.item
             (coerced_arguments (map (view_argument S.shown) arguments.now) (view_variables S.shown self.now.variables.now) (written (head_of S.shown site.now.field.now).arguments))) }
     {

@@ -1,12 +1,12 @@
 -- How the fragments of a document are seen (2.8).
-use Rattle.std.specs.Prelude.{◌≡◌, ℕ, List, map, length, Option, option_map}
+use Rattle.std.specs.Prelude.{◌≡◌, ℕ, Bool, List, map, length, Option, option_map}
 use Rattle.std.specs.Borrow.{Bor}
 use Rattle.std.specs.HashMap.{HashMap, get_by}
 use Rattle.std.specs.Str.{bytes_eq}
 use Rattle.graphql_spec.specs.Shown.{Shown, Name}
 use Rattle.graphql_spec.specs.Documents as spec
 use Rattle.graphql_spec.specs.Documents.{fragments}
-use Rattle.graphql_spec.specs.Fragments.{fragment_of}
+use Rattle.graphql_spec.specs.Fragments.{expand, fragment_of}
 use Rattle.graphql_spec.specs.Positions.{origin}
 use Rattle.juniper_syntax.specs.DocumentView.{view_definition, view_directives, view_selections, view_word}
 use Rattle.juniper_syntax.specs.declared.ast.Fragment.{Fragment}
@@ -45,6 +45,10 @@ module _ {S : Type 0} (shown : S → Shown) where
   pub record IsMade (m : FragmentMap S) : Type 0 where
     pub named : (k : Name) → fragment_at m.first k ≡ fragment_named (fragments_in m) k
     pub counted : m.count ≡ length (fragments_in m)
+
+-- selections are expanded with the one list of fragments as with the other (2.8)
+abbrev pub ExpandAlike : List spec.Fragment → List spec.Fragment → Type 0
+ExpandAlike fs gs = (test : spec.Directive → Bool) (s : spec.Selections) → expand test fs s ≡ expand test gs s
 
 -- ## Only private clauses cite what follows
 

@@ -5,7 +5,9 @@ ghost use Rattle.std.specs.Option.{option_or, option_map};
 ghost use Rattle.graphql_spec.specs.Shown.{Name};
 ghost use Rattle.graphql_spec.specs.Documents.{fragments};
 ghost use Rattle.juniper_syntax.specs.DocumentView.{view_definition};
-ghost use Rattle.juniper_collect.specs.FragmentView.{fragment_at, fragment_named, fragments_in, view_lent_fragment, nesting, deepest, IsMade};
+ghost use Rattle.graphql_spec.specs.Fragments.{HasNoCycle};
+ghost use Rattle.juniper_lookahead.specs.Expansion.{IsAcyclic, fragments_among};
+ghost use Rattle.juniper_collect.specs.FragmentView.{ExpandAlike, fragment_at, fragment_named, fragments_in, view_lent_fragment, nesting, deepest, IsMade};
 
 use juniper_syntax::{Definition, Fragment, Fragments, ScalarValue};
 use std::alloc::{AllocError, Global};
@@ -86,10 +88,13 @@ fn put_fragment<'d, 'a, S: ScalarValue>(
 }
 
 impl<'d, 'a, S: ScalarValue> FragmentMap<'d, 'a, S> {
-    /// The fragments by name, of those of one name the first (2.8).
+    /// The fragments by name, of those of one name the first (2.8): what they hold is put in as the document's.
     pub fn by_name(&self) -> &Fragments<'d, 'a, S>
-        requires { IsMade S.shown self.now }
-        ensures { (k : Name) → fragment_at S.shown result.now k ≡ fragment_named (fragments_in S.shown self.now) k }
+        requires made { IsMade S.shown self.now }
+        requires acyclic { HasNoCycle (fragments_in S.shown self.now) }
+        ensures named { (k : Name) → fragment_at S.shown result.now k ≡ fragment_named (fragments_in S.shown self.now) k }
+        ensures acyclic { IsAcyclic S.shown result.now }
+        ensures alike { ExpandAlike (fragments_among S.shown result.now) (fragments_in S.shown self.now) }
     {
         &self.first
     }

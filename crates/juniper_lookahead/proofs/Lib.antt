@@ -1,1 +1,11 @@
 pub mod Admitting
+pub mod ByName
+pub mod Nesting
+pub mod Holding
+pub mod Gathering
+pub mod Below
+pub mod Going
+pub mod NoSpreads
+pub mod EqualityLoops
+pub mod FirstNamed
+pub mod ShownValues

@@ -1,1 +1,11 @@
 pub mod DirectiveView
+pub mod Expansion
+pub mod SelectionView
+pub mod ChildrenView
+pub mod GoingView
+pub mod Parts
+pub mod EqualityLaws
+pub mod InputEquality
+pub mod ShownValues
+pub mod ValueView
+pub mod Selected

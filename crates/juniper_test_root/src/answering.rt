@@ -3,7 +3,7 @@
 use crate::reader::read_script;
 use crate::script::{Node, Script};
 use crate::table::Request;
-use crate::variables::read_variables;
+use crate::variables::variables_of;
 use juniper::{EmptyMutation, EmptySubscription, GraphQLError, RootNode, execute_sync};
 use juniper_response::answer_line;
 use juniper_schema::schema_is_executable;
@@ -12,7 +12,12 @@ use std::alloc::{AllocError, Global};
 use std::fmt;
 
 /// The root of a script.
-pub type ScriptRoot = RootNode<Script, EmptyMutation<(), Node>, EmptySubscription<()>, Scalar>;
+pub type ScriptRoot = RootNode<
+    Script,
+    EmptyMutation<String, Node>,
+    EmptySubscription<String>,
+    Scalar,
+>;
 
 /// What of a request cannot be read.
 #[derive(Clone, Copy, Debug, PartialEq, Eq)]
@@ -81,7 +86,7 @@ pub fn printed(alloc: Global, request: &Request) -> Result<String, AllocError> {
         Ok(root) => root,
         Err(unread) => return format!(in alloc; "unread: {unread}"),
     };
-    let Some(variables) = read_variables(alloc, request.variables) else {
+    let Some(variables) = variables_of(alloc, request.variables) else {
         let unread = Unread::Variables;
         return format!(in alloc; "unread: {unread}");
     };
@@ -89,7 +94,7 @@ pub fn printed(alloc: Global, request: &Request) -> Result<String, AllocError> {
         "" => None,
         name => Some(name),
     };
-    let mut context = ();
+    let mut context = String::from_str(alloc, request.sights.as_str())?;
     let outcome = execute_sync(
         alloc,
         request.document.as_str(),

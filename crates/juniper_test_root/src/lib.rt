@@ -2,17 +2,20 @@
 #![tactic(auto)]
 
 mod answering;
+mod columns;
 mod reader;
 mod replies;
 mod root;
 mod script;
+mod sights;
 mod table;
 mod tally;
 mod variables;
 
 pub use answering::{ScriptRoot, Unread, printed, read_root};
+pub use columns::columns_asked_for;
 pub use reader::read_script;
 pub use script::{Answer, Line, Node, Script, Tree};
 pub use table::{Request, Row, read_table};
 pub use tally::{Tally, report};
-pub use variables::read_variables;
+pub use variables::variables_of;

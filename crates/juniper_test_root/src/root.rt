@@ -9,6 +9,7 @@ ghost use Rattle.juniper_test_root.specs.Scripts.{concrete_type, reply, root_of}
 
 use crate::replies::reply;
 use crate::script::{Node, Script};
+use crate::sights::is_as_told;
 use juniper_meta::MetaType;
 use juniper_resolvable::Resolved;
 use juniper_syntax::{ScalarValue, Type};
@@ -54,9 +55,10 @@ impl<S: ScalarValue> GraphQLType<S> for Script {
     ghost keeps_name = { λ _ _ e. e };
 }
 
-/// A field of a node answers what the first line of the node says, else the first one of its object type, else null.
+/// A field of a node answers what the first line of the node says, else the first one of its object type, else null. Where look-ahead shows
+/// at the field something else than the context's lines say, it answers that memory is refused.
 impl<S: ScalarValue> GraphQLValue<S> for Script {
-    type Context = ();
+    type Context = String;
 
     type Node = Node;
 
@@ -90,8 +92,11 @@ impl<S: ScalarValue> GraphQLValue<S> for Script {
         node: &Self::Node,
         field_name: &str,
         arguments: &Arguments<'_, S>,
-        _executor: &Executor<Self::Context, S>,
+        executor: &Executor<Self::Context, S>,
     ) -> Result<Resolved<Self::Node, S>, ResolveError<S>> {
+        if !is_as_told(alloc, executor)? {
+            return Err(ResolveError::Memory);
+        }
         reply(alloc, self.answer_of(node, field_name), arguments)
     }
 }

@@ -29,8 +29,9 @@
 //! - `answers:` is followed by a script as [`crate::read_script`] reads it; what no line tells is null.
 //! - `rows:` is followed by the rows: a request, `=>` and its answer as one line of JSON, or `refused: ` and why it is refused,
 //!   with `; ` between several reasons. A line behind an answer that begins with a blank goes on with it. Before a row may stand
-//!   the operation's name and the variables' values, which are for this row alone. Empty lines between rows, and those that begin
-//!   with `#`, are left out.
+//!   the operation's name, the variables' values, and lines `sees: SIGHT` of what look-ahead shows at fields (as `sights.rt` reads
+//!   them), which are for this row alone; where look-ahead shows something else, the request is refused: `Out of memory`. Empty lines
+//!   between rows, and those that begin with `#`, are left out.
 
 use std::alloc::Global;
 use std::mem;
@@ -48,6 +49,8 @@ pub struct Request {
     pub operation_name: &'static str,
     /// The values of the variables, as an object of JSON; empty where none are given.
     pub variables: &'static str,
+    /// What look-ahead shows at fields, a line each.
+    pub sights: String,
 }
 
 /// A request, and what it is answered.
@@ -72,6 +75,7 @@ struct TableReader {
     document: String,
     operation_name: &'static str,
     variables: &'static str,
+    sights: String,
 }
 
 /// The rows of a table; else the number of the first line that cannot be read, from 1.
@@ -85,6 +89,7 @@ pub fn read_table(alloc: Global, table: &'static str) -> Result<Vec<Row>, usize>
         document: String::new(alloc),
         operation_name: "",
         variables: "",
+        sights: String::new(alloc),
     };
     let mut is_part = false;
     for part in table.split("schema:\n") {
@@ -146,6 +151,10 @@ impl TableReader {
             self.variables = variables;
             return Some(());
         }
+        if let Some(sight) = line.strip_prefix("sees: ") {
+            self.sights.push_str(sight).ok()?;
+            return self.sights.push_str("\n").ok();
+        }
         if let Some(said) = line.strip_prefix("=> ") {
             return self.end_row("", said);
         }
@@ -171,6 +180,7 @@ impl TableReader {
             document: mem::replace(&mut self.document, String::new(self.alloc)),
             operation_name: mem::replace(&mut self.operation_name, ""),
             variables: mem::replace(&mut self.variables, ""),
+            sights: mem::replace(&mut self.sights, String::new(self.alloc)),
         };
         let row = Row {
             number: self.number,

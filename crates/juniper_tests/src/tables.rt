@@ -83,13 +83,14 @@ fn a_table_that_cannot_be_read_is_told(rt: HostRuntime) -> Result<(), Fail> {
 }
 
 /// A request for this document.
-fn request_for(document: String) -> Request {
+fn request_for(alloc: Global, document: String) -> Request {
     Request {
         schema: "type Query { id: ID, fail: Int, list: [Hero] } type Hero { name: String, list: [Hero] }",
         answers: "Query.id => \"q1\"\nQuery.fail => error failed\nQuery.list => [@Hero, null]\nHero.name => \"x\"\nHero.list => []",
         document,
         operation_name: "",
         variables: "",
+        sights: String::new(alloc),
     }
 }
 
@@ -100,7 +101,7 @@ fn repeated(alloc: Global, times: usize, selection: &str) -> Result<Request, All
         document.push_str(selection)?;
     }
     document.push_str("}")?;
-    Ok(request_for(document))
+    Ok(request_for(alloc, document))
 }
 
 #[test]
@@ -125,7 +126,7 @@ fn a_hundred_lists_are_one_key(rt: HostRuntime) -> Result<(), Fail> {
 #[test]
 fn places_count_characters_and_lines(rt: HostRuntime) -> Result<(), Fail> {
     let text = "{\r\n\r# \u{1F680}\n\t\u{FEFF}id fail }";
-    let request = request_for(String::from_str(rt.alloc(), text)?);
+    let request = request_for(rt.alloc(), String::from_str(rt.alloc(), text)?);
     let answer =
         r#"{"data":{"id":"q1","fail":null},"errors":[{"message":"failed","locations":[{"line":4,"column":6}],"path":["fail"]}]}"#;
     assert_eq!(rt; printed(rt.alloc(), &request)?.as_str(), answer);

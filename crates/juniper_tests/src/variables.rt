@@ -1,6 +1,9 @@
 //! Arguments, and variables with values, defaults and nulls (sections 6.1.2 and 6.4.1 of the Specification).
 
-use juniper_test_root::report;
+use juniper::{InputValue, execute_sync};
+use juniper_test_root::{read_root, report};
+use std::alloc::{AllocError, Global};
+use std::collections::HashMap;
 use std::test::Fail;
 
 const ARGUMENTS: &str = r#"schema:
@@ -158,6 +161,31 @@ fn variables_have_values(rt: HostRuntime) -> Result<(), Fail> {
     assert_eq!(rt;
         report(rt.alloc(), VARIABLES)?.as_str(),
         "43 rows, 0 differ"
+    );
+    Ok(())
+}
+
+/// A request whose variable `a` is given the variable `a`.
+fn given_a_variable(alloc: Global) -> Result<String, AllocError> {
+    let Ok(root) = read_root(alloc, "type Query { number(plus: Int): Int }", "") else {
+        return String::from_str(alloc, "no root");
+    };
+    let mut variables = HashMap::new(alloc);
+    let name = String::from_str(alloc, "a")?;
+    variables.insert(name, InputValue::Variable(String::from_str(alloc, "a")?))?;
+    let text = "query Q($a: Int) { number(plus: $a) }";
+    let mut context = String::new(alloc);
+    match execute_sync(alloc, text, None, &root, &variables, &mut context) {
+        Ok(_) => String::from_str(alloc, "answered"),
+        Err(refusal) => format!(in alloc; "{refusal}"),
+    }
+}
+
+#[test]
+fn values_of_variables_hold_no_variables(rt: HostRuntime) -> Result<(), Fail> {
+    assert_eq!(rt;
+        given_a_variable(rt.alloc())?.as_str(),
+        "Variable `$a` holds a variable"
     );
     Ok(())
 }

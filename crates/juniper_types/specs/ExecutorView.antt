@@ -1,5 +1,5 @@
 -- What an executor shows (6.4.2).
-use Rattle.std.specs.Prelude.{ℕ, List, Option, option_map, String}
+use Rattle.std.specs.Prelude.{◌≡◌, ℕ, List, Option, option_map, String}
 use Rattle.std.specs.Borrow.{Bor}
 use Rattle.std.specs.HashMap.{HashMap, get_by}
 use Rattle.std.specs.Str.{bytes_eq}
@@ -9,7 +9,12 @@ use Rattle.std.specs.declared.fmt.Debug.{Ghosts as Shows}
 use Rattle.std.specs.declared.hash.BuildHasherDefault.{BuildHasherDefault}
 use Rattle.std.specs.declared.hash.FoldHasher.{FoldHasher}
 use Rattle.graphql_spec.specs.Positions.{Position}
-use Rattle.graphql_spec.specs.Shown.{Name}
+use Rattle.graphql_spec.specs.Shown.{Shown, Name}
+use Rattle.graphql_spec.specs.Arguments.{coerced_arguments}
+use Rattle.graphql_spec.specs.Constants.{Members}
+use Rattle.graphql_spec.specs.Documents.{written}
+use Rattle.graphql_spec.specs.Fields.{declared_arguments, field_of, is_possible}
+use Rattle.graphql_spec.specs.Selections.{Occurrence}
 use Rattle.juniper_position.specs.Positions.{view_position}
 use Rattle.juniper_position.specs.declared.position.Span.{Span}
 use Rattle.juniper_position.specs.declared.position.Spanning.{Spanning}
@@ -18,6 +23,10 @@ use Rattle.juniper_syntax.specs.declared.ast.Fragment.{Fragment}
 use Rattle.juniper_syntax.specs.declared.ast.Selection.{Selection}
 use Rattle.juniper_syntax.specs.declared.input.InputValue.{InputValue}
 use Rattle.juniper_syntax.specs.declared.scalar.ScalarValue.{Ghosts as Scalars}
+use Rattle.juniper_syntax.specs.InputView.{view_variables}
+use Rattle.juniper_lookahead.specs.Expansion.{occurrence_at}
+use Rattle.juniper_lookahead.specs.Selected.{IsSelected}
+use Rattle.juniper_schema.specs.SchemaView.{view_schema}
 use Rattle.juniper_errors.specs.declared.field_path.FieldPath.{FieldPath}
 use Rattle.juniper_schema.specs.declared.schema.SchemaType.{SchemaType}
 use Rattle.juniper_schema.specs.declared.type_type.TypeType.{TypeType}
@@ -63,6 +72,18 @@ module _ {C S : Type 0} {scalar : Scalars S} {equality : Equality S} {shows : Sh
   -- the start of the field
   abbrev pub start_of : Executor C S scalar equality shows → Position
   start_of e = view_position e.occurrence.now.span.start
+
+  -- the field, with what is selected below it
+  abbrev pub view_occurrence : (S → Shown) → Executor C S scalar equality shows → Occurrence
+  view_occurrence shown e = occurrence_at shown e.variables.now e.fragments.now e.occurrence.now
+
+  -- the executor is that of a field of this name with these arguments (6.4.1), which is one of those that the selections around it
+  -- hold for its object type (6.3.2)
+  pub record IsAskedFor (shown : S → Shown) (e : Executor C S scalar equality shows) (name : Name) (given : Members) : Type 0 where
+    pub is_named : (view_occurrence shown e).head.name.item ≡ name
+    pub is_given : given ≡ coerced_arguments (declared_arguments (field_of (view_schema shown e.schema.now) e.concrete_type.now name))
+        (view_variables shown e.variables.now) (written (view_occurrence shown e).head.arguments)
+    pub selected : IsSelected shown (is_possible (view_schema shown e.schema.now)) e.variables.now e.fragments.now e.concrete_type.now e.enclosing.now e.occurrence.now
 
 -- the fragment that the map has at a name
 abbrev pub fragment_at : {S H : Type 0} → HashMap (Bor (List ℕ)) (Bor (Fragment S)) H → Name → Option (Fragment S)

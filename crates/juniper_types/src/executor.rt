@@ -1,151 +1,23 @@
 //! Where a field is resolved (section 6.4.2 of the Specification).
 
-ghost use Rattle.std.specs.Prelude.{◌≡◌, IfOk, option_map};
-ghost use Rattle.juniper_position.specs.Positions.{view_position};
-ghost use Rattle.juniper_errors.specs.ErrorView.{view_error, view_listed};
-ghost use Rattle.juniper_errors.specs.PathView.{path_place};
-ghost use Rattle.juniper_types.specs.ExecutorView.{concrete_of, context_of, enclosing_of, fragment_at, fragments_of, occurrence_of, path_of, schema_of, start_of, type_of, variables_of};
+ghost use Rattle.juniper_lookahead.specs.Expansion.{IsAcyclic};
 
-use juniper_errors::{ExecutionError, FieldError, FieldPath};
+use juniper_errors::FieldPath;
 use juniper_schema::{SchemaType, TypeType};
-use juniper_syntax::{
-    Field, Fragment, Fragments, ScalarValue, Selection, SourcePosition, Span, Spanning, Variables,
-};
-use std::alloc::{AllocError, Global};
+use juniper_syntax::{Field, Fragments, ScalarValue, Selection, Span, Spanning, Variables};
 
 /// What a resolver may ask of the field that it resolves. It lends what the request lends: for `'s` the schema, for `'d` the
 /// document, for `'a` its text, and for `'r` the rest.
 #[derive(Drop)]
 pub struct Executor<'r, 's, 'd, 'a, CtxT, S: ScalarValue> {
-    context: &'r CtxT,
-    schema: &'s SchemaType<S>,
-    variables: &'r Variables<S>,
-    fragments: &'r Fragments<'d, 'a, S>,
-    path: &'r FieldPath<'a>,
-    declared_type: &'r TypeType<'s, S>,
-    concrete_type: &'r str,
-    enclosing: &'d [Selection<'a, S>],
-    occurrence: &'d Spanning<Field<'a, S>, Span>,
-}
-
-impl<'r, 's, 'd, 'a, CtxT, S: ScalarValue> Executor<'r, 's, 'd, 'a, CtxT, S> {
-    /// What a resolver may ask of a field: the context of the request, the schema, the values of the variables, the
-    /// fragments by name, the response keys down to the field, its declared type, the name of the object type that it is
-    /// resolved at, the selections that it is among, and the field as it is written.
-    pub fn at_field(
-        context: &'r CtxT,
-        schema: &'s SchemaType<S>,
-        variables: &'r Variables<S>,
-        fragments: &'r Fragments<'d, 'a, S>,
-        path: &'r FieldPath<'a>,
-        declared_type: &'r TypeType<'s, S>,
-        concrete_type: &'r str,
-        enclosing: &'d [Selection<'a, S>],
-        occurrence: &'d Spanning<Field<'a, S>, Span>,
-    ) -> Self
-        ensures context { context_of result ≡ context.now }
-        ensures schema { schema_of result ≡ schema.now }
-        ensures variables { variables_of result ≡ variables.now }
-        ensures fragments { fragments_of result ≡ fragments.now }
-        ensures path { path_of result ≡ path.now }
-        ensures declared_type { type_of result ≡ declared_type.now }
-        ensures concrete_type { concrete_of result ≡ concrete_type.now }
-        ensures enclosing { enclosing_of result ≡ enclosing.now }
-        ensures occurrence { occurrence_of result ≡ occurrence.now }
-    {
-        Executor {
-            context,
-            schema,
-            variables,
-            fragments,
-            path,
-            declared_type,
-            concrete_type,
-            enclosing,
-            occurrence,
-        }
-    }
-
-    /// The context of the request.
-    pub fn context(&self) -> &'r CtxT
-        ensures { result.now ≡ context_of self.now }
-    {
-        self.context
-    }
-
-    /// The schema.
-    pub fn schema(&self) -> &'s SchemaType<S>
-        ensures { result.now ≡ schema_of self.now }
-    {
-        self.schema
-    }
-
-    /// The values of the variables (6.1.2).
-    pub fn variables(&self) -> &'r Variables<S>
-        ensures { result.now ≡ variables_of self.now }
-    {
-        self.variables
-    }
-
-    /// Where the field starts in the text.
-    pub fn location(&self) -> &'d SourcePosition
-        ensures { view_position result.now ≡ start_of self.now }
-    {
-        &self.occurrence.span.start
-    }
-
-    /// The type that the field is declared with.
-    pub fn current_type(&self) -> &'r TypeType<'s, S>
-        ensures { result.now ≡ type_of self.now }
-    {
-        self.declared_type
-    }
-
-    /// The fragment of this name (2.8); `None` where the document has none.
-    pub fn fragment_by_name(&self, name: &str) -> Option<&'d Fragment<'a, S>>
-        ensures { option_map (λ f. f.now) result ≡ fragment_at (fragments_of self.now) name.now }
-    {
-        match self.fragments.get(name) {
-            Some(fragment) => Some(*fragment),
-            None => None,
-        }
-    }
-
-    /// The error of the execution that this error of the field is: where the field starts, under its response keys (6.4.4,
-    /// 7.1.2); an error where memory is refused.
-    pub fn new_error(
-        &self,
-        alloc: Global,
-        error: FieldError<S>,
-    ) -> Result<ExecutionError<S>, AllocError>
-        ensures { IfOk result (λ made. view_listed S.shown made ≡ record { path = path_place (path_of self.now); start = start_of self.now; error = view_error S.shown error }) }
-    {
-        let keys = self.path.keys(alloc)?;
-        ExecutionError::new(alloc, self.occurrence.span.start, keys.as_slice(), error)
-    }
-
-    /// What a resolver of other contexts may ask of this field: this context, and all else as it is here.
-    pub fn replaced_context<'c, D>(&'c self, context: &'c D) -> Executor<'c, 's, 'd, 'a, D, S>
-        ensures context { context_of result ≡ context.now }
-        ensures schema { schema_of result ≡ schema_of self.now }
-        ensures variables { variables_of result ≡ variables_of self.now }
-        ensures fragments { fragments_of result ≡ fragments_of self.now }
-        ensures path { path_of result ≡ path_of self.now }
-        ensures declared_type { type_of result ≡ type_of self.now }
-        ensures concrete_type { concrete_of result ≡ concrete_of self.now }
-        ensures enclosing { enclosing_of result ≡ enclosing_of self.now }
-        ensures occurrence { occurrence_of result ≡ occurrence_of self.now }
-    {
-        Executor {
-            context,
-            schema: self.schema,
-            variables: self.variables,
-            fragments: self.fragments,
-            path: self.path,
-            declared_type: self.declared_type,
-            concrete_type: self.concrete_type,
-            enclosing: self.enclosing,
-            occurrence: self.occurrence,
-        }
-    }
+    pub(crate) context: &'r CtxT,
+    pub(crate) schema: &'s SchemaType<S>,
+    pub(crate) variables: &'r Variables<S>,
+    pub(crate) fragments: &'r Fragments<'d, 'a, S>,
+    pub(crate) path: &'r FieldPath<'a>,
+    pub(crate) declared_type: &'r TypeType<'s, S>,
+    pub(crate) concrete_type: &'r str,
+    pub(crate) enclosing: &'d [Selection<'a, S>],
+    pub(crate) occurrence: &'d Spanning<Field<'a, S>, Span>,
+    ghost acyclic: { IsAcyclic S.shown fragments.now },
 }

@@ -4,6 +4,7 @@
 mod boxes;
 mod context;
 mod empty;
+mod executing;
 mod executor;
 mod references;
 mod resolver;

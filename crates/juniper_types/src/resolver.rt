@@ -5,7 +5,7 @@ ghost use Rattle.graphql_spec.specs.Shown.{Name};
 ghost use Rattle.graphql_spec.specs.Constants.{Members};
 ghost use Rattle.graphql_spec.specs.Resolvers.{Reply};
 ghost use Rattle.juniper_values.specs.ArgumentView.{view_arguments};
-ghost use Rattle.juniper_types.specs.ExecutorView.{context_of};
+ghost use Rattle.juniper_types.specs.ExecutorView.{IsAskedFor, context_of};
 ghost use Rattle.juniper_resolvable.specs.ResolvedView.{Answers};
 
 use crate::executor::Executor;
@@ -50,7 +50,9 @@ pub trait GraphQLValue<S: ScalarValue>: GraphQLType<S> {
     ) -> &'r str
         ensures { result.now ≡ concrete self.now info.now context.now node.now };
 
-    /// The answer to a field of a node, or the error with which the field fails.
+    /// The answer to a field of a node, or the error with which the field fails. The executor is that of the field: it is
+    /// written with this name and these arguments (6.4.1), and is one of those that the selections around it hold for the object
+    /// type (6.3.2).
     fn resolve_field(
         &self,
         alloc: Global,
@@ -60,5 +62,6 @@ pub trait GraphQLValue<S: ScalarValue>: GraphQLType<S> {
         arguments: &Arguments<'_, S>,
         executor: &Executor<Self::Context, S>,
     ) -> Result<Resolved<Self::Node, S>, ResolveError<S>>
+        requires { IsAskedFor S.shown executor.now field_name.now (view_arguments S.shown arguments.now) }
         ensures { Answers S.shown result (answer self.now info.now (context_of executor.now) node.now field_name.now (view_arguments S.shown arguments.now)) };
 }

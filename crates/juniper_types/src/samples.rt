@@ -16,8 +16,8 @@ use juniper_meta::MetaType;
 use juniper_registry::{GraphQLReference, GraphQLType, Registry};
 use juniper_resolvable::Resolved;
 use juniper_syntax::{
-    DefaultScalarValue, Field, Fragment, InputValue, ScalarValue, SourcePosition, Span, Spanning,
-    Type, Variables,
+    DefaultScalarValue, Field, InputValue, ScalarValue, SourcePosition, Span, Spanning, Type,
+    Variables,
 };
 use juniper_values::{Arguments, ResolveError};
 use std::alloc::{AllocError, Global};
@@ -121,16 +121,6 @@ impl<S: ScalarValue> GraphQLValue<S> for Counter {
 /// The place after so many characters of a text's first line.
 fn at(column: usize) -> SourcePosition {
     SourcePosition::new(column, 0, column)
-}
-
-/// `fragment Named on Human { .. }`
-pub fn fragment(alloc: Global) -> Fragment<'static, DefaultScalarValue> {
-    Fragment {
-        name: Spanning::unlocated("Named"),
-        type_condition: Spanning::unlocated("Human"),
-        directives: None,
-        selection_set: Vec::new(alloc),
-    }
 }
 
 /// `mate: friend`, in `{ hero { mate: friend } }`

@@ -6,7 +6,10 @@ use Rattle.graphql_spec.specs.Positions.{Position}
 use Rattle.graphql_spec.specs.Documents.{response_key}
 use Rattle.graphql_spec.specs.Types.{TypeRef, required}
 use Rattle.graphql_spec.specs.Errors.{Place, key, Listed}
-use Rattle.graphql_spec.specs.Selections.{Occurrence}
+use Rattle.graphql_spec.specs.Selections.{Occurrence, occurrences}
+use Rattle.graphql_spec.specs.Documents.{Selections}
+use Rattle.graphql_spec.specs.Directives.{passes}
+use Rattle.graphql_spec.specs.Laws.{In}
 use Rattle.graphql_spec.specs.Resolvers.{Error, World, Tree, Reply, answered, failed}
 use Rattle.graphql_spec.specs.Execution.{type_of, reply_of, reply_to}
 use Rattle.juniper_completion.specs.Skeletons.{Skeleton, absent, reply_skeleton, reply_nodes, reply_errors, listed_at}
@@ -23,8 +26,15 @@ use Rattle.juniper_assemble.specs.declared.apart.Fault.{Fault}
 use Rattle.juniper_assemble.specs.Apart.{IsApart}
 use Rattle.juniper_position.specs.declared.position.Spanning.{Spanning}
 use Rattle.juniper_position.specs.declared.position.Span.{Span}
-use Rattle.juniper_syntax.specs.declared.ast.Field.{Field as FieldType}
-use Rattle.juniper_collect.specs.Collected.{view_collected}
+use Rattle.juniper_position.specs.Positions.{view_span}
+use Rattle.juniper_syntax.specs.InputView.{view_variables}
+use Rattle.juniper_syntax.specs.DocumentView.{view_head, view_selections, view_set}
+use Rattle.juniper_syntax.specs.declared.ast.Field.{Field as FieldType, out-Field}
+use Rattle.juniper_syntax.specs.declared.ast.Selection.{Selection}
+use Rattle.juniper_lookahead.specs.Expansion.{FragmentsByName, VariableMap, expanded, fragments_among, occurrence_at}
+use Rattle.juniper_lookahead.specs.Selected.{IsSelected}
+use Rattle.juniper_collect.specs.FragmentView.{ExpandAlike, fragments_in}
+use Rattle.juniper_collect.specs.Collected.{expansion, view_collected}
 use Rattle.juniper_collect.specs.declared.collecting.Collector.{Collector}
 use Rattle.juniper_walk.specs.FieldWords.{head_of}
 use Rattle.juniper_walk.specs.Walking.{IsPrepared}
@@ -110,3 +120,20 @@ listed-same p q a b xs ys e f g = ap (λ x. listed_at x a xs) e ∙ (ap (λ x. l
 
 pub one-error : (p q : Place) (a b : Position) (e : Error) (xs : List Listed) → p ≡ q → a ≡ b → xs ≡ record { path = p; start = a; error = e } ∷ [] → xs ≡ record { path = q; start = b; error = e } ∷ []
 one-error p q a b e xs same at is = is ∙ (ap (λ x. record { path = x; start = a; error = e } ∷ []) same ∙ ap (λ x. record { path = q; start = x; error = e } ∷ []) at)
+
+-- ## A collected field is selected where the fragments are found by their names
+
+module _ {S P : Type 0} (shown : S → Shown) (c : Collector S P) (m : FragmentsByName S) (alike : ExpandAlike (fragments_among shown m) (fragments_in shown c.fragments)) where
+  same-expansion : (s : Selections) → expansion shown c s ≡ expanded shown c.variables.now m s
+  unfolding expansion expanded
+  same-expansion s = sym (alike (passes (view_variables shown c.variables.now)) s)
+
+  same-occurrence : (f : Spanning (FieldType S) Span) → view_collected shown c f ≡ occurrence_at shown c.variables.now m f
+  unfolding view_collected occurrence_at
+  same-occurrence f = ap (λ b. record { head = view_head shown (out-Field S f.item) (view_span f.span); below = b }) (same-expansion (view_set shown (out-Field S f.item).selection_set))
+
+  pub selected-at : (possible : Name → Name → Bool) (vars : VariableMap S) (T : Name) (ss : List (Selection S)) (f : Spanning (FieldType S) Span) → vars ≡ c.variables.now →
+      In (view_collected shown c f) (occurrences possible T (expansion shown c (view_selections shown ss))) → IsSelected shown possible vars m T ss f
+  selected-at possible vars T ss f is among = subst (λ v. IsSelected shown possible v m T ss f) (sym is)
+      (subst (λ o. In o (occurrences possible T (expanded shown c.variables.now m (view_selections shown ss)))) (same-occurrence f)
+      (subst (λ s. In (view_collected shown c f) (occurrences possible T s)) (same-expansion (view_selections shown ss)) among))

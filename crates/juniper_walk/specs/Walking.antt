@@ -1,5 +1,5 @@
 -- What a walk over objects within objects promises (6.3, 6.4).
-use Rattle.std.specs.Prelude.{◌≡◌, ℕ, ◌≤◌, suc, max, Bool, true, false, ◌&&◌, List, [], ◌∷◌, ◌++◌, map}
+use Rattle.std.specs.Prelude.{◌≡◌, ℕ, ◌≤◌, suc, max, Bool, true, false, ◌&&◌, List, [], ◌∷◌, ◌++◌}
 use Rattle.graphql_spec.specs.Shown.{Shown, Name}
 use Rattle.graphql_spec.specs.Documents.{response_key}
 use Rattle.graphql_spec.specs.Values.{Value, Entries, object, is_null}
@@ -12,6 +12,7 @@ use Rattle.graphql_spec.specs.Laws.{In, Agree}
 use Rattle.juniper_completion.specs.Skeletons.{Skeleton, reply_skeleton, reply_nodes, reply_errors, listed_at, fill}
 use Rattle.juniper_completion.specs.CompletionLaws.{all_listed}
 use Rattle.juniper_completion.specs.Walks.{AreWalkedAt, IsWalked, joined_in}
+use Rattle.juniper_lookahead.specs.Expansion.{VariableMap}
 use Rattle.juniper_collect.specs.Collected.{IsReady}
 use Rattle.juniper_assemble.specs.Keyed.{is_keyed}
 use Rattle.juniper_walk.specs.declared.asking.Walk.{Walk}
@@ -26,10 +27,11 @@ unfoldable pub all_keyed : List Value → Bool
 all_keyed [] = true
 all_keyed (v ∷ vs) = is_keyed v && all_keyed vs
 
--- the collector is ready, and takes for possible what the world takes
-pub record IsReadyWalk {N S R : Type 0} (shown : S → Shown) (possible : R → Name → Name → Bool) (W : World N) (walk : Walk S R) : Type 0 where
+-- the collector is ready, takes for possible what the world takes, and has the values of variables that the resolver has
+pub record IsReadyWalk {N S R : Type 0} (shown : S → Shown) (possible : R → Name → Name → Bool) (values : R → VariableMap S) (W : World N) (walk : Walk S R) : Type 0 where
   pub collector : IsReady shown walk.collector
   pub same : possible walk.collector.possible ≡ W.possible
+  pub variables : values walk.collector.possible ≡ walk.collector.variables.now
 
 module _ {N : Type 0} (W : World N) where
   -- to every depth, occurrences of one response key agree

@@ -8,9 +8,12 @@ ghost use Rattle.graphql_spec.specs.Errors.{key};
 ghost use Rattle.juniper_errors.specs.ErrorView.{view_error, view_listed};
 ghost use Rattle.juniper_errors.specs.PathView.{path_place};
 ghost use Rattle.juniper_assemble.specs.SkeletonView.{view_fault, view_skeleton};
-ghost use Rattle.juniper_collect.specs.Collected.{IsReady, view_collected};
+ghost use Rattle.graphql_spec.specs.Laws.{In};
+ghost use Rattle.graphql_spec.specs.Selections.{occurrences};
+ghost use Rattle.juniper_syntax.specs.DocumentView.{view_selections};
+ghost use Rattle.juniper_collect.specs.Collected.{expansion, view_collected};
 ghost use Rattle.juniper_walk.specs.FieldWords.{head_of};
-ghost use Rattle.juniper_walk.specs.Walking.{IsPrepared};
+ghost use Rattle.juniper_walk.specs.Walking.{IsPrepared, IsReadyWalk};
 
 use crate::asking::{Asked, Resolver, Site, Walk};
 use juniper_assemble::{Fault, Skeleton, take_apart};
@@ -119,7 +122,9 @@ pub(crate) fn prepare<'d, 'a, S: ScalarValue, R: Resolver<S>>(
     enclosing: &'d [Selection<'a, S>],
     field: &'d Spanning<Field<'a, S>, Span>,
 ) -> Result<Prepared<'a, R::Node, S>, AllocError>
-    requires { IsReady S.shown walk.now.collector }
+    requires ready { IsReadyWalk S.shown R.possible R.values (R.world walk.now.collector.possible) walk.now }
+    requires among { In (view_collected S.shown walk.now.collector field.now) (occurrences (R.possible walk.now.collector.possible) concrete.now
+        (expansion S.shown walk.now.collector (view_selections S.shown enclosing.now))) }
     ensures { IfOk result (λ p. IsPrepared (R.world walk.now.collector.possible) (path_place path.now.value) concrete.now node.now (view_collected S.shown walk.now.collector field.now)
         (path_place p.path.value) p.is_non_null (view_skeleton S.shown p.skeleton) p.nodes.items (map (view_listed S.shown) p.errors.items)) }
 {

@@ -27,7 +27,7 @@ pub fn answer<'d, 'a, S: ScalarValue, R: Resolver<S>>(
     start: SourcePosition,
     selections: &'d [Selection<'a, S>],
 ) -> Result<Walked<S>, AllocError>
-    requires ready { IsReadyWalk S.shown R.possible (R.world walk.now.collector.possible) walk.now }
+    requires ready { IsReadyWalk S.shown R.possible R.values (R.world walk.now.collector.possible) walk.now }
     requires agree { SelectionsAgree (R.world walk.now.collector.possible) concrete.now (expansion S.shown walk.now.collector (view_selections S.shown selections.now)) }
     ensures { IfOk result (λ r. IsAnswerFor keys_only (R.world walk.now.collector.possible) concrete.now root.now
         (expansion S.shown walk.now.collector (view_selections S.shown selections.now))

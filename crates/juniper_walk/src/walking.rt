@@ -5,7 +5,9 @@ ghost use Rattle.std.specs.Prelude.{◌≡◌, IfOk, map};
 ghost use Rattle.juniper_syntax.specs.ValueView.{view_value};
 ghost use Rattle.juniper_errors.specs.ErrorView.{view_listed};
 ghost use Rattle.juniper_errors.specs.PathView.{path_place};
-ghost use Rattle.juniper_collect.specs.Collected.{view_all, view_collected};
+ghost use Rattle.graphql_spec.specs.Selections.{occurrences};
+ghost use Rattle.juniper_syntax.specs.DocumentView.{view_selections};
+ghost use Rattle.juniper_collect.specs.Collected.{expansion, view_all, view_collected};
 ghost use Rattle.juniper_walk.specs.Walking.{AllAgree, AreAllWalked, AreReached, IsReadyWalk, IsWalkedThrough};
 
 use crate::adding::{add_field, add_object, selections_of};
@@ -42,8 +44,10 @@ pub fn object<'d, 'a, S: ScalarValue, R: Resolver<S>>(
     enclosing: &'d [Selection<'a, S>],
     fields: &[Occurrence<'d, 'a, S>],
 ) -> Result<Walked<S>, AllocError>
-    requires ready { IsReadyWalk S.shown R.possible (R.world walk.now.collector.possible) walk.now }
+    requires ready { IsReadyWalk S.shown R.possible R.values (R.world walk.now.collector.possible) walk.now }
     requires agree { AllAgree (R.world walk.now.collector.possible) concrete.now (view_all S.shown walk.now.collector fields.now) }
+    requires collected { view_all S.shown walk.now.collector fields.now ≡ occurrences (R.possible walk.now.collector.possible) concrete.now
+        (expansion S.shown walk.now.collector (view_selections S.shown enclosing.now)) }
     ensures { IfOk result (λ r. IsWalkedThrough (R.world walk.now.collector.possible) (path_place path.now.value) concrete.now node.now (view_all S.shown walk.now.collector fields.now)
         (view_value S.shown r.value) (map (view_listed S.shown) r.errors.items)) }
 {
@@ -82,7 +86,7 @@ fn objects_of<'d, 'a, S: ScalarValue, R: Resolver<S>>(
     nodes: &[R::Node],
     field: &'d Spanning<Field<'a, S>, Span>,
 ) -> Result<AllWalked<S>, AllocError>
-    requires ready { IsReadyWalk S.shown R.possible (R.world walk.now.collector.possible) walk.now }
+    requires ready { IsReadyWalk S.shown R.possible R.values (R.world walk.now.collector.possible) walk.now }
     requires agree { AreReached (R.world walk.now.collector.possible) nodes.now (view_collected S.shown walk.now.collector field.now).below }
     ensures { IfOk result (λ r. AreAllWalked (R.world walk.now.collector.possible) (path_place path.now.value) (view_collected S.shown walk.now.collector field.now).below nodes.now
         (map (view_value S.shown) r.values.items) (map (view_listed S.shown) r.errors.items)) }

@@ -24,7 +24,7 @@ answer-requires-clause-ready g c =
     let s = view_schema shown c.args.root_node.now.schema in
     let d = view_document shown c.args.document.now in
     let is = c.in_ok-fragments.ensures.is ∙ ap (λ ds. fragments (map (view_definition shown) ds)) c.as_slice.ensures.value in
-    record { collector = record { made = c.in_ok-fragments.ensures.made; acyclic = no-cycle s d c.requires.valid _ is }; same = refl }
+    record { collector = record { made = c.in_ok-fragments.ensures.made; acyclic = no-cycle s d c.requires.valid _ is }; same = refl; variables = refl }
 
 pub answer-requires-clause-agree : goal.answer-requires-clause-agree
 unfolding expansion

@@ -1,4 +1,4 @@
-use Rattle.std.proofs.Common.{◌≡◌, [], ◌∷◌, ◌++◌, map, sym, ap, ◌∙◌}
+use Rattle.std.proofs.Common.{[], ◌∷◌, ◌++◌, map, sym, ap, ◌∙◌}
 use Rattle.graphql_spec.specs.Documents.{response_key}
 use Rattle.graphql_spec.specs.Errors.{key}
 use Rattle.graphql_spec.specs.Execution.{reply_to}
@@ -9,8 +9,13 @@ use Rattle.juniper_assemble.specs.SkeletonView.{view_fault}
 use Rattle.juniper_assemble.proofs.Views.{skeleton-Absent}
 use Rattle.juniper_collect.specs.Collected.{view_collected}
 use Rattle.juniper_walk.specs.FieldWords.{head_of}
-use Rattle.juniper_walk.proofs.Preparation.{apart-at, listed-same, one-error, prepared-answer, prepared-failure, reply-answers, reply-fails, same-head}
+use Rattle.juniper_walk.proofs.Preparation.{apart-at, listed-same, selected-at, one-error, prepared-answer, prepared-failure, reply-answers, reply-fails, same-head}
 use Rattle.juniper_walk.proofs.preparing.prepare.Goals as goal
+
+pub ask-answer-requires-clause-selected : goal.ask-answer-requires-clause-selected
+ask-answer-requires-clause-selected g c =
+    selected-at g.S.ScalarValue.shown c.args.walk.now.collector c.by_name.result.now c.by_name.ensures.alike (g.R.Conditions.possible c.args.walk.now.collector.possible) (g.R.Resolver.values c.args.walk.now.collector.possible)
+    c.args.concrete.now c.args.enclosing.now c.args.field.now c.requires.ready.variables c.requires.among
 
 pub returns-in-Ok : goal.returns-in-Ok
 returns-in-Ok g c =

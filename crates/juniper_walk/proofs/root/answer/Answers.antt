@@ -1,4 +1,4 @@
-use Rattle.std.proofs.Common.{refl, ap, ◌∙◌}
+use Rattle.std.proofs.Common.{ap, ◌∙◌}
 use Rattle.graphql_spec.specs.Selections.{occurrences}
 use Rattle.juniper_syntax.specs.DocumentView.{view_selections}
 use Rattle.juniper_collect.specs.Collected.{expansion, view_all}
@@ -13,6 +13,9 @@ object-requires-clause-agree g c =
     let T = c.args.concrete.now in
     let fields = ap (view_all shown c.args.walk.now.collector) c.deref.ensures.value ∙ (c.in_ok-fields.ensures ∙ ap (λ p. occurrences p T s) c.requires.ready.same) in
     root-agrees W s c.args.root.now T _ fields c.requires.agree
+
+pub object-requires-clause-collected : goal.object-requires-clause-collected
+object-requires-clause-collected g c = ap (view_all g.S.ScalarValue.shown c.args.walk.now.collector) c.deref.ensures.value ∙ c.in_ok-fields.ensures
 
 pub returns : goal.returns
 returns g c =

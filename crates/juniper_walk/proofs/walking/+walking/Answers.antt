@@ -1,23 +1,33 @@
-use Rattle.std.proofs.Common.{◌≡◌, ◌<◌, ◌≤◌, ◌+◌, map, take, drop, refl, sym, ap, ◌∙◌, arith, rules}
+use Rattle.std.proofs.Common.{◌≡◌, ◌<◌, ◌≤◌, ◌+◌, map, take, drop, refl, sym, ap, ◌∙◌, subst, arith, rules}
 use Rattle.std.proofs.lemmas.List.{take_all}
 use Rattle.graphql_spec.specs.Documents.{response_key}
 use Rattle.graphql_spec.specs.Selections.{depth, occurrences}
+use Rattle.graphql_spec.specs.Laws.{In}
+use Rattle.juniper_syntax.specs.DocumentView.{view_selections}
 use Rattle.juniper_syntax.specs.ValueView.{view_value}
 use Rattle.juniper_syntax.proofs.Values.{view-Null, view-Object}
 use Rattle.juniper_errors.specs.ErrorView.{view_listed}
-use Rattle.juniper_collect.specs.Collected.{view_all, view_collected}
+use Rattle.juniper_collect.specs.Collected.{expansion, view_all, view_collected}
 use Rattle.juniper_collect.specs.declared.collecting.Occurrence.{Occurrence}
 use Rattle.juniper_walk.specs.Walking.{AllAgree, AreReached, deepest}
 use Rattle.juniper_walk.proofs.Additions.{collected-below}
 use Rattle.juniper_walk.proofs.Preparation.{same-head}
 use Rattle.juniper_walk.proofs.Depths.{shallower-than}
-use Rattle.juniper_walk.proofs.Slices.{added-for, agree-at, is-in, next-one, nodes-at, reached-at, shallow-at, split-one, taken-all, taken-one}
+use Rattle.juniper_walk.proofs.Slices.{added-for, agree-at, is-in, next-one, nodes-at, reached-at, seen-in, shallow-at, split-one, taken-all, taken-one}
 use Rattle.juniper_walk.proofs.Turns.{none-yet, one-more, reached-agree, start-walking, walked-at, walking-ends, through-null, walking-on, walking-stops}
 use Rattle.juniper_walk.proofs.walking.+walking.Goals as goal
 
 pub object-loop-occurrence-init : goal.object-loop-occurrence-init
 object-loop-occurrence-init g t c =
     start-walking _ _ _ _ _ _ _ _ refl c.in_ok-entries.ensures (ap (map (view_listed g.S.ScalarValue.shown)) c.new-errors.ensures.items)
+
+pub object-prepare-requires-clause-among : goal.object-prepare-requires-clause-among
+object-prepare-requires-clause-among g t c =
+    let view = λ (x : Occurrence g.row.S.Denot). view_collected g.S.ScalarValue.shown c.args.walk.now.collector x.field.now in
+    let i = c.loop-occurrence.occurrence-index in
+    let os = c.args.fields.now in
+    let x = c.occurrence-item.result in
+    subst (λ l. In (view x) l) c.requires.1.1.1.1.1.1.1 (seen-in view os i x c.loop-occurrence-test.true c.occurrence-item.is)
 
 pub object-objects_of-requires : goal.object-objects_of-requires
 object-objects_of-requires g t c κs within =
@@ -30,7 +40,7 @@ object-objects_of-requires g t c κs within =
     let x = c.occurrence-item.result in
     let split = split-one view os i x c.loop-occurrence-test.true c.occurrence-item.is in
     let less : depth (view x).below < deepest (map view os) = shallower-than (map view os) (map view (take i os)) (map view (drop (i + 1) os)) (view x) split in
-    let agree : AllAgree W T (map view os) = c.requires.1.1.1.1.1.1 in
+    let agree : AllAgree W T (map view os) = c.requires.1.1.1.1.1.1.0 in
     let reached : AreReached W c.deref.result.now (view x).below =
     reached-at W (view x).below _ _ c.deref.ensures.value (reached-agree W _ T c.args.node.now (map view os) agree _ _ (view x) split _ _ _ _ _ c.in_ok-prepared.ensures) in
     (omega (arith, less), search (rules, reached))
@@ -48,7 +58,7 @@ object-loop-occurrence-preserved g t c =
     let os = c.args.fields.now in
     let x = c.occurrence-item.result in
     let split = split-one view os i x c.loop-occurrence-test.true c.occurrence-item.is in
-    let agree : AllAgree W T (map view os) = c.requires.1.1.1.1.1.1 in
+    let agree : AllAgree W T (map view os) = c.requires.1.1.1.1.1.1.0 in
     let nodes = nodes-at W _ _ _ _ _ _ _ refl c.deref.ensures.value c.in_ok-walked.ensures in
     let head = same-head shown c.args.walk.now.collector x.field.now in
     let added = added-for _ _ _ _ _ _ _ _ _ _ _ (ap response_key (sym head)) c.in_ok-rises.ensures in
@@ -64,7 +74,7 @@ object-returns-then-rises g t c =
     let os = c.args.fields.now in
     let x = c.occurrence-item.result in
     let split = split-one view os i x c.loop-occurrence-test.true c.occurrence-item.is in
-    let agree : AllAgree W T (map view os) = c.requires.1.1.1.1.1.1 in
+    let agree : AllAgree W T (map view os) = c.requires.1.1.1.1.1.1.0 in
     let nodes = nodes-at W _ _ _ _ _ _ _ refl c.deref.ensures.value c.in_ok-walked.ensures in
     let head = same-head shown c.args.walk.now.collector x.field.now in
     let added = added-for _ _ _ _ _ _ _ _ _ _ _ (ap response_key (sym head)) c.in_ok-rises.ensures in
@@ -93,7 +103,9 @@ objects_of-object-requires g t c κs within =
     let shallow : deepest (view_all shown c.args.walk.now.collector c.deref.result.now) ≤ depth below = shallow-at W below T _ fields in
     let agree : AllAgree W T (view_all shown c.args.walk.now.collector c.deref.result.now) =
     agree-at W below c.args.nodes.now c.node-item.result T _ c.requires.agree (is-in c.args.nodes.now c.loop-node.node-index c.node-item.result c.loop-node-test.true c.node-item.is) c.concrete_type_name-concrete.ensures fields in
-    (omega (arith, c.decreases, shallow), search (rules, agree))
+    let collected : view_all shown c.args.walk.now.collector c.deref.result.now ≡ occurrences (g.R.Conditions.possible c.args.walk.now.collector.possible) T (expansion shown c.args.walk.now.collector (view_selections shown c.selections_of-selections.result.now)) =
+    ap (view_all shown c.args.walk.now.collector) c.deref.ensures.value ∙ c.in_ok-fields.ensures in
+    (omega (arith, c.decreases, shallow), search (rules, agree, collected))
 
 pub objects_of-loop-node-preserved : goal.objects_of-loop-node-preserved
 objects_of-loop-node-preserved g t c =

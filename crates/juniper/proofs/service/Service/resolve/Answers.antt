@@ -1,8 +1,23 @@
-use Rattle.std.proofs.Common.{subst}
+use Rattle.std.proofs.Common.{subst, refl, ap, ◌∙◌}
+use Rattle.graphql_spec.specs.Arguments.{coerced_arguments}
+use Rattle.graphql_spec.specs.Documents.{written}
+use Rattle.juniper_syntax.specs.InputView.{view_variables}
+use Rattle.juniper_lookahead.specs.Expansion.{occurrence_at}
+use Rattle.juniper.proofs.Asked.{asked-at}
 use Rattle.juniper_values.specs.ArgumentView.{view_arguments}
 use Rattle.juniper_resolvable.specs.ResolvedView.{Answers}
 use Rattle.juniper_walk.specs.FieldWords.{head_of}
 use Rattle.juniper.proofs.service.Service.resolve.Goals as goal
+
+pub resolve_field-requires : goal.resolve_field-requires
+unfolding occurrence_at
+resolve_field-requires g c =
+    let shown = g.S.ScalarValue.shown in
+    let vars = c.args.self.now.variables.now in
+    let h = head_of shown c.args.site.now.field.now in
+    let made = c.at_field-executor.ensures in
+    asked-at shown c.at_field-executor.result _ _ _ _ _ _ _ _ made.schema made.variables made.fragments made.concrete_type made.enclosing made.occurrence
+    refl (c.in_ok-arguments.ensures ∙ ap (λ d. coerced_arguments d (view_variables shown vars) (written h.arguments)) c.requires.arguments) c.requires.selected
 
 pub returns : goal.returns
 returns g c =
