@@ -1,21 +1,22 @@
 -- Fragments that are found alike by their names are expanded alike (2.8, 5.5.2.2).
-use Rattle.std.proofs.Common.{◌≡◌, ℕ, zero, suc, ◌||◌, Bool, true, false, cond, List, [], ◌∷◌, length, map, Option, Some, None, option_map, is_some, Bor, refl, sym, ap, ◌∙◌, subst, inl, inr}
+use Rattle.std.proofs.Common.{◌≡◌, ℕ, zero, suc, ◌||◌, Bool, true, false, cond, List, [], ◌∷◌, length, map, Option, Some, None, option_map, is_some}
+use Rattle.std.proofs.Common.{Bor, refl, sym, ap, ◌∙◌, subst, inl, inr}
 use Rattle.std.specs.List.{list_any}
 use Rattle.std.specs.Map.{lookup}
 use Rattle.std.specs.Str.{bytes_eq}
 use Rattle.std.proofs.lemmas.Bool.{both_ways, or_cases, or_left, or_right, false_from_ne_true}
-use Rattle.std.specs.Bool.{Decides}
-use Rattle.std.proofs.lemmas.Slice.Eq.{bytes_eq-Decides}
 use Rattle.graphql_spec.specs.Shown.{Shown, Name}
 use Rattle.graphql_spec.specs.Documents.{Word, Directive, Selections, Fragment}
 use Rattle.graphql_spec.specs.Directives.{admits}
-use Rattle.graphql_spec.specs.Fragments.{Contents, HasNoCycle, asked, contents, deep, deep_in, expand, filled, fragment_of, plain, put_under, reaches, spreads, spreads_in}
+use Rattle.graphql_spec.specs.Fragments.{Contents, HasNoCycle, asked, contents, deep, deep_in, expand, filled, fragment_of, plain, put_under, reaches}
+use Rattle.graphql_spec.specs.Fragments.{spreads, spreads_in}
 use Rattle.graphql_spec.specs.Selections.{Forest}
 use Rattle.graphql_spec.specs.Laws.{In}
 use Rattle.graphql_spec.proofs.Fragments.{contents-same}
 use Rattle.graphql_spec.proofs.Cycles.{any-where, no_cycle}
 use Rattle.juniper_syntax.specs.declared.ast.Fragment.{Fragment as FragmentType}
 use Rattle.juniper_lookahead.specs.Expansion.{FragmentsByName, fragments_among, named_fragment}
+use Rattle.juniper_collect.proofs.ByName.{same}
 use Rattle.juniper_collect.specs.FragmentView.{ExpandAlike, fragment_at, fragment_named, unplaced, view_lent_fragment}
 
 -- what counts of a fragment for those that spread it: its condition and its selections
@@ -28,13 +29,6 @@ core f = record { condition = f.condition; selections = f.selections }
 
 abbrev FoundAlike : List Fragment → List Fragment → Type 0
 FoundAlike fs gs = (k : Name) → option_map core (fragment_of fs k) ≡ option_map core (fragment_of gs k)
-
-decided : {P : Type 0} (r : Bool) → Decides r P → r ≡ true → P
-decided true d e = d.0 refl
-decided false d e = absurd (both_ways false refl e)
-
-same : (k j : Name) → bytes_eq k j ≡ true → k ≡ j
-same k j e = decided (bytes_eq k j) (bytes_eq-Decides k j) e
 
 -- ## Tests of lists of names
 
@@ -104,7 +98,8 @@ module _ (fs : List Fragment) where
   -- what is deeper than n + 1 is deeper than n
   less-deep : (n : ℕ) (k : Name) → deep fs (suc n) k ≡ true → deep fs n k ≡ true
   unfolding deep
-  less-deep zero k e = let r = any-where (deep fs zero) (spreads_in (fragment_of fs k)) (sym (deep-spreads (deep fs zero) (fragment_of fs k)) ∙ e) in known-spreads (fragment_of fs k) r.0 r.1
+  less-deep zero k e = let r = any-where (deep fs zero) (spreads_in (fragment_of fs k))
+      (sym (deep-spreads (deep fs zero) (fragment_of fs k)) ∙ e) in known-spreads (fragment_of fs k) r.0 r.1
   less-deep (suc n) k e =
       let r = any-where (deep fs (suc n)) (spreads_in (fragment_of fs k)) (sym (deep-spreads (deep fs (suc n)) (fragment_of fs k)) ∙ e) in
       deep-spreads (deep fs n) (fragment_of fs k) ∙ any-one (deep fs n) (spreads_in (fragment_of fs k)) r.0 r.1 (less-deep n r.0 r.2)
@@ -130,7 +125,8 @@ module _ (fs : List Fragment) where
   reach-known : (n : ℕ) (k j : Name) → reaches fs n k j ≡ true → is_some (fragment_of fs k) ≡ true
   unfolding reaches
   reach-known zero k j e = absurd (both_ways false refl e)
-  reach-known (suc n) k j e = let r = any-where (λ i. bytes_eq j i || reaches fs n i j) (spreads_in (fragment_of fs k)) e in known-spreads (fragment_of fs k) r.0 r.1
+  reach-known (suc n) k j e = let r = any-where (λ i. bytes_eq j i || reaches fs n i j) (spreads_in (fragment_of fs k)) e in known-spreads
+      (fragment_of fs k) r.0 r.1
 
   round-deep : (n : ℕ) (k : Name) → reaches fs n k k ≡ true → (m : ℕ) → deep fs m k ≡ true
   unfolding deep
@@ -150,7 +146,8 @@ module _ (fs gs : List Fragment) (found : FoundAlike fs gs) where
   unfolding reaches
   same-reach zero k j = refl
   same-reach (suc n) k j =
-      any-same (λ i. bytes_eq j i || reaches fs n i j) (λ i. bytes_eq j i || reaches gs n i j) (λ i. ap (λ b. bytes_eq j i || b) (same-reach n i j)) (spreads_in (fragment_of fs k))
+      any-same (λ i. bytes_eq j i || reaches fs n i j) (λ i. bytes_eq j i || reaches gs n i j) (λ i. ap (λ b. bytes_eq j i || b) (same-reach n i j))
+      (spreads_in (fragment_of fs k))
       ∙ ap (list_any (λ i. bytes_eq j i || reaches gs n i j)) (same-spreads k)
 
   same-deep-in : (n : ℕ) (k : Name) → deep fs n k ≡ deep gs n k
@@ -201,15 +198,18 @@ module _ {S : Type 0} (shown : S → Shown) where
   core-unplaced None = refl
   core-unplaced (Some f) = refl
 
-  map-found : (m : FragmentsByName S) (fs : List Fragment) → ((k : Name) → fragment_at shown m k ≡ fragment_named fs k) → FoundAlike fs (fragments_among shown m)
+  map-found : (m : FragmentsByName S) (fs : List Fragment) → ((k : Name) → fragment_at shown m k ≡ fragment_named fs k)
+      → FoundAlike fs (fragments_among shown m)
   unfolding fragments_among fragment_at fragment_named
   map-found m fs same k =
       sym (core-unplaced (fragment_of fs k))
       ∙ (ap (option_map core) (sym (same k))
       ∙ (map-map core (λ f. view_lent_fragment shown f.now) (lookup (λ n. bytes_eq k n.now) m.entries) ∙ sym (among-entries m.entries k)))
 
-  pub map-acyclic : (m : FragmentsByName S) (fs : List Fragment) → ((k : Name) → fragment_at shown m k ≡ fragment_named fs k) → HasNoCycle fs → HasNoCycle (fragments_among shown m)
+  pub map-acyclic : (m : FragmentsByName S) (fs : List Fragment) → ((k : Name) → fragment_at shown m k ≡ fragment_named fs k) → HasNoCycle fs
+      → HasNoCycle (fragments_among shown m)
   map-acyclic m fs same none = alike-acyclic fs (fragments_among shown m) (map-found m fs same) none
 
-  pub map-alike : (m : FragmentsByName S) (fs : List Fragment) → ((k : Name) → fragment_at shown m k ≡ fragment_named fs k) → HasNoCycle fs → ExpandAlike (fragments_among shown m) fs
+  pub map-alike : (m : FragmentsByName S) (fs : List Fragment) → ((k : Name) → fragment_at shown m k ≡ fragment_named fs k) → HasNoCycle fs
+      → ExpandAlike (fragments_among shown m) fs
   map-alike m fs same none = alike-expand fs (fragments_among shown m) (map-found m fs same) none

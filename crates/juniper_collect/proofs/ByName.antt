@@ -20,7 +20,7 @@ decided : {P : Type 0} (r : Bool) → Decides r P → r ≡ true → P
 decided true d e = d.0 refl
 decided false d e = absurd (both_ways false refl e)
 
-same : (k j : Name) → bytes_eq k j ≡ true → k ≡ j
+pub same : (k j : Name) → bytes_eq k j ≡ true → k ≡ j
 same k j e = decided (bytes_eq k j) (bytes_eq-Decides k j) e
 
 true_false : {P : Type 0} (b : Bool) → b ≡ true → b ≡ false → P

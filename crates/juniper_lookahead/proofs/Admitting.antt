@@ -12,5 +12,6 @@ module _ {A : Type 0} (test : Directive → Bool) (view : A → Directive) (xs :
   pub admits-stops : test (view x) ≡ false → admits test (map view (drop i xs)) ≡ admits test (map view xs) → admits test (map view xs) ≡ false
   admits-stops fails same = sym same ∙ (here ∙ rw fails refl)
 
-  pub admits-goes-on : test (view x) ≡ true → admits test (map view (drop i xs)) ≡ admits test (map view xs) → admits test (map view (drop (i + 1) xs)) ≡ admits test (map view xs)
+  pub admits-goes-on : test (view x) ≡ true → admits test (map view (drop i xs)) ≡ admits test (map view xs)
+      → admits test (map view (drop (i + 1) xs)) ≡ admits test (map view xs)
   admits-goes-on passed same = sym (here ∙ rw passed refl) ∙ same

@@ -32,7 +32,8 @@ module _ {S : Type 0} (shown : S → Shown) (k : Name) where
   unfolding fragment_of named_fragment fragment_at
   first-has e es q = rw q (ap (λ j. Some (fragment_at shown j e.1.now)) (sym (same k e.0.now q)))
 
-  first-lacks : (e : Bor (List ℕ) × Bor (Fragment S)) (es : List (Bor (List ℕ) × Bor (Fragment S))) → bytes_eq k e.0.now ≡ false → among es ≡ held es → among (e ∷ es) ≡ held (e ∷ es)
+  first-lacks : (e : Bor (List ℕ) × Bor (Fragment S)) (es : List (Bor (List ℕ) × Bor (Fragment S))) → bytes_eq k e.0.now ≡ false → among es ≡ held es
+      → among (e ∷ es) ≡ held (e ∷ es)
   unfolding fragment_of named_fragment
   first-lacks e es q others = rw q others
 
@@ -41,6 +42,7 @@ module _ {S : Type 0} (shown : S → Shown) (k : Name) where
   entries-agree [] = refl
   entries-agree (e ∷ es) = elim (cases_Bool (bytes_eq k e.0.now)) [ inl q ↦ first-has e es q | inr q ↦ first-lacks e es q (entries-agree es) ]
 
-  pub found-by-name : (m : FragmentsByName S) → fragment_of (fragments_among shown m) k ≡ option_map (λ f. fragment_at shown k f.now) (get_by (λ n. bytes_eq k n.now) m)
+  pub found-by-name : (m : FragmentsByName S) → fragment_of (fragments_among shown m) k
+      ≡ option_map (λ f. fragment_at shown k f.now) (get_by (λ n. bytes_eq k n.now) m)
   unfolding fragments_among
   found-by-name m = entries-agree m.entries

@@ -22,6 +22,7 @@ module _ {A B : Type 0} (view : A → B) where
   last-step s (Some x) t h = seen-push view (iter_rest t) (iter_rest s) x.now h
 
   pub last-handed : {Z : Type 0} (s : IntoIter A Z) (r : Option A) (t : IntoIter A Z) → into_iter_steps_back s r t →
-      MatchOption r ((map view (into_iter_items s) ≡ []) × (map view (into_iter_items t) ≡ [])) (λ x. map view (into_iter_items s) ≡ map view (into_iter_items t) ++ view x ∷ [])
+      MatchOption r ((map view (into_iter_items s) ≡ []) × (map view (into_iter_items t) ≡ []))
+      (λ x. map view (into_iter_items s) ≡ map view (into_iter_items t) ++ view x ∷ [])
   last-handed s None t h = (none-seen (into_iter_items s) (sym s.rest.ok.0 ∙ h.0), none-seen (into_iter_items t) (sym t.rest.ok.0 ∙ h.1))
   last-handed s (Some x) t h = seen-push view (into_iter_items t) (into_iter_items s) x h

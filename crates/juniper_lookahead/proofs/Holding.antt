@@ -1,5 +1,6 @@
 -- What one selection holds: a field, what an inline fragment holds, what a fragment holds that is spread.
-use Rattle.std.proofs.Common.{◌≡◌, ℕ, zero, suc, ◌≤◌, ◌<◌, ◌-◌, Bool, true, false, ◌||◌, cond, List, [], ◌∷◌, ◌++◌, map, Option, Some, None, is_some, Bor, refl, ap, sym, ◌∙◌, subst, arith}
+use Rattle.std.proofs.Common.{◌≡◌, ℕ, zero, suc, ◌≤◌, ◌<◌, ◌-◌, Bool, true, false, ◌||◌, cond, List, [], ◌∷◌, ◌++◌, map, Option, Some, None, is_some}
+use Rattle.std.proofs.Common.{Bor, refl, ap, sym, ◌∙◌, subst, arith}
 use Rattle.std.specs.List.{list_any}
 use Rattle.std.proofs.lemmas.Bool.{both_ways}
 use Rattle.std.proofs.lemmas.List.{map-append}
@@ -18,7 +19,8 @@ use Rattle.juniper_syntax.specs.DocumentView.{inline_head, put_selection, view_h
 use Rattle.juniper_syntax.specs.declared.ast.Field.{Field as FieldType, out-Field}
 use Rattle.juniper_syntax.specs.declared.ast.FragmentSpread.{FragmentSpread as SpreadType}
 use Rattle.juniper_syntax.specs.declared.ast.InlineFragment.{InlineFragment as InlineType, out-InlineFragment}
-use Rattle.juniper_syntax.specs.declared.ast.Selection.{Selection, Field as FieldCase, FragmentSpread as SpreadCase, InlineFragment as InlineCase, size-Selection}
+use Rattle.juniper_syntax.specs.declared.ast.Selection.{Selection, Field as FieldCase, FragmentSpread as SpreadCase, InlineFragment as InlineCase}
+use Rattle.juniper_syntax.specs.declared.ast.Selection.{size-Selection}
 use Rattle.juniper_syntax.proofs.Documents.{put-Field, put-FragmentSpread, put-InlineFragment}
 use Rattle.juniper_lookahead.specs.Expansion.{FragmentsByName, IsAcyclic, VariableMap, child_at, expanded, fragments_among, unplaced, unplaced_head}
 use Rattle.juniper_lookahead.specs.SelectionView.{view_applies}
@@ -48,7 +50,8 @@ abbrev seen : Option Name → Forest → List Child
 seen on f = map unplaced (children on f)
 
 module _ (on : Option Name) where
-  at-field : (b : Bool) (h : Head) (x y : Forest) → seen on (cond b (field h x y) y) ≡ cond b (unplaced (record { head = h; below = x; applies_for = on }) ∷ []) [] ++ seen on y
+  at-field : (b : Bool) (h : Head) (x y : Forest) → seen on (cond b (field h x y) y)
+      ≡ cond b (unplaced (record { head = h; below = x; applies_for = on }) ∷ []) [] ++ seen on y
   unfolding children
   at-field true h x y = refl
   at-field false h x y = refl
@@ -68,7 +71,8 @@ module _ {S : Type 0} (shown : S → Shown) (vars : VariableMap S) (m : Fragment
   abbrev fs : List Fragment
   fs = fragments_among shown m
 
-  nothing-is : (put : Selections → Selections) (n size : ℕ) → ((rest : Selections) → IsWithin shown m n (put rest) → seen on (E (put rest)) ≡ seen on (E rest)) →
+  nothing-is : (put : Selections → Selections) (n size : ℕ)
+      → ((rest : Selections) → IsWithin shown m n (put rest) → seen on (E (put rest)) ≡ seen on (E rest)) →
       ((rest : Selections) → IsWithin shown m n (put rest) → IsWithin shown m n rest) → IsPart shown vars m on put n size part.Nothing
   unfolding held found
   nothing-is put n size holds others = record { holds = holds; inside = λ rest h. tt; others = others; smaller = tt }
@@ -80,22 +84,27 @@ module _ {S : Type 0} (shown : S → Shown) (vars : VariableMap S) (m : Fragment
   field-others n h below rest w = any-behind (deep fs n) (spreads below) (spreads rest) w
 
   E-field : (h : Head) (below rest : Selections) →
-      seen on (E (spec.field h below rest)) ≡ cond (taken h.directives) (unplaced (record { head = h; below = E below; applies_for = on }) ∷ []) [] ++ seen on (E rest)
+      seen on (E (spec.field h below rest))
+      ≡ cond (taken h.directives) (unplaced (record { head = h; below = E below; applies_for = on }) ∷ []) [] ++ seen on (E rest)
   unfolding expanded
-  E-field h below rest = ap (seen on) (expand-field (passes (view_variables shown vars)) fs h below rest) ∙ at-field on (taken h.directives) h (E below) (E rest)
+  E-field h below rest = ap (seen on) (expand-field (passes (view_variables shown vars)) fs h below rest)
+      ∙ at-field on (taken h.directives) h (E below) (E rest)
 
-  pub field-left-out : (h : Head) (below : Selections) (n size : ℕ) → taken h.directives ≡ false → IsPart shown vars m on (spec.field h below) n size part.Nothing
+  pub field-left-out : (h : Head) (below : Selections) (n size : ℕ) → taken h.directives ≡ false
+      → IsPart shown vars m on (spec.field h below) n size part.Nothing
   field-left-out h below n size t = nothing-is (spec.field h below) n size
       (λ rest w. E-field h below rest ∙ ap (λ b. cond b (unplaced (record { head = h; below = E below; applies_for = on }) ∷ []) [] ++ seen on (E rest)) t) (field-others n h below)
 
-  pub field-taken : (f : Spanning (FieldType S) Span) (lent : Bor (FieldType S)) (n size : ℕ) → lent.now ≡ f.item → (let h : Head = view_head shown (out-Field S f.item) (view_span f.span) in
+  pub field-taken : (f : Spanning (FieldType S) Span) (lent : Bor (FieldType S)) (n size : ℕ) → lent.now ≡ f.item
+      → (let h : Head = view_head shown (out-Field S f.item) (view_span f.span) in
       taken h.directives ≡ true → IsPart shown vars m on (spec.field h (view_set shown (out-Field S f.item).selection_set)) n size (part.Field lent))
   unfolding held found child_at unplaced unplaced_head
   field-taken f lent n size is t =
       let h : Head = view_head shown (out-Field S f.item) (view_span f.span) in
       let below : Selections = view_set shown (out-Field S f.item).selection_set in
       record {
-        holds = λ rest w. E-field h below rest ∙ (ap (λ b. cond b (unplaced (record { head = h; below = E below; applies_for = on }) ∷ []) [] ++ seen on (E rest)) t
+        holds = λ rest w. E-field h below rest
+            ∙ (ap (λ b. cond b (unplaced (record { head = h; below = E below; applies_for = on }) ∷ []) [] ++ seen on (E rest)) t
             ∙ ap (λ x. child_at shown vars m x on ∷ seen on (E rest)) (sym is));
         inside = λ rest w. tt;
         others = field-others n h below;
@@ -112,16 +121,21 @@ module _ {S : Type 0} (shown : S → Shown) (vars : VariableMap S) (m : Fragment
   unfolding spreads
   inline-inside n x below rest w = any-before (deep fs n) (spreads below) (spreads rest) w
 
-  E-inline : (x : Inline) (below rest : Selections) → seen on (E (spec.inline x below rest)) ≡ cond (taken x.directives) (seen (nearest (asked x.condition) on) (E below)) [] ++ seen on (E rest)
+  E-inline : (x : Inline) (below rest : Selections) → seen on (E (spec.inline x below rest))
+      ≡ cond (taken x.directives) (seen (nearest (asked x.condition) on) (E below)) [] ++ seen on (E rest)
   unfolding expanded
-  E-inline x below rest = ap (seen on) (expand-inline (passes (view_variables shown vars)) fs x below rest) ∙ at-under on (taken x.directives) (asked x.condition) (E below) (E rest)
+  E-inline x below rest = ap (seen on) (expand-inline (passes (view_variables shown vars)) fs x below rest)
+      ∙ at-under on (taken x.directives) (asked x.condition) (E below) (E rest)
 
-  pub inline-left-out : (x : Inline) (below : Selections) (n size : ℕ) → taken x.directives ≡ false → IsPart shown vars m on (spec.inline x below) n size part.Nothing
+  pub inline-left-out : (x : Inline) (below : Selections) (n size : ℕ) → taken x.directives ≡ false
+      → IsPart shown vars m on (spec.inline x below) n size part.Nothing
   inline-left-out x below n size t = nothing-is (spec.inline x below) n size
       (λ rest w. E-inline x below rest ∙ ap (λ b. cond b (seen (nearest (asked x.condition) on) (E below)) [] ++ seen on (E rest)) t) (inline-others n x below)
 
-  pub inline-taken : (x : Inline) (below : Selections) (n size : ℕ) (ss : Bor (List (Selection S))) (within : Applies) → below ≡ view_selections shown ss.now → taken x.directives ≡ true →
-      view_applies within ≡ nearest (asked x.condition) on → nesting ss.now < size → IsPart shown vars m on (spec.inline x below) n size (part.Selections ss within n)
+  pub inline-taken : (x : Inline) (below : Selections) (n size : ℕ) (ss : Bor (List (Selection S))) (within : Applies) → below
+      ≡ view_selections shown ss.now → taken x.directives ≡ true →
+      view_applies within ≡ nearest (asked x.condition) on → nesting ss.now < size
+      → IsPart shown vars m on (spec.inline x below) n size (part.Selections ss within n)
   unfolding held found work_left
   inline-taken x below n size ss within is t a less = record {
     holds = λ rest w. E-inline x below rest ∙ (ap (λ b. cond b (seen (nearest (asked x.condition) on) (E below)) [] ++ seen on (E rest)) t
@@ -152,9 +166,11 @@ module _ {S : Type 0} (shown : S → Shown) (vars : VariableMap S) (m : Fragment
   at-put true (Some k) y = map-append unplaced (children on k.selections) (children on y)
   at-put false o y = refl
 
-  E-spread : IsAcyclic shown m → (x : Spread) (rest : Selections) → seen on (E (spec.spread x rest)) ≡ cond (taken x.directives) (of_contents (filled E (fragment_of fs x.name.item))) [] ++ seen on (E rest)
+  E-spread : IsAcyclic shown m → (x : Spread) (rest : Selections) → seen on (E (spec.spread x rest))
+      ≡ cond (taken x.directives) (of_contents (filled E (fragment_of fs x.name.item))) [] ++ seen on (E rest)
   unfolding expanded
-  E-spread none x rest = ap (seen on) (expand-spread (passes (view_variables shown vars)) fs none x rest) ∙ at-put (taken x.directives) (filled E (fragment_of fs x.name.item)) (E rest)
+  E-spread none x rest = ap (seen on) (expand-spread (passes (view_variables shown vars)) fs none x rest)
+      ∙ at-put (taken x.directives) (filled E (fragment_of fs x.name.item)) (E rest)
 
   pub spread-left-out : IsAcyclic shown m → (x : Spread) (n size : ℕ) → taken x.directives ≡ false → IsPart shown vars m on (spec.spread x) n size part.Nothing
   spread-left-out none x n size t = nothing-is (spec.spread x) n size
@@ -168,7 +184,8 @@ module _ {S : Type 0} (shown : S → Shown) (vars : VariableMap S) (m : Fragment
   unfolding filled of_contents
   none-of o e = ap (λ p. of_contents (filled E p)) e
 
-  pub spread-unknown : IsAcyclic shown m → (x : Spread) (n size : ℕ) → fragment_of fs x.name.item ≡ None → IsPart shown vars m on (spec.spread x) n size part.Nothing
+  pub spread-unknown : IsAcyclic shown m → (x : Spread) (n size : ℕ) → fragment_of fs x.name.item ≡ None
+      → IsPart shown vars m on (spec.spread x) n size part.Nothing
   spread-unknown none x n size e = nothing-is (spec.spread x) n size
       (λ rest w. E-spread none x rest ∙ cond-none (taken x.directives) (filled E (fragment_of fs x.name.item)) (E rest) (none-of (fragment_of fs x.name.item) e)) (spread-others n x)
 
@@ -193,10 +210,13 @@ module _ {S : Type 0} (shown : S → Shown) (vars : VariableMap S) (m : Fragment
   shallower : (n : ℕ) (x : Name) (f : Fragment) → 0 < n → fragment_of fs x ≡ Some f → deep fs n x ≡ false → IsWithin shown m (n - 1) f.selections
   unfolding deep deep_in
   shallower zero x f p e d = absurd (omega arith)
-  shallower (suc n) x f p e d = let k : suc n - 1 ≡ n = omega arith in subst (λ i. IsWithin shown m i f.selections) (sym k) (ap (λ o. deep_in (deep fs n) o) (sym e) ∙ d)
+  shallower (suc n) x f p e d = let k : suc n - 1
+      ≡ n = omega arith in subst (λ i. IsWithin shown m i f.selections) (sym k) (ap (λ o. deep_in (deep fs n) o) (sym e) ∙ d)
 
-  pub spread-taken : IsAcyclic shown m → (x : Spread) (n size : ℕ) (f : Fragment) (ss : Bor (List (Selection S))) (within : Applies) → 0 < n → f.selections ≡ view_selections shown ss.now →
-      taken x.directives ≡ true → fragment_of fs x.name.item ≡ Some f → view_applies within ≡ on → nesting ss.now ≤ deepest m → IsPart shown vars m on (spec.spread x) n size (part.Selections ss within (n - 1))
+  pub spread-taken : IsAcyclic shown m → (x : Spread) (n size : ℕ) (f : Fragment) (ss : Bor (List (Selection S))) (within : Applies) → 0 < n
+      → f.selections ≡ view_selections shown ss.now →
+      taken x.directives ≡ true → fragment_of fs x.name.item ≡ Some f → view_applies within ≡ on → nesting ss.now ≤ deepest m
+      → IsPart shown vars m on (spec.spread x) n size (part.Selections ss within (n - 1))
   unfolding held found work_left
   spread-taken none x n size f ss within p is t e a less = record {
     holds = λ rest w. E-spread none x rest ∙ (ap (λ b. cond b (of_contents (filled E (fragment_of fs x.name.item))) [] ++ seen on (E rest)) t
@@ -209,7 +229,8 @@ module _ {S : Type 0} (shown : S → Shown) (vars : VariableMap S) (m : Fragment
 
   -- ## Whatever the selection is
 
-  pub part-moved : (put other : Selections → Selections) (n size : ℕ) (p : Part S) → ((rest : Selections) → put rest ≡ other rest) → IsPart shown vars m on other n size p → IsPart shown vars m on put n size p
+  pub part-moved : (put other : Selections → Selections) (n size : ℕ) (p : Part S) → ((rest : Selections) → put rest ≡ other rest)
+      → IsPart shown vars m on other n size p → IsPart shown vars m on put n size p
   part-moved put other n size p same is = record {
     holds = λ rest w. ap (λ s. found shown vars m on s) (same rest) ∙ is.holds rest (subst (λ s. IsWithin shown m n s) (same rest) w);
     inside = λ rest w. is.inside rest (subst (λ s. IsWithin shown m n s) (same rest) w);
@@ -224,7 +245,8 @@ module _ {S : Type 0} (shown : S → Shown) (vars : VariableMap S) (m : Fragment
       (part-moved (put_selection shown (FieldCase s)) _ n (size-Selection S (FieldCase s)) p (put-Field shown s) (has n (size-Selection S (FieldCase s))))
 
   pub selected-spread : (x : Selection S) (s : Spanning (SpreadType S) Span) (n : ℕ) (p : Part S) → x ≡ SpreadCase s →
-      ((size : ℕ) → IsPart shown vars m on (spec.spread (view_spread shown s.item (view_span s.span))) n size p) → IsPart shown vars m on (put_selection shown x) n (size-Selection S x) p
+      ((size : ℕ) → IsPart shown vars m on (spec.spread (view_spread shown s.item (view_span s.span))) n size p)
+      → IsPart shown vars m on (put_selection shown x) n (size-Selection S x) p
   selected-spread x s n p is has = subst (λ y. IsPart shown vars m on (put_selection shown y) n (size-Selection S y) p) (sym is)
       (part-moved (put_selection shown (SpreadCase s)) _ n (size-Selection S (SpreadCase s)) p (put-FragmentSpread shown s) (has (size-Selection S (SpreadCase s))))
 

@@ -28,15 +28,18 @@ module _ {S : Type 0} (shown : S → Shown) where
   abbrev pub SpreadsNothing : Bor (Fragment S) → Type 0
   SpreadsNothing f = spreads (view_selections shown f.now.selection_set.items) ≡ []
 
-  none-among : (es : List (Bor (List ℕ) × Bor (Fragment S))) → All SpreadsNothing (values_of es) → (k : Name) → spreads_in (fragment_of (map (named_fragment shown) es) k) ≡ []
+  none-among : (es : List (Bor (List ℕ) × Bor (Fragment S))) → All SpreadsNothing (values_of es) → (k : Name)
+      → spreads_in (fragment_of (map (named_fragment shown) es) k) ≡ []
   unfolding spreads_in fragment_of named_fragment
   none-among [] all k = refl
   none-among (e ∷ es) all k = elim (cases_Bool (bytes_eq k e.0.now)) [ inl q ↦ rw q (all 0 e.1 (omega arith)) | inr q ↦ rw q (none-among es (λ i d p. all (suc i) d (omega (arith, p))) k) ]
 
   -- where a fragment that spreads nothing is put into an empty map
-  pub alone-acyclic : (eq : Bor (List ℕ) → Bor (List ℕ) → Bool) (m n : FragmentsByName S) (name : Bor (List ℕ)) (f : Bor (Fragment S)) (old : Option (Bor (Fragment S))) →
+  pub alone-acyclic : (eq : Bor (List ℕ) → Bor (List ℕ) → Bool) (m n : FragmentsByName S) (name : Bor (List ℕ)) (f : Bor (Fragment S))
+      (old : Option (Bor (Fragment S))) →
       PutsEntry eq m n name f old → m.entries ≡ [] → SpreadsNothing f → IsAcyclic shown n
   unfolding fragments_among
   alone-acyclic eq m n name f old puts empty none =
-      let before : All SpreadsNothing (values_of m.entries) = subst (λ es. All SpreadsNothing (values_of es)) (sym empty) (λ i d p. absurd (omega (arith, p))) in
+      let before : All SpreadsNothing (values_of m.entries) = subst (λ es. All SpreadsNothing (values_of es)) (sym empty)
+      (λ i d p. absurd (omega (arith, p))) in
       all-shallow (map (named_fragment shown) n.entries) (none-among n.entries (All-values-PutsEntry eq SpreadsNothing m n name f old puts before none))

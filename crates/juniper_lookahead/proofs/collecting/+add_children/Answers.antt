@@ -11,11 +11,14 @@ add_children-requires g t c κs within =
     let shown = g.S.ScalarValue.shown in
     let vars = c.args.parent.now.variables.now in
     let fragments = c.args.parent.now.fragments.now in
-    let less : work_left fragments c.in-Selections.left (nesting c.in-Selections.inner.now) < work_left fragments c.args.spreads_left (nesting c.args.selections.now) =
-    falls shown vars fragments (view_applies c.args.applies_for) c.args.selections.now c.loop-selection.selection-index c.args.spreads_left c.selection-item.result _
+    let less : work_left fragments c.in-Selections.left (nesting c.in-Selections.inner.now) < work_left fragments c.args.spreads_left
+    (nesting c.args.selections.now) =
+    falls shown vars fragments (view_applies c.args.applies_for) c.args.selections.now c.loop-selection.selection-index c.args.spreads_left
+    c.selection-item.result _
     c.loop-selection-test.true c.selection-item.is c.in-Selections.ensures in
     let inside : IsWithin shown fragments c.in-Selections.left (view_selections shown c.in-Selections.inner.now) =
-    part-within shown vars fragments (view_applies c.args.applies_for) c.args.selections.now c.loop-selection.selection-index c.args.spreads_left _ c.selection-item.result _
+    part-within shown vars fragments (view_applies c.args.applies_for) c.args.selections.now c.loop-selection.selection-index c.args.spreads_left _
+    c.selection-item.result _
     c.loop-selection-test.true c.selection-item.is c.in-Selections.ensures c.loop-selection.invariant.within in
     (omega (arith, less), search (rules, inside))
 
@@ -25,7 +28,8 @@ loop-selection-preserved g t c =
     let vars = c.args.parent.now.variables.now in
     let fragments = c.args.parent.now.fragments.now in
     let on = view_applies c.args.applies_for in
-    let next = others-within shown vars fragments on c.args.selections.now c.loop-selection.selection-index c.args.spreads_left _ c.selection-item.result c.part_of.result
+    let next = others-within shown vars fragments on c.args.selections.now c.loop-selection.selection-index c.args.spreads_left _
+    c.selection-item.result c.part_of.result
     c.loop-selection-test.true c.selection-item.is c.part_of.ensures c.loop-selection.invariant.within in
     let old = view_all c.loop-selection.children.items in
     elim c.match-part_of.branch [
@@ -51,5 +55,6 @@ loop-selection-preserved g t c =
 
 pub returns : goal.returns
 returns g t c =
-    all-added g.S.ScalarValue.shown c.args.parent.now.variables.now c.args.parent.now.fragments.now (view_applies c.args.applies_for) c.args.selections.now c.loop-selection.selection-index _ _
+    all-added g.S.ScalarValue.shown c.args.parent.now.variables.now c.args.parent.now.fragments.now (view_applies c.args.applies_for)
+    c.args.selections.now c.loop-selection.selection-index _ _
     c.loop-selection-test.false c.loop-selection.invariant.so_far

@@ -13,6 +13,8 @@ invariant-loop-selection g l =
     let shown = g.S.ScalarValue.shown in
     record {
       within : IsWithin shown l.parent.fragments.now l.spreads_left (view_selections shown (drop l.selection-index l.selections));
-      so_far : view_all l.children.items ++ found shown l.parent.variables.now l.parent.fragments.now (view_applies l.applies_for) (view_selections shown (drop l.selection-index l.selections))
-          ≡ view_all l.initial.children.items ++ found shown l.parent.variables.now l.parent.fragments.now (view_applies l.applies_for) (view_selections shown l.selections);
+      so_far : view_all l.children.items ++ found shown l.parent.variables.now l.parent.fragments.now (view_applies l.applies_for)
+          (view_selections shown (drop l.selection-index l.selections))
+          ≡ view_all l.initial.children.items ++ found shown l.parent.variables.now l.parent.fragments.now (view_applies l.applies_for)
+          (view_selections shown l.selections);
     }

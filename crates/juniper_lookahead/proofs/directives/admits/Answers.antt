@@ -11,11 +11,13 @@ returns-then-not-passed g c =
     let shown = g.S.ScalarValue.shown in
     let test = passes (view_variables shown c.args.variables.now) in
     sym (ap (λ o. admits test (view_lent shown o)) c.in-Some.is
-    ∙ admits-stops test (view_directive shown) c.in-Some.written.now c.loop-directive.directive-index c.directive-item.result c.loop-directive-test.true c.directive-item.is
+    ∙ admits-stops test (view_directive shown) c.in-Some.written.now c.loop-directive.directive-index c.directive-item.result
+    c.loop-directive-test.true c.directive-item.is
     (sym c.if-not-passed.ensures) c.loop-directive.invariant)
 
 pub loop-directive-preserved : goal.loop-directive-preserved
 loop-directive-preserved g c =
     let shown = g.S.ScalarValue.shown in
-    admits-goes-on (passes (view_variables shown c.args.variables.now)) (view_directive shown) c.in-Some.written.now c.loop-directive.directive-index c.directive-item.result c.loop-directive-test.true c.directive-item.is
+    admits-goes-on (passes (view_variables shown c.args.variables.now)) (view_directive shown) c.in-Some.written.now c.loop-directive.directive-index
+    c.directive-item.result c.loop-directive-test.true c.directive-item.is
     (sym c.if-not-passed.ensures) c.loop-directive.invariant

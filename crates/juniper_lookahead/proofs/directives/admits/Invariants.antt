@@ -8,4 +8,5 @@ use Rattle.juniper_lookahead.proofs.directives.admits.Given as goal
 abbrev pub invariant-loop-directive : goal.invariant-loop-directive
 invariant-loop-directive g l =
     let shown = g.S.ScalarValue.shown in
-    admits (passes (view_variables shown l.variables)) (map (view_directive shown) (drop l.directive-index l.written)) ≡ admits (passes (view_variables shown l.variables)) (map (view_directive shown) l.written)
+    admits (passes (view_variables shown l.variables)) (map (view_directive shown) (drop l.directive-index l.written))
+    ≡ admits (passes (view_variables shown l.variables)) (map (view_directive shown) l.written)

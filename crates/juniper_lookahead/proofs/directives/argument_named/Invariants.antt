@@ -8,4 +8,5 @@ use Rattle.juniper_lookahead.proofs.directives.argument_named.Given as goal
 abbrev pub invariant-loop-name : goal.invariant-loop-name
 invariant-loop-name g l =
     let shown = g.S.ScalarValue.shown in
-    argument_named l.wanted (map (view_argument shown) (drop l.name-index l.name-items)) ≡ argument_named l.wanted (written (view_arguments shown l.fn.arguments))
+    argument_named l.wanted (map (view_argument shown) (drop l.name-index l.name-items))
+    ≡ argument_named l.wanted (written (view_arguments shown l.fn.arguments))

@@ -6,4 +6,5 @@ use Rattle.juniper_lookahead.proofs.children.LookAheadChildren.names.Goals as go
 
 pub returns : goal.returns
 unfolding view_children
-returns g c = ap (map (λ x. name_of (view_selection x))) (c.iter.ensures.rest ∙ c.deref.ensures.value) ∙ sym (map-map name_of view_selection c.args.self.now.items.items)
+returns g c = ap (map (λ x. name_of (view_selection x))) (c.iter.ensures.rest ∙ c.deref.ensures.value)
+    ∙ sym (map-map name_of view_selection c.args.self.now.items.items)
