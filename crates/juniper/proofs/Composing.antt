@@ -1,23 +1,24 @@
 -- Each step of a request, over plain variables (6.1).
-use Rattle.std.proofs.Common.{rules, arith, ◌≡◌, ◌≢◌, ◌==◌, Bool, length, map, true, false, [], ◌∷◌, List, Option, Some, None, IsTrue, refl, sym, ap, inl, inr, subst, ◌∙◌, ◌⊎◌}
+use Rattle.std.proofs.Common.{rules, arith, ◌≡◌, ◌≢◌, ◌==◌, Bool, length, map, true, false, [], ◌∷◌, List, Option, Some, None, refl, sym, ap, inl, inr, subst, ◌∙◌}
 use Rattle.std.proofs.lemmas.Bool.{both_ways}
 use Rattle.std.proofs.lemmas.List.{nil_from_length}
-use Rattle.std.specs.Option.{is_none, is_some}
+use Rattle.std.specs.Option.{is_some}
 use Rattle.std.specs.Prelude.{cond}
 use Rattle.graphql_spec.specs.Shown.{Name}
 use Rattle.graphql_spec.specs.Values.{Value}
-use Rattle.graphql_spec.specs.Documents.{Document, Operation, query, mutation, subscription, operation, variables_of}
+use Rattle.graphql_spec.specs.Documents.{Document, Operation, query, mutation, subscription, variables_of}
 use Rattle.graphql_spec.specs.Inputs.{Variables}
 use Rattle.graphql_spec.specs.Errors.{Listed, keys_only}
 use Rattle.graphql_spec.specs.Rules.{RuleError, rule_errors}
 use Rattle.graphql_spec.specs.Schema.{Schema}
 use Rattle.graphql_spec.specs.Requests as spec
 use Rattle.graphql_spec.specs.Requests.{Choice, Refusal, refused, runs, choose, chosen, many, unknown, of_kind, selected, coerced_variables, variable_errors}
-use Rattle.graphql_spec.specs.Walk.{IsAnswerFor}
+use Rattle.graphql_spec.specs.Walk.{IsAnswerFor, IsMutationAnswerFor}
 use Rattle.graphql_spec.specs.Outcomes as outcome
-use Rattle.graphql_spec.specs.Outcomes.{Request, Service, Response, responds, refuses, Reads, Becomes, IsOutcome, IsOutcomeOf, IsExecuted, IsReadAsValid, world_in}
+use Rattle.graphql_spec.specs.Outcomes.{Request, Service, Response, responds, refuses, Reads, Becomes, IsOutcome, IsOutcomeOf, IsExecuted, IsReadAsValid, HasMutation, Steps, mutation_in, world_in}
 use Rattle.graphql_spec.proofs.Deciding.{known-outcome, steps-decide}
-use Rattle.juniper.specs.Answering.{AreCoercible, AreRefused, IsInvalid, IsUnchosen, Responds, StandsFor, outcome_of, refusal_of}
+use Rattle.juniper.specs.Answering.{AreCoercible, AreRefused, IsInvalid, IsUnchosen, Responds, StandsFor, outcome_of}
+use Rattle.juniper.specs.Stepping.{IsLeftOf}
 use Rattle.juniper_position.specs.RuleView.{view_rule_error}
 use Rattle.juniper_position.specs.declared.rule.RuleError.{RuleError as CodeError}
 use Rattle.juniper_position.specs.declared.error.ParseError.{ParseError}
@@ -26,10 +27,6 @@ use Rattle.juniper_position.specs.declared.position.Span.{Span}
 use Rattle.juniper_position.specs.declared.position.Spanning.{Spanning}
 use Rattle.juniper.specs.declared.error.GraphQLError.{GraphQLError}
 use Rattle.juniper.specs.RequestErrors.{of_parse_error, view_request_error, RequestError, not_parsed, not_valid, no_operation, multiple_operations, unknown_operation, is_subscription, not_subscription, no_mutation_type, variable_not_constant, out_of_memory}
-
-no-mutation-is : {A : Type 0} (m : Option A) → is_none m ≡ true → is_some m ≡ false
-no-mutation-is None e = refl
-no-mutation-is (Some x) e = absurd (both_ways false refl e)
 
 -- ## What an error of one step stands for
 
@@ -65,11 +62,28 @@ module _ {C N : Type 0} (S : Service C N) (s : Schema) (d : Document) (o : Opera
   unfolding of_kind
   subscription-ends k = (ap (λ z. of_kind s z (runs d o (coerced_variables (variables_of o) given))) k, refl)
 
-  pub mutation-ends : o.kind ≡ mutation → IsTrue (is_none s.mutation) → IsOutcomeOf S keys_only (outcome_of s d o given) c (refuses spec.no_mutation_type) c
+  pub mutation-ends : o.kind ≡ mutation → s.mutation ≡ None → IsOutcomeOf S keys_only (outcome_of s d o given) c (refuses spec.no_mutation_type) c
   unfolding of_kind
   mutation-ends k none =
       let run = runs d o (coerced_variables (variables_of o) given) in
-      (ap (λ z. of_kind s z run) k ∙ ap (λ b. cond b run (refused spec.no_mutation_type)) (no-mutation-is s.mutation none), refl)
+      (ap (λ z. of_kind s z run) k ∙ ap (λ (x : Option Name). cond (is_some x) run (refused spec.no_mutation_type)) none, refl)
+
+  mutation-runs : o.kind ≡ mutation → (T : Name) → s.mutation ≡ Some T → outcome_of s d o given ≡ runs d o (coerced_variables (variables_of o) given)
+  unfolding of_kind
+  mutation-runs k T is =
+      let run = runs d o (coerced_variables (variables_of o) given) in
+      ap (λ z. of_kind s z run) k ∙ ap (λ (x : Option Name). cond (is_some x) run (refused spec.no_mutation_type)) is
+
+  -- a mutation that ran, and one for which memory was wanting
+  module _ (k : o.kind ≡ mutation) (T : Name) (is : s.mutation ≡ Some T) (m : Steps C N) (has : HasMutation S m T) (vars : Variables)
+      (e : vars ≡ coerced_variables (variables_of o) given) (after : C) where
+    pub mutation-answers : (v : Value) (es : List Listed) → IsMutationAnswerFor (mutation_in S m vars) T keys_only (selected d o vars) c v es after →
+        IsOutcomeOf S keys_only (outcome_of s d o given) c (responds v es) after
+    mutation-answers v es answer =
+        (d, o, vars, mutation-runs k T is ∙ ap (runs d o) (sym e), subst (λ z. IsExecuted S keys_only z vars (selected d o vars) c v es after) (sym k) (m, T, has, answer))
+
+    pub mutation-left : IsLeftOf (mutation_in S m vars) T (selected d o vars) c after → IsOutcomeOf S keys_only (outcome_of s d o given) c outcome.out_of_memory after
+    mutation-left left = inr (d, o, vars, mutation-runs k T is ∙ ap (runs d o) (sym e), k, (m, T, has, left))
 
   query-runs : o.kind ≡ query → outcome_of s d o given ≡ runs d o (coerced_variables (variables_of o) given)
   unfolding of_kind

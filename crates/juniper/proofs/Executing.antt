@@ -1,27 +1,32 @@
 -- A query of a valid document, on an executable schema.
-use Rattle.std.proofs.Common.{◌≡◌, Bool, true, false, List, [], None, IsTrue, refl, sym, ap, subst, ◌∙◌}
+use Rattle.std.proofs.Common.{◌≡◌, Bool, true, false, List, [], None, Some, IsTrue, refl, sym, ap, inl, subst, ◌∙◌}
 use Rattle.std.proofs.lemmas.Bool.{and_parts, both_ways}
 use Rattle.graphql_spec.specs.Shown.{Name}
 use Rattle.graphql_spec.specs.Values.{Value}
 use Rattle.graphql_spec.specs.Inputs.{Variables}
 use Rattle.graphql_spec.specs.Constants.{Members}
-use Rattle.graphql_spec.specs.Documents.{Document, Operation, Selections, Fragment, operation, fragments, query}
+use Rattle.graphql_spec.specs.Documents.{Document, Operation, Selections, Fragment, operation, fragments, mutation, query}
 use Rattle.graphql_spec.specs.Directives.{passes}
 use Rattle.graphql_spec.specs.Fields.{is_object, is_possible, type_named}
 use Rattle.graphql_spec.specs.Fragments.{HasNoCycle, expand}
 use Rattle.graphql_spec.specs.Schema.{Schema}
 use Rattle.graphql_spec.specs.Executable.{is_executable}
-use Rattle.graphql_spec.specs.Errors.{Listed, keys_only}
-use Rattle.graphql_spec.specs.Selections.{Forest}
+use Rattle.graphql_spec.specs.Errors.{Listed, is_sorted, keys_only}
+use Rattle.graphql_spec.specs.Selections.{Forest, keys, occurrences}
 use Rattle.graphql_spec.specs.Resolvers.{Reply, World, world_of}
 use Rattle.graphql_spec.specs.Placed.{root_type}
 use Rattle.graphql_spec.specs.Rules.{rule_errors}
 use Rattle.graphql_spec.specs.Laws.{In}
-use Rattle.graphql_spec.specs.Walk.{IsAnswerFor}
+use Rattle.graphql_spec.specs.Walk.{IsAnswerFor, IsMutationAnswerFor, count_listed}
 use Rattle.graphql_spec.proofs.Found.{phases-hold}
 use Rattle.graphql_spec.proofs.KnownSpreads.{names_end_spreads}
 use Rattle.graphql_spec.proofs.ValidSets.{valid_operations_merge}
 use Rattle.graphql_spec.proofs.ValidRuns.{roots_are_possible}
+use Rattle.graphql_spec.specs.GroupLaws.{all_starts}
+use Rattle.graphql_spec.specs.Mutation.{IsLeft, Mutation, root_fields}
+use Rattle.graphql_spec.specs.MutationLaws.{HasRun}
+use Rattle.graphql_spec.proofs.Running.{may-stop-after, run-answers}
+use Rattle.juniper.specs.Stepping.{IsLeftOf}
 use Rattle.juniper_walk.specs.Walking.{SelectionsAgree}
 
 -- something is declared as the query type
@@ -54,3 +59,36 @@ module _ {N : Type 0} (s : Schema) (executable : IsTrue (is_executable s)) (d : 
 -- an answer, by other names for its parts
 pub answer-moves : {N : Type 0} (W : World N) (T U : Name) (m n : N) (x y : Forest) (v : Value) (es : List Listed) → T ≡ U → m ≡ n → x ≡ y → IsAnswerFor keys_only W T m x v es → IsAnswerFor keys_only W U n y v es
 answer-moves W T U m n x y v es t e f a = subst (λ z. IsAnswerFor keys_only W U n z v es) f (subst (λ z. IsAnswerFor keys_only W U z x v es) e (subst (λ z. IsAnswerFor keys_only W z m x v es) t a))
+
+module _ {N : Type 0} (s : Schema) (executable : IsTrue (is_executable s)) (d : Document) (valid : rule_errors s true d ≡ []) (o : Operation) (member : In (operation o) d)
+    (kind : o.kind ≡ mutation) (T : Name) (root : s.mutation ≡ Some T) (vars : Variables) (concrete : N → Name) (answer : N → Name → Members → Reply N) where
+  mutation-type : root_type s o.kind ≡ Some T
+  unfolding root_type
+  mutation-type = ap (root_type s) kind ∙ root
+
+  all-agrees : SelectionsAgree (world_of s vars concrete answer) T (expand (passes vars) (fragments d) o.selections)
+  unfolding world_of
+  all-agrees = λ depth. valid_operations_merge s executable true d valid vars concrete answer (passes vars) o member T mutation-type depth T (roots_are_possible s executable o.kind T mutation-type)
+
+  -- what a mutation selects agrees, under each context
+  pub mutation-agrees : (fs : List Fragment) → fs ≡ fragments d → (set : Selections) → set ≡ o.selections → SelectionsAgree (world_of s vars concrete answer) T (expand (passes vars) fs set)
+  mutation-agrees fs f set e =
+      subst (λ x. SelectionsAgree (world_of s vars concrete answer) T x) (sym (ap (λ gs. expand (passes vars) gs set) f ∙ ap (expand (passes vars) (fragments d)) e)) all-agrees
+
+-- ## What a mutation selects, by other names
+
+module _ {C N : Type 0} (M : Mutation C N) (T : Name) (c after : C) (possible : Name → Name → Bool) (same : (M.world c).possible ≡ possible) (x y : Forest) (e : x ≡ y) where
+  fields-are : occurrences possible T x ≡ root_fields M T y c
+  fields-are = ap (occurrences possible T) e ∙ ap (λ p. occurrences p T y) (sym same)
+
+  pub left-moves : IsLeft M T (keys (occurrences possible T x)) (occurrences possible T x) c after → IsLeftOf M T y c after
+  left-moves l = subst (λ os. IsLeft M T (keys os) os c after) fields-are l
+
+  -- a run that was sorted is an answer
+  pub run-is-answer : (v : Value) (es ds : List Listed) → HasRun keys_only all_starts M T (keys (occurrences possible T x)) (occurrences possible T x) c v es after →
+      ((p : Listed → Bool) → count_listed p ds ≡ count_listed p es) → IsTrue (is_sorted ds) → IsMutationAnswerFor M T keys_only y c v ds after
+  run-is-answer v es ds r same_count sorted =
+      run-answers keys_only M T y c after v es ds (inl (subst (λ os. HasRun keys_only all_starts M T (keys os) os c v es after) fields-are r)) same_count sorted
+
+  pub run-left : (v : Value) (es : List Listed) → HasRun keys_only all_starts M T (keys (occurrences possible T x)) (occurrences possible T x) c v es after → IsLeftOf M T y c after
+  run-left v es r = left-moves (may-stop-after M T keys_only all_starts (keys (occurrences possible T x)) (occurrences possible T x) c after v es r)

@@ -1,6 +1,8 @@
 mod Choosing
 mod Composing
 mod Executing
+mod GroupLoop
+mod RootGroups
 pub mod Messages
 mod Undeclared
 mod VariableValues

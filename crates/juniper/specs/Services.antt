@@ -1,11 +1,12 @@
 -- What requests are executed with, by the parts of a root (6.1).
-use Rattle.std.specs.Prelude.{Bool, true, false, [], ◌∷◌, None}
+use Rattle.std.specs.Prelude.{Bool, true, false, [], ◌∷◌, option_map}
 use Rattle.graphql_spec.specs.Shown.{Name}
 use Rattle.graphql_spec.specs.Inputs.{Variables}
 use Rattle.graphql_spec.specs.Constants.{Members}
 use Rattle.graphql_spec.specs.Schema.{Schema}
 use Rattle.graphql_spec.specs.Resolvers.{Reply, World, world_of}
-use Rattle.graphql_spec.specs.Outcomes.{Service}
+use Rattle.graphql_spec.specs.Mutation.{Mutation}
+use Rattle.graphql_spec.specs.Outcomes.{Service, Steps}
 use Rattle.graphql_spec.specs.Types.{TypeRef, named, list_of}
 
 module _ {Q I C N : Type 0} (concrete : Q → I → C → N → Name) (answer : Q → I → C → N → Name → Members → Reply N) where
@@ -13,9 +14,24 @@ module _ {Q I C N : Type 0} (concrete : Q → I → C → N → Name) (answer : 
   abbrev pub world_in : Q → I → C → Schema → Variables → World N
   world_in q i c s vars = world_of s vars (concrete q i c) (answer q i c)
 
-  -- a resolver with its info over a schema; introspection is disabled, and there is no mutation (6.2)
-  abbrev pub service_in : (Q → N) → Q → I → Schema → Service C N
-  service_in root q i s = record { schema = s; introspection_disabled = true; concrete = λ c. concrete q i c; answer = λ c. answer q i c; root = root q; mutation = None }
+  -- the steps of a mutation, completed by the resolver (6.2.2)
+  abbrev pub mutation_on : Q → I → Steps C N → Schema → Variables → Mutation C N
+  mutation_on q i m s vars = record { world = λ c. world_in q i c s vars; step = m.step; torn = m.torn }
+
+  -- a resolver with its info over a schema, and the steps of the mutation type, if the schema has one (6.2); introspection is disabled
+  abbrev pub service_in : (Q → N) → Q → I → Steps C N → Schema → Service C N
+  service_in root q i m s = record {
+    schema = s;
+    introspection_disabled = true;
+    concrete = λ c. concrete q i c;
+    answer = λ c. answer q i c;
+    root = root q;
+    mutation = option_map (λ (T : Name). m) s.mutation;
+  }
+
+-- the steps of a mutation's resolver with its info (6.2.2)
+abbrev pub steps_at : {M J C N : Type 0} → (M → J → C → Name → Members → C × Reply N) → (M → J → C → Name → Members → C → Bool) → M → J → Steps C N
+steps_at step torn m j = record { step = step m j; torn = torn m j }
 
 -- ## Only private clauses cite what follows
 

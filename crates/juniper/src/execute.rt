@@ -1,45 +1,52 @@
 //! Valid documents, executed (ExecuteRequest, section 6.1 of the Specification).
 
-ghost use Rattle.std.specs.Prelude.{◌≡◌, IfOk, [], map, true};
+ghost use Rattle.std.specs.Prelude.{◌≡◌, IfOk, MatchResult, Some, [], map, true};
 ghost use Rattle.graphql_spec.specs.Documents as documents;
 ghost use Rattle.graphql_spec.specs.Errors.{keys_only};
 ghost use Rattle.graphql_spec.specs.Laws.{In};
 ghost use Rattle.graphql_spec.specs.Outcomes.{IsOutcomeOf};
 ghost use Rattle.graphql_spec.specs.Requests.{selected};
 ghost use Rattle.graphql_spec.specs.Rules.{rule_errors};
-ghost use Rattle.graphql_spec.specs.Walk.{IsAnswerFor};
+ghost use Rattle.graphql_spec.specs.Walk.{IsAnswerFor, IsMutationAnswerFor};
 ghost use Rattle.juniper_syntax.specs.DocumentView.{view_document, view_operation};
 ghost use Rattle.juniper_syntax.specs.InputView.{view_variables};
 ghost use Rattle.juniper_syntax.specs.ValueView.{view_value};
 ghost use Rattle.juniper_errors.specs.ErrorView.{view_listed};
 ghost use Rattle.juniper_schema.specs.SchemaView.{view_schema};
 ghost use Rattle.juniper.specs.Answering.{AnswersAs, AreCoercible, outcome_of};
-ghost use Rattle.juniper.specs.RootView.{schema_of, resolver_of, info_of, service_of};
+ghost use Rattle.juniper.specs.RootView.{schema_of, resolver_of, info_of, mutation_root, service_of};
 ghost use Rattle.juniper.specs.Services.{world_in};
+ghost use Rattle.juniper.specs.Stepping.{IsLeftOf};
 
 use crate::error::GraphQLError;
+use crate::mutation::{root_fields, run_groups};
 use crate::root::RootNode;
+use crate::root_walk::RootWalk;
 use crate::service::{Service, undeclared_type};
 use crate::variables::coerce_variables;
 use juniper_collect::{Collector, fragments_of};
 use juniper_language::{
     Document, Operation, OperationType, ScalarValue, Span, Spanning, Value, Variables,
 };
-use juniper_types::{GraphQLType, GraphQLValue};
+use juniper_types::{GraphQLMutationValue, GraphQLType, GraphQLValue};
 use juniper_values::ExecutionError;
-use juniper_walk::{Walk, answer};
+use juniper_walk::{Walk, answer, root_path, sort_errors};
 use std::alloc::{AllocError, Global};
 
 /// Executes an operation of a valid document with given values of its variables, which fit and hold no variables (6.1). A
 /// query is answered with the data of the grouped execution on the query type and the root's node, and with the errors of
-/// fields that fail, sorted by place, path and message; there are none exactly where nothing fails. A subscription gives
-/// [`GraphQLError::IsSubscription`], a mutation [`GraphQLError::MutationNotSupported`];
-/// [`GraphQLError::OutOfMemory`] may stand in place of each answer. The context stays as it was.
+/// fields that fail, sorted by place, path and message; there are none exactly where nothing fails. The context stays as it
+/// was. A mutation steps each of its root groups once, in order, in the context, and is answered with the same of these
+/// groups, each completed under the context that its step left; a null at a non-null place is the last (6.2.2).
+///
+/// A subscription gives [`GraphQLError::IsSubscription`], a mutation where the schema has no mutation type
+/// [`GraphQLError::MutationNotSupported`]; [`GraphQLError::OutOfMemory`] may stand in place of each answer: then a mutation's
+/// context is that after some of its groups, or torn from it by the step of the next.
 pub fn execute_validated_query<
     'd,
     'a,
     Q: GraphQLValue<S>,
-    M: GraphQLType<S>,
+    M: GraphQLMutationValue<S, Context = Q::Context, Node = Q::Node>,
     Sub: GraphQLType<S>,
     S: ScalarValue,
 >(
@@ -55,13 +62,24 @@ pub fn execute_validated_query<
     requires coercible { AreCoercible (view_schema S.shown (schema_of root_node.now)) (view_operation S.shown operation.now)
         (view_variables S.shown variables.now) }
     ensures { AnswersAs S.shown
-        (λ r. IsOutcomeOf (service_of Q.concrete Q.answer Q.root S.shown root_node.now) keys_only
+        (λ r. IsOutcomeOf (service_of Q.concrete Q.answer Q.root M.step M.torn S.shown root_node.now) keys_only
         (outcome_of (view_schema S.shown (schema_of root_node.now)) (view_document S.shown document.now) (view_operation S.shown operation.now)
         (view_variables S.shown variables.now)) context.old r context.new) result }
 {
     match operation.item.operation_type {
         OperationType::Subscription => Err(GraphQLError::IsSubscription),
-        OperationType::Mutation => Err(GraphQLError::MutationNotSupported),
+        OperationType::Mutation => {
+            let Some(concrete) = root_node.schema.mutation_name() else {
+                return Err(GraphQLError::MutationNotSupported);
+            };
+            let values = coerce_variables(alloc, operation, variables)?;
+            match execute_mutation(
+                alloc, document, operation, root_node, concrete, &values, context,
+            ) {
+                Err(_) => Err(GraphQLError::OutOfMemory),
+                Ok(answered) => Ok(answered),
+            }
+        }
         OperationType::Query => {
             let values = coerce_variables(alloc, operation, variables)?;
             let answered = execute_query(alloc, document, operation, root_node, &values, context)?;
@@ -75,7 +93,7 @@ fn execute_query<
     'd,
     'a,
     Q: GraphQLValue<S>,
-    M: GraphQLType<S>,
+    M: GraphQLMutationValue<S, Context = Q::Context, Node = Q::Node>,
     Sub: GraphQLType<S>,
     S: ScalarValue,
 >(
@@ -108,7 +126,7 @@ fn execute_query<
     let walk = Walk {
         alloc,
         collector: Collector {
-            fragments,
+            fragments: &fragments,
             variables,
             possible: service,
         },
@@ -121,4 +139,55 @@ fn execute_query<
         operation.item.selection_set.as_slice(),
     )?;
     Ok((walked.value, walked.errors))
+}
+
+/// Executes a mutation of a valid document on the mutation type (ExecuteMutation, 6.2.2).
+fn execute_mutation<
+    'd,
+    'a,
+    Q: GraphQLValue<S>,
+    M: GraphQLMutationValue<S, Context = Q::Context, Node = Q::Node>,
+    Sub: GraphQLType<S>,
+    S: ScalarValue,
+>(
+    alloc: Global,
+    document: &'d Document<'a, S>,
+    operation: &'d Spanning<Operation<'a, S>, Span>,
+    root_node: &RootNode<Q, M, Sub, S>,
+    concrete: &str,
+    variables: &Variables<S>,
+    context: &mut Q::Context,
+) -> Result<(Value<S>, Vec<ExecutionError<S>>), AllocError>
+    requires valid { rule_errors (view_schema S.shown (schema_of root_node.now)) true (view_document S.shown document.now) ≡ [] }
+    requires member { In (documents.operation (view_operation S.shown operation.now)) (view_document S.shown document.now) }
+    requires mutation { (view_operation S.shown operation.now).kind ≡ documents.mutation }
+    requires root { (view_schema S.shown (schema_of root_node.now)).mutation ≡ Some concrete.now }
+    ensures { MatchResult result
+        (λ p. IsMutationAnswerFor (mutation_root Q.concrete Q.answer M.step M.torn S.shown root_node.now (view_variables S.shown variables.now)) concrete.now keys_only
+        (selected (view_document S.shown document.now) (view_operation S.shown operation.now) (view_variables S.shown variables.now)) context.old
+        (view_value S.shown p.0) (map (view_listed S.shown) p.1.items) context.new)
+        (λ _. IsLeftOf (mutation_root Q.concrete Q.answer M.step M.torn S.shown root_node.now (view_variables S.shown variables.now)) concrete.now
+        (selected (view_document S.shown document.now) (view_operation S.shown operation.now) (view_variables S.shown variables.now)) context.old context.new) }
+{
+    let fragments = fragments_of(alloc, document.as_slice())?;
+    let path = root_path(alloc, operation.span.start)?;
+    let undeclared = undeclared_type(alloc);
+    let walk = RootWalk {
+        alloc,
+        concrete,
+        selections: operation.item.selection_set.as_slice(),
+        fragments: &fragments,
+        variables,
+        path: &path,
+        undeclared: &undeclared,
+    };
+    let fields = root_fields(&root_node.schema, &walk)?;
+    match run_groups(root_node, &walk, &fields, context) {
+        Err(error) => Err(error),
+        Ok(walked) => {
+            let mut errors = walked.errors;
+            sort_errors(&mut errors)?;
+            Ok((walked.value, errors))
+        }
+    }
 }

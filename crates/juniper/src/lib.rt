@@ -4,9 +4,11 @@
 mod coerce;
 mod error;
 mod execute;
+mod mutation;
 mod operation;
 mod request;
 mod root;
+mod root_walk;
 mod service;
 mod variables;
 
@@ -85,6 +87,7 @@ pub use juniper_types::EmptySubscription;
 pub use juniper_types::Executor;
 pub use juniper_types::FieldPath;
 pub use juniper_types::FromContext;
+pub use juniper_types::GraphQLMutationValue;
 pub use juniper_types::GraphQLReference;
 pub use juniper_types::GraphQLType;
 pub use juniper_types::GraphQLValue;

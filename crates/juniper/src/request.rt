@@ -22,7 +22,7 @@ use juniper_language::{
 };
 use juniper_rules::{validate, validate_input_values};
 use juniper_schema::SchemaType;
-use juniper_types::{GraphQLType, GraphQLValue};
+use juniper_types::{GraphQLMutationValue, GraphQLType, GraphQLValue};
 use juniper_values::ExecutionError;
 use std::alloc::Global;
 
@@ -101,11 +101,22 @@ fn check_variables<S: ScalarValue>(
 }
 
 /// Executes a request: reads the text, validates the document, chooses the operation, tests the values of its variables and
-/// executes it (6.1). The answer is the data, which is that of the grouped execution on the query type and the root's node,
-/// and errors of fields that fail, sorted by place, path and message; there are none exactly where nothing fails. Otherwise
-/// the first step that fails gives the error; [`GraphQLError::OutOfMemory`] may stand in place of any step. The context stays
-/// as it was.
-pub fn execute_sync<Q: GraphQLValue<S>, M: GraphQLType<S>, Sub: GraphQLType<S>, S: ScalarValue>(
+/// executes it (6.1). The first step that fails gives the error, and the context is as it was.
+///
+/// Otherwise the answer is the data of the grouped execution, and the errors of fields that fail, sorted by place, path and
+/// message; there are none exactly where nothing fails. A query is executed on the query type and the root's node, and leaves
+/// the context as it was. A mutation steps each of its root groups once, in order, in the context, and completes what it
+/// answers under the context that the step left; the first null at a non-null place is the last group (6.2.2). The context is
+/// then that after the last group that ran.
+///
+/// [`GraphQLError::OutOfMemory`] may stand in place of any step: then a mutation's context is that after some of its groups,
+/// or torn from it by the step of the next; otherwise it is as it was.
+pub fn execute_sync<
+    Q: GraphQLValue<S>,
+    M: GraphQLMutationValue<S, Context = Q::Context, Node = Q::Node>,
+    Sub: GraphQLType<S>,
+    S: ScalarValue,
+>(
     alloc: Global,
     document_source: &str,
     operation_name: Option<&str>,
@@ -114,7 +125,7 @@ pub fn execute_sync<Q: GraphQLValue<S>, M: GraphQLType<S>, Sub: GraphQLType<S>, 
     context: &mut Q::Context,
 ) -> Result<(Value<S>, Vec<ExecutionError<S>>), GraphQLError>
     ensures { AnswersAs S.shown
-        (λ r. IsOutcome (service_of Q.concrete Q.answer Q.root S.shown root_node.now) keys_only
+        (λ r. IsOutcome (service_of Q.concrete Q.answer Q.root M.step M.torn S.shown root_node.now) keys_only
         (request_of S.shown document_source.now operation_name.entry variables.now) context.old r context.new) result }
 {
     let document = match read(alloc, document_source) {

@@ -1,6 +1,6 @@
 //! The root of a server: a schema with its resolvers (section 3.3 of the Specification).
 
-ghost use Rattle.std.specs.Prelude.{◌≡◌, IsTrue, Some, is_none};
+ghost use Rattle.std.specs.Prelude.{◌≡◌, IsTrue, Some};
 ghost use Rattle.graphql_spec.specs.Executable.{is_executable};
 ghost use Rattle.juniper_meta.specs.MetaView.{view_meta};
 ghost use Rattle.juniper_schema.specs.SchemaView.{meta_named, view_schema};
@@ -10,8 +10,7 @@ use juniper_meta::MetaType;
 use juniper_schema::SchemaType;
 use juniper_types::GraphQLType;
 
-/// A schema with the resolvers of its operations. Introspection is disabled, and neither mutations nor subscriptions are
-/// served.
+/// A schema with the resolvers of its operations. Introspection is disabled, and subscriptions are not served.
 #[derive(Drop)]
 pub struct RootNode<Q: GraphQLType<S>, M: GraphQLType<S>, Sub: GraphQLType<S>, S: ScalarValue> {
     pub(crate) query: Q,
@@ -22,7 +21,6 @@ pub struct RootNode<Q: GraphQLType<S>, M: GraphQLType<S>, Sub: GraphQLType<S>, S
     pub(crate) mutation_info: M::TypeInfo,
     pub(crate) subscription_info: Sub::TypeInfo,
     ghost executable: { IsTrue (is_executable (view_schema S.shown schema)) },
-    ghost no_mutation: { IsTrue (is_none (view_schema S.shown schema).mutation) },
 }
 
 impl<Q: GraphQLType<S>, M: GraphQLType<S>, Sub: GraphQLType<S>, S: ScalarValue> RootNode<
@@ -31,10 +29,9 @@ impl<Q: GraphQLType<S>, M: GraphQLType<S>, Sub: GraphQLType<S>, S: ScalarValue> 
     Sub,
     S,
 > {
-    ghost use Rattle.juniper.specs.RootView.{schema_of, resolver_of, info_of};
+    ghost use Rattle.juniper.specs.RootView.{schema_of, resolver_of, info_of, mutation_of, mutation_info_of};
 
-    /// The root of these resolvers over an executable schema without a mutation type;
-    /// [`juniper_schema::schema_is_executable`] tells whether it is executable.
+    /// The root of these resolvers over an executable schema; [`juniper_schema::schema_is_executable`] tells whether it is.
     pub fn of_parts(
         query: Q,
         mutation: M,
@@ -45,10 +42,11 @@ impl<Q: GraphQLType<S>, M: GraphQLType<S>, Sub: GraphQLType<S>, S: ScalarValue> 
         subscription_info: Sub::TypeInfo,
     ) -> Self
         requires executable { IsTrue (is_executable (view_schema S.shown schema)) }
-        requires no_mutation { IsTrue (is_none (view_schema S.shown schema).mutation) }
         ensures schema { schema_of result ≡ schema }
         ensures resolver { resolver_of result ≡ query }
         ensures info { info_of result ≡ query_info }
+        ensures mutation { mutation_of result ≡ mutation }
+        ensures mutation_info { mutation_info_of result ≡ mutation_info }
     {
         RootNode {
             query,

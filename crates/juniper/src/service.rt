@@ -90,7 +90,7 @@ impl<'r, Q: GraphQLValue<S>, S: ScalarValue> Resolver<S> for Service<'r, Q, S> {
     ) -> Asked<'t, Self::Node, S> {
         let written = site.field;
         let field = self.schema.field_of(concrete, written.item.name.item);
-        let declared = self.declared_type(field);
+        let declared = declared_type(field, &self.undeclared);
         let answer = self.reply(alloc, concrete, node, site, declared, arguments_of(field));
         Asked { declared, answer }
     }
@@ -141,7 +141,7 @@ impl<'r, Q: GraphQLValue<S>, S: ScalarValue> Service<'r, Q, S> {
             (coerced_arguments (map (view_argument S.shown) arguments.now) (view_variables S.shown self.now.variables.now) (written (head_of S.shown site.now.field.now).arguments))) }
     {
         let arguments = coerce_arguments(alloc, arguments, site.field, self.variables)?;
-        let declared = self.shown_type(alloc, declared)?;
+        let declared = shown_type(alloc, self.schema, self.query_type, declared)?;
         let executor = Executor::at_field(
             self.context,
             self.schema,
@@ -158,28 +158,33 @@ impl<'r, Q: GraphQLValue<S>, S: ScalarValue> Service<'r, Q, S> {
         self.resolver
             .resolve_field(alloc, self.info, node, name, &arguments, &executor)
     }
+}
 
-    /// The type that a field declares.
-    #[tactic(auto, unfolding(graphql_spec::specs::Fields::declared_type))]
-    fn declared_type<'t>(&'t self, field: Option<&'t Field<S>>) -> &'t Type<String>
-        ensures { view_type (λ n. string_bytes n) result.now ≡ declared_type (option_map (λ f. view_field S.shown f.now) field.entry) }
-    {
-        match field {
-            Some(field) => &field.field_type,
-            None => &self.undeclared,
-        }
+/// The type that a field declares, or what stands for it where there is no such field.
+#[tactic(auto, unfolding(graphql_spec::specs::Fields::declared_type))]
+pub(crate) fn declared_type<'t, S: ScalarValue>(
+    field: Option<&'t Field<S>>,
+    undeclared: &'t Type<String>,
+) -> &'t Type<String>
+    requires { IsTrue (is_undeclared (view_type (λ n. string_bytes n) undeclared.now)) }
+    ensures { view_type (λ n. string_bytes n) result.now ≡ declared_type (option_map (λ f. view_field S.shown f.now) field.entry) }
+{
+    match field {
+        Some(field) => &field.field_type,
+        None => undeclared,
     }
+}
 
-    /// The type that a resolver is shown for a field: the declared one.
-    fn shown_type(
-        &self,
-        alloc: Global,
-        declared: &Type<String>,
-    ) -> Result<TypeType<'r, S>, AllocError> {
-        match self.schema.concrete_type_by_name(declared.innermost_name()) {
-            Some(_) => self.schema.make_type(alloc, declared),
-            None => Ok(TypeType::Concrete(self.query_type)),
-        }
+/// The type that a resolver is shown for a field: the declared one.
+pub(crate) fn shown_type<'s, S: ScalarValue>(
+    alloc: Global,
+    schema: &'s SchemaType<S>,
+    query_type: &'s MetaType<S>,
+    declared: &Type<String>,
+) -> Result<TypeType<'s, S>, AllocError> {
+    match schema.concrete_type_by_name(declared.innermost_name()) {
+        Some(_) => schema.make_type(alloc, declared),
+        None => Ok(TypeType::Concrete(query_type)),
     }
 }
 
@@ -192,7 +197,7 @@ pub(crate) fn undeclared_type(alloc: Global) -> Type<String>
 
 /// The arguments that a field declares (3.6.1).
 #[tactic(auto, unfolding(graphql_spec::specs::Fields::declared_arguments))]
-fn arguments_of<S: ScalarValue>(field: Option<&Field<S>>) -> &[Argument<S>]
+pub(crate) fn arguments_of<S: ScalarValue>(field: Option<&Field<S>>) -> &[Argument<S>]
     ensures { map (view_argument S.shown) result.now ≡ declared_arguments (option_map (λ f. view_field S.shown f.now) field.entry) }
 {
     match field {
@@ -202,7 +207,7 @@ fn arguments_of<S: ScalarValue>(field: Option<&Field<S>>) -> &[Argument<S>]
 }
 
 /// What `__typename` answers: the name of the object type (4.1).
-fn type_name<N: Drop, S: ScalarValue>(
+pub(crate) fn type_name<N: Drop, S: ScalarValue>(
     alloc: Global,
     concrete: &str,
 ) -> Result<Resolved<N, S>, ResolveError<S>>

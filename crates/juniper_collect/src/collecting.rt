@@ -15,7 +15,7 @@ use std::alloc::{AllocError, Global};
 /// What one request collects fields with.
 #[derive(Drop)]
 pub struct Collector<'r, 'd, 'a, S, P> {
-    pub fragments: FragmentMap<'d, 'a, S>,
+    pub fragments: &'r FragmentMap<'d, 'a, S>,
     pub variables: &'r Variables<S>,
     pub possible: P,
 }

@@ -33,12 +33,13 @@ module _ {N : Type 0} (W : World N) where
     all-possible t no_trees n i = absurd i
     all-possible t (tree a rest) n i = elim (in_append n (nodes_of W t a) (all_nodes W t rest) i) [ inl j ↦ node-possible t a n j | inr j ↦ all-possible t rest n j ]
 
-  reply-possible : (t : TypeRef) (r : Reply N) (n : N) → In n (reply_nodes W t r) → W.possible (W.concrete n) (innermost t) ≡ true
+  -- so is that of each node of a reply
+  pub reply-possible : (t : TypeRef) (r : Reply N) (n : N) → In n (reply_nodes W t r) → W.possible (W.concrete n) (innermost t) ≡ true
   unfolding reply_nodes
   reply-possible t (answered a) n i = node-possible t a n i
   reply-possible t (failed e) n i = absurd i
 
-  agree-front : (d : ℕ) (T : Name) (os ps : List Occurrence) → Agree W d T (os ++ ps) → Agree W d T os
+  pub agree-front : (d : ℕ) (T : Name) (os ps : List Occurrence) → Agree W d T (os ++ ps) → Agree W d T os
   agree-front zero T os ps a = tt
   agree-front (suc d) T os ps a = λ x y i j. a x y (in_first x os ps i) (in_first y os ps j)
 

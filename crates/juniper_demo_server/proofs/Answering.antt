@@ -6,7 +6,7 @@ use Rattle.graphql_spec.specs.Errors.{keys_only}
 use Rattle.graphql_spec.specs.Inputs.{Variables}
 use Rattle.graphql_spec.specs.Schema.{Schema}
 use Rattle.graphql_spec.specs.Executable.{IsSameSchema}
-use Rattle.graphql_spec.specs.Outcomes.{IsOutcome, Request, Service}
+use Rattle.graphql_spec.specs.Outcomes.{IsOutcome, Request, Service, Steps}
 use Rattle.juniper.specs.Answering.{AnswersAs}
 use Rattle.juniper.specs.RequestErrors.{view_request_error}
 use Rattle.juniper.specs.declared.error.GraphQLError.{GraphQLError}
@@ -30,26 +30,27 @@ Data = Value DefaultScalarValue × Vec (ExecutionError DefaultScalarValue) Globa
 abbrev Outcome : Type 0
 Outcome = Result Data GraphQLError
 
--- what requests are executed with, from a root
-abbrev pub service_from : DemoNode → Schema → Service DemoContext DemoNode
-service_from m s = record { schema = s; introspection_disabled = true; concrete = λ c. concrete_type; answer = λ c. reply; root = m; mutation = None }
+-- what requests are executed with, from a root and the steps of mutations
+abbrev pub service_from : DemoNode → Option (Steps DemoContext DemoNode) → Schema → Service DemoContext DemoNode
+service_from m x s = record { schema = s; introspection_disabled = true; concrete = λ c. concrete_type; answer = λ c. reply; root = m; mutation = x }
 
 -- how the outcome of a request comes about
-abbrev pub Comes : DemoNode → Schema → Request → DemoContext → DemoContext → Outcome → Type 0
-Comes m s q c after o = AnswersAs default_shown (λ r. IsOutcome (service_from m s) keys_only q c r after) o
+abbrev pub Comes : DemoNode → Option (Steps DemoContext DemoNode) → Schema → Request → DemoContext → DemoContext → Outcome → Type 0
+Comes m x s q c after o = AnswersAs default_shown (λ r. IsOutcome (service_from m x s) keys_only q c r after) o
 
 -- what is shown of it
 abbrev pub IsShown : Outcome → Answer → Type 0
 IsShown o a = MatchResult o (λ p. ShowsData (view_value default_shown p.0) (map (view_listed default_shown) p.1.items) a) (λ e. ShowsRefusal (view_request_error e) a)
 
 module _ (t : Text) (c after : DemoContext) where
-  shown : (n : Option Name) (vars : Variables) (s : Schema) → IsSameSchema demo_schema s → (o : Outcome) (a : Answer) → Comes Query s (record { text = t; operation = n; variables = vars }) c after o → IsShown o a
-      → IsAnswerWith t n vars c a after
+  shown : (n : Option Name) (vars : Variables) (s : Schema) → IsSameSchema demo_schema s → (o : Outcome) (a : Answer) → Comes Query None s (record { text = t; operation = n; variables = vars }) c after o
+      → IsShown o a → IsAnswerWith t n vars c a after
   shown n vars s same (Ok p) a comes shows = (s, same, inl (_, _, comes, shows))
   shown n vars s same (Err e) a comes shows = (s, same, inr (_, comes, shows))
 
-  pub request_answered : (n l : Option Name) (vars : Variables) (m : DemoNode) (s : Schema) (o : Outcome) (a : Answer) → l ≡ n → m ≡ Query → IsSameSchema demo_schema s
-      → Comes m s (record { text = t; operation = l; variables = vars }) c after o → IsShown o a → IsAnswerWith t n vars c a after
-  request_answered n l vars m s o a is_name is_root same comes shows =
-      shown n vars s same o a (subst (λ x. Comes Query s (record { text = t; operation = x; variables = vars }) c after o) is_name
-      (subst (λ x. Comes x s (record { text = t; operation = l; variables = vars }) c after o) is_root comes)) shows
+  pub request_answered : (n l : Option Name) (vars : Variables) (m : DemoNode) (x : Option (Steps DemoContext DemoNode)) (s : Schema) (o : Outcome) (a : Answer) → l ≡ n → m ≡ Query → x ≡ None
+      → IsSameSchema demo_schema s → Comes m x s (record { text = t; operation = l; variables = vars }) c after o → IsShown o a → IsAnswerWith t n vars c a after
+  request_answered n l vars m x s o a is_name is_root none same comes shows =
+      shown n vars s same o a (subst (λ z. Comes Query None s (record { text = t; operation = z; variables = vars }) c after o) is_name
+      (subst (λ z. Comes z None s (record { text = t; operation = l; variables = vars }) c after o) is_root
+      (subst (λ z. Comes m z s (record { text = t; operation = l; variables = vars }) c after o) none comes))) shows

@@ -1,6 +1,6 @@
 //! The demo's schema (section 3 of the Specification), and the root of its server.
 
-ghost use Rattle.std.specs.Prelude.{◌≡◌, IfOk, IsTrue, OnOk, is_none};
+ghost use Rattle.std.specs.Prelude.{◌≡◌, IfOk, IsTrue, OnOk};
 ghost use Rattle.graphql_spec.specs.Executable.{IsSameSchema, is_executable};
 ghost use Rattle.graphql_spec.specs.Fields.{entry_in};
 ghost use Rattle.graphql_spec.specs.Shown.{Name};
@@ -53,7 +53,6 @@ pub fn demo_root(alloc: Global) -> Result<DemoRoot, AllocError>
 fn schema(alloc: Global) -> Result<SchemaType<DefaultScalarValue>, AllocError>
     ensures same { IfOk result (λ s. IsSameSchema demo_schema (view_schema default_shown s)) }
     ensures executable { IfOk result (λ s. IsTrue (is_executable (view_schema default_shown s))) }
-    ensures no_mutation { IfOk result (λ s. IsTrue (is_none (view_schema default_shown s).mutation)) }
 {
     let types = types(alloc)?;
     let query = String::from_str(alloc, "Query")?;

@@ -1,5 +1,6 @@
 -- What a script answers: the look-up in its lines.
-use Rattle.std.specs.Prelude.{Bool, ◌&&◌, cond, List, [], ◌∷◌, Option, Some, None}
+use Rattle.std.specs.Prelude.{ℕ, ◌+◌, ◌%◌, ◌^◌, pos, Bool, ◌&&◌, cond, List, [], ◌∷◌, Option, Some, None}
+use Rattle.std.specs.Bool.{nat_eq}
 use Rattle.std.specs.Str.{bytes_eq}
 use Rattle.graphql_spec.specs.Shown.{Name, int, text, boolean}
 use Rattle.graphql_spec.specs.Constants.{Constant, Members, find, null, scalar, enumerated, variable, list, object}
@@ -9,9 +10,10 @@ use Rattle.juniper_errors.specs.Messages.{message_alone}
 use Rattle.juniper_resolvable.specs.ResolvedView.{trees_of}
 use Rattle.juniper_test_root.specs.declared.script.Node.{Node}
 use Rattle.juniper_test_root.specs.declared.script.Line.{Line}
+use Rattle.juniper_test_root.specs.declared.script.Notes.{Notes}
 use Rattle.juniper_test_root.specs.declared.script.Script.{Script}
 use Rattle.juniper_test_root.specs.declared.script.Answer.{Answer}
-use Rattle.juniper_test_root.specs.declared.script.Answer.TheVariants.{Given, Error, Argument}
+use Rattle.juniper_test_root.specs.declared.script.Answer.TheVariants.{Given, Error, Argument, Steps}
 use Rattle.juniper_test_root.specs.declared.script.Tree.{Tree, fold-Tree}
 use Rattle.juniper_test_root.specs.declared.script.Tree.TheOpen.{Tree-F}
 
@@ -42,12 +44,13 @@ abbrev pub argument_reply : Option Constant → Reply Node
 argument_reply None = answered nothing
 argument_reply (Some c) = answered (constant_tree c)
 
--- what an answer of a script says, where there is one; else null
-abbrev pub line_reply : Option Answer → Members → Reply Node
-line_reply None arguments = answered nothing
-line_reply (Some (Given t)) arguments = answered (view_tree t)
-line_reply (Some (Error m)) arguments = failed (message_alone m.now)
-line_reply (Some (Argument n)) arguments = argument_reply (find n.now arguments)
+-- what an answer of a script says, where there is one, after so many steps; else null
+abbrev pub line_reply : Option Answer → ℕ → Members → Reply Node
+line_reply None steps arguments = answered nothing
+line_reply (Some (Given t)) steps arguments = answered (view_tree t)
+line_reply (Some (Error m)) steps arguments = failed (message_alone m.now)
+line_reply (Some (Argument n)) steps arguments = argument_reply (find n.now arguments)
+line_reply (Some Steps) steps arguments = answered (leaf (int (pos steps)))
 
 -- a line tells what an owner answers to a field
 abbrev pub is_for : Name → Name → Line → Bool
@@ -66,9 +69,21 @@ or_by_type ls n field (Some a) = Some a
 abbrev pub answer_of : List Line → Node → Name → Option Answer
 answer_of ls n field = or_by_type ls n field (find_line n.name.now field ls)
 
--- what a node answers to a field
-abbrev pub reply : Script → Node → Name → Members → Reply Node
-reply s n field arguments = line_reply (answer_of s.lines.items n field) arguments
+-- what a node answers to a field in a context
+abbrev pub reply : Script → Notes → Node → Name → Members → Reply Node
+reply s c n field arguments = line_reply (answer_of s.lines.items n field) c.steps arguments
+
+-- the context after one more step; they are counted modulo 256
+abbrev pub stepped : Notes → Notes
+stepped c = record { sights = c.sights; steps = (c.steps + 1) % 2 ^ 8 }
+
+-- the step of a root field: one more is counted, and the field answers as it does of the root's node
+abbrev pub step : Script → Notes → Name → Members → Notes × Reply Node
+step s c field arguments = (stepped c, reply s (stepped c) s.root field arguments)
+
+-- where memory is wanting no step is counted
+abbrev pub torn : Notes → Notes → Bool
+torn c after = nat_eq after.steps c.steps
 
 -- the object type of a node
 abbrev pub concrete_type : Node → Name

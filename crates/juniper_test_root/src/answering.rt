@@ -1,23 +1,18 @@
 //! What requests are answered, as a line.
 
 use crate::reader::read_script;
-use crate::script::{Node, Script};
+use crate::script::{Notes, Script};
 use crate::table::Request;
 use crate::variables::variables_of;
-use juniper::{EmptyMutation, EmptySubscription, GraphQLError, RootNode, execute_sync};
+use juniper::{EmptySubscription, GraphQLError, RootNode, execute_sync};
 use juniper_response::answer_line;
 use juniper_schema::schema_is_executable;
 use juniper_schema_text::{Reader, Scalar, read_schema};
 use std::alloc::{AllocError, Global};
 use std::fmt;
 
-/// The root of a script.
-pub type ScriptRoot = RootNode<
-    Script,
-    EmptyMutation<String, Node>,
-    EmptySubscription<String>,
-    Scalar,
->;
+/// The root of a script, which answers the fields of nodes and takes the steps of mutations.
+pub type ScriptRoot = RootNode<Script, Script, EmptySubscription<Notes>, Scalar>;
 
 /// What of a request cannot be read.
 #[derive(Clone, Copy, Debug, PartialEq, Eq)]
@@ -26,8 +21,6 @@ pub enum Unread {
     Schema,
     /// The schema is not executable.
     NotExecutable,
-    /// The schema has a mutation type, which is not served.
-    HasMutation,
     /// The answers, at this line.
     Answers(usize),
     /// The values of the variables.
@@ -39,7 +32,6 @@ impl fmt::Display for Unread {
         match self {
             Unread::Schema => write!(f, "the schema cannot be read"),
             Unread::NotExecutable => write!(f, "the schema is not executable"),
-            Unread::HasMutation => write!(f, "the schema has a mutation type"),
             Unread::Answers(number) => write!(f, "line {number} of the answers cannot be read"),
             Unread::Variables => write!(f, "the variables cannot be read"),
         }
@@ -52,8 +44,13 @@ pub fn read_root(
     schema: &'static str,
     answers: &'static str,
 ) -> Result<ScriptRoot, Unread> {
-    let script = match read_script(alloc, answers, query_type(alloc, schema)) {
+    let (query, mutation) = root_types(alloc, schema);
+    let script = match read_script(alloc, answers, query) {
         Ok(script) => script,
+        Err(number) => return Err(Unread::Answers(number)),
+    };
+    let steps = match read_script(alloc, answers, mutation) {
+        Ok(steps) => steps,
         Err(number) => return Err(Unread::Answers(number)),
     };
     let Some(schema) = read_schema(alloc, schema) else {
@@ -62,25 +59,28 @@ pub fn read_root(
     if !schema_is_executable(&schema) {
         return Err(Unread::NotExecutable);
     }
-    if schema.mutation_name().is_some() {
-        return Err(Unread::HasMutation);
-    }
-    let (mutation, subscription) = (EmptyMutation::new(), EmptySubscription::new());
-    Ok(RootNode::of_parts(script, mutation, subscription, schema, (), (), ()))
+    let subscription = EmptySubscription::new();
+    Ok(RootNode::of_parts(script, steps, subscription, schema, (), (), ()))
 }
 
-/// The name of the query type, which the text of a schema may begin with.
-fn query_type(alloc: Global, schema: &'static str) -> &'static str {
+/// The names of the query type and of the mutation type, with which the text of a schema may begin.
+fn root_types(alloc: Global, schema: &'static str) -> (&'static str, &'static str) {
     let mut reader = Reader::new(alloc, schema);
-    if reader.eats("query") {
+    let query = if reader.eats("query") {
         reader.word()
     } else {
         "Query"
-    }
+    };
+    let mutation = if reader.eats("mutation") {
+        reader.word()
+    } else {
+        ""
+    };
+    (query, mutation)
 }
 
 /// What a request is answered: a line of JSON with its data and errors, `refused: ` and why it is refused, or `unread: ` and what of
-/// it cannot be read. An error where memory is refused.
+/// it cannot be read; behind it ` steps: ` and their number, where a mutation took some. An error where memory is refused.
 pub fn printed(alloc: Global, request: &Request) -> Result<String, AllocError> {
     let root = match read_root(alloc, request.schema, request.answers) {
         Ok(root) => root,
@@ -94,7 +94,7 @@ pub fn printed(alloc: Global, request: &Request) -> Result<String, AllocError> {
         "" => None,
         name => Some(name),
     };
-    let mut context = String::from_str(alloc, request.sights.as_str())?;
+    let mut context = Notes::new(String::from_str(alloc, request.sights.as_str())?);
     let outcome = execute_sync(
         alloc,
         request.document.as_str(),
@@ -103,10 +103,15 @@ pub fn printed(alloc: Global, request: &Request) -> Result<String, AllocError> {
         &variables,
         &mut context,
     );
-    match outcome {
-        Ok((data, errors)) => answer_line(alloc, &data, errors.as_slice()),
-        Err(refusal) => refusal_line(alloc, &refusal),
+    let line = match outcome {
+        Ok((data, errors)) => answer_line(alloc, &data, errors.as_slice())?,
+        Err(refusal) => refusal_line(alloc, &refusal)?,
+    };
+    let steps = context.steps;
+    if steps == 0 {
+        return Ok(line);
     }
+    format!(in alloc; "{line} steps: {steps}")
 }
 
 /// `refused: `, and why a request is refused, with `; ` in place of line feeds.

@@ -15,7 +15,7 @@ mod variables;
 pub use answering::{ScriptRoot, Unread, printed, read_root};
 pub use columns::columns_asked_for;
 pub use reader::read_script;
-pub use script::{Answer, Line, Node, Script, Tree};
+pub use script::{Answer, Line, Node, Notes, Script, Tree};
 pub use table::{Request, Row, read_table};
 pub use tally::{Tally, report};
 pub use variables::variables_of;

@@ -4,7 +4,7 @@
 //! - `null`, an Int as `42`, `true`, `false`, a text between `"`, which holds no other `"`;
 //! - `@NAME:TYPE`, the node of that name and of that object type; `@TYPE` is the node of the same name as its type;
 //! - a list of answers as `[1, null, [@r2:Droid]]`;
-//! - alone, `error MESSAGE`, or `argument NAME`.
+//! - alone, `error MESSAGE`, `argument NAME`, or `steps`: how many steps mutations have taken.
 
 use crate::script::{Answer, Line, Node, Script, Tree};
 use std::alloc::Global;
@@ -55,6 +55,9 @@ fn read_answer(alloc: Global, text: &'static str) -> Option<Answer> {
     }
     if let Some(name) = text.strip_prefix("argument ") {
         return Some(Answer::Argument(name));
+    }
+    if text == "steps" {
+        return Some(Answer::Steps);
     }
     let mut cursor = Cursor { alloc, rest: text };
     let tree = cursor.read_tree(LEVELS)?;

@@ -85,13 +85,14 @@ fn resolved_argument<S: ScalarValue>(
     }
 }
 
-/// What a resolver answers by an answer of a script, for these arguments.
+/// What a resolver answers by an answer of a script, after so many steps, for these arguments.
 pub(crate) fn reply<S: ScalarValue>(
     alloc: Global,
     answer: Option<&Answer>,
+    steps: u8,
     arguments: &Arguments<'_, S>,
 ) -> Result<Resolved<Node, S>, ResolveError<S>>
-    ensures { Answers S.shown result (line_reply (option_map (λ a. a.now) answer.entry) (view_arguments S.shown arguments.now)) }
+    ensures { Answers S.shown result (line_reply (option_map (λ a. a.now) answer.entry) steps (view_arguments S.shown arguments.now)) }
 {
     match answer {
         None => Ok(Resolved::Null),
@@ -100,6 +101,7 @@ pub(crate) fn reply<S: ScalarValue>(
         Some(Answer::Argument(name)) => {
             resolved_argument(alloc, arguments.get_input_value(name))
         }
+        Some(Answer::Steps) => Ok(Resolved::Scalar(S::from_int(i32::from(steps)))),
     }
 }
 

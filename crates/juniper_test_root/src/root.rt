@@ -5,15 +5,17 @@ ghost use Rattle.graphql_spec.specs.Fields.{typename_field};
 ghost use Rattle.graphql_spec.specs.Schema.{object_type};
 ghost use Rattle.graphql_spec.specs.Types.{named as named_type};
 ghost use Rattle.juniper_meta.specs.MetaView.{named_meta};
-ghost use Rattle.juniper_test_root.specs.Scripts.{concrete_type, reply, root_of};
+ghost use Rattle.juniper_test_root.specs.Scripts.{concrete_type, reply, root_of, step, torn};
 
 use crate::replies::reply;
-use crate::script::{Node, Script};
+use crate::script::{Node, Notes, Script};
 use crate::sights::is_as_told;
 use juniper_meta::MetaType;
 use juniper_resolvable::Resolved;
 use juniper_syntax::{ScalarValue, Type};
-use juniper_types::{Executor, GraphQLReference, GraphQLType, GraphQLValue, Registry};
+use juniper_types::{
+    Executor, GraphQLMutationValue, GraphQLReference, GraphQLType, GraphQLValue, Registry,
+};
 use juniper_values::{Arguments, ResolveError};
 use std::alloc::{AllocError, Global};
 
@@ -58,13 +60,13 @@ impl<S: ScalarValue> GraphQLType<S> for Script {
 /// A field of a node answers what the first line of the node says, else the first one of its object type, else null. Where look-ahead shows
 /// at the field something else than the context's lines say, it answers that memory is refused.
 impl<S: ScalarValue> GraphQLValue<S> for Script {
-    type Context = String;
+    type Context = Notes;
 
     type Node = Node;
 
     ghost concrete = { λ _ _ _ node. concrete_type node };
 
-    ghost answer = { λ script _ _ node field arguments. reply script node field arguments };
+    ghost answer = { λ script _ context node field arguments. reply script context node field arguments };
 
     ghost root = { root_of };
 
@@ -97,6 +99,42 @@ impl<S: ScalarValue> GraphQLValue<S> for Script {
         if !is_as_told(alloc, executor)? {
             return Err(ResolveError::Memory);
         }
-        reply(alloc, self.answer_of(node, field_name), arguments)
+        let steps = executor.context().steps;
+        reply(alloc, self.answer_of(node, field_name), steps, arguments)
+    }
+}
+
+/// The step of a root field counts one more, and answers what the lines of the root's node say, else those of its object type, else null.
+impl<S: ScalarValue> GraphQLMutationValue<S> for Script {
+    type Context = Notes;
+
+    type Node = Node;
+
+    ghost step = { λ script _ context field arguments. step script context field arguments };
+
+    ghost torn = { λ _ _ context _ _. torn context };
+
+    fn resolve_root(
+        &self,
+        alloc: Global,
+        _info: &(),
+        field_name: &str,
+        arguments: &Arguments<'_, S>,
+        _executor: &Executor<(), S>,
+        context: &mut Notes,
+    ) -> Result<Resolved<Node, S>, ResolveError<S>> {
+        let steps = context.steps.wrapping_add(1);
+        let answer = self.answer_of(&self.root, field_name);
+        match reply(alloc, answer, steps, arguments) {
+            Ok(resolved) => {
+                context.steps = steps;
+                Ok(resolved)
+            }
+            Err(ResolveError::Field(error)) => {
+                context.steps = steps;
+                Err(ResolveError::Field(error))
+            }
+            Err(ResolveError::Memory) => Err(ResolveError::Memory),
+        }
     }
 }

@@ -38,6 +38,8 @@ pub enum Answer {
     Error(&'static str),
     /// The value of the argument of this name, if it is a scalar or an enum's value; else null.
     Argument(&'static str),
+    /// How many steps mutations have taken.
+    Steps,
 }
 
 /// A line of a script: the owner, a node or an object type, answers this to the field.
@@ -56,6 +58,22 @@ pub struct Line {
 pub struct Script {
     pub(crate) lines: Vec<Line>,
     pub(crate) root: Node,
+}
+
+/// What a request brings along.
+#[derive(Debug, Drop)]
+pub struct Notes {
+    /// What look-ahead shows at fields, a line each.
+    pub sights: String,
+    /// How many steps mutations have taken, modulo 256.
+    pub steps: u8,
+}
+
+impl Notes {
+    /// These sights, and no step.
+    pub fn new(sights: String) -> Self {
+        Notes { sights, steps: 0 }
+    }
 }
 
 impl Line {

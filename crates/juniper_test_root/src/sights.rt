@@ -5,6 +5,7 @@
 //! its children, if it has any, as ` { SELECTION .. }`.
 
 use crate::columns::columns_asked_for;
+use crate::script::Notes;
 use juniper::{
     LookAheadArgument, LookAheadChildren, LookAheadSelection, LookAheadValue, ScalarValue,
 };
@@ -18,11 +19,11 @@ const LEVELS: usize = 9;
 /// error where memory is refused.
 pub(crate) fn is_as_told<S: ScalarValue>(
     alloc: Global,
-    executor: &Executor<String, S>,
+    executor: &Executor<Notes, S>,
 ) -> Result<bool, AllocError> {
     let selection = executor.look_ahead();
     let mut is_told = false;
-    for line in executor.context().lines() {
+    for line in executor.context().sights.lines() {
         if let Some((key, said)) = line.split_once(": ") {
             if key == selection.field_name() {
                 let is_so = match said.strip_prefix("columns") {
@@ -42,7 +43,7 @@ pub(crate) fn is_as_told<S: ScalarValue>(
 /// Whether these are the columns that are asked for, each behind a blank.
 fn are_columns<S: ScalarValue>(
     alloc: Global,
-    executor: &Executor<String, S>,
+    executor: &Executor<Notes, S>,
     names: &str,
 ) -> Result<bool, AllocError> {
     let mut found = String::new(alloc);

@@ -8,6 +8,8 @@ mod errors;
 #[cfg(test)]
 mod flat;
 #[cfg(test)]
+mod mutations;
+#[cfg(test)]
 mod names;
 #[cfg(test)]
 mod nulls;

@@ -31,7 +31,7 @@ type Query { id: ID }
 type Change { id: ID }
 answers:
 rows:
-{ id } => unread: the schema has a mutation type
+mutation { id } => {"data":{"id":null}} steps: 1
 schema:
 query Root
 type Root { id: ID, name: String }

@@ -1,7 +1,7 @@
 //! Arguments, and variables with values, defaults and nulls (sections 6.1.2 and 6.4.1 of the Specification).
 
 use juniper::{InputValue, execute_sync};
-use juniper_test_root::{read_root, report};
+use juniper_test_root::{Notes, read_root, report};
 use std::alloc::{AllocError, Global};
 use std::collections::HashMap;
 use std::test::Fail;
@@ -174,7 +174,7 @@ fn given_a_variable(alloc: Global) -> Result<String, AllocError> {
     let name = String::from_str(alloc, "a")?;
     variables.insert(name, InputValue::Variable(String::from_str(alloc, "a")?))?;
     let text = "query Q($a: Int) { number(plus: $a) }";
-    let mut context = String::new(alloc);
+    let mut context = Notes::new(String::new(alloc));
     match execute_sync(alloc, text, None, &root, &variables, &mut context) {
         Ok(_) => String::from_str(alloc, "answered"),
         Err(refusal) => format!(in alloc; "{refusal}"),

@@ -1,1 +1,2 @@
 pub mod ExecutorView
+pub mod Stepping

@@ -1,14 +1,19 @@
 //! What stands for a mutation or a subscription that a schema lacks.
 
-ghost use Rattle.std.specs.Prelude.{[], ◌∷◌, Some, codes, true};
+ghost use Rattle.std.specs.Prelude.{[], ◌∷◌, Some, codes, false, true};
 ghost use Rattle.graphql_spec.specs.Fields.{typename_field};
+ghost use Rattle.graphql_spec.specs.Resolvers.{answered, nothing};
 ghost use Rattle.graphql_spec.specs.Schema.{object_type};
 ghost use Rattle.graphql_spec.specs.Types.{named as named_type};
 ghost use Rattle.juniper_meta.specs.MetaView.{named_meta};
 
+use crate::executor::Executor;
+use crate::mutation::GraphQLMutationValue;
 use juniper_meta::MetaType;
 use juniper_registry::{GraphQLReference, GraphQLType, Registry};
+use juniper_resolvable::Resolved;
 use juniper_syntax::{ScalarValue, Type};
+use juniper_values::{Arguments, ResolveError};
 use std::alloc::{AllocError, Global};
 use std::marker::PhantomData;
 
@@ -65,6 +70,29 @@ impl<S: ScalarValue, T, N> GraphQLType<S> for EmptyMutation<T, N> {
     }
 
     ghost keeps_name = { λ _ _ e. e };
+}
+
+/// Every step leaves the context, and answers null.
+impl<S: ScalarValue, T, N: Drop> GraphQLMutationValue<S> for EmptyMutation<T, N> {
+    type Context = T;
+
+    type Node = N;
+
+    ghost step = { λ _ _ context _ _. (context, answered nothing) };
+
+    ghost torn = { λ _ _ _ _ _ _. false };
+
+    fn resolve_root(
+        &self,
+        _alloc: Global,
+        _info: &(),
+        _field_name: &str,
+        _arguments: &Arguments<'_, S>,
+        _executor: &Executor<(), S>,
+        _context: &mut T,
+    ) -> Result<Resolved<N, S>, ResolveError<S>> {
+        Ok(Resolved::Null)
+    }
 }
 
 /// No subscription, beside a query of contexts `T`: an object type without fields of its own.

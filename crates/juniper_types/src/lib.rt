@@ -6,6 +6,7 @@ mod context;
 mod empty;
 mod executing;
 mod executor;
+mod mutation;
 mod references;
 mod resolver;
 #[cfg(test)]
@@ -19,4 +20,5 @@ pub use executor::Executor;
 pub use juniper_errors::FieldPath;
 pub use juniper_registry::{GraphQLReference, GraphQLType, Registry, RegistryError, TypeKind};
 pub use juniper_resolvable::{IntoResolvable, OfNode, Resolved};
+pub use mutation::GraphQLMutationValue;
 pub use resolver::GraphQLValue;

@@ -38,104 +38,35 @@ use Rattle.juniper_collect.specs.FragmentView.{ExpandAlike, fragments_in}
 use Rattle.juniper_collect.specs.Collected.{expansion, view_collected}
 use Rattle.juniper_collect.specs.declared.collecting.Collector.{Collector}
 use Rattle.juniper_walk.specs.FieldWords.{head_of}
+use Rattle.juniper_walk.specs.Completing.{IsParted}
 use Rattle.juniper_walk.specs.Walking.{IsPrepared}
 
 module _ {N : Type 0} (W : World N) (at : Place) (T : Name) (m : N) (o : Occurrence) (place : Place) (r : Bool) (s : Skeleton) (ns : List N)
     (es : List Listed) where
-  pub prepared-answer : (a : Tree N) (errors : List Error) → place ≡ at ++ key (response_key o.head) ∷ [] → r
-      ≡ required (W.field_type T o.head.name.item) → reply_to W T m o.head ≡ answered a →
-      IsApart W (W.field_type T o.head.name.item) a s [] ns [] errors → es ≡ listed_at place o.head.span.start errors → IsPrepared W at T m o place r s ns es
-  unfolding type_of reply_of reply_skeleton reply_nodes reply_errors
-  prepared-answer a errors is q answer apart listed =
-      let t : TypeRef = W.field_type T o.head.name.item in
+  pub prepared-reply : (t : TypeRef) (errors : List Error) → place ≡ at ++ key (response_key o.head) ∷ [] → r ≡ required t → t ≡ W.field_type T o.head.name.item →
+      IsParted W t (reply_to W T m o.head) s ns errors → es ≡ listed_at place o.head.span.start errors → IsPrepared W at T m o place r s ns es
+  unfolding type_of reply_of
+  prepared-reply t errors is q typed parted listed =
+      let here : IsParted W (W.field_type T o.head.name.item) (reply_to W T m o.head) s ns errors = subst (λ u. IsParted W u (reply_to W T m o.head) s ns errors) typed parted in
       record {
         is_place = is;
-        non_null = q;
-        skeleton = apart.is ∙ sym (ap (reply_skeleton W t) answer);
-        nodes = apart.nodes ∙ sym (ap (reply_nodes W t) answer);
-        errors = listed ∙ ap (listed_at place o.head.span.start) (apart.errors ∙ sym (ap (reply_errors W t) answer));
+        non_null = q ∙ ap required typed;
+        skeleton = here.skeleton;
+        nodes = here.nodes;
+        errors = listed ∙ ap (listed_at place o.head.span.start) here.errors;
       }
-
-  pub prepared-failure : (e : Error) → place ≡ at ++ key (response_key o.head) ∷ [] → r ≡ required (W.field_type T o.head.name.item)
-      → reply_to W T m o.head ≡ failed e →
-      s ≡ absent → ns ≡ [] → es ≡ record { path = place; start = o.head.span.start; error = e } ∷ [] → IsPrepared W at T m o place r s ns es
-  unfolding type_of reply_of reply_skeleton reply_nodes reply_errors listed_at
-  prepared-failure e is q answer none no_nodes listed =
-      let t : TypeRef = W.field_type T o.head.name.item in
-      record {
-        is_place = is;
-        non_null = q;
-        skeleton = none ∙ sym (ap (reply_skeleton W t) answer);
-        nodes = no_nodes ∙ sym (ap (reply_nodes W t) answer);
-        errors = listed ∙ ap (listed_at place o.head.span.start) (sym (ap (reply_errors W t) answer));
-      }
-
--- ## Faults of one field
-
-module _ {S : Type 0} (shown : S → Shown) (place : Place) (start : Position) (fs : List Fault) (i : ℕ) where
-  abbrev listed_one : Fault → Listed
-  listed_one f = record { path = place; start = start; error = view_fault f }
-
-  abbrev listed_all : List Fault → List Listed
-  listed_all xs = listed_at place start (map view_fault xs)
-
-  one-listed : (x : Fault) (xs : List Fault) → listed_all (x ∷ xs) ≡ listed_one x ∷ listed_all xs
-  unfolding listed_at
-  one-listed x xs = refl
-
-  pub fault-listed : (d : Fault) (made more : List (ExecutionError S)) (e : FieldError S) (y : ExecutionError S) → i < length fs → view_error shown e
-      ≡ view_fault (get_or fs i d) →
-      view_listed shown y ≡ record { path = place; start = start; error = view_error shown e } → more ≡ made ++ y ∷ []
-      → map (view_listed shown) made ++ listed_all (drop i fs) ≡ listed_all fs →
-      map (view_listed shown) more ++ listed_all (drop (i + 1) fs) ≡ listed_all fs
-  fault-listed d made more e y below error new push so_far =
-      let x : Fault = get_or fs i d in
-      let is : x ≡ get_or fs i x = search (rules, get_or_default) in
-      let one : view_listed shown y ≡ listed_one x = new ∙ ap (λ z. record { path = place; start = start; error = z }) error in
-      ap (λ l. l ++ listed_all (drop (i + 1) fs)) (seen-push (view_listed shown) made more y push)
-      ∙ (append_assoc (map (view_listed shown) made) (view_listed shown y ∷ []) (listed_all (drop (i + 1) fs))
-      ∙ (ap (λ z. map (view_listed shown) made ++ z ∷ listed_all (drop (i + 1) fs)) one
-      ∙ (ap (λ l. map (view_listed shown) made ++ l) (sym (ap listed_all (left-is fs i x below is) ∙ one-listed x (drop (i + 1) fs))) ∙ so_far)))
-
-  none-listed : listed_all [] ≡ []
-  unfolding listed_at
-  none-listed = refl
-
-  pub faults-listed : (made : List (ExecutionError S)) → length fs ≤ i → map (view_listed shown) made ++ listed_all (drop i fs) ≡ listed_all fs
-      → map (view_listed shown) made ≡ listed_all fs
-  faults-listed made past so_far = sym (ap (λ l. map (view_listed shown) made ++ l) (ap listed_all (drop_all i fs past) ∙ none-listed) ∙ append-nil (map (view_listed shown) made)) ∙ so_far
-
-  pub no-faults : (made : List (ExecutionError S)) → made ≡ [] → fs ≡ [] → map (view_listed shown) made ≡ listed_all fs
-  no-faults made none e = ap (map (view_listed shown)) none ∙ sym (ap listed_all e ∙ none-listed)
-
-module _ {N S : Type 0} (shown : S → Shown) (a : Result (Resolved N S) (ResolveError S)) (r : Reply N) where
-  pub reply-answers : (x : Resolved N S) → a ≡ Ok x → Answers shown a r → r ≡ answered (view_resolved shown x)
-  reply-answers x e given = subst (λ z. Answers shown z r) {y = Ok x} e given
-
-  pub reply-fails : (f : ResolveError S) (x : FieldError S) → a ≡ Err f → f ≡ error.Field x → Answers shown a r → r ≡ failed (view_error shown x)
-  reply-fails f x e is given = subst (λ z. FailsWith shown z r) {y = error.Field x} is (subst (λ z. Answers shown z r) {y = Err f} e given)
 
 pub same-head : {S P : Type 0} (shown : S → Shown) (c : Collector S P) (f : Spanning (FieldType S) Span) → (view_collected shown c f).head ≡ head_of shown f
 unfolding view_collected
 same-head shown c f = refl
 
--- nothing was there before
-pub apart-at : {N : Type 0} (W : World N) (t u : TypeRef) (a : Tree N) (s : Skeleton) (ns more : List N) (es further : List Error) → t ≡ u → ns ≡ []
-    → es ≡ [] → IsApart W t a s ns more es further → IsApart W u a s [] more [] further
-apart-at W t u a s ns more es further e n f p = subst (λ x. IsApart W u a s [] more x further) f
-    (subst (λ x. IsApart W u a s x more es further) n (subst (λ x. IsApart W x a s ns more es further) e p))
-
-pub listed-same : (p q : Place) (a b : Position) (xs ys : List Error) → p ≡ q → a ≡ b → xs ≡ ys → listed_at p a xs ≡ listed_at q b ys
-listed-same p q a b xs ys e f g = ap (λ x. listed_at x a xs) e ∙ (ap (λ x. listed_at q x xs) f ∙ ap (listed_at q b) g)
-
-pub one-error : (p q : Place) (a b : Position) (e : Error) (xs : List Listed) → p ≡ q → a ≡ b → xs ≡ record { path = p; start = a; error = e } ∷ []
-    → xs ≡ record { path = q; start = b; error = e } ∷ []
-one-error p q a b e xs same at is = is ∙ (ap (λ x. record { path = x; start = a; error = e } ∷ []) same ∙ ap (λ x. record { path = q; start = x; error = e } ∷ []) at)
+pub listed-same : (p q : Place) (a b : Position) (xs : List Error) → p ≡ q → a ≡ b → listed_at p a xs ≡ listed_at q b xs
+listed-same p q a b xs e f = ap (λ x. listed_at x a xs) e ∙ ap (λ x. listed_at q x xs) f
 
 -- ## A collected field is selected where the fragments are found by their names
 
 module _ {S P : Type 0} (shown : S → Shown) (c : Collector S P) (m : FragmentsByName S)
-    (alike : ExpandAlike (fragments_among shown m) (fragments_in shown c.fragments)) where
+    (alike : ExpandAlike (fragments_among shown m) (fragments_in shown c.fragments.now)) where
   same-expansion : (s : Selections) → expansion shown c s ≡ expanded shown c.variables.now m s
   unfolding expansion expanded
   same-expansion s = sym (alike (passes (view_variables shown c.variables.now)) s)

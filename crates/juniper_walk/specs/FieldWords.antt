@@ -1,5 +1,11 @@
 -- The words of a field (2.5).
-use Rattle.graphql_spec.specs.Shown.{Shown}
+use Rattle.std.specs.Prelude.{ℕ, List, [], Vec}
+use Rattle.std.specs.Option.{option_map_or}
+use Rattle.std.specs.Borrow.{Bor}
+use Rattle.std.specs.HashMap.{HashMap, get_by}
+use Rattle.std.specs.Str.{bytes_eq}
+use Rattle.std.specs.declared.alloc.Global.{Global}
+use Rattle.graphql_spec.specs.Shown.{Shown, Name}
 use Rattle.graphql_spec.specs.Documents.{Head}
 use Rattle.juniper_position.specs.Positions.{view_span}
 use Rattle.juniper_position.specs.declared.position.Spanning.{Spanning}
@@ -10,3 +16,7 @@ use Rattle.juniper_syntax.specs.declared.ast.Field.{Field, out-Field}
 -- the words of a field, and where it is written
 abbrev pub head_of : {S : Type 0} → (S → Shown) → Spanning (Field S) Span → Head
 head_of {S} shown f = view_head shown (out-Field S f.item) (view_span f.span)
+
+-- the fields that a map has at a response key
+abbrev pub fields_at : {O H : Type 0} → HashMap (Bor (List ℕ)) (Vec O Global) H → Name → List O
+fields_at groups q = option_map_or (λ g. g.items) (get_by (λ n. bytes_eq q n.now) groups) []

@@ -1,2 +1,3 @@
+pub mod Completing
 pub mod FieldWords
 pub mod Walking

@@ -80,7 +80,7 @@ pub fn object<'d, 'a, S: ScalarValue, R: Resolver<S>>(
 
 /// The objects of nodes for what a field selects, one after the other.
 #[cycle(walking)]
-fn objects_of<'d, 'a, S: ScalarValue, R: Resolver<S>>(
+pub(crate) fn objects_of<'d, 'a, S: ScalarValue, R: Resolver<S>>(
     walk: &Walk<'_, 'd, 'a, S, R>,
     path: &Rc<FieldPath<'a>>,
     nodes: &[R::Node],

@@ -1,4 +1,4 @@
-use Rattle.std.proofs.Common.{map, false, refl, ap, ◌∙◌}
+use Rattle.std.proofs.Common.{map, refl, ap, ◌∙◌}
 use Rattle.graphql_spec.specs.Documents.{fragments}
 use Rattle.graphql_spec.specs.Directives.{passes}
 use Rattle.graphql_spec.specs.Fragments.{expand}
@@ -7,8 +7,7 @@ use Rattle.graphql_spec.specs.Resolvers.{world_of}
 use Rattle.juniper_syntax.specs.DocumentView.{view_definition, view_document, view_operation, view_selections}
 use Rattle.juniper_syntax.specs.InputView.{view_variables}
 use Rattle.juniper_schema.specs.SchemaView.{view_schema}
-use Rattle.juniper_collect.specs.Collected.{IsReady, expansion}
-use Rattle.juniper_walk.specs.Walking.{IsReadyWalk}
+use Rattle.juniper_collect.specs.Collected.{expansion}
 use Rattle.juniper.specs.Services.{is_undeclared, world_in}
 use Rattle.juniper.proofs.Executing.{no-cycle, query-agrees, answer-moves}
 use Rattle.juniper.proofs.execute.execute_query.Goals as goal

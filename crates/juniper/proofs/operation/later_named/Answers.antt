@@ -1,7 +1,7 @@
-use Rattle.std.proofs.Common.{cond, option_map, refl, sym, ap, ◌∙◌}
+use Rattle.std.proofs.Common.{cond, option_map, sym, ap, ◌∙◌}
 use Rattle.graphql_spec.specs.Requests.{chosen}
 use Rattle.juniper_syntax.specs.DocumentView.{view_definition, view_operation}
-use Rattle.juniper.specs.Choices.{choice_of, found_in}
+use Rattle.juniper.specs.Choices.{choice_of}
 use Rattle.juniper.proofs.Choosing.{later-some, later-none}
 use Rattle.juniper.proofs.operation.later_named.Goals as goal
 

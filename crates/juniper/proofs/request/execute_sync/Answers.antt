@@ -10,7 +10,7 @@ use Rattle.juniper_errors.specs.ErrorView.{view_listed}
 use Rattle.juniper_schema.specs.SchemaView.{view_schema}
 use Rattle.juniper.specs.Answering.{outcome_of}
 use Rattle.juniper.specs.RequestErrors.{view_request_error}
-use Rattle.juniper.specs.Services.{service_in}
+use Rattle.juniper.specs.Services.{service_in, steps_at}
 use Rattle.juniper.proofs.Composing.{at-parse, at-validate, at-choose, at-coerce, at-execute, responds-so}
 use Rattle.juniper.proofs.request.execute_sync.Goals as goal
 
@@ -19,7 +19,8 @@ returns-in-Err g c =
     let shown = g.S.ScalarValue.shown in
     let root = c.args.root_node.now in
     let s = view_schema shown root.schema in
-    let S = service_in g.Q.GraphQLValue.concrete g.Q.GraphQLValue.answer g.Q.GraphQLValue.root root.query root.query_info s in
+    let m = steps_at g.M.GraphQLMutationValue.step g.M.GraphQLMutationValue.torn root.mutation root.mutation_info in
+    let S = service_in g.Q.GraphQLValue.concrete g.Q.GraphQLValue.answer g.Q.GraphQLValue.root root.query root.query_info m s in
     let q : Request = record { text = c.args.document_source.now; operation = option_map (λ n. n.now) c.args.operation_name; variables = view_variables shown c.args.variables.now } in
     at-parse S q c.args.context.now (view_request_error c.in-Err.error) c.in-Err.ensures
 
@@ -28,7 +29,8 @@ returns-in-Err-check_document g c =
     let shown = g.S.ScalarValue.shown in
     let root = c.args.root_node.now in
     let s = view_schema shown root.schema in
-    let S = service_in g.Q.GraphQLValue.concrete g.Q.GraphQLValue.answer g.Q.GraphQLValue.root root.query root.query_info s in
+    let m = steps_at g.M.GraphQLMutationValue.step g.M.GraphQLMutationValue.torn root.mutation root.mutation_info in
+    let S = service_in g.Q.GraphQLValue.concrete g.Q.GraphQLValue.answer g.Q.GraphQLValue.root root.query root.query_info m s in
     let q : Request = record { text = c.args.document_source.now; operation = option_map (λ n. n.now) c.args.operation_name; variables = view_variables shown c.args.variables.now } in
     let d = view_document shown c.in-Ok.document in
     let read = c.in-Ok.ensures in
@@ -39,7 +41,8 @@ returns-in-Err-get_operation g c =
     let shown = g.S.ScalarValue.shown in
     let root = c.args.root_node.now in
     let s = view_schema shown root.schema in
-    let S = service_in g.Q.GraphQLValue.concrete g.Q.GraphQLValue.answer g.Q.GraphQLValue.root root.query root.query_info s in
+    let m = steps_at g.M.GraphQLMutationValue.step g.M.GraphQLMutationValue.torn root.mutation root.mutation_info in
+    let S = service_in g.Q.GraphQLValue.concrete g.Q.GraphQLValue.answer g.Q.GraphQLValue.root root.query root.query_info m s in
     let q : Request = record { text = c.args.document_source.now; operation = option_map (λ n. n.now) c.args.operation_name; variables = view_variables shown c.args.variables.now } in
     let d = view_document shown c.in-Ok.document in
     let read = c.in-Ok.ensures in
@@ -51,7 +54,8 @@ returns-in-Err-check_variables g c =
     let shown = g.S.ScalarValue.shown in
     let root = c.args.root_node.now in
     let s = view_schema shown root.schema in
-    let S = service_in g.Q.GraphQLValue.concrete g.Q.GraphQLValue.answer g.Q.GraphQLValue.root root.query root.query_info s in
+    let m = steps_at g.M.GraphQLMutationValue.step g.M.GraphQLMutationValue.torn root.mutation root.mutation_info in
+    let S = service_in g.Q.GraphQLValue.concrete g.Q.GraphQLValue.answer g.Q.GraphQLValue.root root.query root.query_info m s in
     let q : Request = record { text = c.args.document_source.now; operation = option_map (λ n. n.now) c.args.operation_name; variables = view_variables shown c.args.variables.now } in
     let d = view_document shown c.in-Ok.document in
     let read = c.in-Ok.ensures in
@@ -70,7 +74,8 @@ returns-in-Err-execute_validated_query g c =
     let shown = g.S.ScalarValue.shown in
     let root = c.args.root_node.now in
     let s = view_schema shown root.schema in
-    let S = service_in g.Q.GraphQLValue.concrete g.Q.GraphQLValue.answer g.Q.GraphQLValue.root root.query root.query_info s in
+    let m = steps_at g.M.GraphQLMutationValue.step g.M.GraphQLMutationValue.torn root.mutation root.mutation_info in
+    let S = service_in g.Q.GraphQLValue.concrete g.Q.GraphQLValue.answer g.Q.GraphQLValue.root root.query root.query_info m s in
     let q : Request = record { text = c.args.document_source.now; operation = option_map (λ n. n.now) c.args.operation_name; variables = view_variables shown c.args.variables.now } in
     let d = view_document shown c.in-Ok.document in
     let read = c.in-Ok.ensures in
@@ -86,7 +91,8 @@ returns g c =
     let shown = g.S.ScalarValue.shown in
     let root = c.args.root_node.now in
     let s = view_schema shown root.schema in
-    let S = service_in g.Q.GraphQLValue.concrete g.Q.GraphQLValue.answer g.Q.GraphQLValue.root root.query root.query_info s in
+    let m = steps_at g.M.GraphQLMutationValue.step g.M.GraphQLMutationValue.torn root.mutation root.mutation_info in
+    let S = service_in g.Q.GraphQLValue.concrete g.Q.GraphQLValue.answer g.Q.GraphQLValue.root root.query root.query_info m s in
     let q : Request = record { text = c.args.document_source.now; operation = option_map (λ n. n.now) c.args.operation_name; variables = view_variables shown c.args.variables.now } in
     let d = view_document shown c.in-Ok.document in
     let read = c.in-Ok.ensures in

@@ -1,4 +1,4 @@
-use Rattle.std.proofs.Common.{string_bytes, option_map, Some, None, sym, ap, ◌∙◌, ◌≡◌, subst}
+use Rattle.std.proofs.Common.{string_bytes, Some, None, ap, ◌∙◌, ◌≡◌, subst}
 use Rattle.std.specs.HashMap.{get_by_text}
 use Rattle.std.specs.Map.{update}
 use Rattle.std.specs.Str.{bytes_eq}

@@ -3,7 +3,7 @@ use Rattle.graphql_spec.specs.Shown.{Name}
 use Rattle.graphql_spec.specs.Requests.{coerced_variables}
 use Rattle.std.proofs.Common.{map}
 use Rattle.juniper_syntax.specs.DocumentView.{view_variable}
-use Rattle.juniper_syntax.specs.InputView.{view_input, view_variables}
+use Rattle.juniper_syntax.specs.InputView.{view_variables}
 use Rattle.juniper.proofs.VariableValues.{none-coerced, one-more-coerced, all-coerced}
 use Rattle.juniper.proofs.variables.values_of.Goals as goal
 

@@ -3,8 +3,8 @@ use Rattle.graphql_spec.specs.Fields.{declared_type}
 use Rattle.juniper_meta.specs.MetaView.{view_field}
 use Rattle.juniper_syntax.specs.TypeView.{view_type}
 use Rattle.juniper.proofs.Undeclared.{undeclared-is}
-use Rattle.juniper.proofs.service.Service.declared_type.Goals as goal
+use Rattle.juniper.proofs.service.declared_type.Goals as goal
 
 pub returns-in-None : goal.returns-in-None
 returns-in-None g c =
-    undeclared-is (view_type (λ n. string_bytes n) c.args.self.now.undeclared) c.args.self.now.unnamed ∙ ap (λ f. declared_type (option_map (λ x. view_field g.S.ScalarValue.shown x.now) f)) (sym c.in-None.is)
+    undeclared-is (view_type (λ n. string_bytes n) c.args.undeclared.now) c.requires ∙ ap (λ f. declared_type (option_map (λ x. view_field g.S.ScalarValue.shown x.now) f)) (sym c.in-None.is)

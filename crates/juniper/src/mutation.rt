@@ -1,0 +1,330 @@
+//! The root groups of a mutation take their steps one after the other (ExecuteMutation, section 6.2.2 of the Specification).
+
+ghost use Rattle.std.specs.Prelude.{◌≡◌, ◌∷◌, IfOk, MatchResult, map, string_bytes};
+ghost use Rattle.graphql_spec.specs.Documents.{response_key as key_of};
+ghost use Rattle.graphql_spec.specs.Errors.{keys_only};
+ghost use Rattle.graphql_spec.specs.Fields.{declared_arguments, field_of, is_possible};
+ghost use Rattle.graphql_spec.specs.GroupLaws.{all_starts};
+ghost use Rattle.graphql_spec.specs.Laws.{Merges};
+ghost use Rattle.graphql_spec.specs.Mutation.{IsLeft, step_of};
+ghost use Rattle.graphql_spec.specs.MutationLaws.{HasRun};
+ghost use Rattle.graphql_spec.specs.Selections.{all_below, keys, with_key};
+ghost use Rattle.graphql_spec.specs.Types.{innermost};
+ghost use Rattle.juniper_errors.specs.ErrorView.{view_listed};
+ghost use Rattle.juniper_errors.specs.PathView.{path_place};
+ghost use Rattle.juniper_lookahead.specs.Expansion.{IsAcyclic};
+ghost use Rattle.juniper_lookahead.specs.Selected.{IsSelected};
+ghost use Rattle.juniper_meta.specs.MetaView.{view_argument};
+ghost use Rattle.juniper_resolvable.specs.ResolvedView.{Answers};
+ghost use Rattle.juniper_schema.specs.SchemaView.{view_schema};
+ghost use Rattle.juniper_syntax.specs.TypeView.{view_type};
+ghost use Rattle.juniper_syntax.specs.ValueView.{view_object, view_value};
+ghost use Rattle.juniper_walk.specs.Completing.{IsGroupAt, IsTold};
+ghost use Rattle.juniper_walk.specs.FieldWords.{head_of};
+ghost use Rattle.juniper_walk.specs.Walking.{SelectionsAgree};
+ghost use Rattle.juniper.specs.RootFields.{IsReadyRoot, all_fields, field_in, fields_in, group_in, selected_in, values_in};
+ghost use Rattle.juniper.specs.RootView.{mutation_root, schema_of};
+ghost use Rattle.juniper.specs.Stepping.{GroupRan, GroupStopped, IsGiven, StepLeaves};
+
+use crate::coerce::coerce_arguments;
+use crate::root::RootNode;
+use crate::root_walk::RootWalk;
+use crate::service::{
+    Service, arguments_of, declared_type, shown_type, type_name, undeclared_type,
+};
+use juniper_collect::{Collected, Collector, Conditions, Occurrence, collect};
+use juniper_language::{Field, Object, ScalarValue, Span, Spanning, Type, Value};
+use juniper_meta::meta::Argument;
+use juniper_schema::SchemaType;
+use juniper_types::{
+    Executor, FieldPath, GraphQLMutationValue, GraphQLType, GraphQLValue, Resolved,
+};
+use juniper_values::{ExecutionError, ResolveError};
+use juniper_walk::{
+    Asked, Group, Site, Walk, Walked, complete_group, group_fields, others_of, path_below,
+    response_key,
+};
+use std::alloc::{AllocError, Global};
+use std::rc::Rc;
+
+/// What the fields of a root are collected by: which object types are possible where.
+#[derive(Drop)]
+struct Possible<'r, S: ScalarValue> {
+    schema: &'r SchemaType<S>,
+}
+
+impl<'r, S: ScalarValue> Conditions for Possible<'r, S> {
+    ghost possible = { λ p. is_possible (view_schema S.shown p.schema.now) };
+
+    fn is_possible(&self, concrete: &str, condition: &str) -> bool {
+        self.schema.is_possible(concrete, condition)
+    }
+}
+
+/// The fields that a mutation selects of its root type (CollectFields, 6.3.2).
+pub(crate) fn root_fields<'d, 'a, S: ScalarValue>(
+    schema: &SchemaType<S>,
+    walk: &RootWalk<'_, 'd, 'a, S>,
+) -> Result<Collected<'d, 'a, S>, AllocError>
+    requires { IsReadyRoot S.shown walk.now }
+    ensures { IfOk result (λ fs. fields_in S.shown walk.now fs.items ≡ all_fields S.shown walk.now (view_schema S.shown schema.now)) }
+{
+    let collector = Collector {
+        fragments: walk.fragments,
+        variables: walk.variables,
+        possible: Possible { schema },
+    };
+    let fields = collect(walk.alloc, &collector, walk.concrete, walk.selections)?;
+    Ok(fields)
+}
+
+/// Takes the step of a root field in the context; `__typename` leaves it (4.1).
+#[tactic(auto, unfolding(graphql_spec::specs::Mutation::step_of, graphql_spec::specs::Mutation::torn_of, graphql_spec::specs::Resolvers::world_of))]
+fn step<
+    'd,
+    'a,
+    Q: GraphQLValue<S>,
+    M: GraphQLMutationValue<S, Context = Q::Context, Node = Q::Node>,
+    Sub: GraphQLType<S>,
+    S: ScalarValue,
+>(
+    root_node: &RootNode<Q, M, Sub, S>,
+    walk: &RootWalk<'_, 'd, 'a, S>,
+    site: &Site<'_, 'd, 'a, S>,
+    declared: &Type<String>,
+    arguments: &[Argument<S>],
+    context: &mut Q::Context,
+) -> Result<Resolved<Q::Node, S>, ResolveError<S>>
+    requires arguments { map (view_argument S.shown) arguments.now ≡ declared_arguments (field_of (view_schema S.shown (schema_of root_node.now))
+        walk.now.concrete.now (head_of S.shown site.now.field.now).name.item) }
+    requires acyclic { IsAcyclic S.shown site.now.fragments.now }
+    requires selected { IsSelected S.shown (is_possible (view_schema S.shown (schema_of root_node.now))) walk.now.variables.now site.now.fragments.now
+        walk.now.concrete.now site.now.enclosing.now site.now.field.now }
+    ensures answer { (os : _) → Answers S.shown result (step_of (mutation_root Q.concrete Q.answer M.step M.torn S.shown root_node.now (values_in S.shown walk.now))
+        walk.now.concrete.now context.old (field_in S.shown walk.now site.now.field.now ∷ os)).1 }
+    ensures context { (os : _) → StepLeaves (mutation_root Q.concrete Q.answer M.step M.torn S.shown root_node.now (values_in S.shown walk.now))
+        walk.now.concrete.now (field_in S.shown walk.now site.now.field.now ∷ os) context.old result context.new }
+{
+    let alloc = walk.alloc;
+    let written = site.field;
+    let name = written.item.name.item;
+    if name == "__typename" {
+        return type_name(alloc, walk.concrete);
+    }
+    let arguments = coerce_arguments(alloc, arguments, site.field, walk.variables)?;
+    let declared = shown_type(alloc, &root_node.schema, root_node.query_type(), declared)?;
+    let executor = Executor::at_field(
+        &(),
+        &root_node.schema,
+        walk.variables,
+        site.fragments,
+        site.path,
+        &declared,
+        walk.concrete,
+        site.enclosing,
+        site.field,
+    );
+    root_node.mutation.resolve_root(
+        alloc,
+        &root_node.mutation_info,
+        name,
+        &arguments,
+        &executor,
+        context,
+    )
+}
+
+/// Completes what a root field answered under the context that its step left (6.4.3).
+fn complete<
+    'd,
+    'a,
+    Q: GraphQLValue<S>,
+    M: GraphQLMutationValue<S, Context = Q::Context, Node = Q::Node>,
+    Sub: GraphQLType<S>,
+    S: ScalarValue,
+>(
+    root_node: &RootNode<Q, M, Sub, S>,
+    walk: &RootWalk<'_, 'd, 'a, S>,
+    path: &Rc<FieldPath<'a>>,
+    asked: Asked<'_, Q::Node, S>,
+    group: &Group<'_, 'd, 'a, S>,
+    context: &Q::Context,
+) -> Result<Walked<S>, AllocError>
+    requires ready { IsReadyRoot S.shown walk.now }
+    requires merge { Merges ((mutation_root Q.concrete Q.answer M.step M.torn S.shown root_node.now (values_in S.shown walk.now)).world context.now)
+        (innermost (view_type (λ n. string_bytes n) asked.declared.now)) (all_below (group_in S.shown walk.now group.now)) }
+    ensures told { IfOk result (λ _. IsTold asked.entry.answer) }
+    ensures completed { (reply : _) → Answers S.shown asked.entry.answer reply → IfOk result (λ w. IsGroupAt
+        ((mutation_root Q.concrete Q.answer M.step M.torn S.shown root_node.now (values_in S.shown walk.now)).world context.now) (path_place path.now.value)
+        (view_type (λ n. string_bytes n) asked.entry.declared.now) reply (group_in S.shown walk.now group.now)
+        (view_value S.shown w.value) (map (view_listed S.shown) w.errors.items)) }
+{
+    let service = Service {
+        resolver: &root_node.query,
+        info: &root_node.query_info,
+        context,
+        schema: &root_node.schema,
+        variables: walk.variables,
+        query_type: root_node.query_type(),
+        undeclared: undeclared_type(walk.alloc),
+    };
+    let below = Walk {
+        alloc: walk.alloc,
+        collector: Collector {
+            fragments: walk.fragments,
+            variables: walk.variables,
+            possible: service,
+        },
+    };
+    let walked = complete_group(&below, path, asked, group)?;
+    Ok(walked)
+}
+
+/// Puts the value of a root field into the object, unless its null rises, and lists what fails in it; whether it rises.
+fn give<S: ScalarValue>(
+    alloc: Global,
+    key: &str,
+    is_non_null: bool,
+    walked: Walked<S>,
+    entries: &mut Object<S>,
+    errors: &mut Vec<ExecutionError<S>>,
+) -> Result<bool, AllocError>
+    ensures { IfOk result (λ rises. IsGiven key.now is_non_null (view_value S.shown walked.value) (map (view_listed S.shown) walked.errors.items) rises
+        (view_object S.shown entries.old) (view_object S.shown entries.new) (map (view_listed S.shown) errors.old.items) (map (view_listed S.shown) errors.new.items)) }
+{
+    let mut listed = walked.errors;
+    errors.append(&mut listed)?;
+    if walked.value.is_null() && is_non_null {
+        return Ok(true);
+    }
+    let key = String::from_str(alloc, key)?;
+    drop(entries.add_field(key, walked.value)?);
+    Ok(false)
+}
+
+/// Runs a root group: its step, and what it answers; whether its null rises.
+fn run_group<
+    't,
+    'd,
+    'a,
+    Q: GraphQLValue<S>,
+    M: GraphQLMutationValue<S, Context = Q::Context, Node = Q::Node>,
+    Sub: GraphQLType<S>,
+    S: ScalarValue,
+>(
+    root_node: &'t RootNode<Q, M, Sub, S>,
+    walk: &'t RootWalk<'_, 'd, 'a, S>,
+    group: &Group<'_, 'd, 'a, S>,
+    context: &mut Q::Context,
+    entries: &mut Object<S>,
+    errors: &mut Vec<ExecutionError<S>>,
+) -> Result<bool, AllocError>
+    requires ready { IsReadyRoot S.shown walk.now }
+    requires agree { (c : _) → SelectionsAgree ((mutation_root Q.concrete Q.answer M.step M.torn S.shown root_node.now (values_in S.shown walk.now)).world c)
+        walk.now.concrete.now (selected_in S.shown walk.now) }
+    requires group { with_key (key_of (head_of S.shown group.now.first.now)) (all_fields S.shown walk.now (view_schema S.shown (schema_of root_node.now)))
+        ≡ group_in S.shown walk.now group.now }
+    ensures { MatchResult result
+        (λ rises. GroupRan (mutation_root Q.concrete Q.answer M.step M.torn S.shown root_node.now (values_in S.shown walk.now)) walk.now.concrete.now
+        (key_of (head_of S.shown group.now.first.now)) (all_fields S.shown walk.now (view_schema S.shown (schema_of root_node.now))) context.old
+        (view_object S.shown entries.old) (map (view_listed S.shown) errors.old.items) rises
+        (view_object S.shown entries.new) (map (view_listed S.shown) errors.new.items) context.new)
+        (λ _. GroupStopped (mutation_root Q.concrete Q.answer M.step M.torn S.shown root_node.now (values_in S.shown walk.now)) walk.now.concrete.now
+        (with_key (key_of (head_of S.shown group.now.first.now)) (all_fields S.shown walk.now (view_schema S.shown (schema_of root_node.now))))
+        context.old context.new) }
+{
+    let path = path_below(walk.alloc, walk.path, group.first)?;
+    let first = group.first;
+    let field = root_node
+        .schema
+        .field_of(walk.concrete, first.item.name.item);
+    let declared = declared_type(field, walk.undeclared);
+    let site = Site {
+        fragments: walk.fragments.by_name(),
+        path: path.as_ref(),
+        enclosing: walk.selections,
+        field: group.first,
+    };
+    let answer = step(
+        root_node,
+        walk,
+        &site,
+        declared,
+        arguments_of(field),
+        context,
+    );
+    let asked = Asked { declared, answer };
+    let walked = match complete(root_node, walk, &path, asked, group, context) {
+        Err(error) => return Err(error),
+        Ok(walked) => walked,
+    };
+    let key = response_key(group.first);
+    match give(
+        walk.alloc,
+        key,
+        declared.is_non_null(),
+        walked,
+        entries,
+        errors,
+    ) {
+        Err(error) => Err(error),
+        Ok(rises) => Ok(rises),
+    }
+}
+
+/// Runs the root groups, up to and including the first whose null rises: the data, and the errors as they were met.
+pub(crate) fn run_groups<
+    't,
+    'd,
+    'a,
+    Q: GraphQLValue<S>,
+    M: GraphQLMutationValue<S, Context = Q::Context, Node = Q::Node>,
+    Sub: GraphQLType<S>,
+    S: ScalarValue,
+>(
+    root_node: &'t RootNode<Q, M, Sub, S>,
+    walk: &'t RootWalk<'_, 'd, 'a, S>,
+    fields: &[Occurrence<'d, 'a, S>],
+    context: &mut Q::Context,
+) -> Result<Walked<S>, AllocError>
+    requires ready { IsReadyRoot S.shown walk.now }
+    requires agree { (c : _) → SelectionsAgree ((mutation_root Q.concrete Q.answer M.step M.torn S.shown root_node.now (values_in S.shown walk.now)).world c)
+        walk.now.concrete.now (selected_in S.shown walk.now) }
+    requires fields { fields_in S.shown walk.now fields.now ≡ all_fields S.shown walk.now (view_schema S.shown (schema_of root_node.now)) }
+    ensures { MatchResult result
+        (λ w. HasRun keys_only all_starts (mutation_root Q.concrete Q.answer M.step M.torn S.shown root_node.now (values_in S.shown walk.now)) walk.now.concrete.now
+        (keys (all_fields S.shown walk.now (view_schema S.shown (schema_of root_node.now)))) (all_fields S.shown walk.now (view_schema S.shown (schema_of root_node.now)))
+        context.old (view_value S.shown w.value) (map (view_listed S.shown) w.errors.items) context.new)
+        (λ _. IsLeft (mutation_root Q.concrete Q.answer M.step M.torn S.shown root_node.now (values_in S.shown walk.now)) walk.now.concrete.now
+        (keys (all_fields S.shown walk.now (view_schema S.shown (schema_of root_node.now)))) (all_fields S.shown walk.now (view_schema S.shown (schema_of root_node.now)))
+        context.old context.new) }
+{
+    let groups = group_fields(walk.alloc, fields)?;
+    let mut entries = Object::with_capacity(walk.alloc, fields.len())?;
+    let mut errors = Vec::new(walk.alloc);
+    for occurrence in fields {
+        let first = occurrence.field;
+        let key = response_key(first);
+        if !entries.contains_field(key) {
+            let group = Group {
+                first,
+                others: others_of(&groups, key),
+            };
+            match run_group(root_node, walk, &group, context, &mut entries, &mut errors) {
+                Err(error) => return Err(error),
+                Ok(rises) => {
+                    if rises {
+                        return Ok(Walked {
+                            value: Value::Null,
+                            errors,
+                        });
+                    }
+                }
+            }
+        }
+    }
+    Ok(Walked {
+        value: Value::Object(entries),
+        errors,
+    })
+}
