@@ -1,5 +1,6 @@
 -- Each step of a request, over plain variables (6.1).
-use Rattle.std.proofs.Common.{rules, arith, ◌≡◌, ◌≢◌, ◌==◌, Bool, length, map, true, false, [], ◌∷◌, List, Option, Some, None, refl, sym, ap, inl, inr, subst, ◌∙◌}
+use Rattle.std.proofs.Common.{rules, arith, ◌≡◌, ◌≢◌, ◌==◌, Bool, length, map, true, false, [], ◌∷◌, List, Option, Some, None, refl, sym, ap, inl}
+use Rattle.std.proofs.Common.{inr, subst, ◌∙◌}
 use Rattle.std.proofs.lemmas.Bool.{both_ways}
 use Rattle.std.proofs.lemmas.List.{nil_from_length}
 use Rattle.std.specs.Option.{is_some}
@@ -15,7 +16,8 @@ use Rattle.graphql_spec.specs.Requests as spec
 use Rattle.graphql_spec.specs.Requests.{Choice, Refusal, refused, runs, choose, chosen, many, unknown, of_kind, selected, coerced_variables, variable_errors}
 use Rattle.graphql_spec.specs.Walk.{IsAnswerFor, IsMutationAnswerFor}
 use Rattle.graphql_spec.specs.Outcomes as outcome
-use Rattle.graphql_spec.specs.Outcomes.{Request, Service, Response, responds, refuses, Reads, Becomes, IsOutcome, IsOutcomeOf, IsExecuted, IsReadAsValid, HasMutation, Steps, mutation_in, world_in}
+use Rattle.graphql_spec.specs.Outcomes.{Request, Service, Response, responds, refuses, Reads, Becomes, IsOutcome, IsOutcomeOf, IsExecuted}
+use Rattle.graphql_spec.specs.Outcomes.{IsReadAsValid, HasMutation, Steps, mutation_in, world_in}
 use Rattle.graphql_spec.proofs.Deciding.{known-outcome, steps-decide}
 use Rattle.juniper.specs.Answering.{AreCoercible, AreRefused, IsInvalid, IsUnchosen, Responds, StandsFor, outcome_of}
 use Rattle.juniper.specs.Stepping.{IsLeftOf}
@@ -79,10 +81,17 @@ module _ {C N : Type 0} (S : Service C N) (s : Schema) (d : Document) (o : Opera
       (e : vars ≡ coerced_variables (variables_of o) given) (after : C) where
     pub mutation-answers : (v : Value) (es : List Listed) → IsMutationAnswerFor (mutation_in S m vars) T keys_only (selected d o vars) c v es after →
         IsOutcomeOf S keys_only (outcome_of s d o given) c (responds v es) after
-    mutation-answers v es answer =
-        (d, o, vars, mutation-runs k T is ∙ ap (runs d o) (sym e), subst (λ z. IsExecuted S keys_only z vars (selected d o vars) c v es after) (sym k) (m, T, has, answer))
+    mutation-answers v es answer = (
+      d,
+      o,
+      vars,
+      mutation-runs k T is ∙ ap (runs d o) (sym e),
+      subst (λ z. IsExecuted S keys_only z vars (selected d o vars) c v es after) (sym k)
+          (m, T, has, answer),
+    )
 
-    pub mutation-left : IsLeftOf (mutation_in S m vars) T (selected d o vars) c after → IsOutcomeOf S keys_only (outcome_of s d o given) c outcome.out_of_memory after
+    pub mutation-left : IsLeftOf (mutation_in S m vars) T (selected d o vars) c after →
+        IsOutcomeOf S keys_only (outcome_of s d o given) c outcome.out_of_memory after
     mutation-left left = inr (d, o, vars, mutation-runs k T is ∙ ap (runs d o) (sym e), k, (m, T, has, left))
 
   query-runs : o.kind ≡ query → outcome_of s d o given ≡ runs d o (coerced_variables (variables_of o) given)

@@ -60,7 +60,8 @@ module _ {N : Type 0} (s : Schema) (executable : IsTrue (is_executable s)) (d : 
 pub answer-moves : {N : Type 0} (W : World N) (T U : Name) (m n : N) (x y : Forest) (v : Value) (es : List Listed) → T ≡ U → m ≡ n → x ≡ y → IsAnswerFor keys_only W T m x v es → IsAnswerFor keys_only W U n y v es
 answer-moves W T U m n x y v es t e f a = subst (λ z. IsAnswerFor keys_only W U n z v es) f (subst (λ z. IsAnswerFor keys_only W U z x v es) e (subst (λ z. IsAnswerFor keys_only W z m x v es) t a))
 
-module _ {N : Type 0} (s : Schema) (executable : IsTrue (is_executable s)) (d : Document) (valid : rule_errors s true d ≡ []) (o : Operation) (member : In (operation o) d)
+module _ {N : Type 0} (s : Schema) (executable : IsTrue (is_executable s)) (d : Document) (valid : rule_errors s true d ≡ []) (o : Operation)
+    (member : In (operation o) d)
     (kind : o.kind ≡ mutation) (T : Name) (root : s.mutation ≡ Some T) (vars : Variables) (concrete : N → Name) (answer : N → Name → Members → Reply N) where
   mutation-type : root_type s o.kind ≡ Some T
   unfolding root_type
@@ -68,16 +69,20 @@ module _ {N : Type 0} (s : Schema) (executable : IsTrue (is_executable s)) (d : 
 
   all-agrees : SelectionsAgree (world_of s vars concrete answer) T (expand (passes vars) (fragments d) o.selections)
   unfolding world_of
-  all-agrees = λ depth. valid_operations_merge s executable true d valid vars concrete answer (passes vars) o member T mutation-type depth T (roots_are_possible s executable o.kind T mutation-type)
+  all-agrees = λ depth. valid_operations_merge s executable true d valid vars concrete answer (passes vars) o member T mutation-type depth T
+      (roots_are_possible s executable o.kind T mutation-type)
 
   -- what a mutation selects agrees, under each context
-  pub mutation-agrees : (fs : List Fragment) → fs ≡ fragments d → (set : Selections) → set ≡ o.selections → SelectionsAgree (world_of s vars concrete answer) T (expand (passes vars) fs set)
+  pub mutation-agrees : (fs : List Fragment) → fs ≡ fragments d → (set : Selections) → set ≡ o.selections →
+      SelectionsAgree (world_of s vars concrete answer) T (expand (passes vars) fs set)
   mutation-agrees fs f set e =
-      subst (λ x. SelectionsAgree (world_of s vars concrete answer) T x) (sym (ap (λ gs. expand (passes vars) gs set) f ∙ ap (expand (passes vars) (fragments d)) e)) all-agrees
+      subst (λ x. SelectionsAgree (world_of s vars concrete answer) T x)
+      (sym (ap (λ gs. expand (passes vars) gs set) f ∙ ap (expand (passes vars) (fragments d)) e)) all-agrees
 
 -- ## What a mutation selects, by other names
 
-module _ {C N : Type 0} (M : Mutation C N) (T : Name) (c after : C) (possible : Name → Name → Bool) (same : (M.world c).possible ≡ possible) (x y : Forest) (e : x ≡ y) where
+module _ {C N : Type 0} (M : Mutation C N) (T : Name) (c after : C) (possible : Name → Name → Bool) (same : (M.world c).possible ≡ possible)
+    (x y : Forest) (e : x ≡ y) where
   fields-are : occurrences possible T x ≡ root_fields M T y c
   fields-are = ap (occurrences possible T) e ∙ ap (λ p. occurrences p T y) (sym same)
 
@@ -85,10 +90,12 @@ module _ {C N : Type 0} (M : Mutation C N) (T : Name) (c after : C) (possible : 
   left-moves l = subst (λ os. IsLeft M T (keys os) os c after) fields-are l
 
   -- a run that was sorted is an answer
-  pub run-is-answer : (v : Value) (es ds : List Listed) → HasRun keys_only all_starts M T (keys (occurrences possible T x)) (occurrences possible T x) c v es after →
+  pub run-is-answer : (v : Value) (es ds : List Listed) →
+      HasRun keys_only all_starts M T (keys (occurrences possible T x)) (occurrences possible T x) c v es after →
       ((p : Listed → Bool) → count_listed p ds ≡ count_listed p es) → IsTrue (is_sorted ds) → IsMutationAnswerFor M T keys_only y c v ds after
   run-is-answer v es ds r same_count sorted =
       run-answers keys_only M T y c after v es ds (inl (subst (λ os. HasRun keys_only all_starts M T (keys os) os c v es after) fields-are r)) same_count sorted
 
-  pub run-left : (v : Value) (es : List Listed) → HasRun keys_only all_starts M T (keys (occurrences possible T x)) (occurrences possible T x) c v es after → IsLeftOf M T y c after
+  pub run-left : (v : Value) (es : List Listed) →
+      HasRun keys_only all_starts M T (keys (occurrences possible T x)) (occurrences possible T x) c v es after → IsLeftOf M T y c after
   run-left v es r = left-moves (may-stop-after M T keys_only all_starts (keys (occurrences possible T x)) (occurrences possible T x) c after v es r)

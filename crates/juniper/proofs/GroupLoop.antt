@@ -1,5 +1,6 @@
 -- One root group after the other (6.2.2).
-use Rattle.std.proofs.Common.{◌≡◌, ℕ, ◌+◌, ◌<◌, ◌≤◌, true, false, cond, List, [], ◌∷◌, ◌++◌, length, get_or, take, drop, map, Option, None, Some, Result, Ok, Err, append_assoc, refl, sym, ap, ◌∙◌, inl, inr, subst}
+use Rattle.std.proofs.Common.{◌≡◌, ℕ, ◌+◌, ◌<◌, ◌≤◌, true, false, cond, List, [], ◌∷◌, ◌++◌, length, get_or, take, drop, map, Option, None, Some}
+use Rattle.std.proofs.Common.{Result, Ok, Err, append_assoc, refl, sym, ap, ◌∙◌, inl, inr, subst}
 use Rattle.std.proofs.lemmas.Bool.{cases_Bool}
 use Rattle.std.proofs.lemmas.List.{append-nil}
 use Rattle.std.specs.List.{filter}
@@ -58,8 +59,10 @@ module _ {F : Type 0} (view : F → Occurrence) where
     pub group-of-key : known k (keys front) ≡ false → (others : List F) → others ≡ drop 1 (filter (λ y. bytes_eq k (response_key (view y).head)) fields) →
         with_key k os ≡ view x ∷ map view others
     group-of-key new others e =
-        let found : map view (filter (λ y. bytes_eq k (response_key (view y).head)) fields) ≡ view x ∷ with_key k rest = seen-filter k fields ∙ (ap (with_key k) all ∙ first-of-key new) in
-        first-of-key new ∙ ap (λ l. view x ∷ l) (sym (ap (map view) e ∙ (seen-others (filter (λ y. bytes_eq k (response_key (view y).head)) fields) ∙ ap (drop 1) found)))
+        let found : map view (filter (λ y. bytes_eq k (response_key (view y).head)) fields) ≡ view x ∷ with_key k rest = seen-filter k fields
+        ∙ (ap (with_key k) all ∙ first-of-key new) in
+        first-of-key new ∙ ap (λ l. view x ∷ l) (sym
+        (ap (map view) e ∙ (seen-others (filter (λ y. bytes_eq k (response_key (view y).head)) fields) ∙ ap (drop 1) found)))
 
     -- ## Its key among the keys
 
@@ -85,7 +88,8 @@ module _ {F : Type 0} (view : F → Occurrence) where
 
     pub keys-split : known k (keys front) ≡ false → keys os ≡ keys front ++ k ∷ later
     keys-split e =
-        let whole : os ≡ map view (take (i + 1) fields) ++ rest = split ∙ (sym (append_assoc front (view x ∷ []) rest) ∙ ap (λ l. l ++ rest) (sym (taken-one view fields i x below is))) in
+        let whole : os ≡ map view (take (i + 1) fields) ++ rest = split
+        ∙ (sym (append_assoc front (view x ∷ []) rest) ∙ ap (λ l. l ++ rest) (sym (taken-one view fields i x below is))) in
         ap keys whole ∙ (keys-append (map view (take (i + 1) fields)) rest ∙ (ap (λ l. l ++ later) (keys-new e) ∙ append_assoc (keys front) (k ∷ []) later))
 
 -- ## The loop
@@ -102,7 +106,8 @@ ran-entries r es e = some-entries r.values es e
 abbrev pub RanTo : {C N F : Type 0} → Mutation C N → Name → (F → Occurrence) → List F → List Occurrence → C → ℕ → Entries → List Listed → C → Type 0
 RanTo M T view fields os c i es errors now = HasRun keys_only all_starts M T (keys (map view (take i fields))) os c (object es) errors now
 
-module _ {C N F : Type 0} (M : Mutation C N) (T : Name) (view : F → Occurrence) (fields : List F) (os : List Occurrence) (all : map view fields ≡ os) (c : C) where
+module _ {C N F : Type 0} (M : Mutation C N) (T : Name) (view : F → Occurrence) (fields : List F) (os : List Occurrence) (all : map view fields ≡ os)
+    (c : C) where
   abbrev Ran : ℕ → Entries → List Listed → C → Type 0
   Ran i es errors now = RanTo M T view fields os c i es errors now
 
@@ -111,15 +116,18 @@ module _ {C N F : Type 0} (M : Mutation C N) (T : Name) (view : F → Occurrence
   no-keys = refl
 
   pub to-begin : (es : Entries) (errors : List Listed) → es ≡ no_entries → errors ≡ [] → Ran 0 es errors c
-  to-begin es errors e f = subst (λ ks. HasRun keys_only all_starts M T ks os c (object es) errors c) (sym no-keys) (rw (e, f) (none-ran M T keys_only all_starts os c))
+  to-begin es errors e f = subst (λ ks. HasRun keys_only all_starts M T ks os c (object es) errors c) (sym no-keys)
+      (rw (e, f) (none-ran M T keys_only all_starts os c))
 
-  pub to-end : (i : ℕ) → length fields ≤ i → (es : Entries) (errors : List Listed) (now : C) → Ran i es errors now → HasRun keys_only all_starts M T (keys os) os c (object es) errors now
+  pub to-end : (i : ℕ) → length fields ≤ i → (es : Entries) (errors : List Listed) (now : C) → Ran i es errors now →
+      HasRun keys_only all_starts M T (keys os) os c (object es) errors now
   to-end i past es errors now r = subst (λ l. HasRun keys_only all_starts M T l os c (object es) errors now) (ap keys (taken-all view fields i past ∙ all)) r
 
   pub ran-moves : (i : ℕ) (es ds : Entries) (xs ys : List Listed) (a b : C) → es ≡ ds → xs ≡ ys → a ≡ b → Ran i ds ys b → Ran i es xs a
   ran-moves i es ds xs ys a b e f g r = subst (λ z. Ran i z xs a) (sym e) (subst (λ z. Ran i ds z a) (sym f) (subst (λ z. Ran i ds ys z) (sym g) r))
 
-  module _ (i : ℕ) (x : F) (below : i < length fields) (is : x ≡ get_or fields i x) (es : Entries) (errors : List Listed) (now : C) (r : Ran i es errors now) where
+  module _ (i : ℕ) (x : F) (below : i < length fields) (is : x ≡ get_or fields i x) (es : Entries) (errors : List Listed) (now : C)
+      (r : Ran i es errors now) where
     abbrev name : Name
     name = response_key (view x).head
 
@@ -131,7 +139,8 @@ module _ {C N F : Type 0} (M : Mutation C N) (T : Name) (view : F → Occurrence
     is-known = (run-on M T done [] os c es (ran-entries (run M T done os c) es r.value)).2 name
 
     pub to-known : has_entry name es ≡ true → Ran (i + 1) es errors now
-    to-known e = subst (λ l. HasRun keys_only all_starts M T l os c (object es) errors now) (sym (keys-known view fields os all i x below is (sym is-known ∙ e))) r
+    to-known e = subst (λ l. HasRun keys_only all_starts M T l os c (object es) errors now)
+        (sym (keys-known view fields os all i x below is (sym is-known ∙ e))) r
 
     module _ (new : has_entry name es ≡ false) (put_in : Entries) (listed : List Listed) (after : C) where
       unknown : known name done ≡ false
@@ -142,15 +151,18 @@ module _ {C N F : Type 0} (M : Mutation C N) (T : Name) (view : F → Occurrence
 
       pub to-kept : GroupRan M T name os now es errors false put_in listed after → Ran (i + 1) put_in listed after
       to-kept s =
-          let next = one-more-ran M T keys_only all_starts done todo name os (keys-split view fields os all i x below is unknown) c now es errors r s.value s.more s.completed in
+          let next = one-more-ran M T keys_only all_starts done todo name os
+          (keys-split view fields os all i x below is unknown) c now es errors r s.value s.more s.completed in
           subst (λ l. HasRun keys_only all_starts M T l os c (object put_in) listed after) (sym (keys-new view fields os all i x below is unknown))
           (subst (λ z. HasRun keys_only all_starts M T (done ++ name ∷ []) os c (object z) listed after) (sym s.puts)
           (subst (λ z. HasRun keys_only all_starts M T (done ++ name ∷ []) os c (object (put name s.value es)) z after) (sym s.lists)
-          (subst (λ z. HasRun keys_only all_starts M T (done ++ name ∷ []) os c (object (put name s.value es)) (errors ++ s.more) z) (sym s.context) (next.0 (sym s.loses)))))
+          (subst (λ z. HasRun keys_only all_starts M T (done ++ name ∷ []) os c (object (put name s.value es)) (errors ++ s.more) z) (sym s.context)
+          (next.0 (sym s.loses)))))
 
       pub to-lost : GroupRan M T name os now es errors true put_in listed after → HasRun keys_only all_starts M T (keys os) os c null listed after
       to-lost s =
-          let next = one-more-ran M T keys_only all_starts done todo name os (keys-split view fields os all i x below is unknown) c now es errors r s.value s.more s.completed in
+          let next = one-more-ran M T keys_only all_starts done todo name os
+          (keys-split view fields os all i x below is unknown) c now es errors r s.value s.more s.completed in
           subst (λ l. HasRun keys_only all_starts M T l os c null listed after) (sym (keys-split view fields os all i x below is unknown))
           (subst (λ z. HasRun keys_only all_starts M T (done ++ name ∷ todo) os c null z after) (sym s.lists)
           (subst (λ z. HasRun keys_only all_starts M T (done ++ name ∷ todo) os c null (errors ++ s.more) z) (sym s.context) (next.1 (sym s.loses))))
@@ -170,7 +182,8 @@ left-same M T [] os c = refl
 left-same M T (k ∷ ks) os c = inl refl
 
 -- a run by other names for its parts
-pub run-moves : {C N : Type 0} (M : Mutation C N) (T : Name) (ks : List Name) (os : List Occurrence) (c : C) (v w : Value) (es : List Listed) (now : C) → w ≡ v →
+pub run-moves : {C N : Type 0} (M : Mutation C N) (T : Name) (ks : List Name) (os : List Occurrence) (c : C) (v w : Value) (es : List Listed)
+    (now : C) → w ≡ v →
     HasRun keys_only all_starts M T ks os c v es now → HasRun keys_only all_starts M T ks os c w es now
 run-moves M T ks os c v w es now e r = subst (λ x. HasRun keys_only all_starts M T ks os c x es now) (sym e) r
 

@@ -44,14 +44,23 @@ use Rattle.juniper.specs.declared.root_walk.RootWalk.{RootWalk}
 
 -- ## The fields, as a collector sees them
 
-module _ {S P : Type 0} (shown : S → Shown) (w : RootWalk S) (c : Collector S P) (f : c.fragments.now ≡ w.fragments.now) (v : c.variables.now ≡ w.variables.now) where
+module _ {S P : Type 0} (shown : S → Shown) (w : RootWalk S) (c : Collector S P) (f : c.fragments.now ≡ w.fragments.now)
+    (v : c.variables.now ≡ w.variables.now) where
   pub root-ready : IsReadyRoot shown w → IsReady shown c
   root-ready ready = record { made = subst (IsMade shown) (sym f) ready.made; acyclic = subst (λ m. HasNoCycle (fragments_in shown m)) (sym f) ready.acyclic }
 
   pub field-same : (x : Spanning (FieldType S) Span) → view_collected shown c x ≡ field_in shown w x
   unfolding view_collected expansion
-  field-same x = ap (λ m. record { head = head_of shown x; below = expand (passes (view_variables shown c.variables.now)) (fragments_in shown m) (view_set shown (out-Field S x.item).selection_set) }) f
-      ∙ ap (λ vs. record { head = head_of shown x; below = expand (passes (view_variables shown vs)) (fragments_in shown w.fragments.now) (view_set shown (out-Field S x.item).selection_set) }) v
+  field-same x = ap (λ m. record {
+    head = head_of shown x;
+    below =
+        expand (passes (view_variables shown c.variables.now)) (fragments_in shown m) (view_set shown (out-Field S x.item).selection_set);
+  }) f
+      ∙ ap (λ vs. record {
+        head = head_of shown x;
+        below =
+            expand (passes (view_variables shown vs)) (fragments_in shown w.fragments.now) (view_set shown (out-Field S x.item).selection_set);
+      }) v
 
   pub fields-same : (os : List (CodeOccurrence S)) → view_all shown c os ≡ fields_in shown w os
   fields-same [] = refl
@@ -60,15 +69,18 @@ module _ {S P : Type 0} (shown : S → Shown) (w : RootWalk S) (c : Collector S 
   pub group-same : (g : Group S) → view_group shown c g ≡ group_in shown w g
   group-same g = ap (λ x. x ∷ view_all shown c g.others.now) (field-same g.first.now) ∙ ap (λ l. field_in shown w g.first.now ∷ l) (fields-same g.others.now)
 
-  pub merges-same : {N : Type 0} (W : World N) (n : Name) (g : Group S) → Merges W n (all_below (group_in shown w g)) → Merges W n (all_below (view_group shown c g))
+  pub merges-same : {N : Type 0} (W : World N) (n : Name) (g : Group S) → Merges W n (all_below (group_in shown w g)) →
+      Merges W n (all_below (view_group shown c g))
   merges-same W n g m = subst (λ l. Merges W n (all_below l)) (sym (group-same g)) m
 
-  pub at-group : {N : Type 0} (W : World N) (at : Place) (t : TypeRef) (r : Reply N) (g : Group S) (v : Value) (es : List Listed) → IsGroupAt W at t r (view_group shown c g) v es →
+  pub at-group : {N : Type 0} (W : World N) (at : Place) (t : TypeRef) (r : Reply N) (g : Group S) (v : Value) (es : List Listed) →
+      IsGroupAt W at t r (view_group shown c g) v es →
       IsGroupAt W at t r (group_in shown w g) v es
   at-group W at t r g v es p = subst (λ l. IsGroupAt W at t r l v es) (group-same g) p
 
 -- a field is selected where the fragments are found by their names
-pub root-selected : {S : Type 0} (shown : S → Shown) (w : RootWalk S) (m : FragmentsByName S) → ExpandAlike (fragments_among shown m) (fragments_in shown w.fragments.now) → (s : Schema) (f : Spanning (FieldType S) Span) →
+pub root-selected : {S : Type 0} (shown : S → Shown) (w : RootWalk S) (m : FragmentsByName S) →
+    ExpandAlike (fragments_among shown m) (fragments_in shown w.fragments.now) → (s : Schema) (f : Spanning (FieldType S) Span) →
     In (field_in shown w f) (all_fields shown w s) → IsSelected shown (is_possible s) w.variables.now m w.concrete.now w.selections.now f
 unfolding view_collected expansion
 root-selected {S} shown w m alike s f among =
@@ -78,12 +90,14 @@ root-selected {S} shown w m alike s f among =
 -- ## What a step leaves
 
 module _ {C N : Type 0} (M : Mutation C N) (T : Name) (group : List Occurrence) (before after : C) where
-  pub leaves-same : {A S : Type 0} (a : Result A (ResolveError S)) → after ≡ before → (step_of M T before group).0 ≡ before → StepLeaves M T group before a after
+  pub leaves-same : {A S : Type 0} (a : Result A (ResolveError S)) → after ≡ before → (step_of M T before group).0 ≡ before →
+      StepLeaves M T group before a after
   leaves-same (Ok r) e s = e ∙ sym s
   leaves-same (Err (Field x)) e s = e ∙ sym s
   leaves-same (Err Memory) e s = inl e
 
-  pub leaves-step : {A S : Type 0} (a : Result A (ResolveError S)) (next : C) (torn : C → Bool) → Leaves next torn a after → next ≡ (step_of M T before group).0 →
+  pub leaves-step : {A S : Type 0} (a : Result A (ResolveError S)) (next : C) (torn : C → Bool) → Leaves next torn a after →
+      next ≡ (step_of M T before group).0 →
       torn after ≡ torn_of M T before group after → StepLeaves M T group before a after
   leaves-step (Ok r) next torn l s t = l ∙ s
   leaves-step (Err (Field x)) next torn l s t = l ∙ s
@@ -124,7 +138,8 @@ module _ {N : Type 0} (W : World N) (T : Name) (o : Occurrence) (group : List Oc
   group-type = declared
 
   -- what the fields of a key select merges
-  pub group-merges : (s : Forest) → SelectionsAgree W T s → (k : Name) → with_key k (occurrences W.possible T s) ≡ o ∷ group → Merges W (innermost t) (all_below (o ∷ group))
+  pub group-merges : (s : Forest) → SelectionsAgree W T s → (k : Name) → with_key k (occurrences W.possible T s) ≡ o ∷ group →
+      Merges W (innermost t) (all_below (o ∷ group))
   group-merges s agree k is =
       subst (λ u. Merges W (innermost u) (all_below (o ∷ group))) (sym (group-type ∙ ap (type_of W T) (sym is)))
       (keys-merge W T (occurrences W.possible T s) agree k (o ∷ group) [] (is ∙ sym (append-nil (o ∷ group))))
@@ -136,12 +151,14 @@ module _ {C N : Type 0} (M : Mutation C N) (T k : Name) (os group : List Occurre
   abbrev type_in : List Occurrence → TypeRef
   type_in g = type_of (M.world (next g).0) T g
 
-  pub group-ran : after ≡ (next group).0 → (t : TypeRef) → t ≡ type_of (M.world after) T group → (at : Place) → at ≡ key k ∷ [] → (v : Value) (es : List Listed) →
+  pub group-ran : after ≡ (next group).0 → (t : TypeRef) → t ≡ type_of (M.world after) T group → (at : Place) → at ≡ key k ∷ [] →
+      (v : Value) (es : List Listed) →
       IsGroupAt (M.world after) at t (next group).1 group v es → (r rises : Bool) → r ≡ required t → (held put_in : Entries) (errors listed : List Listed) →
       IsGiven k r v es rises held put_in errors listed → GroupRan M T k os before held errors rises put_in listed after
   group-ran stepped t typed at here v es completed r rises non_null held put_in errors listed given =
       let own : t ≡ type_in (with_key k os) = typed ∙ (ap (λ c. type_of (M.world c) T group) stepped ∙ ap type_in (sym is)) in
-      let one : GroupCompleted keys_only all_starts (M.world after) (key k ∷ []) [] t (next group).1 group v es = completed (key k ∷ []) (key-kept k ∙ sym here) in
+      let one : GroupCompleted keys_only all_starts (M.world after) (key k ∷ []) [] t (next group).1 group v es =
+      completed (key k ∷ []) (key-kept k ∙ sym here) in
       let two : GroupCompleted keys_only all_starts (M.world after) (key k ∷ []) [] (type_of (M.world after) T group) (next group).1 group v es =
       subst (λ u. GroupCompleted keys_only all_starts (M.world after) (key k ∷ []) [] u (next group).1 group v es) typed one in
       let three : GroupCompleted keys_only all_starts (M.world (next group).0) (key k ∷ []) [] (type_in group) (next group).1 group v es =

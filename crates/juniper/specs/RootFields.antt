@@ -30,7 +30,11 @@ module _ {S : Type 0} (shown : S → Shown) (w : RootWalk S) where
 
   -- a field: its words, and what it selects, expanded
   abbrev pub field_in : Spanning (Field S) Span → Occurrence
-  field_in f = record { head = head_of shown f; below = expand (passes values_in) (fragments_in shown w.fragments.now) (view_set shown (out-Field S f.item).selection_set) }
+  field_in f = record {
+    head = head_of shown f;
+    below =
+        expand (passes values_in) (fragments_in shown w.fragments.now) (view_set shown (out-Field S f.item).selection_set);
+  }
 
   -- fields, and those of one response key
   abbrev pub fields_in : List (CodeOccurrence S) → List Occurrence

@@ -163,8 +163,8 @@ fn execute_mutation<
     requires mutation { (view_operation S.shown operation.now).kind ≡ documents.mutation }
     requires root { (view_schema S.shown (schema_of root_node.now)).mutation ≡ Some concrete.now }
     ensures { MatchResult result
-        (λ p. IsMutationAnswerFor (mutation_root Q.concrete Q.answer M.step M.torn S.shown root_node.now (view_variables S.shown variables.now)) concrete.now keys_only
-        (selected (view_document S.shown document.now) (view_operation S.shown operation.now) (view_variables S.shown variables.now)) context.old
+        (λ p. IsMutationAnswerFor (mutation_root Q.concrete Q.answer M.step M.torn S.shown root_node.now (view_variables S.shown variables.now))
+        concrete.now keys_only (selected (view_document S.shown document.now) (view_operation S.shown operation.now) (view_variables S.shown variables.now)) context.old
         (view_value S.shown p.0) (map (view_listed S.shown) p.1.items) context.new)
         (λ _. IsLeftOf (mutation_root Q.concrete Q.answer M.step M.torn S.shown root_node.now (view_variables S.shown variables.now)) concrete.now
         (selected (view_document S.shown document.now) (view_operation S.shown operation.now) (view_variables S.shown variables.now)) context.old context.new) }

@@ -100,8 +100,9 @@ fn step<
     requires acyclic { IsAcyclic S.shown site.now.fragments.now }
     requires selected { IsSelected S.shown (is_possible (view_schema S.shown (schema_of root_node.now))) walk.now.variables.now site.now.fragments.now
         walk.now.concrete.now site.now.enclosing.now site.now.field.now }
-    ensures answer { (os : _) → Answers S.shown result (step_of (mutation_root Q.concrete Q.answer M.step M.torn S.shown root_node.now (values_in S.shown walk.now))
-        walk.now.concrete.now context.old (field_in S.shown walk.now site.now.field.now ∷ os)).1 }
+    ensures answer { (os : _) → Answers S.shown result
+        (step_of (mutation_root Q.concrete Q.answer M.step M.torn S.shown root_node.now (values_in S.shown walk.now)) walk.now.concrete.now
+        context.old (field_in S.shown walk.now site.now.field.now ∷ os)).1 }
     ensures context { (os : _) → StepLeaves (mutation_root Q.concrete Q.answer M.step M.torn S.shown root_node.now (values_in S.shown walk.now))
         walk.now.concrete.now (field_in S.shown walk.now site.now.field.now ∷ os) context.old result context.new }
 {
@@ -190,7 +191,8 @@ fn give<S: ScalarValue>(
     errors: &mut Vec<ExecutionError<S>>,
 ) -> Result<bool, AllocError>
     ensures { IfOk result (λ rises. IsGiven key.now is_non_null (view_value S.shown walked.value) (map (view_listed S.shown) walked.errors.items) rises
-        (view_object S.shown entries.old) (view_object S.shown entries.new) (map (view_listed S.shown) errors.old.items) (map (view_listed S.shown) errors.new.items)) }
+        (view_object S.shown entries.old) (view_object S.shown entries.new)
+        (map (view_listed S.shown) errors.old.items) (map (view_listed S.shown) errors.new.items)) }
 {
     let mut listed = walked.errors;
     errors.append(&mut listed)?;
@@ -292,11 +294,13 @@ pub(crate) fn run_groups<
         walk.now.concrete.now (selected_in S.shown walk.now) }
     requires fields { fields_in S.shown walk.now fields.now ≡ all_fields S.shown walk.now (view_schema S.shown (schema_of root_node.now)) }
     ensures { MatchResult result
-        (λ w. HasRun keys_only all_starts (mutation_root Q.concrete Q.answer M.step M.torn S.shown root_node.now (values_in S.shown walk.now)) walk.now.concrete.now
-        (keys (all_fields S.shown walk.now (view_schema S.shown (schema_of root_node.now)))) (all_fields S.shown walk.now (view_schema S.shown (schema_of root_node.now)))
+        (λ w. HasRun keys_only all_starts (mutation_root Q.concrete Q.answer M.step M.torn S.shown root_node.now (values_in S.shown walk.now))
+        walk.now.concrete.now (keys (all_fields S.shown walk.now (view_schema S.shown (schema_of root_node.now))))
+        (all_fields S.shown walk.now (view_schema S.shown (schema_of root_node.now)))
         context.old (view_value S.shown w.value) (map (view_listed S.shown) w.errors.items) context.new)
         (λ _. IsLeft (mutation_root Q.concrete Q.answer M.step M.torn S.shown root_node.now (values_in S.shown walk.now)) walk.now.concrete.now
-        (keys (all_fields S.shown walk.now (view_schema S.shown (schema_of root_node.now)))) (all_fields S.shown walk.now (view_schema S.shown (schema_of root_node.now)))
+        (keys (all_fields S.shown walk.now (view_schema S.shown (schema_of root_node.now))))
+        (all_fields S.shown walk.now (view_schema S.shown (schema_of root_node.now)))
         context.old context.new) }
 {
     let groups = group_fields(walk.alloc, fields)?;

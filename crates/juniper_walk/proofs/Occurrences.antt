@@ -7,14 +7,13 @@ use Rattle.graphql_spec.specs.Errors.{Place, keys_only, Listed}
 use Rattle.graphql_spec.specs.GroupLaws.{IsCompletedFor}
 use Rattle.graphql_spec.specs.Laws.{Agree, In, Merges}
 use Rattle.graphql_spec.specs.Resolvers.{Error, Reply, World}
-use Rattle.graphql_spec.specs.Selections.{Forest, Occurrence, all_below, occurrences}
+use Rattle.graphql_spec.specs.Selections.{Occurrence, all_below, occurrences}
 use Rattle.graphql_spec.proofs.Completing.{first-completed, one-more-completed}
 use Rattle.graphql_spec.proofs.Grouping.{in_first, in_second}
 use Rattle.graphql_spec.proofs.Lists.{all_below-append, occurrences-chain}
 use Rattle.graphql_spec.proofs.Picked.{all-completed}
 use Rattle.juniper_assemble.specs.Keyed.{IsJoin}
 use Rattle.juniper_assemble.specs.SkeletonView.{IsFilledFrom}
-use Rattle.juniper_completion.specs.CompletionLaws.{all_listed}
 use Rattle.juniper_completion.specs.Skeletons.{Skeleton, fill, listed_at, reply_errors, reply_nodes}
 use Rattle.juniper_completion.specs.Walks.{AreWalkedAt}
 use Rattle.juniper_completion.proofs.Agreeing.{agree-front, reply-possible}
@@ -30,11 +29,13 @@ module _ {N : Type 0} (W : World N) where
   agree-part zero T os ps part a = tt
   agree-part (suc d) T os ps part a = λ x y i j. a x y (part x i) (part y j)
 
-  below-in : (U : Name) (os : List Occurrence) (o : Occurrence) → In o os → (x : Occurrence) → In x (occurrences W.possible U o.below) → In x (occurrences W.possible U (all_below os))
+  below-in : (U : Name) (os : List Occurrence) (o : Occurrence) → In o os → (x : Occurrence) → In x (occurrences W.possible U o.below) →
+      In x (occurrences W.possible U (all_below os))
   unfolding all_below
   below-in U [] o i x j = absurd i
   below-in U (p ∷ os) o (inl e) x j = subst (λ l. In x l) (sym (occurrences-chain W.possible U p.below (all_below os)))
-      (in_first x (occurrences W.possible U p.below) (occurrences W.possible U (all_below os)) (subst (λ (q : Occurrence). In x (occurrences W.possible U q.below)) e j))
+      (in_first x (occurrences W.possible U p.below) (occurrences W.possible U (all_below os))
+      (subst (λ (q : Occurrence). In x (occurrences W.possible U q.below)) e j))
   below-in U (p ∷ os) o (inr i) x j = subst (λ l. In x l) (sym (occurrences-chain W.possible U p.below (all_below os)))
       (in_second x (occurrences W.possible U p.below) (occurrences W.possible U (all_below os)) (below-in U os o i x j))
 
@@ -43,53 +44,66 @@ module _ {N : Type 0} (W : World N) where
 
   front-merges : (n : Name) (front rest : List Occurrence) → Merges W n (all_below (front ++ rest)) → Merges W n (all_below front)
   front-merges n front rest m = λ d U h. agree-front W d U (occurrences W.possible U (all_below front)) (occurrences W.possible U (all_below rest))
-      (subst (λ l. Agree W d U l) (ap (occurrences W.possible U) (all_below-append front rest) ∙ occurrences-chain W.possible U (all_below front) (all_below rest)) (m d U h))
+      (subst (λ l. Agree W d U l) (ap (occurrences W.possible U) (all_below-append front rest)
+      ∙ occurrences-chain W.possible U (all_below front) (all_below rest)) (m d U h))
 
   -- for each node of a reply, what each occurrence selects agrees
-  pub each-reached : (t : TypeRef) (r : Reply N) (s : Skeleton) (ns : List N) (es : List Error) → IsParted W t r s ns es → (os : List Occurrence) → Merges W (innermost t) (all_below os) →
+  pub each-reached : (t : TypeRef) (r : Reply N) (s : Skeleton) (ns : List N) (es : List Error) → IsParted W t r s ns es → (os : List Occurrence) →
+      Merges W (innermost t) (all_below os) →
       (o : Occurrence) → In o os → AreReached W ns o.below
-  each-reached t r s ns es parted os m o i = λ n j d. one-merges (innermost t) os o i m d (W.concrete n) (reply-possible W t r n (subst (λ l. In n l) parted.nodes j))
+  each-reached t r s ns es parted os m o i =
+      λ n j d. one-merges (innermost t) os o i m d (W.concrete n) (reply-possible W t r n (subst (λ l. In n l) parted.nodes j))
 
   -- ## One occurrence
 
   module _ (at : Place) (s : Skeleton) (ns : List N) (errors : List Error) where
-    pub one-at : (o : Occurrence) (vs ws left : List Value) (below es : List Listed) (v : Value) (copy : Skeleton) → AreAllWalked W at o.below ns vs below → copy ≡ s → ws ≡ vs →
+    pub one-at : (o : Occurrence) (vs ws left : List Value) (below es : List Listed) (v : Value) (copy : Skeleton) →
+        AreAllWalked W at o.below ns vs below → copy ≡ s → ws ≡ vs →
         IsFilledFrom (fill copy ws) v left → es ≡ listed_at at o.head.span.start errors ++ below → IsOneAt W at s ns errors o v es
-    one-at o vs ws left below es v copy walked copied same from listed = let filled : IsFilledFrom (fill s ws) v left = subst (λ x. IsFilledFrom (fill x ws) v left) copied from in record {
-      completed = λ t r p here told. occurrence-by-nodes W here [] t r o vs walked.parts
-          (subst (λ q. AreWalkedAt keys_only W q o.below (reply_nodes W t r) vs walked.parts) (sym told)
-          (subst (λ ms. AreWalkedAt keys_only W at o.below ms vs walked.parts) p.nodes walked.walked))
-          v (filled.value ∙ (ap (λ l. (fill s l).value) same ∙ ap (λ x. (fill x vs).value) p.skeleton))
-          es (listed ∙ (ap (λ l. l ++ below) (ap (listed_at at o.head.span.start) p.errors ∙ ap (λ q. listed_at q o.head.span.start (reply_errors W t r)) (sym told))
-          ∙ ap (λ l. listed_at (keys_only here) o.head.span.start (reply_errors W t r) ++ l) walked.listed));
-      keyed = value-keyed s vs ws left v walked.keyed same filled;
-    }
+    one-at o vs ws left below es v copy walked copied same from listed = let filled : IsFilledFrom (fill s ws) v left =
+        subst (λ x. IsFilledFrom (fill x ws) v left) copied from in record {
+          completed = λ t r p here told. occurrence-by-nodes W here [] t r o vs walked.parts
+              (subst (λ q. AreWalkedAt keys_only W q o.below (reply_nodes W t r) vs walked.parts) (sym told)
+              (subst (λ ms. AreWalkedAt keys_only W at o.below ms vs walked.parts) p.nodes walked.walked))
+              v (filled.value ∙ (ap (λ l. (fill s l).value) same ∙ ap (λ x. (fill x vs).value) p.skeleton))
+              es (listed ∙ (ap (λ l. l ++ below) (ap (listed_at at o.head.span.start) p.errors
+              ∙ ap (λ q. listed_at q o.head.span.start (reply_errors W t r)) (sym told))
+              ∙ ap (λ l. listed_at (keys_only here) o.head.span.start (reply_errors W t r) ++ l) walked.listed));
+          keyed = value-keyed s vs ws left v walked.keyed same filled;
+        }
 
     -- ## One after the other
 
     module _ (all : List Occurrence) where
-      pub some-first : (o : Occurrence) (os : List Occurrence) (v : Value) (es : List Listed) → os ≡ o ∷ [] → IsOneAt W at s ns errors o v es → AreSomeAt W at s ns errors all os v es
+      pub some-first : (o : Occurrence) (os : List Occurrence) (v : Value) (es : List Listed) → os ≡ o ∷ [] → IsOneAt W at s ns errors o v es →
+          AreSomeAt W at s ns errors all os v es
       some-first o os v es is one = record {
-        completed = λ t r p m here told. subst (λ l. IsCompletedFor keys_only W here [] t r l v es) (sym is) (first-completed keys_only W here [] t r o v es (one.completed t r p here told));
+        completed = λ t r p m here told. subst (λ l. IsCompletedFor keys_only W here [] t r l v es) (sym is)
+            (first-completed keys_only W here [] t r o v es (one.completed t r p here told));
         keyed = one.keyed;
       }
 
-      pub some-more : (os next rest : List Occurrence) (o : Occurrence) (v u w : Value) (es ds more : List Listed) → all ≡ next ++ rest → next ≡ os ++ o ∷ [] → more ≡ es ++ ds →
+      pub some-more : (os next rest : List Occurrence) (o : Occurrence) (v u w : Value) (es ds more : List Listed) → all ≡ next ++ rest →
+          next ≡ os ++ o ∷ [] → more ≡ es ++ ds →
           AreSomeAt W at s ns errors all os v es → IsOneAt W at s ns errors o u ds → IsJoin v u w → AreSomeAt W at s ns errors all next w more
       some-more os next rest o v u w es ds more split is listed some one joined = record {
         completed = λ t r p m here told.
             let front : Merges W (innermost t) (all_below (os ++ o ∷ [])) =
-            subst (λ l. Merges W (innermost t) (all_below l)) is (front-merges (innermost t) next rest (subst (λ l. Merges W (innermost t) (all_below l)) split m)) in
+            subst (λ l. Merges W (innermost t) (all_below l)) is
+            (front-merges (innermost t) next rest (subst (λ l. Merges W (innermost t) (all_below l)) split m)) in
             let both : IsCompletedFor keys_only W here [] t r (os ++ o ∷ []) (join v u) (es ++ ds) =
             one-more-completed keys_only W here [] t r os o v u es ds front (some.completed t r p m here told) (one.completed t r p here told) in
-            subst (λ l. IsCompletedFor keys_only W here [] t r l w more) (sym is) (subst (λ x. IsCompletedFor keys_only W here [] t r (os ++ o ∷ []) x more) (sym joined.is)
+            subst (λ l. IsCompletedFor keys_only W here [] t r l w more) (sym is)
+            (subst (λ x. IsCompletedFor keys_only W here [] t r (os ++ o ∷ []) x more) (sym joined.is)
             (subst (λ x. IsCompletedFor keys_only W here [] t r (os ++ o ∷ []) (join v u) x) (sym listed) both));
         keyed = joined.keyed;
       }
 
-      pub some-all : (os : List Occurrence) (v : Value) (es : List Listed) → os ≡ all → AreSomeAt W at s ns errors all os v es → AreSomeAt W at s ns errors all all v es
+      pub some-all : (os : List Occurrence) (v : Value) (es : List Listed) → os ≡ all → AreSomeAt W at s ns errors all os v es →
+          AreSomeAt W at s ns errors all all v es
       some-all os v es is some = subst (λ l. AreSomeAt W at s ns errors all l v es) is some
 
-      pub all-at : (v : Value) (es : List Listed) → AreSomeAt W at s ns errors all all v es → (t : TypeRef) (r : Reply N) → IsParted W t r s ns errors → Merges W (innermost t) (all_below all) →
+      pub all-at : (v : Value) (es : List Listed) → AreSomeAt W at s ns errors all all v es → (t : TypeRef) (r : Reply N) →
+          IsParted W t r s ns errors → Merges W (innermost t) (all_below all) →
           IsGroupAt W at t r all v es
       all-at v es some t r p m = λ here told. all-completed W keys_only here [] t r all v es (some.completed t r p m here told)

@@ -1,7 +1,6 @@
 -- A field's answer, taken apart from its nodes.
-use Rattle.std.proofs.Common.{rules, Result, Ok, Err, ◌≡◌, ℕ, ◌+◌, ◌<◌, ◌≤◌, Bool, List, [], ◌∷◌, ◌++◌, length, get_or, drop, map, append_assoc, refl}
+use Rattle.std.proofs.Common.{◌≡◌, Bool, List, [], ◌∷◌, ◌++◌, refl}
 use Rattle.std.proofs.Common.{sym, ap, ◌∙◌, subst}
-use Rattle.std.proofs.lemmas.List.{append-nil, drop_all, get_or_default}
 use Rattle.graphql_spec.specs.Shown.{Shown, Name}
 use Rattle.graphql_spec.specs.Positions.{Position}
 use Rattle.graphql_spec.specs.Documents.{response_key}
@@ -11,20 +10,9 @@ use Rattle.graphql_spec.specs.Selections.{Occurrence, occurrences}
 use Rattle.graphql_spec.specs.Documents.{Selections}
 use Rattle.graphql_spec.specs.Directives.{passes}
 use Rattle.graphql_spec.specs.Laws.{In}
-use Rattle.graphql_spec.specs.Resolvers.{Error, World, Tree, Reply, answered, failed}
+use Rattle.graphql_spec.specs.Resolvers.{Error, World}
 use Rattle.graphql_spec.specs.Execution.{type_of, reply_of, reply_to}
-use Rattle.juniper_completion.specs.Skeletons.{Skeleton, absent, reply_skeleton, reply_nodes, reply_errors, listed_at}
-use Rattle.juniper_syntax.proofs.Lists.{left-is, seen-push}
-use Rattle.juniper_errors.specs.ErrorView.{view_error, view_listed}
-use Rattle.juniper_errors.specs.declared.field_error.FieldError.{FieldError}
-use Rattle.juniper_errors.specs.declared.field_error.ResolveError.{ResolveError}
-use Rattle.juniper_errors.specs.declared.field_error.ResolveError.TheVariants as error
-use Rattle.juniper_resolvable.specs.ResolvedView.{Answers, FailsWith, view_resolved}
-use Rattle.juniper_resolvable.specs.declared.resolved.Resolved.{Resolved}
-use Rattle.juniper_errors.specs.declared.execution_error.ExecutionError.{ExecutionError}
-use Rattle.juniper_assemble.specs.SkeletonView.{view_fault}
-use Rattle.juniper_assemble.specs.declared.apart.Fault.{Fault}
-use Rattle.juniper_assemble.specs.Apart.{IsApart}
+use Rattle.juniper_completion.specs.Skeletons.{Skeleton, listed_at}
 use Rattle.juniper_position.specs.declared.position.Spanning.{Spanning}
 use Rattle.juniper_position.specs.declared.position.Span.{Span}
 use Rattle.juniper_position.specs.Positions.{view_span}
@@ -43,11 +31,13 @@ use Rattle.juniper_walk.specs.Walking.{IsPrepared}
 
 module _ {N : Type 0} (W : World N) (at : Place) (T : Name) (m : N) (o : Occurrence) (place : Place) (r : Bool) (s : Skeleton) (ns : List N)
     (es : List Listed) where
-  pub prepared-reply : (t : TypeRef) (errors : List Error) → place ≡ at ++ key (response_key o.head) ∷ [] → r ≡ required t → t ≡ W.field_type T o.head.name.item →
+  pub prepared-reply : (t : TypeRef) (errors : List Error) → place ≡ at ++ key (response_key o.head) ∷ [] → r ≡ required t →
+      t ≡ W.field_type T o.head.name.item →
       IsParted W t (reply_to W T m o.head) s ns errors → es ≡ listed_at place o.head.span.start errors → IsPrepared W at T m o place r s ns es
   unfolding type_of reply_of
   prepared-reply t errors is q typed parted listed =
-      let here : IsParted W (W.field_type T o.head.name.item) (reply_to W T m o.head) s ns errors = subst (λ u. IsParted W u (reply_to W T m o.head) s ns errors) typed parted in
+      let here : IsParted W (W.field_type T o.head.name.item) (reply_to W T m o.head) s ns errors =
+      subst (λ u. IsParted W u (reply_to W T m o.head) s ns errors) typed parted in
       record {
         is_place = is;
         non_null = q ∙ ap required typed;

@@ -24,14 +24,16 @@ module _ {N : Type 0} (W : World N) (t : TypeRef) (r : Reply N) (s : Skeleton) (
       IsParted W t r s more errors
   unfolding reply_skeleton reply_nodes reply_errors
   parted-answer a is none no_errors apart errors same =
-      let here : IsApart W t a s [] more [] further = subst (λ x. IsApart W t a s [] more x further) no_errors (subst (λ x. IsApart W t a s x more es further) none apart) in
+      let here : IsApart W t a s [] more [] further =
+      subst (λ x. IsApart W t a s [] more x further) no_errors (subst (λ x. IsApart W t a s x more es further) none apart) in
       record {
         skeleton = here.is ∙ sym (ap (reply_skeleton W t) is);
         nodes = here.nodes ∙ sym (ap (reply_nodes W t) is);
         errors = same ∙ (here.errors ∙ sym (ap (reply_errors W t) is));
       }
 
-pub parted-failure : {N : Type 0} (W : World N) (t : TypeRef) (r : Reply N) (s : Skeleton) (ns : List N) (es : List Error) (e : Error) → r ≡ failed e → s ≡ absent → ns ≡ [] →
+pub parted-failure : {N : Type 0} (W : World N) (t : TypeRef) (r : Reply N) (s : Skeleton) (ns : List N) (es : List Error) (e : Error) →
+    r ≡ failed e → s ≡ absent → ns ≡ [] →
     es ≡ e ∷ [] → IsParted W t r s ns es
 unfolding reply_skeleton reply_nodes reply_errors
 parted-failure W t r s ns es e is none no_nodes one = record {

@@ -41,8 +41,8 @@ pub fn complete_group<'d, 'a, S: ScalarValue, R: Resolver<S>>(
         (all_below (view_group S.shown walk.now.collector group.now)) }
     ensures keyed { IfOk result (λ w. is_keyed (view_value S.shown w.value) ≡ true) }
     ensures told { IfOk result (λ _. IsTold asked.entry.answer) }
-    ensures completed { (reply : _) → Answers S.shown asked.entry.answer reply → IfOk result (λ w. IsGroupAt (R.world walk.now.collector.possible) (path_place path.now.value)
-        (view_type (λ n. string_bytes n) asked.entry.declared.now) reply (view_group S.shown walk.now.collector group.now)
+    ensures completed { (reply : _) → Answers S.shown asked.entry.answer reply → IfOk result (λ w. IsGroupAt (R.world walk.now.collector.possible)
+        (path_place path.now.value) (view_type (λ n. string_bytes n) asked.entry.declared.now) reply (view_group S.shown walk.now.collector group.now)
         (view_value S.shown w.value) (map (view_listed S.shown) w.errors.items)) }
 {
     let Asked { declared, answer } = asked;

@@ -35,8 +35,8 @@ pub(crate) fn part_reply<S: ScalarValue, C: Completer<S>>(
     answer: Result<Resolved<C::Node, S>, ResolveError<S>>,
 ) -> Result<Parted<C::Node, S>, AllocError>
     ensures told { IfOk result (λ _. IsTold answer) }
-    ensures parted { (reply : _) → Answers S.shown answer reply → IfOk result (λ p. IsParted (C.world completer.now) (view_type (λ n. string_bytes n) declared.now)
-        reply (view_skeleton S.shown p.skeleton) p.nodes.items (map (view_error S.shown) p.errors.items)) }
+    ensures parted { (reply : _) → Answers S.shown answer reply → IfOk result (λ p. IsParted (C.world completer.now)
+        (view_type (λ n. string_bytes n) declared.now) reply (view_skeleton S.shown p.skeleton) p.nodes.items (map (view_error S.shown) p.errors.items)) }
 {
     let mut nodes = Vec::new(alloc);
     match answer {

@@ -67,7 +67,13 @@ root_fields-requires g c =
     let s = view_schema shown c.args.root_node.now.schema in
     let d = view_document shown c.args.document.now in
     let is = c.in_ok-fragments.ensures.is ∙ ap (λ ds. fragments (map (view_definition shown) ds)) c.as_slice.ensures.value in
-    record { made = c.in_ok-fragments.ensures.made; acyclic = no-cycle s d c.requires.valid _ is; at_root = c.in_ok-path.ensures; unnamed = ap is_undeclared c.undeclared_type-undeclared.ensures }
+    record {
+      made = c.in_ok-fragments.ensures.made;
+      acyclic = no-cycle s d c.requires.valid _ is;
+      at_root = c.in_ok-path.ensures;
+      unnamed =
+          ap is_undeclared c.undeclared_type-undeclared.ensures;
+    }
 
 pub run_groups-requires-clause-ready : goal.run_groups-requires-clause-ready
 unfolding is_undeclared
@@ -76,7 +82,13 @@ run_groups-requires-clause-ready g c =
     let s = view_schema shown c.args.root_node.now.schema in
     let d = view_document shown c.args.document.now in
     let is = c.in_ok-fragments.ensures.is ∙ ap (λ ds. fragments (map (view_definition shown) ds)) c.as_slice.ensures.value in
-    record { made = c.in_ok-fragments.ensures.made; acyclic = no-cycle s d c.requires.valid _ is; at_root = c.in_ok-path.ensures; unnamed = ap is_undeclared c.undeclared_type-undeclared.ensures }
+    record {
+      made = c.in_ok-fragments.ensures.made;
+      acyclic = no-cycle s d c.requires.valid _ is;
+      at_root = c.in_ok-path.ensures;
+      unnamed =
+          ap is_undeclared c.undeclared_type-undeclared.ensures;
+    }
 
 pub run_groups-requires-clause-agree : goal.run_groups-requires-clause-agree
 run_groups-requires-clause-agree g c = λ now.
@@ -86,8 +98,10 @@ run_groups-requires-clause-agree g c = λ now.
     let d = view_document shown c.args.document.now in
     let o = view_operation shown c.args.operation.now in
     let is = c.in_ok-fragments.ensures.is ∙ ap (λ ds. fragments (map (view_definition shown) ds)) c.as_slice.ensures.value in
-    mutation-agrees s root.executable d c.requires.valid o c.requires.member c.requires.mutation c.args.concrete.now c.requires.root (view_variables shown c.args.variables.now)
-    (g.Q.GraphQLValue.concrete root.query root.query_info now) (g.Q.GraphQLValue.answer root.query root.query_info now) _ is _ (ap (view_selections shown) c.as_slice-2.ensures.value)
+    mutation-agrees s root.executable d c.requires.valid o c.requires.member c.requires.mutation c.args.concrete.now c.requires.root
+    (view_variables shown c.args.variables.now)
+    (g.Q.GraphQLValue.concrete root.query root.query_info now) (g.Q.GraphQLValue.answer root.query root.query_info now) _ is _
+    (ap (view_selections shown) c.as_slice-2.ensures.value)
 
 pub run_groups-requires-clause-fields : goal.run_groups-requires-clause-fields
 run_groups-requires-clause-fields g c = rw c.deref.ensures.value c.in_ok-fields.ensures
@@ -107,7 +121,8 @@ returns-in-Err g c =
     let start = c.args.context.now in
     let all = selected d o vars in
     let is = c.in_ok-fragments.ensures.is ∙ ap (λ ds. fragments (map (view_definition shown) ds)) c.as_slice.ensures.value in
-    let same = ap (λ fs. expand (passes vars) fs (view_selections shown c.as_slice-2.result.now)) is ∙ ap (λ ss. expand (passes vars) (fragments d) (view_selections shown ss)) c.as_slice-2.ensures.value in
+    let same = ap (λ fs. expand (passes vars) fs (view_selections shown c.as_slice-2.result.now)) is
+    ∙ ap (λ ss. expand (passes vars) (fragments d) (view_selections shown ss)) c.as_slice-2.ensures.value in
     left-moves M T start c.run_groups.new.context (is_possible s) refl _ all same c.in-Err.ensures
 
 pub returns-in_err-sort_errors-in-Ok : goal.returns-in_err-sort_errors-in-Ok
@@ -125,8 +140,10 @@ returns-in_err-sort_errors-in-Ok g c =
     let start = c.args.context.now in
     let all = selected d o vars in
     let is = c.in_ok-fragments.ensures.is ∙ ap (λ ds. fragments (map (view_definition shown) ds)) c.as_slice.ensures.value in
-    let same = ap (λ fs. expand (passes vars) fs (view_selections shown c.as_slice-2.result.now)) is ∙ ap (λ ss. expand (passes vars) (fragments d) (view_selections shown ss)) c.as_slice-2.ensures.value in
-    on-err _ _ _ c.from_residual-in_err-sort_errors-in-Ok.ensures.0 (run-left M T start c.run_groups.new.context (is_possible s) refl _ all same _ _ c.in-Ok.ensures)
+    let same = ap (λ fs. expand (passes vars) fs (view_selections shown c.as_slice-2.result.now)) is
+    ∙ ap (λ ss. expand (passes vars) (fragments d) (view_selections shown ss)) c.as_slice-2.ensures.value in
+    on-err _ _ _ c.from_residual-in_err-sort_errors-in-Ok.ensures.0
+    (run-left M T start c.run_groups.new.context (is_possible s) refl _ all same _ _ c.in-Ok.ensures)
 
 pub returns : goal.returns
 unfolding selected world_of
@@ -143,5 +160,7 @@ returns g c =
     let start = c.args.context.now in
     let all = selected d o vars in
     let is = c.in_ok-fragments.ensures.is ∙ ap (λ ds. fragments (map (view_definition shown) ds)) c.as_slice.ensures.value in
-    let same = ap (λ fs. expand (passes vars) fs (view_selections shown c.as_slice-2.result.now)) is ∙ ap (λ ss. expand (passes vars) (fragments d) (view_selections shown ss)) c.as_slice-2.ensures.value in
-    run-is-answer M T start c.run_groups.new.context (is_possible s) refl _ all same _ _ _ c.in-Ok.ensures c.in_ok-sort_errors-in-Ok.ensures.counted c.in_ok-sort_errors-in-Ok.ensures.sorted
+    let same = ap (λ fs. expand (passes vars) fs (view_selections shown c.as_slice-2.result.now)) is
+    ∙ ap (λ ss. expand (passes vars) (fragments d) (view_selections shown ss)) c.as_slice-2.ensures.value in
+    run-is-answer M T start c.run_groups.new.context
+    (is_possible s) refl _ all same _ _ _ c.in-Ok.ensures c.in_ok-sort_errors-in-Ok.ensures.counted c.in_ok-sort_errors-in-Ok.ensures.sorted

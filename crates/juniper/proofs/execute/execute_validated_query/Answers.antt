@@ -26,8 +26,12 @@ returns-in_default g c =
     let S = service_in g.Q.GraphQLValue.concrete g.Q.GraphQLValue.answer g.Q.GraphQLValue.root root.query root.query_info m s in
     let d = view_document shown c.args.document.now in
     let o = view_operation shown c.args.operation.now in
-    let given = view_variables shown c.args.variables.now in
-    (spec.no_mutation_type, refl, mutation-ends S s d o given c.args.context.now (ap view_kind c.in-Mutation.is) (sym c.mutation_name.ensures ∙ ap (option_map (λ n. n.now)) c.in_default.is))
+    let given = view_variables shown c.args.variables.now in (
+      spec.no_mutation_type,
+      refl,
+      mutation-ends S s d o given c.args.context.now (ap view_kind c.in-Mutation.is)
+          (sym c.mutation_name.ensures ∙ ap (option_map (λ n. n.now)) c.in_default.is),
+    )
 
 pub returns-in-Err : goal.returns-in-Err
 returns-in-Err g c =
@@ -41,7 +45,8 @@ returns-in-Err g c =
     let given = view_variables shown c.args.variables.now in
     let T = c.in-Some.concrete.now in
     let is = sym c.mutation_name.ensures ∙ ap (option_map (λ n. n.now)) c.in-Some.is in
-    mutation-left S s d o given c.args.context.now (ap view_kind c.in-Mutation.is) T is m (ap (option_map (λ (n : Name). m)) is, is) _ c.in_ok-values-in-Mutation.ensures
+    mutation-left S s d o given c.args.context.now (ap view_kind c.in-Mutation.is) T is m
+    (ap (option_map (λ (n : Name). m)) is, is) _ c.in_ok-values-in-Mutation.ensures
     c.execute_mutation.new.context c.in-Err.ensures
 
 pub returns-in-Mutation : goal.returns-in-Mutation
@@ -56,7 +61,8 @@ returns-in-Mutation g c =
     let given = view_variables shown c.args.variables.now in
     let T = c.in-Some.concrete.now in
     let is = sym c.mutation_name.ensures ∙ ap (option_map (λ n. n.now)) c.in-Some.is in
-    mutation-answers S s d o given c.args.context.now (ap view_kind c.in-Mutation.is) T is m (ap (option_map (λ (n : Name). m)) is, is) _ c.in_ok-values-in-Mutation.ensures
+    mutation-answers S s d o given c.args.context.now (ap view_kind c.in-Mutation.is) T is m
+    (ap (option_map (λ (n : Name). m)) is, is) _ c.in_ok-values-in-Mutation.ensures
     c.execute_mutation.new.context _ _ c.in-Ok.ensures
 
 pub returns : goal.returns

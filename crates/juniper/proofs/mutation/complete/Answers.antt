@@ -22,8 +22,10 @@ complete_group-requires-clause-merge g c =
     let shown = g.S.ScalarValue.shown in
     let root = c.args.root_node.now in
     let M = mutation_on g.Q.GraphQLValue.concrete g.Q.GraphQLValue.answer root.query root.query_info
-    (steps_at g.M.GraphQLMutationValue.step g.M.GraphQLMutationValue.torn root.mutation root.mutation_info) (view_schema shown root.schema) (values_in shown c.args.walk.now) in
-    merges-same shown c.args.walk.now _ refl refl (M.world c.args.context.now) (innermost (view_type (λ n. string_bytes n) c.args.asked.declared.now)) c.args.group.now c.requires.merge
+    (steps_at g.M.GraphQLMutationValue.step g.M.GraphQLMutationValue.torn root.mutation root.mutation_info) (view_schema shown root.schema)
+    (values_in shown c.args.walk.now) in
+    merges-same shown c.args.walk.now _ refl refl (M.world c.args.context.now)
+    (innermost (view_type (λ n. string_bytes n) c.args.asked.declared.now)) c.args.group.now c.requires.merge
 
 pub returns-clause-completed : goal.returns-clause-completed
 returns-clause-completed g c = λ reply given.

@@ -24,9 +24,12 @@ complete-requires-clause-merge g c =
     let shown = g.S.ScalarValue.shown in
     let root = c.args.root_node.now in
     let M = mutation_on g.Q.GraphQLValue.concrete g.Q.GraphQLValue.answer root.query root.query_info
-    (steps_at g.M.GraphQLMutationValue.step g.M.GraphQLMutationValue.torn root.mutation root.mutation_info) (view_schema shown root.schema) (values_in shown c.args.walk.now) in
-    group-merges (M.world c.step-answer.new.context) c.args.walk.now.concrete.now (field_in shown c.args.walk.now c.args.group.now.first.now) (fields_in shown c.args.walk.now c.args.group.now.others.now) _
-    (c.declared_type-declared.ensures ∙ ap declared_type c.field_of-field.ensures) (selected_in shown c.args.walk.now) (c.requires.agree c.step-answer.new.context) _ c.requires.group
+    (steps_at g.M.GraphQLMutationValue.step g.M.GraphQLMutationValue.torn root.mutation root.mutation_info) (view_schema shown root.schema)
+    (values_in shown c.args.walk.now) in
+    group-merges (M.world c.step-answer.new.context) c.args.walk.now.concrete.now (field_in shown c.args.walk.now c.args.group.now.first.now)
+    (fields_in shown c.args.walk.now c.args.group.now.others.now) _
+    (c.declared_type-declared.ensures ∙ ap declared_type c.field_of-field.ensures) (selected_in shown c.args.walk.now)
+    (c.requires.agree c.step-answer.new.context) _ c.requires.group
 
 pub returns-in-Err : goal.returns-in-Err
 returns-in-Err g c =
@@ -38,8 +41,10 @@ returns-in-Err g c =
     (steps_at g.M.GraphQLMutationValue.step g.M.GraphQLMutationValue.torn root.mutation root.mutation_info) s (values_in shown walk) in
     let k = response_key (head_of shown c.args.group.now.first.now) in
     let others = fields_in shown walk c.args.group.now.others.now in
-    let stopped = left-stopped M walk.concrete.now (group_in shown walk c.args.group.now) c.args.context.now c.step-answer.new.context c.step-answer.result (c.step-answer.ensures.context others) in
-    stopped-in M walk.concrete.now k (all_fields shown walk s) (group_in shown walk c.args.group.now) c.requires.group c.args.context.now c.step-answer.new.context stopped
+    let stopped = left-stopped M walk.concrete.now
+    (group_in shown walk c.args.group.now) c.args.context.now c.step-answer.new.context c.step-answer.result (c.step-answer.ensures.context others) in
+    stopped-in M walk.concrete.now k (all_fields shown walk s)
+    (group_in shown walk c.args.group.now) c.requires.group c.args.context.now c.step-answer.new.context stopped
 
 pub returns-in-Err-give : goal.returns-in-Err-give
 returns-in-Err-give g c =
@@ -51,8 +56,10 @@ returns-in-Err-give g c =
     (steps_at g.M.GraphQLMutationValue.step g.M.GraphQLMutationValue.torn root.mutation root.mutation_info) s (values_in shown walk) in
     let k = response_key (head_of shown c.args.group.now.first.now) in
     let others = fields_in shown walk c.args.group.now.others.now in
-    let stopped = left-stopped M walk.concrete.now (group_in shown walk c.args.group.now) c.args.context.now c.step-answer.new.context c.step-answer.result (c.step-answer.ensures.context others) in
-    stopped-in M walk.concrete.now k (all_fields shown walk s) (group_in shown walk c.args.group.now) c.requires.group c.args.context.now c.step-answer.new.context stopped
+    let stopped = left-stopped M walk.concrete.now
+    (group_in shown walk c.args.group.now) c.args.context.now c.step-answer.new.context c.step-answer.result (c.step-answer.ensures.context others) in
+    stopped-in M walk.concrete.now k (all_fields shown walk s)
+    (group_in shown walk c.args.group.now) c.requires.group c.args.context.now c.step-answer.new.context stopped
 
 pub returns : goal.returns
 unfolding world_of
@@ -74,4 +81,5 @@ returns g c =
     let at = c.in_ok-path.ensures ∙ ap (λ p. p ++ key k ∷ []) c.requires.ready.at_root in
     let completed = c.in-Ok.ensures.completed (step_of M walk.concrete.now before group).1 (c.step-answer.ensures.answer others) in
     let given = given-at _ k _ _ _ _ _ _ _ _ c.response_key-key.ensures c.in-Ok-give.ensures in
-    group-ran M walk.concrete.now k (all_fields shown walk s) group c.requires.group before after stepped _ typed _ at _ _ completed _ _ c.is_non_null.ensures _ _ _ _ given
+    group-ran M walk.concrete.now k (all_fields shown walk s) group c.requires.group before after stepped _ typed _ at _ _ completed _ _
+    c.is_non_null.ensures _ _ _ _ given

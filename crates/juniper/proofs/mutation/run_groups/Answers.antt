@@ -76,7 +76,8 @@ run_group-requires-clause-group g c =
     let k = response_key (head_of shown x.field.now) in
     let absent : has_entry k es ≡ false = ap (λ n. has_entry n es) (sym key) ∙ (sym c.contains_field.ensures ∙ c.if-not-contains_field.true) in
     let others = c.others_of.ensures ∙ ap (drop 1) (ap (fields_at c.in_ok-groups.groups) key ∙ c.in_ok-groups.ensures k) in
-    group-of-key view fields os c.requires.fields i x below is (sym (is-known M T view fields os c.requires.fields c.args.context.now i x below is es errors now ran) ∙ absent) _ others
+    group-of-key view fields os c.requires.fields i x below is
+    (sym (is-known M T view fields os c.requires.fields c.args.context.now i x below is es errors now ran) ∙ absent) _ others
 
 pub returns-in-Err : goal.returns-in-Err
 returns-in-Err g c =
@@ -156,11 +157,13 @@ loop-occurrence-preserved g c =
       | then-not-contains_field+in-Ok+else-rises w ↦
           let absent : has_entry k es ≡ false = ap (λ n. has_entry n es) (sym key) ∙ (sym c.contains_field.ensures ∙ w.if-not-contains_field.true) in
           let next = to-kept M T view fields os c.requires.fields start i x below is es errors now ran absent _ _ _ (rw w.if-rises.false at w.in-Ok.ensures) in
-          ran-moves M T view fields os c.requires.fields start _ _ _ _ _ _ _ (ap (view_object shown) w.entries-is) (ap (λ v. map (view_listed shown) v.items) w.errors-is) w.context-is next
+          ran-moves M T view fields os c.requires.fields start _ _ _ _ _ _ _ (ap (view_object shown) w.entries-is)
+          (ap (λ v. map (view_listed shown) v.items) w.errors-is) w.context-is next
       | else-not-contains_field w ↦
           let present : has_entry k es ≡ true = ap (λ n. has_entry n es) (sym key) ∙ (sym c.contains_field.ensures ∙ w.if-not-contains_field.false) in
           let next = to-known M T view fields os c.requires.fields start i x below is es errors now ran present in
-          ran-moves M T view fields os c.requires.fields start _ _ _ _ _ _ _ (ap (view_object shown) w.entries-is) (ap (λ v. map (view_listed shown) v.items) w.errors-is) w.context-is next
+          ran-moves M T view fields os c.requires.fields start _ _ _ _ _ _ _ (ap (view_object shown) w.entries-is)
+          (ap (λ v. map (view_listed shown) v.items) w.errors-is) w.context-is next
     ]
 
 pub returns : goal.returns
@@ -176,4 +179,5 @@ returns g c =
     let fields = c.args.fields.now in
     let os = all_fields shown walk s in
     run-moves M T (keys os) os c.args.context.now _ _ _ _ (view-Object shown c.loop-occurrence.entries)
-    (to-end M T view fields os c.requires.fields c.args.context.now c.loop-occurrence.occurrence-index c.loop-occurrence-test.false _ _ _ c.loop-occurrence.invariant)
+    (to-end M T view fields os c.requires.fields c.args.context.now c.loop-occurrence.occurrence-index c.loop-occurrence-test.false _ _ _
+    c.loop-occurrence.invariant)

@@ -7,4 +7,5 @@ use Rattle.juniper.proofs.service.declared_type.Goals as goal
 
 pub returns-in-None : goal.returns-in-None
 returns-in-None g c =
-    undeclared-is (view_type (λ n. string_bytes n) c.args.undeclared.now) c.requires ∙ ap (λ f. declared_type (option_map (λ x. view_field g.S.ScalarValue.shown x.now) f)) (sym c.in-None.is)
+    undeclared-is (view_type (λ n. string_bytes n) c.args.undeclared.now) c.requires
+    ∙ ap (λ f. declared_type (option_map (λ x. view_field g.S.ScalarValue.shown x.now) f)) (sym c.in-None.is)

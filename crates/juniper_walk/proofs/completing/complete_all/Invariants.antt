@@ -12,4 +12,6 @@ invariant-loop-occurrence g l =
     let shown = g.S.ScalarValue.shown in
     let view = view_all shown l.walk.collector in
     AreSomeAt (g.R.Completer.world l.walk.collector.possible) (path_place l.path.value) (view_skeleton shown l.parted.skeleton) l.parted.nodes.items
-    (map (view_error shown) l.parted.errors.items) (view_group shown l.walk.collector l.group) (view_collected shown l.walk.collector l.group.first.now ∷ view (take l.occurrence-index l.group.others.now)) (view_value shown l.value) (map (view_listed shown) l.errors.items)
+    (map (view_error shown) l.parted.errors.items) (view_group shown l.walk.collector l.group)
+    (view_collected shown l.walk.collector l.group.first.now ∷ view (take l.occurrence-index l.group.others.now)) (view_value shown l.value)
+    (map (view_listed shown) l.errors.items)

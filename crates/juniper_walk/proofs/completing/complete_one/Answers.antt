@@ -20,6 +20,7 @@ returns g c =
     let nodes = nodes-at W _ _ _ _ _ _ _ refl c.deref-2.ensures.value c.in_ok-walked.ensures in
     let own = c.in_ok-errors.ensures ∙ (listed-same _ _ _ _ _ (ap path_place c.as_ref.ensures) (ap (λ h. h.span.start) (sym head))
     ∙ ap (λ es. listed_at at o.head.span.start (map (view_error shown) es)) c.deref.ensures.value) in
-    let listed = ap (map (view_listed shown)) c.in_ok-append.ensures.items ∙ (map-append (view_listed shown) c.in_ok-errors.errors.items c.in_ok-walked.walked.errors.items
+    let listed = ap (map (view_listed shown)) c.in_ok-append.ensures.items
+    ∙ (map-append (view_listed shown) c.in_ok-errors.errors.items c.in_ok-walked.walked.errors.items
     ∙ ap (λ es. es ++ map (view_listed shown) c.in_ok-walked.walked.errors.items) own) in
     one-at W at _ _ _ o _ _ _ _ _ _ _ nodes c.in_ok-skeleton.ensures (ap (map (view_value shown)) c.into_iter-values.ensures.rest) c.in_ok-value.ensures listed

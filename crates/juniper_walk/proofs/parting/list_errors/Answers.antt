@@ -10,7 +10,9 @@ pub loop-error-preserved : goal.loop-error-preserved
 loop-error-preserved g c =
     let shown = g.S.ScalarValue.shown in
     let start = view_position c.args.start in
-    listed-more shown (path_place c.args.path.now) start c.args.errors.now c.loop-error.error-index c.error-item.result c.in_ok-copy.copy c.loop-error.made.items c.push.new.self.items c.in_ok-listed.listed
+    listed-more shown (path_place c.args.path.now) start c.args.errors.now c.loop-error.error-index c.error-item.result c.in_ok-copy.copy
+    c.loop-error.made.items c.push.new.self.items c.in_ok-listed.listed
     c.loop-error-test.true c.error-item.is c.in_ok-copy.ensures
-    (c.in_ok-listed.ensures ∙ ap (λ p. record { path = p; start = start; error = view_error shown c.in_ok-copy.copy }) (ap (map (λ k. key k.now)) c.deref.ensures.value ∙ c.in_ok-keys.ensures))
+    (c.in_ok-listed.ensures ∙ ap (λ p. record { path = p; start = start; error = view_error shown c.in_ok-copy.copy })
+    (ap (map (λ k. key k.now)) c.deref.ensures.value ∙ c.in_ok-keys.ensures))
     c.in_ok-push.ensures.items c.loop-error.invariant

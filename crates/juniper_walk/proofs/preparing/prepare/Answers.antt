@@ -7,7 +7,6 @@ use Rattle.juniper_errors.specs.ErrorView.{view_error}
 use Rattle.juniper_errors.specs.PathView.{path_place}
 use Rattle.juniper_collect.specs.Collected.{view_collected}
 use Rattle.juniper_resolvable.specs.ResolvedView.{Answers}
-use Rattle.juniper_walk.specs.FieldWords.{head_of}
 use Rattle.juniper_walk.proofs.Preparation.{listed-same, prepared-reply, same-head, selected-at}
 use Rattle.juniper_walk.proofs.preparing.prepare.Goals as goal
 
