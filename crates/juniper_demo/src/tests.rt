@@ -29,7 +29,6 @@ query Q($c: Boolean) { id @include(if: $c) name } => 1 refused: Variable may not
 query Q($n: Int = 5) { number(plus: $n) } => 0 {"data":{"number":46}}
 query Q($n: Int) { number(plus: $n) } => 0 {"data":{"number":42}}
 query Q($n: Int!) { number(plus: $n) } => 1 refused: Variable `$n` has no fitting value
-mutation { add(n: 1) { total } } => 1 refused: Mutations are not supported
 subscription { x } => 1 refused: Operation is a subscription
  => 1 refused: Unexpected end of input"#;
 
@@ -52,6 +51,19 @@ const OBJECTS: &str =
 { hero { friends { id } } } => 0 {"data":{"hero":{"friends":[{"id":"1000"},null]}}}
 { hero { friends { secret } } } => 0 {"data":{"hero":{"friends":[null,null]}},"errors":[{"message":"secret is secret","locations":[{"line":1,"column":20}],"path":["hero","friends","secret"]}]}
 { hero { appearsIn } } => 0 {"data":{"hero":{"appearsIn":["NEWHOPE","EMPIRE","JEDI"]}}}"#;
+
+/// The same of mutations; where the context is changed, it stands behind the line.
+const MUTATIONS: &str =
+    r#"mutation { add(n: 1) { total } add(n: 1) { count } } => 0 {"data":{"add":{"total":1,"count":1}}} total: 1, count: 1
+mutation { a: add(n: 1) {total} b: fail c: add(n: 5) {total} } => 0 {"data":null,"errors":[{"message":"failed","locations":[{"line":1,"column":33}],"path":["b"]}]} total: 1, count: 1
+mutation { a: add(n: 2147483647) { total } b: add(n: 1) { total } } => 0 {"data":null,"errors":[{"message":"Too large","locations":[{"line":1,"column":44}],"path":["b"]}]} total: 2147483647, count: 1
+mutation { __typename add(n: 2) { count } } => 0 {"data":{"__typename":"Mutation","add":{"count":1}}} total: 2, count: 1
+mutation { a: add(n: 1) { total } b: add(n: 2) { total } } => 0 {"data":{"a":{"total":1},"b":{"total":3}}} total: 3, count: 2
+mutation { fail } => 0 {"data":null,"errors":[{"message":"failed","locations":[{"line":1,"column":12}],"path":["fail"]}]}
+mutation M($n: Int = 3) { add(n: $n) { total } } => 0 {"data":{"add":{"total":3}}} total: 3, count: 1
+mutation M($n: Int) { add(n: $n) { total } } => 1 refused: Variable may not stand here
+mutation { add(n: 1) { x } } => 1 refused: Unknown field
+mutation { add { total } } => 1 refused: Argument is missing"#;
 
 /// The same of several words, with ` | ` between each two: a text, the name of an operation, and values of variables.
 const WORDS: &str =
@@ -76,7 +88,7 @@ query Q($e: Episode) { hero(episode: $e) { id } } |  | {"e":"OTHER"} => 1 refuse
 { x } |  |  => 2 variables: not a JSON object
 { id } |  | {} | more => 2 usage: juniper_demo TEXT [NAME] [VARIABLES]"#;
 
-/// The first row that is answered otherwise, or at which the context changes; nothing where there is none.
+/// The first row that is answered otherwise; nothing where there is none.
 fn first_wrong<'r>(alloc: Global, rows: &'r str) -> Result<&'r str, AllocError> {
     for row in rows.lines() {
         if !is_answered(alloc, row)? {
@@ -94,17 +106,17 @@ fn is_answered(alloc: Global, row: &str) -> Result<bool, AllocError> {
     }
 }
 
-/// The status and the line that are answered to these words, and `changed` where the context was changed.
+/// The status and the line that are answered to these words, and behind them the context where it was changed.
 fn answer_to(alloc: Global, row: &str) -> Result<String, AllocError> {
     let words = words_of(alloc, row)?;
     let mut context = DemoContext::new();
     let answer = answer(alloc, words.as_slice(), &mut context)?;
-    if context != DemoContext::new() {
-        return String::from_str(alloc, "changed");
+    let (status, line) = (answer.status, answer.line.as_str());
+    if context == DemoContext::new() {
+        return format!(in alloc; "{status} {line}");
     }
-    let status = answer.status;
-    let line = answer.line.as_str();
-    format!(in alloc; "{status} {line}")
+    let (total, count) = (context.total, context.count);
+    format!(in alloc; "{status} {line} total: {total}, count: {count}")
 }
 
 /// The words of a row.
@@ -125,6 +137,12 @@ fn texts_are_answered(rt: HostRuntime) -> Result<(), Fail> {
 #[test]
 fn objects_are_answered(rt: HostRuntime) -> Result<(), Fail> {
     assert_eq!(rt; first_wrong(rt.alloc(), OBJECTS)?, "");
+    Ok(())
+}
+
+#[test]
+fn mutations_are_answered(rt: HostRuntime) -> Result<(), Fail> {
+    assert_eq!(rt; first_wrong(rt.alloc(), MUTATIONS)?, "");
     Ok(())
 }
 

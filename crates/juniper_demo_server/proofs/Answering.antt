@@ -1,14 +1,16 @@
 -- What is shown of an outcome answers the words.
-use Rattle.std.proofs.Common.{◌≡◌, true, Option, None, map, Vec, Global, Result, Ok, Err, inl, inr, subst}
+use Rattle.std.proofs.Common.{◌≡◌, true, Option, Some, map, Vec, Global, Result, Ok, Err, inl, inr, subst}
 use Rattle.std.specs.Prelude.{MatchResult}
 use Rattle.graphql_spec.specs.Shown.{Text, Name}
 use Rattle.graphql_spec.specs.Errors.{keys_only}
 use Rattle.graphql_spec.specs.Inputs.{Variables}
 use Rattle.graphql_spec.specs.Schema.{Schema}
 use Rattle.graphql_spec.specs.Executable.{IsSameSchema}
-use Rattle.graphql_spec.specs.Outcomes.{IsOutcome, Request, Service, Steps}
-use Rattle.juniper.specs.Answering.{AnswersAs}
-use Rattle.juniper.specs.RequestErrors.{view_request_error}
+use Rattle.graphql_spec.specs.Outcomes as outcome
+use Rattle.graphql_spec.specs.Outcomes.{IsOutcome, Request, Response, Service, Steps, refuses, responds}
+use Rattle.juniper.specs.Answering.{AnswersAs, Responds}
+use Rattle.juniper.specs.RequestErrors.{RequestError, view_request_error, not_parsed, not_valid, no_operation, multiple_operations, unknown_operation}
+use Rattle.juniper.specs.RequestErrors.{is_subscription, not_subscription, no_mutation_type, variable_not_constant, out_of_memory}
 use Rattle.juniper.specs.declared.error.GraphQLError.{GraphQLError}
 use Rattle.juniper_errors.specs.ErrorView.{view_listed}
 use Rattle.juniper_errors.specs.declared.execution_error.ExecutionError.{ExecutionError}
@@ -16,7 +18,7 @@ use Rattle.juniper_syntax.specs.Scalars.{default_shown}
 use Rattle.juniper_syntax.specs.ValueView.{view_value}
 use Rattle.juniper_syntax.specs.declared.scalar.DefaultScalarValue.{DefaultScalarValue}
 use Rattle.juniper_syntax.specs.declared.value.Value.{Value}
-use Rattle.juniper_demo_server.specs.Answers.{IsAnswerWith, ShowsData, ShowsRefusal}
+use Rattle.juniper_demo_server.specs.Answers.{IsAnswerWith, MayLeave, ShowsData, ShowsRefusal, demo_steps}
 use Rattle.juniper_demo_server.specs.Demo.{concrete_type, reply}
 use Rattle.juniper_demo_server.specs.DemoSchema.{demo_schema}
 use Rattle.juniper_demo_server.specs.declared.demo.DemoContext.{DemoContext}
@@ -32,7 +34,7 @@ Outcome = Result Data GraphQLError
 
 -- what requests are executed with, from a root and the steps of mutations
 abbrev pub service_from : DemoNode → Option (Steps DemoContext DemoNode) → Schema → Service DemoContext DemoNode
-service_from m x s = record { schema = s; introspection_disabled = true; concrete = λ c. concrete_type; answer = λ c. reply; root = m; mutation = x }
+service_from m x s = record { schema = s; introspection_disabled = true; concrete = λ c. concrete_type; answer = reply; root = m; mutation = x }
 
 -- how the outcome of a request comes about
 abbrev pub Comes : DemoNode → Option (Steps DemoContext DemoNode) → Schema → Request → DemoContext → DemoContext → Outcome → Type 0
@@ -43,14 +45,40 @@ abbrev pub IsShown : Outcome → Answer → Type 0
 IsShown o a = MatchResult o (λ p. ShowsData (view_value default_shown p.0) (map (view_listed default_shown) p.1.items) a) (λ e. ShowsRefusal (view_request_error e) a)
 
 module _ (t : Text) (c after : DemoContext) where
-  shown : (n : Option Name) (vars : Variables) (s : Schema) → IsSameSchema demo_schema s → (o : Outcome) (a : Answer) → Comes Query None s (record { text = t; operation = n; variables = vars }) c after o
+  shown : (n : Option Name) (vars : Variables) (s : Schema) → IsSameSchema demo_schema s → (o : Outcome) (a : Answer) → Comes Query (Some demo_steps) s (record { text = t; operation = n; variables = vars }) c after o
       → IsShown o a → IsAnswerWith t n vars c a after
   shown n vars s same (Ok p) a comes shows = (s, same, inl (_, _, comes, shows))
   shown n vars s same (Err e) a comes shows = (s, same, inr (_, comes, shows))
 
-  pub request_answered : (n l : Option Name) (vars : Variables) (m : DemoNode) (x : Option (Steps DemoContext DemoNode)) (s : Schema) (o : Outcome) (a : Answer) → l ≡ n → m ≡ Query → x ≡ None
+  pub request_answered : (n l : Option Name) (vars : Variables) (m : DemoNode) (x : Option (Steps DemoContext DemoNode)) (s : Schema) (o : Outcome) (a : Answer) → l ≡ n → m ≡ Query → x ≡ Some demo_steps
       → IsSameSchema demo_schema s → Comes m x s (record { text = t; operation = l; variables = vars }) c after o → IsShown o a → IsAnswerWith t n vars c a after
-  request_answered n l vars m x s o a is_name is_root none same comes shows =
-      shown n vars s same o a (subst (λ z. Comes Query None s (record { text = t; operation = z; variables = vars }) c after o) is_name
-      (subst (λ z. Comes z None s (record { text = t; operation = l; variables = vars }) c after o) is_root
-      (subst (λ z. Comes m z s (record { text = t; operation = l; variables = vars }) c after o) none comes))) shows
+  request_answered n l vars m x s o a is_name is_root steps same comes shows =
+      shown n vars s same o a (subst (λ z. Comes Query (Some demo_steps) s (record { text = t; operation = z; variables = vars }) c after o) is_name
+      (subst (λ z. Comes z (Some demo_steps) s (record { text = t; operation = l; variables = vars }) c after o) is_root
+      (subst (λ z. Comes m z s (record { text = t; operation = l; variables = vars }) c after o) steps comes))) shows
+
+  responded : (P : Response → Type 0) (e : RequestError) → Responds P e → (r : Response) × P r
+  responded P out_of_memory p = (outcome.out_of_memory, p)
+  responded P (not_parsed e) (r, is, p) = (refuses r, p)
+  responded P (not_valid es) (r, is, p) = (refuses r, p)
+  responded P no_operation (r, is, p) = (refuses r, p)
+  responded P multiple_operations (r, is, p) = (refuses r, p)
+  responded P unknown_operation (r, is, p) = (refuses r, p)
+  responded P is_subscription (r, is, p) = (refuses r, p)
+  responded P not_subscription (r, is, p) = (refuses r, p)
+  responded P no_mutation_type (r, is, p) = (refuses r, p)
+  responded P (variable_not_constant n) (r, is, p) = (refuses r, p)
+
+  left : (n : Option Name) (vars : Variables) (s : Schema) → IsSameSchema demo_schema s → (o : Outcome) →
+      Comes Query (Some demo_steps) s (record { text = t; operation = n; variables = vars }) c after o → MayLeave t n vars c after
+  left n vars s same (Ok p) comes = inr (s, same, (responds (view_value default_shown p.0) (map (view_listed default_shown) p.1.items), comes))
+  left n vars s same (Err e) comes =
+      inr (s, same, responded (λ r. IsOutcome (service_from Query (Some demo_steps) s) keys_only (record { text = t; operation = n; variables = vars }) c r after) (view_request_error e) comes)
+
+  -- and where it cannot be shown, the context is that after an outcome
+  pub request_left : (n l : Option Name) (vars : Variables) (m : DemoNode) (x : Option (Steps DemoContext DemoNode)) (s : Schema) (o : Outcome) → l ≡ n → m ≡ Query → x ≡ Some demo_steps
+      → IsSameSchema demo_schema s → Comes m x s (record { text = t; operation = l; variables = vars }) c after o → MayLeave t n vars c after
+  request_left n l vars m x s o is_name is_root steps same comes =
+      left n vars s same o (subst (λ z. Comes Query (Some demo_steps) s (record { text = t; operation = z; variables = vars }) c after o) is_name
+      (subst (λ z. Comes z (Some demo_steps) s (record { text = t; operation = l; variables = vars }) c after o) is_root
+      (subst (λ z. Comes m z s (record { text = t; operation = l; variables = vars }) c after o) steps comes)))

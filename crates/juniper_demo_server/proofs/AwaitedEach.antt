@@ -6,7 +6,7 @@ use Rattle.graphql_spec.specs.Schema.{plain_field, plain_input}
 use Rattle.graphql_spec.specs.Shown.{Name}
 use Rattle.graphql_spec.specs.Types.{innermost, nullable}
 use Rattle.juniper_registry.specs.Referred.{referred}
-use Rattle.juniper_demo_server.specs.DemoTypes.{query_declaration}
+use Rattle.juniper_demo_server.specs.DemoTypes.{mutation_declaration, query_declaration}
 use Rattle.juniper_registry.specs.Entries.{KeepsAdding, Table, awaiting, awaiting_each}
 use Rattle.juniper_syntax.proofs.Lists.{left-is}
 
@@ -38,3 +38,8 @@ in_any_case (Err e) P p = tt {0}
 pub query_refers : codes "ID" ∷ codes "String" ∷ codes "Int" ∷ codes "Int" ∷ codes "String" ∷ codes "Int" ∷ codes "Int" ∷ codes "Character" ∷ codes "Episode" ∷ codes "Character" ∷ codes "Int" ∷ codes "Cell" ∷ codes "Cell" ∷ codes "String" ∷ [] ≡ referred query_declaration.shape
 unfolding plain_field plain_input typename_field innermost nullable
 query_refers = refl
+
+-- those of the mutation type
+pub mutation_refers : codes "Tally" ∷ codes "Int" ∷ codes "Int" ∷ codes "String" ∷ [] ≡ referred mutation_declaration.shape
+unfolding plain_field plain_input typename_field innermost nullable
+mutation_refers = refl

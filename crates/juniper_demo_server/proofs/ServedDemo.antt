@@ -1,5 +1,5 @@
 -- The demo's schema is executable, and what is made of the demo's types is this schema.
-use Rattle.std.proofs.Common.{◌≡◌, IsTrue, true, codes, List, None, refl, ap, ◌∙◌, sym, subst, bytes_eq, inl, inr}
+use Rattle.std.proofs.Common.{◌≡◌, IsTrue, true, codes, List, Some, refl, ap, ◌∙◌, sym, subst, bytes_eq, inl, inr}
 use Rattle.std.proofs.lemmas.Bool.{cases_Bool}
 use Rattle.graphql_spec.specs.BuiltIns.{value_named}
 use Rattle.graphql_spec.specs.Schema.{Schema, Entry, plain_field, plain_input}
@@ -41,7 +41,7 @@ completed n = elim (cases_Bool (bytes_eq n (codes "String"))) [
     at k is same = subst (λ m. with_built_ins m (entry_in demo_types m) ≡ entry_in demo_schema.entries m) is same
 
 -- a schema that is made of the demo's types is the demo's
-pub made_is_same : (types : List Entry) (s : Schema) → ((n : Name) → entry_in types n ≡ entry_in demo_types n) → AreCompleted types s.entries → s.query ≡ codes "Query" → s.mutation ≡ None → IsSameSchema demo_schema s
+pub made_is_same : (types : List Entry) (s : Schema) → ((n : Name) → entry_in types n ≡ entry_in demo_types n) → AreCompleted types s.entries → s.query ≡ codes "Query" → s.mutation ≡ Some (codes "Mutation") → IsSameSchema demo_schema s
 made_is_same types s at made query mutation = record {
   entries = λ n. sym (made.held n ∙ (ap (with_built_ins n) (at n) ∙ completed n));
   query = sym query;

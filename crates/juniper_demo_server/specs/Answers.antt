@@ -6,14 +6,14 @@ use Rattle.graphql_spec.specs.Inputs.{Variables}
 use Rattle.graphql_spec.specs.Errors.{Listed, keys_only}
 use Rattle.graphql_spec.specs.Schema.{Schema}
 use Rattle.graphql_spec.specs.Executable.{IsSameSchema}
-use Rattle.graphql_spec.specs.Outcomes.{IsOutcome, Request, Service, responds}
+use Rattle.graphql_spec.specs.Outcomes.{IsOutcome, Request, Response, Service, Steps, responds}
 use Rattle.juniper.specs.Answering.{Responds}
 use Rattle.juniper.specs.RequestErrors.{RequestError, request_error_text}
 use Rattle.juniper_response.specs.AnswerText.{answer_text}
 use Rattle.juniper_variables.specs.Given.{variables_by}
 use Rattle.juniper_variables.specs.declared.read.VariablesError.{VariablesError}
 use Rattle.juniper_variables.specs.declared.read.VariablesError.TheVariants.{NotAnObject, Float, OutOfRange}
-use Rattle.juniper_demo_server.specs.Demo.{concrete_type, reply}
+use Rattle.juniper_demo_server.specs.Demo.{concrete_type, reply, step, torn}
 use Rattle.juniper_demo_server.specs.DemoSchema.{demo_schema}
 use Rattle.juniper_demo_server.specs.declared.demo.DemoContext.{DemoContext}
 use Rattle.juniper_demo_server.specs.declared.demo.DemoNode.{DemoNode}
@@ -55,9 +55,20 @@ abbrev pub name_in : Text → Option Name
 name_in [] = None
 name_in (b ∷ bs) = Some (b ∷ bs)
 
--- what requests to the demo are executed with, on a schema (6.1): introspection is disabled, and there is no mutation
+-- what the demo's mutations mean (6.2.2)
+abbrev pub demo_steps : Steps DemoContext DemoNode
+demo_steps = record { step = step; torn = λ c field arguments. torn c }
+
+-- what requests to the demo are executed with, on a schema (6.1): introspection is disabled
 abbrev pub demo_service : Schema → Service DemoContext DemoNode
-demo_service s = record { schema = s; introspection_disabled = true; concrete = λ c. concrete_type; answer = λ c. reply; root = Query; mutation = None }
+demo_service s = record {
+  schema = s;
+  introspection_disabled = true;
+  concrete = λ c. concrete_type;
+  answer = reply;
+  root = Query;
+  mutation = Some demo_steps;
+}
 
 -- a request on a schema, in a context: what its execution gives, or why it is refused (6.1)
 abbrev pub IsAnswerOn : Schema → Request → DemoContext → Answer → DemoContext → Type 0
@@ -69,16 +80,34 @@ IsAnswerOn s q c a after =
 abbrev pub IsAnswerWith : Text → Option Name → Variables → DemoContext → Answer → DemoContext → Type 0
 IsAnswerWith t n vars c a after = (s : Schema) × IsSameSchema demo_schema s × IsAnswerOn s (record { text = t; operation = n; variables = vars }) c a after
 
+-- a context that the request may leave where memory is wanting: the one before, or that after an outcome of the request (6.1)
+abbrev pub MayLeave : Text → Option Name → Variables → DemoContext → DemoContext → Type 0
+MayLeave t n vars c after = (after ≡ c) ⊎ ((s : Schema) × IsSameSchema demo_schema s
+    × ((r : Response) × IsOutcome (demo_service s) keys_only (record { text = t; operation = n; variables = vars }) c r after))
+
+-- with the values of variables, if there are any
+abbrev pub MayLeaveGiven : Text → Option Name → Result Variables VariablesError → DemoContext → DemoContext → Type 0
+MayLeaveGiven t n (Ok vars) c after = MayLeave t n vars c after
+MayLeaveGiven t n (Err e) c after = after ≡ c
+
+-- and where the words may
+abbrev pub MayBeLeftBy : List Text → DemoContext → DemoContext → Type 0
+MayBeLeftBy [] c after = after ≡ c
+MayBeLeftBy (t ∷ []) c after = MayLeave t None no_values c after
+MayBeLeftBy (t ∷ (n ∷ [])) c after = MayLeave t (name_in n) no_values c after
+MayBeLeftBy (t ∷ (n ∷ (given ∷ []))) c after = MayLeaveGiven t (name_in n) (variables_by given) c after
+MayBeLeftBy (t ∷ (n ∷ (given ∷ (word ∷ rest)))) c after = after ≡ c
+
 -- with the values of variables, or why there are none
 abbrev pub IsAnswerGiven : Text → Option Name → Result Variables VariablesError → DemoContext → Answer → DemoContext → Type 0
 IsAnswerGiven t n (Ok vars) c a after = IsAnswerWith t n vars c a after
-IsAnswerGiven t n (Err e) c a after = IsRefusal (variables_text e) a
+IsAnswerGiven t n (Err e) c a after = IsRefusal (variables_text e) a × (after ≡ c)
 
 -- the words are the text of a request, the name of an operation and the values of variables, of which the last may be left
 -- out; any other number of them gets the usage
 abbrev pub IsAnswerTo : List Text → DemoContext → Answer → DemoContext → Type 0
-IsAnswerTo [] c a after = IsUsage a
+IsAnswerTo [] c a after = IsUsage a × (after ≡ c)
 IsAnswerTo (t ∷ []) c a after = IsAnswerWith t None no_values c a after
 IsAnswerTo (t ∷ (n ∷ [])) c a after = IsAnswerWith t (name_in n) no_values c a after
 IsAnswerTo (t ∷ (n ∷ (given ∷ []))) c a after = IsAnswerGiven t (name_in n) (variables_by given) c a after
-IsAnswerTo (t ∷ (n ∷ (given ∷ (word ∷ rest)))) c a after = IsUsage a
+IsAnswerTo (t ∷ (n ∷ (given ∷ (word ∷ rest)))) c a after = IsUsage a × (after ≡ c)

@@ -1,15 +1,17 @@
 -- What the demo's resolver replies (6.4.2).
-use Rattle.std.specs.Prelude.{ℕ, ℤ, pos, codes, cond, ◌+◌, [], ◌∷◌, Option, Some, None}
+use Rattle.std.specs.Prelude.{ℕ, ℤ, pos, Bool, codes, cond, ◌+◌, ◌&&◌, [], ◌∷◌, Option, Some, None, Result, Ok, Err}
+use Rattle.std.specs.Ordering.{int_eq}
 use Rattle.std.specs.Str.{bytes_eq}
 use Rattle.graphql_spec.specs.Shown.{Name, int, text}
 use Rattle.graphql_spec.specs.Constants.{Members, find}
-use Rattle.graphql_spec.specs.Resolvers.{Reply, answered, nothing, leaf, items, node}
+use Rattle.graphql_spec.specs.Resolvers.{Error, Reply, answered, failed, nothing, leaf, items, node}
 use Rattle.juniper_resolvable.specs.ResolvedView.{trees_of}
 use Rattle.juniper_resolvable.specs.Answered.{fails_with, int_reply, int_sum, text_reply, trees_reply}
 use Rattle.juniper_values.specs.ArgumentsRead.{enum_argument, int_argument, with_read}
 use Rattle.juniper_demo_server.specs.declared.demo.Demo.{Demo}
+use Rattle.juniper_demo_server.specs.declared.demo.DemoContext.{DemoContext}
 use Rattle.juniper_demo_server.specs.declared.demo.DemoNode.{DemoNode}
-use Rattle.juniper_demo_server.specs.declared.demo.DemoNode.TheVariants.{Query, Droid, Human, Cell}
+use Rattle.juniper_demo_server.specs.declared.demo.DemoNode.TheVariants.{Query, Droid, Human, Cell, Tally}
 use Rattle.juniper_demo_server.specs.declared.demo.Episode.{Episode}
 use Rattle.juniper_demo_server.specs.declared.demo.Episode.TheVariants.{NewHope, Empire, Jedi}
 
@@ -19,6 +21,7 @@ concrete_type Query = codes "Query"
 concrete_type Droid = codes "Droid"
 concrete_type Human = codes "Human"
 concrete_type (Cell number) = codes "Cell"
+concrete_type Tally = codes "Tally"
 
 -- the episode of a name
 abbrev pub episode_named : Name → Option Episode
@@ -93,12 +96,54 @@ cell_reply number field =
     (cond (bytes_eq field (codes "b")) (int_reply (pos (20 + number)))
     (answered nothing))
 
--- the reply to a field of a node
-abbrev pub reply : DemoNode → Name → Members → Reply DemoNode
-reply Query field arguments = query_reply field arguments
-reply Droid field arguments = droid_reply field
-reply Human field arguments = human_reply field
-reply (Cell number) field arguments = cell_reply number field
+-- a field of the tally, which shows the context
+abbrev pub tally_reply : DemoContext → Name → Reply DemoNode
+tally_reply c field =
+    cond (bytes_eq field (codes "total")) (int_reply c.total)
+    (cond (bytes_eq field (codes "count")) (int_reply c.count)
+    (answered nothing))
+
+-- the reply to a field of a node, in a context
+abbrev pub reply : DemoContext → DemoNode → Name → Members → Reply DemoNode
+reply c Query field arguments = query_reply field arguments
+reply c Droid field arguments = droid_reply field
+reply c Human field arguments = human_reply field
+reply c (Cell number) field arguments = cell_reply number field
+reply c Tally field arguments = tally_reply c field
+
+-- ## Mutations (6.2.2)
+
+-- a context of these numbers, if both are Ints
+abbrev pub tallied : Option ℤ → Option ℤ → Option DemoContext
+tallied None count = None
+tallied (Some total) None = None
+tallied (Some total) (Some count) = Some (record { total = total; count = count })
+
+-- the context after a number is added, if it can hold that
+abbrev pub plus : DemoContext → ℤ → Option DemoContext
+plus c n = tallied (int_sum c.total n) (int_sum c.count (pos 1))
+
+-- an addition, and the tally; one that is too large changes nothing
+abbrev pub after_sum : DemoContext → Option DemoContext → DemoContext × Reply DemoNode
+after_sum c None = (c, fails_with (codes "Too large"))
+after_sum c (Some d) = (d, answered (node Tally))
+
+-- `add`, by its argument
+abbrev pub add_step : DemoContext → Result (Option ℤ) Error → DemoContext × Reply DemoNode
+add_step c (Err e) = (c, failed e)
+add_step c (Ok None) = (c, answered nothing)
+add_step c (Ok (Some n)) = after_sum c (plus c n)
+
+-- the step of a field of the mutation type
+abbrev pub step : DemoContext → Name → Members → DemoContext × Reply DemoNode
+step c field arguments =
+    cond (bytes_eq field (codes "add")) (add_step c (int_argument (find (codes "n") arguments)))
+    (cond (bytes_eq field (codes "fail")) (c, fails_with (codes "failed"))
+    (c, answered nothing))
+
+-- no step is cut short in between: where memory is wanting, the context is as it was
+abbrev pub torn : DemoContext → DemoContext → Bool
+torn c after = int_eq after.total c.total && int_eq after.count c.count
 
 -- the node of the root
 abbrev pub root_of : Demo → DemoNode

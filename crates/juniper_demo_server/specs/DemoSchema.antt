@@ -1,17 +1,20 @@
 -- The demo's schema (3).
-use Rattle.std.specs.Prelude.{◌≡◌, codes, true, false, List, [], ◌∷◌, None}
+use Rattle.std.specs.Prelude.{◌≡◌, codes, true, false, List, [], ◌∷◌, Some}
 use Rattle.graphql_spec.specs.Fields.{entry_in}
 use Rattle.graphql_spec.specs.Schema.{Schema, Entry}
 use Rattle.graphql_spec.specs.Shown.{Name}
 use Rattle.juniper_meta.specs.MetaView.{entry_at}
 use Rattle.juniper_registry.specs.Entries.{awaited}
 use Rattle.juniper_schema.specs.SchemaView.{built_in}
-use Rattle.juniper_demo_server.specs.DemoTypes.{cell_declaration, character_declaration, droid_declaration, episode_declaration, human_declaration, query_declaration}
+use Rattle.juniper_demo_server.specs.DemoTypes.{cell_declaration, character_declaration, droid_declaration, episode_declaration, human_declaration, mutation_declaration, query_declaration}
+use Rattle.juniper_demo_server.specs.DemoTypes.{tally_declaration}
 
 -- the demo's own types
 abbrev pub own_types : List Entry → List Entry
 own_types rest =
     entry_at (codes "Query") query_declaration
+    ∷ entry_at (codes "Mutation") mutation_declaration
+    ∷ entry_at (codes "Tally") tally_declaration
     ∷ entry_at (codes "Character") character_declaration
     ∷ entry_at (codes "Droid") droid_declaration
     ∷ entry_at (codes "Human") human_declaration
@@ -24,7 +27,7 @@ abbrev pub demo_schema : Schema
 demo_schema = record {
   entries = built_in (codes "String") false true false ∷ built_in (codes "Boolean") false false true ∷ built_in (codes "Int") true false false ∷ built_in (codes "ID") true true false ∷ own_types [];
   query = codes "Query";
-  mutation = None;
+  mutation = Some (codes "Mutation");
 }
 
 -- ## Only private clauses cite what follows

@@ -21,6 +21,20 @@ query_declaration = object (codes "Query") (
     ∷ plain_field (codes "holes") [] (list_type (list_type (optional (type_named (codes "Cell")))))
     ∷ []) []
 
+-- `type Mutation`
+abbrev pub mutation_declaration : Meta
+mutation_declaration = object (codes "Mutation") (
+    plain_field (codes "add") (plain_input (codes "n") (type_named (codes "Int")) ∷ []) (type_named (codes "Tally"))
+    ∷ plain_field (codes "fail") [] (type_named (codes "Int"))
+    ∷ []) []
+
+-- `type Tally`
+abbrev pub tally_declaration : Meta
+tally_declaration = object (codes "Tally") (
+    plain_field (codes "total") [] (type_named (codes "Int"))
+    ∷ plain_field (codes "count") [] (type_named (codes "Int"))
+    ∷ []) []
+
 -- the fields of `interface Character`, which its objects have first
 abbrev pub character_fields : List FieldDeclaration
 character_fields =

@@ -1,11 +1,12 @@
 //! The demo's root, what stands for its objects, and its resolver.
 
 ghost use Rattle.std.specs.Prelude.{◌≡◌, pos};
-ghost use Rattle.juniper_demo_server.specs.Demo.{concrete_type, episode_named, reply, root_of};
+ghost use Rattle.juniper_demo_server.specs.Demo.{concrete_type, episode_named, plus, reply, root_of};
 ghost use Rattle.juniper_demo_server.specs.declared.demo.DemoNode.TheVariants.{Query};
 
-use crate::resolvers::{cell_field, droid_field, human_field, query_field};
+use crate::resolvers::{cell_field, droid_field, human_field, query_field, tally_field};
 use juniper_language::ScalarValue;
+use juniper_resolvable::add;
 use juniper_types::{Context, Executor, GraphQLValue, Resolved};
 use juniper_values::{Arguments, EnumName, ResolveError};
 use std::alloc::Global;
@@ -25,6 +26,19 @@ impl DemoContext {
         ensures { result ≡ record { total = pos 0; count = pos 0 } }
     {
         DemoContext { total: 0, count: 0 }
+    }
+
+    /// The context after a number is added; `None` where a number gets too large.
+    pub fn plus(self, number: i32) -> Option<DemoContext>
+        ensures { result ≡ plus self number }
+    {
+        match add(self.total, number) {
+            None => None,
+            Some(total) => match add(self.count, 1) {
+                None => None,
+                Some(count) => Some(DemoContext { total, count }),
+            },
+        }
     }
 }
 
@@ -65,6 +79,8 @@ pub enum DemoNode {
     Human,
     /// A cell, by its number.
     Cell(u8),
+    /// The tally of the context.
+    Tally,
 }
 
 /// The demo's root.
@@ -91,7 +107,7 @@ impl<S: ScalarValue> GraphQLValue<S> for Demo {
 
     ghost concrete = { λ _ _ _ node. concrete_type node };
 
-    ghost answer = { λ _ _ _. reply };
+    ghost answer = { λ _ _. reply };
 
     ghost root = { root_of };
 
@@ -114,6 +130,7 @@ impl<S: ScalarValue> GraphQLValue<S> for Demo {
             DemoNode::Droid => "Droid",
             DemoNode::Human => "Human",
             DemoNode::Cell(_) => "Cell",
+            DemoNode::Tally => "Tally",
         }
     }
 
@@ -124,13 +141,14 @@ impl<S: ScalarValue> GraphQLValue<S> for Demo {
         node: &Self::Node,
         field_name: &str,
         arguments: &Arguments<'_, S>,
-        _executor: &Executor<Self::Context, S>,
+        executor: &Executor<Self::Context, S>,
     ) -> Result<Resolved<Self::Node, S>, ResolveError<S>> {
         match *node {
             DemoNode::Query => query_field(alloc, field_name, arguments),
             DemoNode::Droid => droid_field(alloc, field_name),
             DemoNode::Human => human_field(alloc, field_name),
             DemoNode::Cell(number) => cell_field(number, field_name),
+            DemoNode::Tally => tally_field(executor.context(), field_name),
         }
     }
 }

@@ -3,6 +3,7 @@
 
 mod declare;
 mod demo;
+mod mutation;
 mod outcome;
 mod resolvers;
 mod schema;
@@ -10,7 +11,8 @@ mod types;
 mod words;
 
 pub use demo::{Demo, DemoContext, DemoNode, Episode};
+pub use mutation::DemoMutation;
 pub use outcome::{Answer, Outcome, show};
 pub use schema::{DemoRoot, demo_root};
-pub use types::{Cell, Character, Droid, Human};
+pub use types::{Cell, Character, Droid, Human, Tally};
 pub use words::answer;

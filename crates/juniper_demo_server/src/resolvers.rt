@@ -1,11 +1,11 @@
 //! The resolvers of the demo's object types: each field's answer by its name.
 
 ghost use Rattle.std.specs.Prelude.{◌≡◌};
-ghost use Rattle.juniper_demo_server.specs.Demo.{cell_reply, droid_reply, human_reply, query_reply};
+ghost use Rattle.juniper_demo_server.specs.Demo.{cell_reply, droid_reply, human_reply, query_reply, tally_reply};
 ghost use Rattle.juniper_resolvable.specs.ResolvedView.{Answers};
 ghost use Rattle.juniper_values.specs.ArgumentView.{view_arguments};
 
-use crate::demo::{DemoNode, Episode};
+use crate::demo::{DemoContext, DemoNode, Episode};
 use juniper_language::ScalarValue;
 use juniper_resolvable::{OfNode, Resolved, add, fails, int, list, null, object, text};
 use juniper_values::{Arguments, ResolveError, enum_argument, int_argument};
@@ -96,6 +96,20 @@ pub fn cell_field<S: ScalarValue>(
     match field_name {
         "a" => int(10 + i32::from(number)),
         "b" => int(20 + i32::from(number)),
+        _ => null(),
+    }
+}
+
+/// A field of the tally.
+pub fn tally_field<S: ScalarValue>(
+    context: &DemoContext,
+    field_name: &str,
+) -> Result<Resolved<DemoNode, S>, ResolveError<S>>
+    ensures { Answers S.shown result (tally_reply context.now field_name.now) }
+{
+    match field_name {
+        "total" => int(context.total),
+        "count" => int(context.count),
         _ => null(),
     }
 }

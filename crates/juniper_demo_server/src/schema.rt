@@ -14,9 +14,10 @@ ghost use Rattle.juniper_demo_server.specs.DemoSchema.{PutsFirst, demo_schema, d
 ghost use Rattle.juniper_demo_server.specs.declared.demo.DemoNode.TheVariants.{Query};
 
 use crate::declare::Declared;
-use crate::demo::{Demo, DemoContext, DemoNode, Episode};
-use crate::types::{Cell, Character, Droid, Human};
-use juniper::{EmptyMutation, EmptySubscription, RootNode, SchemaType};
+use crate::demo::{Demo, DemoContext, Episode};
+use crate::mutation::DemoMutation;
+use crate::types::{Cell, Character, Droid, Human, Tally};
+use juniper::{EmptySubscription, RootNode, SchemaType};
 use juniper_language::{DefaultScalarValue, Type};
 use juniper_meta::{MetaType, PlaceholderMeta};
 use std::alloc::{AllocError, Global};
@@ -25,7 +26,7 @@ use std::collections::HashMap;
 /// The root of the demo's server.
 pub type DemoRoot = RootNode<
     Demo,
-    EmptyMutation<DemoContext, DemoNode>,
+    DemoMutation,
     EmptySubscription<DemoContext>,
     DefaultScalarValue,
 >;
@@ -40,7 +41,7 @@ pub fn demo_root(alloc: Global) -> Result<DemoRoot, AllocError>
 {
     Ok(RootNode::of_parts(
         Demo::new(),
-        EmptyMutation::new(),
+        DemoMutation,
         EmptySubscription::new(),
         schema(alloc)?,
         (),
@@ -56,7 +57,8 @@ fn schema(alloc: Global) -> Result<SchemaType<DefaultScalarValue>, AllocError>
 {
     let types = types(alloc)?;
     let query = String::from_str(alloc, "Query")?;
-    Ok(SchemaType::new(alloc, types, query, None)?)
+    let mutation = String::from_str(alloc, "Mutation")?;
+    Ok(SchemaType::new(alloc, types, query, Some(mutation))?)
 }
 
 /// The demo's types, and placeholders of the scalars that the schema declares only where they are asked for (3.5); an error
@@ -72,6 +74,8 @@ fn types(alloc: Global) -> Result<Types, AllocError>
     put_type::<Human>(alloc, &mut types, "Human")?;
     put_type::<Droid>(alloc, &mut types, "Droid")?;
     put_type::<Character>(alloc, &mut types, "Character")?;
+    put_type::<Tally>(alloc, &mut types, "Tally")?;
+    put_type::<DemoMutation>(alloc, &mut types, "Mutation")?;
     put_type::<Demo>(alloc, &mut types, "Query")?;
     Ok(types)
 }

@@ -2,13 +2,15 @@
 
 ghost use Rattle.std.specs.Prelude.{Some, codes};
 ghost use Rattle.juniper_demo_server.specs.DeclaredTypes.{type_named};
-ghost use Rattle.juniper_demo_server.specs.DemoTypes.{cell_declaration, character_declaration, droid_declaration, episode_declaration, human_declaration, query_declaration};
+ghost use Rattle.juniper_demo_server.specs.DemoTypes.{cell_declaration, character_declaration, droid_declaration, episode_declaration, human_declaration};
+ghost use Rattle.juniper_demo_server.specs.DemoTypes.{mutation_declaration, query_declaration, tally_declaration};
 
 use crate::declare::{
     Declared, argument, await_each, enum_type, enum_value, field, field_with, int_with_default,
     interface, object, object_of,
 };
 use crate::demo::{Demo, Episode};
+use crate::mutation::DemoMutation;
 use juniper_language::{ScalarValue, Type};
 use juniper_meta::MetaType;
 use juniper_types::{GraphQLReference, GraphQLType, Registry};
@@ -237,4 +239,89 @@ impl<S: ScalarValue> GraphQLType<S> for Demo {
     }
 
     ghost keeps_name = { λ _ _ e. e };
+}
+
+impl<S: ScalarValue> GraphQLReference<S> for DemoMutation {
+    type TypeInfo = ();
+
+    ghost named = { λ _. Some (codes "Mutation") };
+
+    ghost reference = { λ _. type_named (codes "Mutation") };
+
+    fn name(_info: &Self::TypeInfo) -> Option<&str> {
+        Some("Mutation")
+    }
+
+    #[tactic(auto, unfolding(graphql_spec::specs::Types::innermost))]
+    fn type_in(
+        _alloc: Global,
+        _info: &Self::TypeInfo,
+        registry: &mut Registry<S>,
+    ) -> Result<Type<String>, AllocError> {
+        registry.named_type("Mutation")
+    }
+}
+
+impl<S: ScalarValue> Declared<S> for DemoMutation {
+    ghost declared = { mutation_declaration };
+
+    fn declare(alloc: Global) -> Result<MetaType<S>, AllocError> {
+        let number = argument::<i32, S>(alloc, "n", &())?;
+        let fields = [
+            field_with::<Tally, S>(alloc, "add", number, &())?,
+            field::<i32, S>(alloc, "fail", &())?,
+        ];
+        object(alloc, "Mutation", fields)
+    }
+}
+
+impl<S: ScalarValue> GraphQLType<S> for DemoMutation {
+    ghost declaration = { λ _. mutation_declaration };
+
+    fn meta(
+        alloc: Global,
+        _info: &Self::TypeInfo,
+        registry: &mut Registry<S>,
+    ) -> Result<MetaType<S>, AllocError> {
+        await_each(registry, &["Tally", "Int", "Int", "String"])?;
+        Self::declare(alloc)
+    }
+
+    ghost keeps_name = { λ _ _ e. e };
+}
+
+/// `type Tally`.
+pub struct Tally;
+
+impl<S: ScalarValue> GraphQLReference<S> for Tally {
+    type TypeInfo = ();
+
+    ghost named = { λ _. Some (codes "Tally") };
+
+    ghost reference = { λ _. type_named (codes "Tally") };
+
+    fn name(_info: &Self::TypeInfo) -> Option<&str> {
+        Some("Tally")
+    }
+
+    #[tactic(auto, unfolding(graphql_spec::specs::Types::innermost))]
+    fn type_in(
+        _alloc: Global,
+        _info: &Self::TypeInfo,
+        registry: &mut Registry<S>,
+    ) -> Result<Type<String>, AllocError> {
+        registry.named_type("Tally")
+    }
+}
+
+impl<S: ScalarValue> Declared<S> for Tally {
+    ghost declared = { tally_declaration };
+
+    fn declare(alloc: Global) -> Result<MetaType<S>, AllocError> {
+        let fields = [
+            field::<i32, S>(alloc, "total", &())?,
+            field::<i32, S>(alloc, "count", &())?,
+        ];
+        object(alloc, "Tally", fields)
+    }
 }

@@ -1,10 +1,10 @@
 //! What the program answers to the words that it is given.
 
-ghost use Rattle.std.specs.Prelude.{◌≡◌, IfOk, codes, map, option_map, string_bytes};
+ghost use Rattle.std.specs.Prelude.{◌≡◌, IfOk, MatchResult, codes, map, option_map, string_bytes};
 ghost use Rattle.juniper_syntax.specs.InputView.{view_variables};
 ghost use Rattle.juniper_syntax.specs.Scalars.{default_shown};
 ghost use Rattle.juniper_variables.specs.Given.{variables_by};
-ghost use Rattle.juniper_demo_server.specs.Answers.{IsAnswerGiven, IsAnswerTo, IsAnswerWith, IsRefusal, IsUsage, name_in, no_values, variables_text};
+ghost use Rattle.juniper_demo_server.specs.Answers.{IsAnswerGiven, IsAnswerTo, IsAnswerWith, IsRefusal, IsUsage, MayBeLeftBy, MayLeave, MayLeaveGiven, name_in, no_values, variables_text};
 
 use crate::demo::DemoContext;
 use crate::outcome::{Answer, show};
@@ -22,8 +22,9 @@ pub fn answer(
     words: &[String],
     context: &mut DemoContext,
 ) -> Result<Answer, AllocError>
-    ensures answer { IfOk result (λ a. IsAnswerTo (map (λ w. string_bytes w) words.now) context.old a context.new) }
-    ensures context { context.new ≡ context.old }
+    ensures { MatchResult result
+        (λ a. IsAnswerTo (map (λ w. string_bytes w) words.now) context.old a context.new)
+        (λ _. MayBeLeftBy (map (λ w. string_bytes w) words.now) context.old context.new) }
 {
     match words {
         [] => usage(alloc),
@@ -50,8 +51,9 @@ fn answer_without(
     name: &str,
     context: &mut DemoContext,
 ) -> Result<Answer, AllocError>
-    ensures answer { IfOk result (λ a. IsAnswerWith text.now (name_in name.now) no_values context.old a context.new) }
-    ensures context { context.new ≡ context.old }
+    ensures { MatchResult result
+        (λ a. IsAnswerWith text.now (name_in name.now) no_values context.old a context.new)
+        (λ _. MayLeave text.now (name_in name.now) no_values context.old context.new) }
 {
     let variables = no_variables(alloc);
     answer_with(alloc, text, name, &variables, context)
@@ -65,12 +67,14 @@ fn answer_given(
     given: &str,
     context: &mut DemoContext,
 ) -> Result<Answer, AllocError>
-    ensures answer { IfOk result (λ a. IsAnswerGiven text.now (name_in name.now) (variables_by given.now) context.old a context.new) }
-    ensures context { context.new ≡ context.old }
+    ensures { MatchResult result
+        (λ a. IsAnswerGiven text.now (name_in name.now) (variables_by given.now) context.old a context.new)
+        (λ _. MayLeaveGiven text.now (name_in name.now) (variables_by given.now) context.old context.new) }
 {
-    match read_variables(alloc, given)? {
-        Ok(variables) => answer_with(alloc, text, name, &variables, context),
-        Err(error) => refuse(alloc, line_of(error)),
+    match read_variables(alloc, given) {
+        Err(error) => Err(error),
+        Ok(Ok(variables)) => answer_with(alloc, text, name, &variables, context),
+        Ok(Err(error)) => refuse(alloc, line_of(error)),
     }
 }
 
@@ -82,13 +86,20 @@ fn answer_with(
     variables: &Variables<DefaultScalarValue>,
     context: &mut DemoContext,
 ) -> Result<Answer, AllocError>
-    ensures answer { IfOk result (λ a. IsAnswerWith text.now (name_in name.now) (view_variables default_shown variables.now) context.old a context.new) }
-    ensures context { context.new ≡ context.old }
+    ensures { MatchResult result
+        (λ a. IsAnswerWith text.now (name_in name.now) (view_variables default_shown variables.now) context.old a context.new)
+        (λ _. MayLeave text.now (name_in name.now) (view_variables default_shown variables.now) context.old context.new) }
 {
-    let root = demo_root(alloc)?;
+    let root = match demo_root(alloc) {
+        Err(error) => return Err(error),
+        Ok(root) => root,
+    };
     let name = operation_name(name);
     let outcome = execute_sync(alloc, text, name, &root, variables, context);
-    show(alloc, &outcome)
+    match show(alloc, &outcome) {
+        Err(error) => Err(error),
+        Ok(answer) => Ok(answer),
+    }
 }
 
 /// The name of an operation; an empty word is none.
