@@ -85,6 +85,13 @@ module _ (s : Schema) (disabled : Bool) (d : Document) where
       let a = last (looks_at_schema s disabled x) _ x _ z.1 in
       (last (cannot_merge s d x) _ x _ a.0).1
 
+  -- nothing asks for introspection where it is disabled
+  pub looks-hold : at_each (use_errors s disabled d) [] d ≡ [] → (x : Definition) → In x d → looks_at_schema s disabled x ≡ false
+  unfolding use_errors
+  looks-hold e x i =
+      let z = at_each-in (use_errors s disabled d) [] d e x i in
+      (last (looks_at_schema s disabled x) _ x _ z.1).1
+
   -- each phase finds nothing
   pub record PhasesHold : Type 0 where
     pub names : at_each (name_errors s disabled d) [] d ≡ []

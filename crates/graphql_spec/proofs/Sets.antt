@@ -68,3 +68,15 @@ directives-set = is_set directives
 
 pub fields-set : IsSet (List FieldDeclaration)
 fields-set = is_set fields
+
+pub field-set : IsSet FieldDeclaration
+field-set = fields
+
+pub argument-set : IsSet InputDeclaration
+argument-set = arguments
+
+pub value-set : IsSet EnumValue
+value-set = values
+
+pub directive-set : IsSet DirectiveDeclaration
+directive-set = directives

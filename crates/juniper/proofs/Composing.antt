@@ -1,11 +1,11 @@
 -- Each step of a request, over plain variables (6.1).
-use Rattle.std.proofs.Common.{rules, arith, ◌≡◌, ◌≢◌, ◌==◌, Bool, length, map, true, false, [], ◌∷◌, List, Option, Some, None, refl, sym, ap, inl}
+use Rattle.std.proofs.Common.{rules, arith, ◌≡◌, ◌≢◌, ◌==◌, Bool, length, map, true, false, [], ◌∷◌, List, Option, Some, None, Result, Ok, Err, Vec, Global, refl, sym, ap, inl}
 use Rattle.std.proofs.Common.{inr, subst, ◌∙◌}
 use Rattle.std.proofs.lemmas.Bool.{both_ways}
 use Rattle.std.proofs.lemmas.List.{nil_from_length}
 use Rattle.std.specs.Option.{is_some}
 use Rattle.std.specs.Prelude.{cond}
-use Rattle.graphql_spec.specs.Shown.{Name}
+use Rattle.graphql_spec.specs.Shown.{Name, Shown}
 use Rattle.graphql_spec.specs.Values.{Value}
 use Rattle.graphql_spec.specs.Documents.{Document, Operation, query, mutation, subscription, variables_of}
 use Rattle.graphql_spec.specs.Inputs.{Variables}
@@ -19,7 +19,11 @@ use Rattle.graphql_spec.specs.Outcomes as outcome
 use Rattle.graphql_spec.specs.Outcomes.{Request, Service, Response, responds, refuses, Reads, Becomes, IsOutcome, IsOutcomeOf, IsExecuted}
 use Rattle.graphql_spec.specs.Outcomes.{IsReadAsValid, HasMutation, Steps, mutation_in, world_in}
 use Rattle.graphql_spec.proofs.Deciding.{known-outcome, steps-decide}
-use Rattle.juniper.specs.Answering.{AreCoercible, AreRefused, IsInvalid, IsUnchosen, Responds, StandsFor, outcome_of}
+use Rattle.juniper_syntax.specs.ValueView.{view_value}
+use Rattle.juniper_syntax.specs.declared.value.Value.{Value as Value'}
+use Rattle.juniper_errors.specs.ErrorView.{view_listed}
+use Rattle.juniper_errors.specs.declared.execution_error.ExecutionError.{ExecutionError}
+use Rattle.juniper.specs.Answering.{AnswersAs, AreCoercible, AreRefused, IsInvalid, IsUnchosen, Responds, StandsFor, outcome_of}
 use Rattle.juniper.specs.Stepping.{IsLeftOf}
 use Rattle.juniper_position.specs.RuleView.{view_rule_error}
 use Rattle.juniper_position.specs.declared.rule.RuleError.{RuleError as CodeError}
@@ -126,8 +130,8 @@ module _ {C N : Type 0} (S : Service C N) (q : Request) (c : C) where
   at-parse e m = stands-for _ (λ r p. subst (λ z. Becomes S q (refused z)) (sym p.0) ((steps-decide S).unread q p.1)) e m
 
   module _ (d : Document) (t : Reads q.text (Some d)) where
-    pub at-validate : S.introspection_disabled ≡ true → (e : RequestError) → StandsFor (IsInvalid S.schema d) e → Ends e
-    at-validate disabled e m = stands-for _ (λ r p. subst (λ z. Becomes S q (refused z)) (sym p.2) ((steps-decide S).invalid q d t p.0 p.1 (ap (λ b. rule_errors S.schema b d) disabled ∙ p.3))) e m
+    pub at-validate : (e : RequestError) → StandsFor (IsInvalid S.schema S.introspection_disabled d) e → Ends e
+    at-validate e m = stands-for _ (λ r p. subst (λ z. Becomes S q (refused z)) (sym p.2) ((steps-decide S).invalid q d t p.0 p.1 p.3)) e m
 
     module _ (v : IsReadAsValid S q d) where
       pub at-choose : (x : Choice) → choose d q.operation ≡ x → (e : RequestError) → IsUnchosen x e → Ends e
@@ -158,3 +162,8 @@ responds-so P Q f is_subscription (r, is, p) = (r, is, f (refuses r) p)
 responds-so P Q f not_subscription (r, is, p) = (r, is, f (refuses r) p)
 responds-so P Q f no_mutation_type (r, is, p) = (r, is, f (refuses r) p)
 responds-so P Q f (variable_not_constant n) (r, is, p) = (r, is, f (refuses r) p)
+
+-- an answer under another reading
+pub answers-so : {S : Type 0} (shown : S → Shown) (P Q : Response → Type 0) → ((r : Response) → P r → Q r) → (a : Result (Value' S × Vec (ExecutionError S) Global) GraphQLError) → AnswersAs shown P a → AnswersAs shown Q a
+answers-so shown P Q f (Ok p) x = f (responds (view_value shown p.0) (map (view_listed shown) p.1.items)) x
+answers-so shown P Q f (Err e) x = responds-so P Q f (view_request_error e) x

@@ -37,17 +37,17 @@ query-is-there s executable n is none =
     absurd (both_ways false refl (ap is_object (sym none) ∙ (ap (λ x. is_object (type_named s x)) is ∙ there.0)))
 
 -- no fragment reaches itself
-pub no-cycle : (s : Schema) (d : Document) → rule_errors s true d ≡ [] → (fs : List Fragment) → fs ≡ fragments d → HasNoCycle fs
-no-cycle s d valid fs is = subst HasNoCycle (sym is) (names_end_spreads s true d (phases-hold s true d valid).names)
+pub no-cycle : (s : Schema) (disabled : Bool) (d : Document) → rule_errors s disabled d ≡ [] → (fs : List Fragment) → fs ≡ fragments d → HasNoCycle fs
+no-cycle s disabled d valid fs is = subst HasNoCycle (sym is) (names_end_spreads s disabled d (phases-hold s disabled d valid).names)
 
 kind-root : (s : Schema) (o : Operation) → o.kind ≡ query → root_type s o.kind ≡ root_type s query
 kind-root s o is = ap (root_type s) is
 
-module _ {N : Type 0} (s : Schema) (executable : IsTrue (is_executable s)) (d : Document) (valid : rule_errors s true d ≡ []) (o : Operation) (member : In (operation o) d) (kind : o.kind ≡ query)
+module _ {N : Type 0} (s : Schema) (disabled : Bool) (executable : IsTrue (is_executable s)) (d : Document) (valid : rule_errors s disabled d ≡ []) (o : Operation) (member : In (operation o) d) (kind : o.kind ≡ query)
     (vars : Variables) (concrete : N → Name) (answer : N → Name → Members → Reply N) where
   agrees : SelectionsAgree (world_of s vars concrete answer) s.query (expand (passes vars) (fragments d) o.selections)
   unfolding world_of root_type
-  agrees = λ depth. valid_operations_merge s executable true d valid vars concrete answer (passes vars) o member s.query (kind-root s o kind) depth s.query (roots_are_possible s executable query s.query refl)
+  agrees = λ depth. valid_operations_merge s executable disabled d valid vars concrete answer (passes vars) o member s.query (kind-root s o kind) depth s.query (roots_are_possible s executable query s.query refl)
 
   -- what the query selects agrees
   pub query-agrees : (T : Name) → T ≡ s.query → (fs : List Fragment) → fs ≡ fragments d → (set : Selections) → set ≡ o.selections →
@@ -60,7 +60,7 @@ module _ {N : Type 0} (s : Schema) (executable : IsTrue (is_executable s)) (d : 
 pub answer-moves : {N : Type 0} (W : World N) (T U : Name) (m n : N) (x y : Forest) (v : Value) (es : List Listed) → T ≡ U → m ≡ n → x ≡ y → IsAnswerFor keys_only W T m x v es → IsAnswerFor keys_only W U n y v es
 answer-moves W T U m n x y v es t e f a = subst (λ z. IsAnswerFor keys_only W U n z v es) f (subst (λ z. IsAnswerFor keys_only W U z x v es) e (subst (λ z. IsAnswerFor keys_only W z m x v es) t a))
 
-module _ {N : Type 0} (s : Schema) (executable : IsTrue (is_executable s)) (d : Document) (valid : rule_errors s true d ≡ []) (o : Operation)
+module _ {N : Type 0} (s : Schema) (disabled : Bool) (executable : IsTrue (is_executable s)) (d : Document) (valid : rule_errors s disabled d ≡ []) (o : Operation)
     (member : In (operation o) d)
     (kind : o.kind ≡ mutation) (T : Name) (root : s.mutation ≡ Some T) (vars : Variables) (concrete : N → Name) (answer : N → Name → Members → Reply N) where
   mutation-type : root_type s o.kind ≡ Some T
@@ -69,7 +69,7 @@ module _ {N : Type 0} (s : Schema) (executable : IsTrue (is_executable s)) (d : 
 
   all-agrees : SelectionsAgree (world_of s vars concrete answer) T (expand (passes vars) (fragments d) o.selections)
   unfolding world_of
-  all-agrees = λ depth. valid_operations_merge s executable true d valid vars concrete answer (passes vars) o member T mutation-type depth T
+  all-agrees = λ depth. valid_operations_merge s executable disabled d valid vars concrete answer (passes vars) o member T mutation-type depth T
       (roots_are_possible s executable o.kind T mutation-type)
 
   -- what a mutation selects agrees, under each context

@@ -7,3 +7,5 @@ pub mod Messages
 mod Undeclared
 mod VariableValues
 pub mod Asked
+pub mod RootOutcomes
+pub mod Asking

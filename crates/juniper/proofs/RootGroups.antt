@@ -101,7 +101,7 @@ module _ {C N : Type 0} (M : Mutation C N) (T : Name) (group : List Occurrence) 
       torn after ≡ torn_of M T before group after → StepLeaves M T group before a after
   leaves-step (Ok r) next torn l s t = l ∙ s
   leaves-step (Err (Field x)) next torn l s t = l ∙ s
-  leaves-step (Err Memory) next torn l s t = inr (subst IsTrue t l)
+  leaves-step (Err Memory) next torn l s t = inr (inl (subst IsTrue t l))
 
   pub told-leaves : {A S : Type 0} (a : Result A (ResolveError S)) → IsTold a → StepLeaves M T group before a after → after ≡ (step_of M T before group).0
   told-leaves (Ok r) t l = l
@@ -111,8 +111,7 @@ module _ {C N : Type 0} (M : Mutation C N) (T : Name) (group : List Occurrence) 
   pub left-stopped : {A S : Type 0} (a : Result A (ResolveError S)) → StepLeaves M T group before a after → GroupStopped M T group before after
   left-stopped (Ok r) l = inr (inr l)
   left-stopped (Err (Field x)) l = inr (inr l)
-  left-stopped (Err Memory) (inl e) = inl e
-  left-stopped (Err Memory) (inr t) = inr (inl t)
+  left-stopped (Err Memory) l = l
 
 -- ## A group
 

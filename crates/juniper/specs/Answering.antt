@@ -1,5 +1,5 @@
 -- What a request is answered (6.1).
-use Rattle.std.specs.Prelude.{◌≡◌, ◌⊎◌, true, List, [], ◌∷◌, Option, Some, None, Result, Ok, Err, String, Vec, map, option_map}
+use Rattle.std.specs.Prelude.{◌≡◌, ◌⊎◌, Bool, List, [], ◌∷◌, Option, Some, None, Result, Ok, Err, String, Vec, map, option_map}
 use Rattle.std.specs.Borrow.{Bor}
 use Rattle.std.specs.HashMap.{HashMap}
 use Rattle.std.specs.declared.alloc.Global.{Global}
@@ -75,8 +75,8 @@ pub record AreCoercible (s : Schema) (o : Operation) (given : Variables) : Type 
 -- ## Only private clauses cite what follows
 
 -- why a document is not valid (5)
-abbrev pub IsInvalid : Schema → Document → Refusal → Type 0
-IsInvalid s d r = (e : RuleError) × (es : List RuleError) × (r ≡ spec.not_valid (e ∷ es)) × (rule_errors s true d ≡ e ∷ es)
+abbrev pub IsInvalid : Schema → Bool → Document → Refusal → Type 0
+IsInvalid s disabled d r = (e : RuleError) × (es : List RuleError) × (r ≡ spec.not_valid (e ∷ es)) × (rule_errors s disabled d ≡ e ∷ es)
 
 -- why the given values are refused (6.1.2)
 abbrev pub AreRefused : Schema → Operation → Variables → Refusal → Type 0

@@ -1,7 +1,9 @@
 pub mod Answering
 pub mod Choices
+pub mod Formats
 pub mod RequestErrors
 pub mod RootFields
 pub mod RootView
+pub mod ServedView
 pub mod Services
 pub mod Stepping

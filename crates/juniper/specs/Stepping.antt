@@ -14,12 +14,12 @@ use Rattle.juniper_errors.specs.declared.field_error.ResolveError.TheVariants.{F
 -- ## Only private clauses cite what follows
 
 module _ {C N : Type 0} (M : Mutation C N) (T : Name) where
-  -- An answer leaves the context that the group's step leaves; where memory was wanting, the context is as it was, or torn from it by
-  -- the step.
+  -- An answer leaves the context that the group's step leaves; where memory was wanting, the context is as it was, torn from it by the
+  -- step, or that which the step leaves.
   abbrev pub StepLeaves : {A S : Type 0} → List Occurrence → C → Result A (ResolveError S) → C → Type 0
   StepLeaves group before (Ok r) after = after ≡ (step_of M T before group).0
   StepLeaves group before (Err (Field e)) after = after ≡ (step_of M T before group).0
-  StepLeaves group before (Err Memory) after = (after ≡ before) ⊎ IsTrue (torn_of M T before group after)
+  StepLeaves group before (Err Memory) after = (after ≡ before) ⊎ (IsTrue (torn_of M T before group after) ⊎ (after ≡ (step_of M T before group).0))
 
   -- where memory was wanting in a group
   abbrev pub GroupStopped : List Occurrence → C → C → Type 0

@@ -1,6 +1,6 @@
 //! Valid documents, executed (ExecuteRequest, section 6.1 of the Specification).
 
-ghost use Rattle.std.specs.Prelude.{◌≡◌, IfOk, MatchResult, Some, [], map, true};
+ghost use Rattle.std.specs.Prelude.{◌≡◌, IfOk, MatchResult, Some, [], map};
 ghost use Rattle.graphql_spec.specs.Documents as documents;
 ghost use Rattle.graphql_spec.specs.Errors.{keys_only};
 ghost use Rattle.graphql_spec.specs.Laws.{In};
@@ -14,17 +14,21 @@ ghost use Rattle.juniper_syntax.specs.ValueView.{view_value};
 ghost use Rattle.juniper_errors.specs.ErrorView.{view_listed};
 ghost use Rattle.juniper_schema.specs.SchemaView.{view_schema};
 ghost use Rattle.juniper.specs.Answering.{AnswersAs, AreCoercible, outcome_of};
-ghost use Rattle.juniper.specs.RootView.{schema_of, resolver_of, info_of, mutation_root, service_of};
+ghost use Rattle.juniper.specs.RootView.{service_of};
+ghost use Rattle.juniper.specs.ServedView as serving;
+ghost use Rattle.juniper.specs.ServedView.{mutation_root};
+ghost use Rattle.juniper_intro.specs.RootView.{is_disabled, schema_of};
 ghost use Rattle.juniper.specs.Services.{world_in};
 ghost use Rattle.juniper.specs.Stepping.{IsLeftOf};
 
 use crate::error::GraphQLError;
 use crate::mutation::{root_fields, run_groups};
-use crate::root::RootNode;
 use crate::root_walk::RootWalk;
+use crate::served::Served;
 use crate::service::{Service, undeclared_type};
 use crate::variables::coerce_variables;
 use juniper_collect::{Collector, fragments_of};
+use juniper_intro::{RootNode, RootedNode};
 use juniper_language::{
     Document, Operation, OperationType, ScalarValue, Span, Spanning, Value, Variables,
 };
@@ -57,7 +61,7 @@ pub fn execute_validated_query<
     variables: &Variables<S>,
     context: &mut Q::Context,
 ) -> Result<(Value<S>, Vec<ExecutionError<S>>), GraphQLError>
-    requires valid { rule_errors (view_schema S.shown (schema_of root_node.now)) true (view_document S.shown document.now) ≡ [] }
+    requires valid { rule_errors (view_schema S.shown (schema_of root_node.now)) (is_disabled root_node.now) (view_document S.shown document.now) ≡ [] }
     requires member { In (documents.operation (view_operation S.shown operation.now)) (view_document S.shown document.now) }
     requires coercible { AreCoercible (view_schema S.shown (schema_of root_node.now)) (view_operation S.shown operation.now)
         (view_variables S.shown variables.now) }
@@ -66,15 +70,51 @@ pub fn execute_validated_query<
         (outcome_of (view_schema S.shown (schema_of root_node.now)) (view_document S.shown document.now) (view_operation S.shown operation.now)
         (view_variables S.shown variables.now)) context.old r context.new) result }
 {
+    let served = Served {
+        query: root_node,
+        query_info: root_node.query_info(),
+        mutation: root_node.mutation(),
+        mutation_info: root_node.mutation_info(),
+        schema: root_node.schema(),
+        is_introspection_disabled: root_node.is_introspection_disabled(),
+    };
+    execute_operation(alloc, document, operation, &served, variables, context)
+}
+
+/// Executes an operation of a valid document, by its kind (ExecuteRequest, 6.1).
+fn execute_operation<
+    'd,
+    'a,
+    Q: GraphQLValue<S, Node = RootedNode<N>>,
+    M: GraphQLMutationValue<S, Context = Q::Context, Node = N>,
+    N: Drop,
+    S: ScalarValue,
+>(
+    alloc: Global,
+    document: &'d Document<'a, S>,
+    operation: &'d Spanning<Operation<'a, S>, Span>,
+    served: &Served<'_, Q, M, S>,
+    variables: &Variables<S>,
+    context: &mut Q::Context,
+) -> Result<(Value<S>, Vec<ExecutionError<S>>), GraphQLError>
+    requires valid { rule_errors (view_schema S.shown (serving.schema_of served.now)) (serving.is_disabled served.now) (view_document S.shown document.now) ≡ [] }
+    requires member { In (documents.operation (view_operation S.shown operation.now)) (view_document S.shown document.now) }
+    requires coercible { AreCoercible (view_schema S.shown (serving.schema_of served.now)) (view_operation S.shown operation.now)
+        (view_variables S.shown variables.now) }
+    ensures { AnswersAs S.shown
+        (λ r. IsOutcomeOf (serving.service_of Q.concrete Q.answer Q.root M.step M.torn S.shown served.now) keys_only
+        (outcome_of (view_schema S.shown (serving.schema_of served.now)) (view_document S.shown document.now) (view_operation S.shown operation.now)
+        (view_variables S.shown variables.now)) context.old r context.new) result }
+{
     match operation.item.operation_type {
         OperationType::Subscription => Err(GraphQLError::IsSubscription),
         OperationType::Mutation => {
-            let Some(concrete) = root_node.schema.mutation_name() else {
+            let Some(concrete) = served.schema.mutation_name() else {
                 return Err(GraphQLError::MutationNotSupported);
             };
             let values = coerce_variables(alloc, operation, variables)?;
             match execute_mutation(
-                alloc, document, operation, root_node, concrete, &values, context,
+                alloc, document, operation, served, concrete, &values, context,
             ) {
                 Err(_) => Err(GraphQLError::OutOfMemory),
                 Ok(answered) => Ok(answered),
@@ -82,7 +122,7 @@ pub fn execute_validated_query<
         }
         OperationType::Query => {
             let values = coerce_variables(alloc, operation, variables)?;
-            let answered = execute_query(alloc, document, operation, root_node, &values, context)?;
+            let answered = execute_query(alloc, document, operation, served, &values, context)?;
             Ok(answered)
         }
     }
@@ -92,35 +132,35 @@ pub fn execute_validated_query<
 fn execute_query<
     'd,
     'a,
-    Q: GraphQLValue<S>,
-    M: GraphQLMutationValue<S, Context = Q::Context, Node = Q::Node>,
-    Sub: GraphQLType<S>,
+    Q: GraphQLValue<S, Node = RootedNode<N>>,
+    M: GraphQLMutationValue<S, Context = Q::Context, Node = N>,
+    N: Drop,
     S: ScalarValue,
 >(
     alloc: Global,
     document: &'d Document<'a, S>,
     operation: &'d Spanning<Operation<'a, S>, Span>,
-    root_node: &RootNode<Q, M, Sub, S>,
+    served: &Served<'_, Q, M, S>,
     variables: &Variables<S>,
     context: &Q::Context,
 ) -> Result<(Value<S>, Vec<ExecutionError<S>>), AllocError>
-    requires valid { rule_errors (view_schema S.shown (schema_of root_node.now)) true (view_document S.shown document.now) ≡ [] }
+    requires valid { rule_errors (view_schema S.shown (serving.schema_of served.now)) (serving.is_disabled served.now) (view_document S.shown document.now) ≡ [] }
     requires member { In (documents.operation (view_operation S.shown operation.now)) (view_document S.shown document.now) }
     requires query { (view_operation S.shown operation.now).kind ≡ documents.query }
     ensures { IfOk result (λ p. IsAnswerFor keys_only
-        (world_in Q.concrete Q.answer (resolver_of root_node.now) (info_of root_node.now) context.now (view_schema S.shown (schema_of root_node.now))
-        (view_variables S.shown variables.now)) (view_schema S.shown (schema_of root_node.now)).query (Q.root (resolver_of root_node.now))
+        (world_in Q.concrete Q.answer (serving.resolver_of served.now) (serving.info_of served.now) context.now (view_schema S.shown (serving.schema_of served.now))
+        (view_variables S.shown variables.now)) (view_schema S.shown (serving.schema_of served.now)).query (Q.root (serving.resolver_of served.now))
         (selected (view_document S.shown document.now) (view_operation S.shown operation.now) (view_variables S.shown variables.now))
         (view_value S.shown p.0) (map (view_listed S.shown) p.1.items)) }
 {
     let fragments = fragments_of(alloc, document.as_slice())?;
     let service = Service {
-        resolver: &root_node.query,
-        info: &root_node.query_info,
+        resolver: served.query,
+        info: served.query_info,
         context,
-        schema: &root_node.schema,
+        schema: served.schema,
         variables,
-        query_type: root_node.query_type(),
+        query_type: served.query_type(),
         undeclared: undeclared_type(alloc),
     };
     let walk = Walk {
@@ -133,8 +173,8 @@ fn execute_query<
     };
     let walked = answer(
         &walk,
-        root_node.schema.query_name(),
-        root_node.query.root_node(),
+        served.schema.query_name(),
+        served.query.root_node(),
         operation.span.start,
         operation.item.selection_set.as_slice(),
     )?;
@@ -145,28 +185,28 @@ fn execute_query<
 fn execute_mutation<
     'd,
     'a,
-    Q: GraphQLValue<S>,
-    M: GraphQLMutationValue<S, Context = Q::Context, Node = Q::Node>,
-    Sub: GraphQLType<S>,
+    Q: GraphQLValue<S, Node = RootedNode<N>>,
+    M: GraphQLMutationValue<S, Context = Q::Context, Node = N>,
+    N: Drop,
     S: ScalarValue,
 >(
     alloc: Global,
     document: &'d Document<'a, S>,
     operation: &'d Spanning<Operation<'a, S>, Span>,
-    root_node: &RootNode<Q, M, Sub, S>,
+    served: &Served<'_, Q, M, S>,
     concrete: &str,
     variables: &Variables<S>,
     context: &mut Q::Context,
 ) -> Result<(Value<S>, Vec<ExecutionError<S>>), AllocError>
-    requires valid { rule_errors (view_schema S.shown (schema_of root_node.now)) true (view_document S.shown document.now) ≡ [] }
+    requires valid { rule_errors (view_schema S.shown (serving.schema_of served.now)) (serving.is_disabled served.now) (view_document S.shown document.now) ≡ [] }
     requires member { In (documents.operation (view_operation S.shown operation.now)) (view_document S.shown document.now) }
     requires mutation { (view_operation S.shown operation.now).kind ≡ documents.mutation }
-    requires root { (view_schema S.shown (schema_of root_node.now)).mutation ≡ Some concrete.now }
+    requires root { (view_schema S.shown (serving.schema_of served.now)).mutation ≡ Some concrete.now }
     ensures { MatchResult result
-        (λ p. IsMutationAnswerFor (mutation_root Q.concrete Q.answer M.step M.torn S.shown root_node.now (view_variables S.shown variables.now))
+        (λ p. IsMutationAnswerFor (mutation_root Q.concrete Q.answer M.step M.torn S.shown served.now (view_variables S.shown variables.now))
         concrete.now keys_only (selected (view_document S.shown document.now) (view_operation S.shown operation.now) (view_variables S.shown variables.now)) context.old
         (view_value S.shown p.0) (map (view_listed S.shown) p.1.items) context.new)
-        (λ _. IsLeftOf (mutation_root Q.concrete Q.answer M.step M.torn S.shown root_node.now (view_variables S.shown variables.now)) concrete.now
+        (λ _. IsLeftOf (mutation_root Q.concrete Q.answer M.step M.torn S.shown served.now (view_variables S.shown variables.now)) concrete.now
         (selected (view_document S.shown document.now) (view_operation S.shown operation.now) (view_variables S.shown variables.now)) context.old context.new) }
 {
     let fragments = fragments_of(alloc, document.as_slice())?;
@@ -181,8 +221,8 @@ fn execute_mutation<
         path: &path,
         undeclared: &undeclared,
     };
-    let fields = root_fields(&root_node.schema, &walk)?;
-    match run_groups(root_node, &walk, &fields, context) {
+    let fields = root_fields(served.schema, &walk)?;
+    match run_groups(served, &walk, &fields, context) {
         Err(error) => Err(error),
         Ok(walked) => {
             let mut errors = walked.errors;

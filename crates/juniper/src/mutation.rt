@@ -23,22 +23,21 @@ ghost use Rattle.juniper_walk.specs.Completing.{IsGroupAt, IsTold};
 ghost use Rattle.juniper_walk.specs.FieldWords.{head_of};
 ghost use Rattle.juniper_walk.specs.Walking.{SelectionsAgree};
 ghost use Rattle.juniper.specs.RootFields.{IsReadyRoot, all_fields, field_in, fields_in, group_in, selected_in, values_in};
-ghost use Rattle.juniper.specs.RootView.{mutation_root, schema_of};
+ghost use Rattle.juniper.specs.ServedView.{mutation_root, schema_of};
 ghost use Rattle.juniper.specs.Stepping.{GroupRan, GroupStopped, IsGiven, StepLeaves};
 
 use crate::coerce::coerce_arguments;
-use crate::root::RootNode;
 use crate::root_walk::RootWalk;
+use crate::served::Served;
 use crate::service::{
     Service, arguments_of, declared_type, shown_type, type_name, undeclared_type,
 };
 use juniper_collect::{Collected, Collector, Conditions, Occurrence, collect};
+use juniper_intro::{RootedNode, rooted_answer};
 use juniper_language::{Field, Object, ScalarValue, Span, Spanning, Type, Value};
 use juniper_meta::meta::Argument;
 use juniper_schema::SchemaType;
-use juniper_types::{
-    Executor, FieldPath, GraphQLMutationValue, GraphQLType, GraphQLValue, Resolved,
-};
+use juniper_types::{Executor, FieldPath, GraphQLMutationValue, GraphQLValue, Resolved};
 use juniper_values::{ExecutionError, ResolveError};
 use juniper_walk::{
     Asked, Group, Site, Walk, Walked, complete_group, group_fields, others_of, path_below,
@@ -83,27 +82,27 @@ pub(crate) fn root_fields<'d, 'a, S: ScalarValue>(
 fn step<
     'd,
     'a,
-    Q: GraphQLValue<S>,
-    M: GraphQLMutationValue<S, Context = Q::Context, Node = Q::Node>,
-    Sub: GraphQLType<S>,
+    Q: GraphQLValue<S, Node = RootedNode<N>>,
+    M: GraphQLMutationValue<S, Context = Q::Context, Node = N>,
+    N: Drop,
     S: ScalarValue,
 >(
-    root_node: &RootNode<Q, M, Sub, S>,
+    served: &Served<'_, Q, M, S>,
     walk: &RootWalk<'_, 'd, 'a, S>,
     site: &Site<'_, 'd, 'a, S>,
     declared: &Type<String>,
     arguments: &[Argument<S>],
     context: &mut Q::Context,
 ) -> Result<Resolved<Q::Node, S>, ResolveError<S>>
-    requires arguments { map (view_argument S.shown) arguments.now ≡ declared_arguments (field_of (view_schema S.shown (schema_of root_node.now))
+    requires arguments { map (view_argument S.shown) arguments.now ≡ declared_arguments (field_of (view_schema S.shown (schema_of served.now))
         walk.now.concrete.now (head_of S.shown site.now.field.now).name.item) }
     requires acyclic { IsAcyclic S.shown site.now.fragments.now }
-    requires selected { IsSelected S.shown (is_possible (view_schema S.shown (schema_of root_node.now))) walk.now.variables.now site.now.fragments.now
+    requires selected { IsSelected S.shown (is_possible (view_schema S.shown (schema_of served.now))) walk.now.variables.now site.now.fragments.now
         walk.now.concrete.now site.now.enclosing.now site.now.field.now }
     ensures answer { (os : _) → Answers S.shown result
-        (step_of (mutation_root Q.concrete Q.answer M.step M.torn S.shown root_node.now (values_in S.shown walk.now)) walk.now.concrete.now
+        (step_of (mutation_root Q.concrete Q.answer M.step M.torn S.shown served.now (values_in S.shown walk.now)) walk.now.concrete.now
         context.old (field_in S.shown walk.now site.now.field.now ∷ os)).1 }
-    ensures context { (os : _) → StepLeaves (mutation_root Q.concrete Q.answer M.step M.torn S.shown root_node.now (values_in S.shown walk.now))
+    ensures context { (os : _) → StepLeaves (mutation_root Q.concrete Q.answer M.step M.torn S.shown served.now (values_in S.shown walk.now))
         walk.now.concrete.now (field_in S.shown walk.now site.now.field.now ∷ os) context.old result context.new }
 {
     let alloc = walk.alloc;
@@ -113,10 +112,10 @@ fn step<
         return type_name(alloc, walk.concrete);
     }
     let arguments = coerce_arguments(alloc, arguments, site.field, walk.variables)?;
-    let declared = shown_type(alloc, &root_node.schema, root_node.query_type(), declared)?;
+    let declared = shown_type(alloc, served.schema, served.query_type(), declared)?;
     let executor = Executor::at_field(
         &(),
-        &root_node.schema,
+        served.schema,
         walk.variables,
         site.fragments,
         site.path,
@@ -125,26 +124,27 @@ fn step<
         site.enclosing,
         site.field,
     );
-    root_node.mutation.resolve_root(
+    let answered = served.mutation.resolve_root(
         alloc,
-        &root_node.mutation_info,
+        served.mutation_info,
         name,
         &arguments,
         &executor,
         context,
-    )
+    );
+    rooted_answer(alloc, answered)
 }
 
 /// Completes what a root field answered under the context that its step left (6.4.3).
 fn complete<
     'd,
     'a,
-    Q: GraphQLValue<S>,
-    M: GraphQLMutationValue<S, Context = Q::Context, Node = Q::Node>,
-    Sub: GraphQLType<S>,
+    Q: GraphQLValue<S, Node = RootedNode<N>>,
+    M: GraphQLMutationValue<S, Context = Q::Context, Node = N>,
+    N: Drop,
     S: ScalarValue,
 >(
-    root_node: &RootNode<Q, M, Sub, S>,
+    served: &Served<'_, Q, M, S>,
     walk: &RootWalk<'_, 'd, 'a, S>,
     path: &Rc<FieldPath<'a>>,
     asked: Asked<'_, Q::Node, S>,
@@ -152,21 +152,21 @@ fn complete<
     context: &Q::Context,
 ) -> Result<Walked<S>, AllocError>
     requires ready { IsReadyRoot S.shown walk.now }
-    requires merge { Merges ((mutation_root Q.concrete Q.answer M.step M.torn S.shown root_node.now (values_in S.shown walk.now)).world context.now)
+    requires merge { Merges ((mutation_root Q.concrete Q.answer M.step M.torn S.shown served.now (values_in S.shown walk.now)).world context.now)
         (innermost (view_type (λ n. string_bytes n) asked.declared.now)) (all_below (group_in S.shown walk.now group.now)) }
     ensures told { IfOk result (λ _. IsTold asked.entry.answer) }
     ensures completed { (reply : _) → Answers S.shown asked.entry.answer reply → IfOk result (λ w. IsGroupAt
-        ((mutation_root Q.concrete Q.answer M.step M.torn S.shown root_node.now (values_in S.shown walk.now)).world context.now) (path_place path.now.value)
+        ((mutation_root Q.concrete Q.answer M.step M.torn S.shown served.now (values_in S.shown walk.now)).world context.now) (path_place path.now.value)
         (view_type (λ n. string_bytes n) asked.entry.declared.now) reply (group_in S.shown walk.now group.now)
         (view_value S.shown w.value) (map (view_listed S.shown) w.errors.items)) }
 {
     let service = Service {
-        resolver: &root_node.query,
-        info: &root_node.query_info,
+        resolver: served.query,
+        info: served.query_info,
         context,
-        schema: &root_node.schema,
+        schema: served.schema,
         variables: walk.variables,
-        query_type: root_node.query_type(),
+        query_type: served.query_type(),
         undeclared: undeclared_type(walk.alloc),
     };
     let below = Walk {
@@ -209,12 +209,12 @@ fn run_group<
     't,
     'd,
     'a,
-    Q: GraphQLValue<S>,
-    M: GraphQLMutationValue<S, Context = Q::Context, Node = Q::Node>,
-    Sub: GraphQLType<S>,
+    Q: GraphQLValue<S, Node = RootedNode<N>>,
+    M: GraphQLMutationValue<S, Context = Q::Context, Node = N>,
+    N: Drop,
     S: ScalarValue,
 >(
-    root_node: &'t RootNode<Q, M, Sub, S>,
+    served: &'t Served<'_, Q, M, S>,
     walk: &'t RootWalk<'_, 'd, 'a, S>,
     group: &Group<'_, 'd, 'a, S>,
     context: &mut Q::Context,
@@ -222,24 +222,22 @@ fn run_group<
     errors: &mut Vec<ExecutionError<S>>,
 ) -> Result<bool, AllocError>
     requires ready { IsReadyRoot S.shown walk.now }
-    requires agree { (c : _) → SelectionsAgree ((mutation_root Q.concrete Q.answer M.step M.torn S.shown root_node.now (values_in S.shown walk.now)).world c)
+    requires agree { (c : _) → SelectionsAgree ((mutation_root Q.concrete Q.answer M.step M.torn S.shown served.now (values_in S.shown walk.now)).world c)
         walk.now.concrete.now (selected_in S.shown walk.now) }
-    requires group { with_key (key_of (head_of S.shown group.now.first.now)) (all_fields S.shown walk.now (view_schema S.shown (schema_of root_node.now)))
+    requires group { with_key (key_of (head_of S.shown group.now.first.now)) (all_fields S.shown walk.now (view_schema S.shown (schema_of served.now)))
         ≡ group_in S.shown walk.now group.now }
     ensures { MatchResult result
-        (λ rises. GroupRan (mutation_root Q.concrete Q.answer M.step M.torn S.shown root_node.now (values_in S.shown walk.now)) walk.now.concrete.now
-        (key_of (head_of S.shown group.now.first.now)) (all_fields S.shown walk.now (view_schema S.shown (schema_of root_node.now))) context.old
+        (λ rises. GroupRan (mutation_root Q.concrete Q.answer M.step M.torn S.shown served.now (values_in S.shown walk.now)) walk.now.concrete.now
+        (key_of (head_of S.shown group.now.first.now)) (all_fields S.shown walk.now (view_schema S.shown (schema_of served.now))) context.old
         (view_object S.shown entries.old) (map (view_listed S.shown) errors.old.items) rises
         (view_object S.shown entries.new) (map (view_listed S.shown) errors.new.items) context.new)
-        (λ _. GroupStopped (mutation_root Q.concrete Q.answer M.step M.torn S.shown root_node.now (values_in S.shown walk.now)) walk.now.concrete.now
-        (with_key (key_of (head_of S.shown group.now.first.now)) (all_fields S.shown walk.now (view_schema S.shown (schema_of root_node.now))))
+        (λ _. GroupStopped (mutation_root Q.concrete Q.answer M.step M.torn S.shown served.now (values_in S.shown walk.now)) walk.now.concrete.now
+        (with_key (key_of (head_of S.shown group.now.first.now)) (all_fields S.shown walk.now (view_schema S.shown (schema_of served.now))))
         context.old context.new) }
 {
     let path = path_below(walk.alloc, walk.path, group.first)?;
     let first = group.first;
-    let field = root_node
-        .schema
-        .field_of(walk.concrete, first.item.name.item);
+    let field = served.schema.field_of(walk.concrete, first.item.name.item);
     let declared = declared_type(field, walk.undeclared);
     let site = Site {
         fragments: walk.fragments.by_name(),
@@ -247,16 +245,9 @@ fn run_group<
         enclosing: walk.selections,
         field: group.first,
     };
-    let answer = step(
-        root_node,
-        walk,
-        &site,
-        declared,
-        arguments_of(field),
-        context,
-    );
+    let answer = step(served, walk, &site, declared, arguments_of(field), context);
     let asked = Asked { declared, answer };
-    let walked = match complete(root_node, walk, &path, asked, group, context) {
+    let walked = match complete(served, walk, &path, asked, group, context) {
         Err(error) => return Err(error),
         Ok(walked) => walked,
     };
@@ -279,28 +270,28 @@ pub(crate) fn run_groups<
     't,
     'd,
     'a,
-    Q: GraphQLValue<S>,
-    M: GraphQLMutationValue<S, Context = Q::Context, Node = Q::Node>,
-    Sub: GraphQLType<S>,
+    Q: GraphQLValue<S, Node = RootedNode<N>>,
+    M: GraphQLMutationValue<S, Context = Q::Context, Node = N>,
+    N: Drop,
     S: ScalarValue,
 >(
-    root_node: &'t RootNode<Q, M, Sub, S>,
+    served: &'t Served<'_, Q, M, S>,
     walk: &'t RootWalk<'_, 'd, 'a, S>,
     fields: &[Occurrence<'d, 'a, S>],
     context: &mut Q::Context,
 ) -> Result<Walked<S>, AllocError>
     requires ready { IsReadyRoot S.shown walk.now }
-    requires agree { (c : _) → SelectionsAgree ((mutation_root Q.concrete Q.answer M.step M.torn S.shown root_node.now (values_in S.shown walk.now)).world c)
+    requires agree { (c : _) → SelectionsAgree ((mutation_root Q.concrete Q.answer M.step M.torn S.shown served.now (values_in S.shown walk.now)).world c)
         walk.now.concrete.now (selected_in S.shown walk.now) }
-    requires fields { fields_in S.shown walk.now fields.now ≡ all_fields S.shown walk.now (view_schema S.shown (schema_of root_node.now)) }
+    requires fields { fields_in S.shown walk.now fields.now ≡ all_fields S.shown walk.now (view_schema S.shown (schema_of served.now)) }
     ensures { MatchResult result
-        (λ w. HasRun keys_only all_starts (mutation_root Q.concrete Q.answer M.step M.torn S.shown root_node.now (values_in S.shown walk.now))
-        walk.now.concrete.now (keys (all_fields S.shown walk.now (view_schema S.shown (schema_of root_node.now))))
-        (all_fields S.shown walk.now (view_schema S.shown (schema_of root_node.now)))
+        (λ w. HasRun keys_only all_starts (mutation_root Q.concrete Q.answer M.step M.torn S.shown served.now (values_in S.shown walk.now))
+        walk.now.concrete.now (keys (all_fields S.shown walk.now (view_schema S.shown (schema_of served.now))))
+        (all_fields S.shown walk.now (view_schema S.shown (schema_of served.now)))
         context.old (view_value S.shown w.value) (map (view_listed S.shown) w.errors.items) context.new)
-        (λ _. IsLeft (mutation_root Q.concrete Q.answer M.step M.torn S.shown root_node.now (values_in S.shown walk.now)) walk.now.concrete.now
-        (keys (all_fields S.shown walk.now (view_schema S.shown (schema_of root_node.now))))
-        (all_fields S.shown walk.now (view_schema S.shown (schema_of root_node.now)))
+        (λ _. IsLeft (mutation_root Q.concrete Q.answer M.step M.torn S.shown served.now (values_in S.shown walk.now)) walk.now.concrete.now
+        (keys (all_fields S.shown walk.now (view_schema S.shown (schema_of served.now))))
+        (all_fields S.shown walk.now (view_schema S.shown (schema_of served.now)))
         context.old context.new) }
 {
     let groups = group_fields(walk.alloc, fields)?;
@@ -314,7 +305,7 @@ pub(crate) fn run_groups<
                 first,
                 others: others_of(&groups, key),
             };
-            match run_group(root_node, walk, &group, context, &mut entries, &mut errors) {
+            match run_group(served, walk, &group, context, &mut entries, &mut errors) {
                 Err(error) => return Err(error),
                 Ok(rises) => {
                     if rises {

@@ -1,6 +1,6 @@
 //! Requests: from a query text to data and errors (section 6.1 of the Specification).
 
-ghost use Rattle.std.specs.Prelude.{◌≡◌, MatchResult, None, Some, [], option_map, true};
+ghost use Rattle.std.specs.Prelude.{◌≡◌, MatchResult, None, Some, [], option_map};
 ghost use Rattle.graphql_spec.specs.Errors.{keys_only};
 ghost use Rattle.graphql_spec.specs.Outcomes.{IsOutcome, Reads};
 ghost use Rattle.graphql_spec.specs.Requests as requests;
@@ -15,8 +15,8 @@ ghost use Rattle.juniper.specs.RootView.{service_of};
 use crate::error::GraphQLError;
 use crate::execute::execute_validated_query;
 use crate::operation::{Chosen, choose};
-use crate::root::RootNode;
 use crate::variables::first_not_constant;
+use juniper_intro::RootNode;
 use juniper_language::{
     Document, Operation, ScalarValue, Span, Spanning, Value, Variables, parse_document_source,
 };
@@ -62,12 +62,13 @@ fn check_document<S: ScalarValue>(
     alloc: Global,
     document: &Document<'_, S>,
     schema: &SchemaType<S>,
+    is_introspection_disabled: bool,
 ) -> Result<(), GraphQLError>
     ensures { MatchResult result
-        (λ _. rule_errors (view_schema S.shown schema.now) true (view_document S.shown document.now) ≡ [])
-        (λ e. StandsFor (IsInvalid (view_schema S.shown schema.now) (view_document S.shown document.now)) (view_request_error e)) }
+        (λ _. rule_errors (view_schema S.shown schema.now) is_introspection_disabled (view_document S.shown document.now) ≡ [])
+        (λ e. StandsFor (IsInvalid (view_schema S.shown schema.now) is_introspection_disabled (view_document S.shown document.now)) (view_request_error e)) }
 {
-    let errors = validate(alloc, document, schema, true)?;
+    let errors = validate(alloc, document, schema, is_introspection_disabled)?;
     if errors.is_empty() {
         Ok(())
     } else {
@@ -132,7 +133,13 @@ pub fn execute_sync<
         Err(error) => return Err(error),
         Ok(document) => document,
     };
-    match check_document(alloc, &document, &root_node.schema) {
+    let schema = root_node.schema();
+    match check_document(
+        alloc,
+        &document,
+        schema,
+        root_node.is_introspection_disabled(),
+    ) {
         Err(error) => return Err(error),
         Ok(_) => {}
     }
@@ -140,7 +147,7 @@ pub fn execute_sync<
         Err(error) => return Err(error),
         Ok(operation) => operation,
     };
-    match check_variables(alloc, operation, variables, &root_node.schema) {
+    match check_variables(alloc, operation, variables, schema) {
         Err(error) => return Err(error),
         Ok(_) => {}
     }

@@ -1,11 +1,12 @@
 -- What is shown of an outcome answers the words.
-use Rattle.std.proofs.Common.{◌≡◌, true, Option, Some, map, Vec, Global, Result, Ok, Err, inl, inr, subst}
+use Rattle.std.proofs.Common.{◌≡◌, Bool, false, Option, Some, map, Vec, Global, Result, Ok, Err, inl, inr, subst}
 use Rattle.std.specs.Prelude.{MatchResult}
 use Rattle.graphql_spec.specs.Shown.{Text, Name}
 use Rattle.graphql_spec.specs.Errors.{keys_only}
 use Rattle.graphql_spec.specs.Inputs.{Variables}
 use Rattle.graphql_spec.specs.Schema.{Schema}
 use Rattle.graphql_spec.specs.Executable.{IsSameSchema}
+use Rattle.graphql_spec.specs.Introspection.{RootedNode, rooted_service}
 use Rattle.graphql_spec.specs.Outcomes as outcome
 use Rattle.graphql_spec.specs.Outcomes.{IsOutcome, Request, Response, Service, Steps, refuses, responds}
 use Rattle.juniper.specs.Answering.{AnswersAs, Responds}
@@ -32,30 +33,41 @@ Data = Value DefaultScalarValue × Vec (ExecutionError DefaultScalarValue) Globa
 abbrev Outcome : Type 0
 Outcome = Result Data GraphQLError
 
--- what requests are executed with, from a root and the steps of mutations
-abbrev pub service_from : DemoNode → Option (Steps DemoContext DemoNode) → Schema → Service DemoContext DemoNode
-service_from m x s = record { schema = s; introspection_disabled = true; concrete = λ c. concrete_type; answer = reply; root = m; mutation = x }
+-- what requests are executed with, from a root, the steps of mutations and whether introspection is disabled
+abbrev pub service_from : DemoNode → Option (Steps DemoContext DemoNode) → Bool → Schema → Service DemoContext (RootedNode DemoNode)
+service_from m x b s = rooted_service (record { schema = s; introspection_disabled = b; concrete = λ c. concrete_type; answer = reply; root = m; mutation = x })
 
 -- how the outcome of a request comes about
-abbrev pub Comes : DemoNode → Option (Steps DemoContext DemoNode) → Schema → Request → DemoContext → DemoContext → Outcome → Type 0
-Comes m x s q c after o = AnswersAs default_shown (λ r. IsOutcome (service_from m x s) keys_only q c r after) o
+abbrev pub Comes : DemoNode → Option (Steps DemoContext DemoNode) → Bool → Schema → Request → DemoContext → DemoContext → Outcome → Type 0
+Comes m x b s q c after o = AnswersAs default_shown (λ r. IsOutcome (service_from m x b s) keys_only q c r after) o
 
 -- what is shown of it
 abbrev pub IsShown : Outcome → Answer → Type 0
 IsShown o a = MatchResult o (λ p. ShowsData (view_value default_shown p.0) (map (view_listed default_shown) p.1.items) a) (λ e. ShowsRefusal (view_request_error e) a)
 
 module _ (t : Text) (c after : DemoContext) where
-  shown : (n : Option Name) (vars : Variables) (s : Schema) → IsSameSchema demo_schema s → (o : Outcome) (a : Answer) → Comes Query (Some demo_steps) s (record { text = t; operation = n; variables = vars }) c after o
+  -- a request with these values of variables
+  abbrev asked : Option Name → Variables → Request
+  asked n vars = record { text = t; operation = n; variables = vars }
+
+  shown : (n : Option Name) (vars : Variables) (s : Schema) → IsSameSchema demo_schema s → (o : Outcome) (a : Answer) → Comes Query (Some demo_steps) false s (asked n vars) c after o
       → IsShown o a → IsAnswerWith t n vars c a after
   shown n vars s same (Ok p) a comes shows = (s, same, inl (_, _, comes, shows))
   shown n vars s same (Err e) a comes shows = (s, same, inr (_, comes, shows))
 
-  pub request_answered : (n l : Option Name) (vars : Variables) (m : DemoNode) (x : Option (Steps DemoContext DemoNode)) (s : Schema) (o : Outcome) (a : Answer) → l ≡ n → m ≡ Query → x ≡ Some demo_steps
-      → IsSameSchema demo_schema s → Comes m x s (record { text = t; operation = l; variables = vars }) c after o → IsShown o a → IsAnswerWith t n vars c a after
-  request_answered n l vars m x s o a is_name is_root steps same comes shows =
-      shown n vars s same o a (subst (λ z. Comes Query (Some demo_steps) s (record { text = t; operation = z; variables = vars }) c after o) is_name
-      (subst (λ z. Comes z (Some demo_steps) s (record { text = t; operation = l; variables = vars }) c after o) is_root
-      (subst (λ z. Comes m z s (record { text = t; operation = l; variables = vars }) c after o) steps comes))) shows
+  -- what comes about with equal parts
+  of_demo : (n l : Option Name) (vars : Variables) (m : DemoNode) (x : Option (Steps DemoContext DemoNode)) (b : Bool) (s : Schema) (o : Outcome) → l ≡ n → m ≡ Query → x ≡ Some demo_steps
+      → b ≡ false → Comes m x b s (asked l vars) c after o → Comes Query (Some demo_steps) false s (asked n vars) c after o
+  of_demo n l vars m x b s o is_name is_root steps enabled comes =
+      subst (λ z. Comes Query (Some demo_steps) false s (asked z vars) c after o) is_name
+      (subst (λ z. Comes z (Some demo_steps) false s (asked l vars) c after o) is_root
+      (subst (λ z. Comes m z false s (asked l vars) c after o) steps
+      (subst (λ z. Comes m x z s (asked l vars) c after o) enabled comes)))
+
+  pub request_answered : (n l : Option Name) (vars : Variables) (m : DemoNode) (x : Option (Steps DemoContext DemoNode)) (b : Bool) (s : Schema) (o : Outcome) (a : Answer) → l ≡ n → m ≡ Query
+      → x ≡ Some demo_steps → b ≡ false → IsSameSchema demo_schema s → Comes m x b s (asked l vars) c after o → IsShown o a → IsAnswerWith t n vars c a after
+  request_answered n l vars m x b s o a is_name is_root steps enabled same comes shows =
+      shown n vars s same o a (of_demo n l vars m x b s o is_name is_root steps enabled comes) shows
 
   responded : (P : Response → Type 0) (e : RequestError) → Responds P e → (r : Response) × P r
   responded P out_of_memory p = (outcome.out_of_memory, p)
@@ -69,16 +81,12 @@ module _ (t : Text) (c after : DemoContext) where
   responded P no_mutation_type (r, is, p) = (refuses r, p)
   responded P (variable_not_constant n) (r, is, p) = (refuses r, p)
 
-  left : (n : Option Name) (vars : Variables) (s : Schema) → IsSameSchema demo_schema s → (o : Outcome) →
-      Comes Query (Some demo_steps) s (record { text = t; operation = n; variables = vars }) c after o → MayLeave t n vars c after
+  left : (n : Option Name) (vars : Variables) (s : Schema) → IsSameSchema demo_schema s → (o : Outcome) → Comes Query (Some demo_steps) false s (asked n vars) c after o
+      → MayLeave t n vars c after
   left n vars s same (Ok p) comes = inr (s, same, (responds (view_value default_shown p.0) (map (view_listed default_shown) p.1.items), comes))
-  left n vars s same (Err e) comes =
-      inr (s, same, responded (λ r. IsOutcome (service_from Query (Some demo_steps) s) keys_only (record { text = t; operation = n; variables = vars }) c r after) (view_request_error e) comes)
+  left n vars s same (Err e) comes = inr (s, same, responded (λ r. IsOutcome (service_from Query (Some demo_steps) false s) keys_only (asked n vars) c r after) (view_request_error e) comes)
 
   -- and where it cannot be shown, the context is that after an outcome
-  pub request_left : (n l : Option Name) (vars : Variables) (m : DemoNode) (x : Option (Steps DemoContext DemoNode)) (s : Schema) (o : Outcome) → l ≡ n → m ≡ Query → x ≡ Some demo_steps
-      → IsSameSchema demo_schema s → Comes m x s (record { text = t; operation = l; variables = vars }) c after o → MayLeave t n vars c after
-  request_left n l vars m x s o is_name is_root steps same comes =
-      left n vars s same o (subst (λ z. Comes Query (Some demo_steps) s (record { text = t; operation = z; variables = vars }) c after o) is_name
-      (subst (λ z. Comes z (Some demo_steps) s (record { text = t; operation = l; variables = vars }) c after o) is_root
-      (subst (λ z. Comes m z s (record { text = t; operation = l; variables = vars }) c after o) steps comes)))
+  pub request_left : (n l : Option Name) (vars : Variables) (m : DemoNode) (x : Option (Steps DemoContext DemoNode)) (b : Bool) (s : Schema) (o : Outcome) → l ≡ n → m ≡ Query
+      → x ≡ Some demo_steps → b ≡ false → IsSameSchema demo_schema s → Comes m x b s (asked l vars) c after o → MayLeave t n vars c after
+  request_left n l vars m x b s o is_name is_root steps enabled same comes = left n vars s same o (of_demo n l vars m x b s o is_name is_root steps enabled comes)

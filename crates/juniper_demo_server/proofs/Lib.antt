@@ -1,4 +1,3 @@
 mod Answering
-mod AwaitedEach
-mod PutTypes
+mod RegisteredTypes
 mod ServedDemo

@@ -1,5 +1,6 @@
 -- The demo's schema is executable, and what is made of the demo's types is this schema.
-use Rattle.std.proofs.Common.{◌≡◌, IsTrue, true, codes, List, Some, refl, ap, ◌∙◌, sym, subst, bytes_eq, inl, inr}
+use Rattle.std.specs.Option.{option_and_then}
+use Rattle.std.proofs.Common.{◌≡◌, true, codes, true≢false, [], Option, None, Some, Err, refl, ap, ◌∙◌, sym, subst, bytes_eq, inl, inr}
 use Rattle.std.proofs.lemmas.Bool.{cases_Bool}
 use Rattle.graphql_spec.specs.BuiltIns.{value_named}
 use Rattle.graphql_spec.specs.Schema.{Schema, Entry, plain_field, plain_input}
@@ -11,9 +12,12 @@ use Rattle.graphql_spec.specs.Shown.{Name, same_bool}
 use Rattle.graphql_spec.specs.Fields.{field_in, is_subtype, is_named_subtype, accepts_kind, entry_in, or_else, typename_field, shape_of, entry_named, type_named, is_object, is_interface, is_composite, is_leaf, is_input, interfaces_of, members_of, fields_of}
 use Rattle.graphql_spec.specs.Executable.{implements_field, values_of, input_fields_of, shape_fields, names_differ, is_filled, is_reserved, no_declarations, is_typename_field, input_is_free, field_is_free, is_own_name, entry_is_named, entries_are_named, mutation_is_apart, roots_are_objects, ends_in_output, ends_in_input, field_is_known, types_are_known, input_names_differ, is_value_name, entry_names_differ, all_names_differ, implements, interfaces_are_met, default_is_right, defaults_fit, accepts_just, scalar_if_there, built_ins_are_right, is_executable, IsSameSchema}
 use Rattle.graphql_spec.proofs.Lists.{same_true}
-use Rattle.graphql_spec.proofs.Reordered.{order_is_open}
 use Rattle.juniper_meta.specs.MetaView.{is_placeholder}
-use Rattle.juniper_schema.specs.SchemaView.{AreCompleted, with_built_ins}
+use Rattle.juniper_intro.specs.Roots.{IsSchemaOf, Makes}
+use Rattle.juniper_intro.specs.declared.error.RootError.{RootError}
+use Rattle.juniper_intro.specs.declared.error.RootError.TheVariants.{NotExecutable, Memory}
+use Rattle.juniper_registry.specs.Entries.{Table}
+use Rattle.juniper_schema.specs.SchemaView.{with_built_ins}
 use Rattle.juniper_demo_server.specs.DemoSchema.{demo_schema, demo_types}
 
 demo_is_executable : is_executable demo_schema ≡ true
@@ -40,14 +44,29 @@ completed n = elim (cases_Bool (bytes_eq n (codes "String"))) [
     at : (k : Name) → k ≡ n → with_built_ins k (entry_in demo_types k) ≡ entry_in demo_schema.entries k → with_built_ins n (entry_in demo_types n) ≡ entry_in demo_schema.entries n
     at k is same = subst (λ m. with_built_ins m (entry_in demo_types m) ≡ entry_in demo_schema.entries m) is same
 
+-- a table of the demo's types
+abbrev pub IsDemo : Table → Type 0
+IsDemo types = (n : Name) → types n ≡ entry_in demo_types n
+
+-- a name that is there
+abbrev name_or_empty : Option Name → Name
+name_or_empty None = []
+name_or_empty (Some n) = n
+
 -- a schema that is made of the demo's types is the demo's
-pub made_is_same : (types : List Entry) (s : Schema) → ((n : Name) → entry_in types n ≡ entry_in demo_types n) → AreCompleted types s.entries → s.query ≡ codes "Query" → s.mutation ≡ Some (codes "Mutation") → IsSameSchema demo_schema s
-made_is_same types s at made query mutation = record {
+pub made_is_same : (types : Table) (s : Schema) → IsDemo types → IsSchemaOf types (Some (codes "Query")) (Some (codes "Mutation")) s → IsSameSchema demo_schema s
+made_is_same types s at made = record {
   entries = λ n. sym (made.held n ∙ (ap (with_built_ins n) (at n) ∙ completed n));
-  query = sym query;
-  mutation = sym mutation;
+  query = ap name_or_empty made.query_is;
+  mutation = ap (option_and_then (λ m. m)) made.mutation_is;
 }
 
--- so it is executable
-pub made_is_executable : (types : List Entry) (s : Schema) → AreCompleted types s.entries → IsSameSchema demo_schema s → IsTrue (is_executable s)
-made_is_executable types s made same = order_is_open demo_schema s same made.distinct demo_is_executable
+-- the demo's schema is one that is made so
+demo_is_made : (types : Table) → IsDemo types → IsSchemaOf types (Some (codes "Query")) (Some (codes "Mutation")) demo_schema
+unfolding names_differ
+demo_is_made types at = record { held = λ n. sym (ap (with_built_ins n) (at n) ∙ completed n); distinct = refl; query_is = refl; mutation_is = refl }
+
+-- so it is never refused as one that cannot be executed
+pub refused_for_memory : {A : Type 0} (schema : A → Schema) (types : Table) → IsDemo types → (e : RootError) → Makes schema types (Some (codes "Query")) (Some (codes "Mutation")) (Err e) → e ≡ Memory
+refused_for_memory schema types at NotExecutable refused = absurd (true≢false (sym demo_is_executable ∙ refused demo_schema (demo_is_made types at)))
+refused_for_memory schema types at Memory refused = refl

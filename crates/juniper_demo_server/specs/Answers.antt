@@ -1,11 +1,12 @@
 -- What the program answers.
-use Rattle.std.specs.Prelude.{◌≡◌, ◌⊎◌, true, List, [], ◌∷◌, ◌++◌, Option, Some, None, Result, Ok, Err, codes, string_bytes}
+use Rattle.std.specs.Prelude.{◌≡◌, ◌⊎◌, false, List, [], ◌∷◌, ◌++◌, Option, Some, None, Result, Ok, Err, codes, string_bytes}
 use Rattle.graphql_spec.specs.Shown.{Text, Name}
 use Rattle.graphql_spec.specs.Values.{Value}
 use Rattle.graphql_spec.specs.Inputs.{Variables}
 use Rattle.graphql_spec.specs.Errors.{Listed, keys_only}
 use Rattle.graphql_spec.specs.Schema.{Schema}
 use Rattle.graphql_spec.specs.Executable.{IsSameSchema}
+use Rattle.graphql_spec.specs.Introspection.{RootedNode, rooted_service}
 use Rattle.graphql_spec.specs.Outcomes.{IsOutcome, Request, Response, Service, Steps, responds}
 use Rattle.juniper.specs.Answering.{Responds}
 use Rattle.juniper.specs.RequestErrors.{RequestError, request_error_text}
@@ -59,16 +60,16 @@ name_in (b ∷ bs) = Some (b ∷ bs)
 abbrev pub demo_steps : Steps DemoContext DemoNode
 demo_steps = record { step = step; torn = λ c field arguments. torn c }
 
--- what requests to the demo are executed with, on a schema (6.1): introspection is disabled
-abbrev pub demo_service : Schema → Service DemoContext DemoNode
-demo_service s = record {
+-- what requests to the demo are executed with, on a schema (6.1): its own fields, and introspection (4)
+abbrev pub demo_service : Schema → Service DemoContext (RootedNode DemoNode)
+demo_service s = rooted_service (record {
   schema = s;
-  introspection_disabled = true;
+  introspection_disabled = false;
   concrete = λ c. concrete_type;
   answer = reply;
   root = Query;
   mutation = Some demo_steps;
-}
+})
 
 -- a request on a schema, in a context: what its execution gives, or why it is refused (6.1)
 abbrev pub IsAnswerOn : Schema → Request → DemoContext → Answer → DemoContext → Type 0

@@ -1,8 +1,6 @@
 -- The demo's schema (3).
-use Rattle.std.specs.Prelude.{◌≡◌, codes, true, false, List, [], ◌∷◌, Some}
-use Rattle.graphql_spec.specs.Fields.{entry_in}
+use Rattle.std.specs.Prelude.{codes, true, false, List, [], ◌∷◌, Some}
 use Rattle.graphql_spec.specs.Schema.{Schema, Entry}
-use Rattle.graphql_spec.specs.Shown.{Name}
 use Rattle.juniper_meta.specs.MetaView.{entry_at}
 use Rattle.juniper_registry.specs.Entries.{awaited}
 use Rattle.juniper_schema.specs.SchemaView.{built_in}
@@ -30,12 +28,6 @@ demo_schema = record {
   mutation = Some (codes "Mutation");
 }
 
--- ## Only private clauses cite what follows
-
--- the types that the schema is made of: the demo's own, and placeholders of two scalars
+-- the types that are registered: the demo's own, and placeholders of the scalars that they refer to
 abbrev pub demo_types : List Entry
-demo_types = own_types (awaited (codes "Int") ∷ awaited (codes "ID") ∷ [])
-
--- the entries are as if this one were put before the others
-abbrev pub PutsFirst : Entry → List Entry → List Entry → Type 0
-PutsFirst e old new = (n : Name) → entry_in new n ≡ entry_in (e ∷ old) n
+demo_types = own_types (awaited (codes "ID") ∷ awaited (codes "String") ∷ awaited (codes "Int") ∷ [])

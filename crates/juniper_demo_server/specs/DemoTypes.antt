@@ -1,16 +1,18 @@
 -- How the demo's types are declared (3.6, 3.7, 3.9).
 use Rattle.std.specs.Prelude.{pos, codes, List, [], ◌∷◌, ◌++◌}
-use Rattle.graphql_spec.specs.BuiltIns.{value_named}
+use Rattle.graphql_spec.specs.Inputs.{scalar}
 use Rattle.graphql_spec.specs.Schema.{FieldDeclaration, plain_field, plain_input}
+use Rattle.graphql_spec.specs.Shown.{int}
 use Rattle.juniper_meta.specs.MetaView.{Meta}
-use Rattle.juniper_demo_server.specs.DeclaredTypes.{enum, int_with_default, interface, list_type, object, optional, type_named}
+use Rattle.juniper_registry.specs.DeclaredTypes.{enum, input_with_default, interface, list_type, object, optional, type_named}
 
 -- `type Query`
 abbrev pub query_declaration : Meta
 query_declaration = object (codes "Query") (
     plain_field (codes "id") [] (type_named (codes "ID"))
     ∷ plain_field (codes "name") [] (type_named (codes "String"))
-    ∷ plain_field (codes "number") (int_with_default (codes "plus") (pos 1) ∷ []) (optional (type_named (codes "Int")))
+    ∷ plain_field (codes "number") (input_with_default (codes "plus") (optional (type_named (codes "Int"))) (scalar (int (pos 1))) ∷ [])
+    (optional (type_named (codes "Int")))
     ∷ plain_field (codes "nothing") [] (optional (type_named (codes "String")))
     ∷ plain_field (codes "fail") [] (optional (type_named (codes "Int")))
     ∷ plain_field (codes "odd") [] (optional (type_named (codes "Int")))
@@ -51,11 +53,13 @@ character_declaration = interface (codes "Character") character_fields
 
 -- `type Droid implements Character`
 abbrev pub droid_declaration : Meta
-droid_declaration = object (codes "Droid") (character_fields ++ plain_field (codes "primaryFunction") [] (optional (type_named (codes "String"))) ∷ []) (codes "Character" ∷ [])
+droid_declaration = object (codes "Droid") (character_fields ++ plain_field (codes "primaryFunction") [] (optional (type_named (codes "String"))) ∷ [])
+    (codes "Character" ∷ [])
 
 -- `type Human implements Character`
 abbrev pub human_declaration : Meta
-human_declaration = object (codes "Human") (character_fields ++ plain_field (codes "height") [] (optional (type_named (codes "Int"))) ∷ []) (codes "Character" ∷ [])
+human_declaration = object (codes "Human") (character_fields ++ plain_field (codes "height") [] (optional (type_named (codes "Int"))) ∷ [])
+    (codes "Character" ∷ [])
 
 -- `type Cell`
 abbrev pub cell_declaration : Meta
@@ -66,4 +70,4 @@ cell_declaration = object (codes "Cell") (
 
 -- `enum Episode`
 abbrev pub episode_declaration : Meta
-episode_declaration = enum (codes "Episode") (value_named (codes "NEWHOPE") ∷ value_named (codes "EMPIRE") ∷ value_named (codes "JEDI") ∷ [])
+episode_declaration = enum (codes "Episode") (codes "NEWHOPE" ∷ codes "EMPIRE" ∷ codes "JEDI" ∷ [])

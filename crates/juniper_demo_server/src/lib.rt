@@ -1,7 +1,6 @@
 //! The demo server: its schema, its resolvers, and what it answers to the words of a request.
 #![tactic(auto)]
 
-mod declare;
 mod demo;
 mod mutation;
 mod outcome;
@@ -13,6 +12,6 @@ mod words;
 pub use demo::{Demo, DemoContext, DemoNode, Episode};
 pub use mutation::DemoMutation;
 pub use outcome::{Answer, Outcome, show};
-pub use schema::{DemoRoot, demo_root};
+pub use schema::{DemoRoot, demo_root, registry};
 pub use types::{Cell, Character, Droid, Human, Tally};
 pub use words::answer;

@@ -1,18 +1,16 @@
 //! How the demo's types are referred to, and how they are declared (section 3 of the Specification).
 
-ghost use Rattle.std.specs.Prelude.{Some, codes};
-ghost use Rattle.juniper_demo_server.specs.DeclaredTypes.{type_named};
-ghost use Rattle.juniper_demo_server.specs.DemoTypes.{cell_declaration, character_declaration, droid_declaration, episode_declaration, human_declaration};
-ghost use Rattle.juniper_demo_server.specs.DemoTypes.{mutation_declaration, query_declaration, tally_declaration};
+ghost use Rattle.std.specs.Prelude.{◌≡◌, IfOk, Some, codes, map};
+ghost use Rattle.juniper_meta.specs.MetaView.{view_field};
+ghost use Rattle.juniper_registry.specs.DeclaredTypes.{type_named};
+ghost use Rattle.juniper_demo_server.specs.DemoTypes.{cell_declaration, character_declaration, character_fields, droid_declaration, episode_declaration};
+ghost use Rattle.juniper_demo_server.specs.DemoTypes.{human_declaration, mutation_declaration, query_declaration, tally_declaration};
 
-use crate::declare::{
-    Declared, argument, await_each, enum_type, enum_value, field, field_with, int_with_default,
-    interface, object, object_of,
-};
 use crate::demo::{Demo, Episode};
 use crate::mutation::DemoMutation;
 use juniper_language::{ScalarValue, Type};
 use juniper_meta::MetaType;
+use juniper_meta::meta::Field;
 use juniper_types::{GraphQLReference, GraphQLType, Registry};
 use juniper_values::ID;
 use std::alloc::{AllocError, Global};
@@ -28,7 +26,6 @@ impl<S: ScalarValue> GraphQLReference<S> for Demo {
         Some("Query")
     }
 
-    #[tactic(auto, unfolding(graphql_spec::specs::Types::innermost))]
     fn type_in(
         _alloc: Global,
         _info: &Self::TypeInfo,
@@ -38,27 +35,33 @@ impl<S: ScalarValue> GraphQLReference<S> for Demo {
     }
 }
 
-impl<S: ScalarValue> Declared<S> for Demo {
-    ghost declared = { query_declaration };
+impl<S: ScalarValue> GraphQLType<S> for Demo {
+    ghost declaration = { λ _. query_declaration };
 
-    fn declare(alloc: Global) -> Result<MetaType<S>, AllocError> {
-        let plus = int_with_default(alloc, "plus", 1)?;
-        let episode = argument::<Option<Episode>, S>(alloc, "episode", &())?;
+    fn meta(
+        _alloc: Global,
+        _info: &Self::TypeInfo,
+        registry: &mut Registry<S>,
+    ) -> Result<MetaType<S>, AllocError> {
+        let plus = registry.arg_with_default::<Option<i32>>("plus", &Some(1), &())?;
+        let episode = registry.arg::<Option<Episode>>("episode", &())?;
         let fields = [
-            field::<ID, S>(alloc, "id", &())?,
-            field::<String, S>(alloc, "name", &())?,
-            field_with::<Option<i32>, S>(alloc, "number", plus, &())?,
-            field::<Option<String>, S>(alloc, "nothing", &())?,
-            field::<Option<i32>, S>(alloc, "fail", &())?,
-            field::<Option<i32>, S>(alloc, "odd", &())?,
-            field_with::<Option<Character>, S>(alloc, "hero", episode, &())?,
-            field::<Character, S>(alloc, "mustHero", &())?,
-            field::<Option<Vec<i32>>, S>(alloc, "ids", &())?,
-            field::<Option<Vec<Vec<Cell>>>, S>(alloc, "grid", &())?,
-            field::<Vec<Vec<Option<Cell>>>, S>(alloc, "holes", &())?,
+            registry.field::<ID>("id", &())?,
+            registry.field::<String>("name", &())?,
+            registry.field_with::<Option<i32>>("number", plus, &())?,
+            registry.field::<Option<String>>("nothing", &())?,
+            registry.field::<Option<i32>>("fail", &())?,
+            registry.field::<Option<i32>>("odd", &())?,
+            registry.field_with::<Option<Character>>("hero", episode, &())?,
+            registry.field::<Character>("mustHero", &())?,
+            registry.field::<Option<Vec<i32>>>("ids", &())?,
+            registry.field::<Option<Vec<Vec<Cell>>>>("grid", &())?,
+            registry.field::<Vec<Vec<Option<Cell>>>>("holes", &())?,
         ];
-        object(alloc, "Query", fields)
+        registry.object_type("Query", fields)
     }
+
+    ghost keeps_name = { λ _ _ e. e };
 }
 
 impl<S: ScalarValue> GraphQLReference<S> for Episode {
@@ -72,7 +75,6 @@ impl<S: ScalarValue> GraphQLReference<S> for Episode {
         Some("Episode")
     }
 
-    #[tactic(auto, unfolding(graphql_spec::specs::Types::innermost))]
     fn type_in(
         _alloc: Global,
         _info: &Self::TypeInfo,
@@ -82,17 +84,18 @@ impl<S: ScalarValue> GraphQLReference<S> for Episode {
     }
 }
 
-impl<S: ScalarValue> Declared<S> for Episode {
-    ghost declared = { episode_declaration };
+impl<S: ScalarValue> GraphQLType<S> for Episode {
+    ghost declaration = { λ _. episode_declaration };
 
-    fn declare(alloc: Global) -> Result<MetaType<S>, AllocError> {
-        let values = [
-            enum_value(alloc, "NEWHOPE")?,
-            enum_value(alloc, "EMPIRE")?,
-            enum_value(alloc, "JEDI")?,
-        ];
-        enum_type(alloc, "Episode", values)
+    fn meta(
+        _alloc: Global,
+        _info: &Self::TypeInfo,
+        registry: &mut Registry<S>,
+    ) -> Result<MetaType<S>, AllocError> {
+        registry.enum_type("Episode", &["NEWHOPE", "EMPIRE", "JEDI"])
     }
+
+    ghost keeps_name = { λ _ _ e. e };
 }
 
 /// `interface Character`.
@@ -109,7 +112,6 @@ impl<S: ScalarValue> GraphQLReference<S> for Character {
         Some("Character")
     }
 
-    #[tactic(auto, unfolding(graphql_spec::specs::Types::innermost))]
     fn type_in(
         _alloc: Global,
         _info: &Self::TypeInfo,
@@ -119,59 +121,110 @@ impl<S: ScalarValue> GraphQLReference<S> for Character {
     }
 }
 
-impl<S: ScalarValue> Declared<S> for Character {
-    ghost declared = { character_declaration };
+impl<S: ScalarValue> GraphQLType<S> for Character {
+    ghost declaration = { λ _. character_declaration };
 
-    fn declare(alloc: Global) -> Result<MetaType<S>, AllocError> {
-        let fields = [
-            field::<ID, S>(alloc, "id", &())?,
-            field::<String, S>(alloc, "name", &())?,
-            field::<Vec<Episode>, S>(alloc, "appearsIn", &())?,
-            field::<Option<Vec<Option<Character>>>, S>(alloc, "friends", &())?,
-            field::<String, S>(alloc, "secret", &())?,
-        ];
-        interface(alloc, "Character", fields)
+    fn meta(
+        _alloc: Global,
+        _info: &Self::TypeInfo,
+        registry: &mut Registry<S>,
+    ) -> Result<MetaType<S>, AllocError> {
+        let fields = character_fields(registry)?;
+        registry.interface_type("Character", fields)
     }
+
+    ghost keeps_name = { λ _ _ e. e };
+}
+
+/// The fields of `Character`, which its objects have too.
+fn character_fields<S: ScalarValue>(registry: &mut Registry<S>) -> Result<[Field<S>; 5], AllocError>
+    ensures { IfOk result (λ fields. map (view_field S.shown) fields ≡ character_fields) }
+{
+    Ok([
+        registry.field::<ID>("id", &())?,
+        registry.field::<String>("name", &())?,
+        registry.field::<Vec<Episode>>("appearsIn", &())?,
+        registry.field::<Option<Vec<Option<Character>>>>("friends", &())?,
+        registry.field::<String>("secret", &())?,
+    ])
 }
 
 /// `type Droid implements Character`.
 pub struct Droid;
 
-impl<S: ScalarValue> Declared<S> for Droid {
-    ghost declared = { droid_declaration };
+impl<S: ScalarValue> GraphQLReference<S> for Droid {
+    type TypeInfo = ();
 
-    fn declare(alloc: Global) -> Result<MetaType<S>, AllocError> {
-        let fields = [
-            field::<ID, S>(alloc, "id", &())?,
-            field::<String, S>(alloc, "name", &())?,
-            field::<Vec<Episode>, S>(alloc, "appearsIn", &())?,
-            field::<Option<Vec<Option<Character>>>, S>(alloc, "friends", &())?,
-            field::<String, S>(alloc, "secret", &())?,
-            field::<Option<String>, S>(alloc, "primaryFunction", &())?,
-        ];
-        let meta = object_of(alloc, "Droid", fields, "Character")?;
-        Ok(meta)
+    ghost named = { λ _. Some (codes "Droid") };
+
+    ghost reference = { λ _. type_named (codes "Droid") };
+
+    fn name(_info: &Self::TypeInfo) -> Option<&str> {
+        Some("Droid")
     }
+
+    fn type_in(
+        _alloc: Global,
+        _info: &Self::TypeInfo,
+        registry: &mut Registry<S>,
+    ) -> Result<Type<String>, AllocError> {
+        registry.named_type("Droid")
+    }
+}
+
+impl<S: ScalarValue> GraphQLType<S> for Droid {
+    ghost declaration = { λ _. droid_declaration };
+
+    fn meta(
+        _alloc: Global,
+        _info: &Self::TypeInfo,
+        registry: &mut Registry<S>,
+    ) -> Result<MetaType<S>, AllocError> {
+        let fields = character_fields(registry)?;
+        let own = [registry.field::<Option<String>>("primaryFunction", &())?];
+        registry.object_type_of("Droid", fields, own, &["Character"])
+    }
+
+    ghost keeps_name = { λ _ _ e. e };
 }
 
 /// `type Human implements Character`.
 pub struct Human;
 
-impl<S: ScalarValue> Declared<S> for Human {
-    ghost declared = { human_declaration };
+impl<S: ScalarValue> GraphQLReference<S> for Human {
+    type TypeInfo = ();
 
-    fn declare(alloc: Global) -> Result<MetaType<S>, AllocError> {
-        let fields = [
-            field::<ID, S>(alloc, "id", &())?,
-            field::<String, S>(alloc, "name", &())?,
-            field::<Vec<Episode>, S>(alloc, "appearsIn", &())?,
-            field::<Option<Vec<Option<Character>>>, S>(alloc, "friends", &())?,
-            field::<String, S>(alloc, "secret", &())?,
-            field::<Option<i32>, S>(alloc, "height", &())?,
-        ];
-        let meta = object_of(alloc, "Human", fields, "Character")?;
-        Ok(meta)
+    ghost named = { λ _. Some (codes "Human") };
+
+    ghost reference = { λ _. type_named (codes "Human") };
+
+    fn name(_info: &Self::TypeInfo) -> Option<&str> {
+        Some("Human")
     }
+
+    fn type_in(
+        _alloc: Global,
+        _info: &Self::TypeInfo,
+        registry: &mut Registry<S>,
+    ) -> Result<Type<String>, AllocError> {
+        registry.named_type("Human")
+    }
+}
+
+impl<S: ScalarValue> GraphQLType<S> for Human {
+    ghost declaration = { λ _. human_declaration };
+
+    fn meta(
+        _alloc: Global,
+        _info: &Self::TypeInfo,
+        registry: &mut Registry<S>,
+    ) -> Result<MetaType<S>, AllocError> {
+        let fields = character_fields(registry)?;
+        let own = [registry.field::<Option<i32>>("height", &())?];
+        registry.object_type_of("Human", fields, own, &["Character"])
+    }
+
+    ghost keeps_name = { λ _ _ e. e };
 }
 
 /// `type Cell`.
@@ -188,7 +241,6 @@ impl<S: ScalarValue> GraphQLReference<S> for Cell {
         Some("Cell")
     }
 
-    #[tactic(auto, unfolding(graphql_spec::specs::Types::innermost))]
     fn type_in(
         _alloc: Global,
         _info: &Self::TypeInfo,
@@ -198,44 +250,19 @@ impl<S: ScalarValue> GraphQLReference<S> for Cell {
     }
 }
 
-impl<S: ScalarValue> Declared<S> for Cell {
-    ghost declared = { cell_declaration };
-
-    fn declare(alloc: Global) -> Result<MetaType<S>, AllocError> {
-        let fields = [
-            field::<i32, S>(alloc, "a", &())?,
-            field::<i32, S>(alloc, "b", &())?,
-        ];
-        object(alloc, "Cell", fields)
-    }
-}
-
-impl<S: ScalarValue> GraphQLType<S> for Demo {
-    ghost declaration = { λ _. query_declaration };
+impl<S: ScalarValue> GraphQLType<S> for Cell {
+    ghost declaration = { λ _. cell_declaration };
 
     fn meta(
-        alloc: Global,
+        _alloc: Global,
         _info: &Self::TypeInfo,
         registry: &mut Registry<S>,
     ) -> Result<MetaType<S>, AllocError> {
-        let referred = [
-            "ID",
-            "String",
-            "Int",
-            "Int",
-            "String",
-            "Int",
-            "Int",
-            "Character",
-            "Episode",
-            "Character",
-            "Int",
-            "Cell",
-            "Cell",
-            "String",
+        let fields = [
+            registry.field::<i32>("a", &())?,
+            registry.field::<i32>("b", &())?,
         ];
-        await_each(registry, &referred)?;
-        Self::declare(alloc)
+        registry.object_type("Cell", fields)
     }
 
     ghost keeps_name = { λ _ _ e. e };
@@ -252,7 +279,6 @@ impl<S: ScalarValue> GraphQLReference<S> for DemoMutation {
         Some("Mutation")
     }
 
-    #[tactic(auto, unfolding(graphql_spec::specs::Types::innermost))]
     fn type_in(
         _alloc: Global,
         _info: &Self::TypeInfo,
@@ -262,29 +288,20 @@ impl<S: ScalarValue> GraphQLReference<S> for DemoMutation {
     }
 }
 
-impl<S: ScalarValue> Declared<S> for DemoMutation {
-    ghost declared = { mutation_declaration };
-
-    fn declare(alloc: Global) -> Result<MetaType<S>, AllocError> {
-        let number = argument::<i32, S>(alloc, "n", &())?;
-        let fields = [
-            field_with::<Tally, S>(alloc, "add", number, &())?,
-            field::<i32, S>(alloc, "fail", &())?,
-        ];
-        object(alloc, "Mutation", fields)
-    }
-}
-
 impl<S: ScalarValue> GraphQLType<S> for DemoMutation {
     ghost declaration = { λ _. mutation_declaration };
 
     fn meta(
-        alloc: Global,
+        _alloc: Global,
         _info: &Self::TypeInfo,
         registry: &mut Registry<S>,
     ) -> Result<MetaType<S>, AllocError> {
-        await_each(registry, &["Tally", "Int", "Int", "String"])?;
-        Self::declare(alloc)
+        let number = registry.arg::<i32>("n", &())?;
+        let fields = [
+            registry.field_with::<Tally>("add", number, &())?,
+            registry.field::<i32>("fail", &())?,
+        ];
+        registry.object_type("Mutation", fields)
     }
 
     ghost keeps_name = { λ _ _ e. e };
@@ -304,7 +321,6 @@ impl<S: ScalarValue> GraphQLReference<S> for Tally {
         Some("Tally")
     }
 
-    #[tactic(auto, unfolding(graphql_spec::specs::Types::innermost))]
     fn type_in(
         _alloc: Global,
         _info: &Self::TypeInfo,
@@ -314,14 +330,20 @@ impl<S: ScalarValue> GraphQLReference<S> for Tally {
     }
 }
 
-impl<S: ScalarValue> Declared<S> for Tally {
-    ghost declared = { tally_declaration };
+impl<S: ScalarValue> GraphQLType<S> for Tally {
+    ghost declaration = { λ _. tally_declaration };
 
-    fn declare(alloc: Global) -> Result<MetaType<S>, AllocError> {
+    fn meta(
+        _alloc: Global,
+        _info: &Self::TypeInfo,
+        registry: &mut Registry<S>,
+    ) -> Result<MetaType<S>, AllocError> {
         let fields = [
-            field::<i32, S>(alloc, "total", &())?,
-            field::<i32, S>(alloc, "count", &())?,
+            registry.field::<i32>("total", &())?,
+            registry.field::<i32>("count", &())?,
         ];
-        object(alloc, "Tally", fields)
+        registry.object_type("Tally", fields)
     }
+
+    ghost keeps_name = { λ _ _ e. e };
 }

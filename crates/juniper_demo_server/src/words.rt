@@ -91,7 +91,7 @@ fn answer_with(
         (λ _. MayLeave text.now (name_in name.now) (view_variables default_shown variables.now) context.old context.new) }
 {
     let root = match demo_root(alloc) {
-        Err(error) => return Err(error),
+        Err(_) => return Err(AllocError),
         Ok(root) => root,
     };
     let name = operation_name(name);

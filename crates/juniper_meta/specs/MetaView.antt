@@ -235,25 +235,10 @@ deprecated_value v reason = record v { deprecation = deprecated reason }
 
 -- ## What the calls that read a declaration answer
 
--- whether it is deprecated
-abbrev pub is_deprecated : Deprecation → Bool
-is_deprecated current = false
-is_deprecated (deprecated reason) = true
-
--- the reason why it is deprecated, where one is given
-abbrev pub reason_of : Deprecation → Option Text
-reason_of current = None
-reason_of (deprecated reason) = reason
-
 -- the kinds of scalars that a scalar accepts
 unfoldable pub kinds_of : Shape → Option spec.ScalarKinds
 kinds_of (scalar_type k url) = Some k
 kinds_of _ = None
-
--- where a scalar is specified
-unfoldable pub url_of : Shape → Option Text
-url_of (scalar_type k url) = url
-url_of _ = None
 
 -- whether it stands for a type that is not declared yet
 unfoldable pub is_placeholder : Shape → Bool

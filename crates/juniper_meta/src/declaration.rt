@@ -4,10 +4,11 @@ ghost use Rattle.std.specs.Prelude.{◌≡◌, IfOk, string_bytes, map, option_m
 ghost use Rattle.graphql_spec.specs.Schema.{plain_field, plain_input};
 ghost use Rattle.graphql_spec.specs.BuiltIns.{value_named};
 ghost use Rattle.graphql_spec.specs.Fields.{field_in, declaration_in, declares_value};
+ghost use Rattle.graphql_spec.specs.Introspected.{is_deprecated, reason_of};
 ghost use Rattle.juniper_syntax.specs.DocumentView.{items_or_none};
 ghost use Rattle.juniper_syntax.specs.InputView.{view_input};
 ghost use Rattle.juniper_meta.specs.MetaView.{view_type, view_text, view_argument, view_field, view_enum_value, view_deprecation};
-ghost use Rattle.juniper_meta.specs.MetaView.{described_argument, with_default, described_field, with_argument, deprecated_field, described_value, deprecated_value, is_deprecated, reason_of};
+ghost use Rattle.juniper_meta.specs.MetaView.{described_argument, with_default, described_field, with_argument, deprecated_field, described_value, deprecated_value};
 
 use juniper_syntax::{InputValue, ScalarValue, Type};
 use std::alloc::{AllocError, Global};
@@ -23,6 +24,7 @@ pub enum DeprecationStatus {
 
 impl DeprecationStatus {
     /// Whether it is deprecated.
+    #[tactic(auto, unfolding(graphql_spec::specs::Introspected::is_deprecated))]
     pub fn is_deprecated(&self) -> bool
         ensures { result ≡ is_deprecated (view_deprecation self.now) }
     {
@@ -33,6 +35,7 @@ impl DeprecationStatus {
     }
 
     /// Why it is deprecated; `None` where no reason is given, or where it is not deprecated.
+    #[tactic(auto, unfolding(graphql_spec::specs::Introspected::reason_of))]
     pub fn reason(&self) -> Option<&str>
         ensures { option_map (λ r. r.now) result ≡ reason_of (view_deprecation self.now) }
     {

@@ -1,26 +1,21 @@
 -- The server: how its query type is declared, and what each field replies.
-use Rattle.std.specs.Prelude.{codes, cond, true, List, [], ◌∷◌, ◌++◌, Option, Some, None}
+use Rattle.std.specs.Prelude.{codes, cond, [], ◌∷◌, Option, Some, None}
 use Rattle.std.specs.Str.{bytes_eq}
 use Rattle.graphql_spec.specs.Constants.{Constant, Members, find}
-use Rattle.graphql_spec.specs.Fields.{typename_field}
 use Rattle.graphql_spec.specs.Resolvers.{Reply, answered, failed, nothing, leaf}
-use Rattle.graphql_spec.specs.Schema.{FieldDeclaration, object_type, plain_field, plain_input}
+use Rattle.graphql_spec.specs.Schema.{plain_field, plain_input}
 use Rattle.graphql_spec.specs.Shown.{Name, text, int}
-use Rattle.graphql_spec.specs.Types.{named}
 use Rattle.juniper_errors.specs.Messages.{message_alone}
-use Rattle.juniper_meta.specs.MetaView.{Meta, named_meta}
+use Rattle.juniper_meta.specs.MetaView.{Meta}
+use Rattle.juniper_registry.specs.DeclaredTypes.{object, type_named}
 use Rattle.juniper_scalars.specs.Conversions.{int_of, refusal_text}
 
--- `hello: String!` and `echo(number: Int!): Int!`
-abbrev pub query_fields : List FieldDeclaration
-query_fields =
-    plain_field (codes "hello") [] (named true (codes "String"))
-    ∷ plain_field (codes "echo") (plain_input (codes "number") (named true (codes "Int")) ∷ []) (named true (codes "Int"))
-    ∷ []
-
--- the query type
-abbrev pub query_meta : Meta
-query_meta = named_meta (codes "Query") (object_type (query_fields ++ typename_field ∷ []) [])
+-- `type Query { hello: String!, echo(number: Int!): Int! }`
+abbrev pub query_declaration : Meta
+query_declaration = object (codes "Query") (
+    plain_field (codes "hello") [] (type_named (codes "String"))
+    ∷ plain_field (codes "echo") (plain_input (codes "number") (type_named (codes "Int")) ∷ []) (type_named (codes "Int"))
+    ∷ []) []
 
 -- `echo` replies its argument
 abbrev pub echo_reply : {N : Type 0} → Option Constant → Reply N

@@ -1,10 +1,10 @@
 //! The query type as a type of Rust: its name, its declaration and its resolver.
 
-ghost use Rattle.std.specs.Prelude.{Some, codes, true};
-ghost use Rattle.graphql_spec.specs.Types.{named as named_type};
-ghost use Rattle.juniper_quickstart.specs.Quickstart.{query_meta, query_reply};
+ghost use Rattle.std.specs.Prelude.{Some, codes};
+ghost use Rattle.juniper_registry.specs.DeclaredTypes.{type_named};
+ghost use Rattle.juniper_quickstart.specs.Quickstart.{query_declaration, query_reply};
 
-use crate::{query_fields, resolve};
+use crate::{declare, resolve};
 use juniper::{
     Arguments, Executor, GraphQLReference, GraphQLType, GraphQLValue, MetaType, Registry,
     ResolveError, Resolved, ScalarValue, Type,
@@ -22,13 +22,12 @@ impl<S: ScalarValue> GraphQLReference<S> for Query {
 
     ghost named = { λ _. Some (codes "Query") };
 
-    ghost reference = { λ _. named_type true (codes "Query") };
+    ghost reference = { λ _. type_named (codes "Query") };
 
     fn name(_info: &Self::TypeInfo) -> Option<&str> {
         Some("Query")
     }
 
-    #[tactic(auto, unfolding(graphql_spec::specs::Types::innermost))]
     fn type_in(
         _alloc: Global,
         _info: &Self::TypeInfo,
@@ -39,20 +38,14 @@ impl<S: ScalarValue> GraphQLReference<S> for Query {
 }
 
 impl<S: ScalarValue> GraphQLType<S> for Query {
-    ghost declaration = { λ _. query_meta };
+    ghost declaration = { λ _. query_declaration };
 
-    #[tactic(auto, unfolding(graphql_spec::specs::Fields::typename_field, graphql_spec::specs::Schema::plain_field, graphql_spec::specs::Types::innermost))]
     fn meta(
-        alloc: Global,
-        info: &Self::TypeInfo,
+        _alloc: Global,
+        _info: &Self::TypeInfo,
         registry: &mut Registry<S>,
     ) -> Result<MetaType<S>, AllocError> {
-        let fields = query_fields(alloc, registry)?;
-        Ok(
-            registry
-                .build_object_type::<Query>(info, fields)?
-                .into_meta(),
-        )
+        declare(registry)
     }
 
     ghost keeps_name = { λ _ _ e. e };

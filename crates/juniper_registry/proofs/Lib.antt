@@ -1,3 +1,4 @@
+pub mod Awaited
 pub mod Defaults
 pub mod Lists
 pub mod Placeholders

@@ -1,3 +1,4 @@
+pub mod DeclaredTypes
 pub mod Entries
 pub mod Kinds
 pub mod Made

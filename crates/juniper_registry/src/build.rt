@@ -142,7 +142,10 @@ impl<S: ScalarValue> Registry<S> {
     }
 
     /// The fields, and behind them `__typename: String!` (4.1).
-    fn with_typename(&mut self, fields: Vec<Field<S>>) -> Result<Vec<Field<S>>, AllocError>
+    pub(crate) fn with_typename(
+        &mut self,
+        fields: Vec<Field<S>>,
+    ) -> Result<Vec<Field<S>>, AllocError>
         ensures made { IfOk result (λ made. map (view_field S.shown) made.items ≡ map (view_field S.shown) fields.items ++ typename_field ∷ []) }
         ensures awaited { Awaits result (codes "String") (view_registry S.shown self.old) (view_registry S.shown self.new) }
         ensures added { KeepsAdding (view_registry S.shown self.old) (view_registry S.shown self.new) }

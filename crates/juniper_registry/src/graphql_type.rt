@@ -2,7 +2,7 @@
 
 ghost use Rattle.std.specs.Prelude.{◌≡◌, IfOk, Option, Some, option_map};
 ghost use Rattle.graphql_spec.specs.Shown.{Name};
-ghost use Rattle.graphql_spec.specs.Types.{TypeRef, innermost};
+ghost use Rattle.graphql_spec.specs.Types.{TypeRef};
 ghost use Rattle.juniper_meta.specs.MetaView.{Meta, view_meta, view_type};
 
 use crate::registry::Registry;
@@ -13,9 +13,6 @@ use std::alloc::{AllocError, Global};
 /// A type of GraphQL by how it is referred to, which each implementation writes. It stands apart from how the type is
 /// declared, since declarations refer to one another, and to themselves.
 pub trait GraphQLReference<S: ScalarValue> {
-    ghost use Rattle.juniper_registry.specs.Entries.{AddsPlaceholders, Awaits};
-    ghost use Rattle.juniper_registry.specs.RegistryView.{view_registry};
-
     /// What tells several GraphQL types of one Rust type apart.
     type TypeInfo;
 
@@ -29,37 +26,29 @@ pub trait GraphQLReference<S: ScalarValue> {
     fn name(info: &Self::TypeInfo) -> Option<&str>
         ensures { option_map (λ n. n.now) result ≡ named info.now };
 
-    /// The reference to it: a named type and a list are non-null (3.12). The registry gets a placeholder at the name inside
-    /// all lists, where nothing stands there; an error where memory is refused, when it gets at most placeholders.
+    /// The reference to it: a named type and a list are non-null (3.12); an error where memory is refused. The registry is one
+    /// of its own, which is thrown away: who asks leaves the placeholders (`Registry::get_type`).
     fn type_in(
         alloc: Global,
         info: &Self::TypeInfo,
         registry: &mut Registry<S>,
     ) -> Result<Type<String>, AllocError>
-        ensures referred { IfOk result (λ t. view_type t ≡ reference info.now) }
-        ensures awaited { Awaits result (innermost (reference info.now)) (view_registry S.shown registry.old) (view_registry S.shown registry.new) }
-        ensures added { AddsPlaceholders (view_registry S.shown registry.old) (view_registry S.shown registry.new) };
+        ensures { IfOk result (λ t. view_type t ≡ reference info.now) };
 }
 
 /// A type of GraphQL: how it is referred to, and how it is declared.
 pub trait GraphQLType<S: ScalarValue>: GraphQLReference<S> {
-    ghost use Rattle.juniper_registry.specs.Entries.{AddsPlaceholders, AwaitsEach};
-    ghost use Rattle.juniper_registry.specs.Referred.{referred};
-    ghost use Rattle.juniper_registry.specs.RegistryView.{view_registry};
-
     /// How it is declared (3.4).
     ghost declaration: { Self.TypeInfo → Meta };
 
-    /// Its declaration. The registry gets placeholders at the names that the declaration refers to, where nothing stands
-    /// there; an error where memory is refused, when it gets at most placeholders.
+    /// Its declaration; an error where memory is refused. The registry is one of its own, which is thrown away: who asks
+    /// leaves placeholders at the names that the declaration refers to (`Registry::register`).
     fn meta(
         alloc: Global,
         info: &Self::TypeInfo,
         registry: &mut Registry<S>,
     ) -> Result<MetaType<S>, AllocError>
-        ensures declared { IfOk result (λ m. view_meta S.shown m ≡ declaration info.now) }
-        ensures awaited { AwaitsEach result (referred (declaration info.now).shape) (view_registry S.shown registry.old) (view_registry S.shown registry.new) }
-        ensures added { AddsPlaceholders (view_registry S.shown registry.old) (view_registry S.shown registry.new) };
+        ensures { IfOk result (λ m. view_meta S.shown m ≡ declaration info.now) };
 
     /// A named type's declaration has its name.
     ghost keeps_name: { (i : Self.TypeInfo) (n : Name) → Self.named i ≡ Some n → (declaration i).name ≡ Some n };

@@ -1,7 +1,9 @@
 //! Types of GraphQL by Rust types, and the registry that gathers their declarations (section 3 of the Specification).
 #![tactic(auto)]
 
+mod awaiting;
 mod build;
+mod declarations;
 mod error;
 mod graphql_type;
 mod names;

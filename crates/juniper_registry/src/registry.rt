@@ -1,6 +1,6 @@
 //! The registry, which gathers the declarations of types by their names (section 3 of the Specification).
 
-ghost use Rattle.std.specs.Prelude.{◌≡◌, true, IfOk, IsSome, IfSome, OnErr, OnOk, Some, []};
+ghost use Rattle.std.specs.Prelude.{◌≡◌, true, IfOk, IsSome, IfSome, None, OnErr, OnOk, Some, []};
 ghost use Rattle.graphql_spec.specs.Constants.{meaning};
 ghost use Rattle.graphql_spec.specs.Schema.{plain_field, plain_input};
 ghost use Rattle.graphql_spec.specs.Shown.{Name};
@@ -30,6 +30,7 @@ pub struct Registry<S: ScalarValue> {
 }
 
 impl<S: ScalarValue> Registry<S> {
+    ghost use Rattle.juniper_registry.specs.DeclaredTypes.{input_of, input_with_default};
     ghost use Rattle.juniper_registry.specs.Entries.{Awaits, KeepsAdding, Registers, declaring, is_declared};
     ghost use Rattle.juniper_registry.specs.Made.{IsDefaulted};
     ghost use Rattle.juniper_registry.specs.RegistryView.{view_registry};
@@ -40,6 +41,14 @@ impl<S: ScalarValue> Registry<S> {
         ensures { view_registry S.shown result ≡ table S.shown types }
     {
         Registry { alloc, types }
+    }
+
+    /// The registry where nothing stands at any name. More memory comes from `alloc`.
+    #[tactic(auto, unfolding(graphql_spec::specs::Fields::entry_in))]
+    pub fn empty(alloc: Global) -> Self
+        ensures { (n : Name) → view_registry S.shown result n ≡ None }
+    {
+        Registry::new(alloc, HashMap::new(alloc))
     }
 
     /// What stands at each name.
@@ -71,7 +80,7 @@ impl<S: ScalarValue> Registry<S> {
     }
 
     /// Leaves a placeholder at this name, where nothing stands there.
-    fn await_type(&mut self, name: &str) -> Result<(), AllocError>
+    pub(crate) fn await_type(&mut self, name: &str) -> Result<(), AllocError>
         ensures awaited { Awaits result name.now (view_registry S.shown self.old) (view_registry S.shown self.new) }
         ensures added { KeepsAdding (view_registry S.shown self.old) (view_registry S.shown self.new) }
     {
@@ -117,7 +126,8 @@ impl<S: ScalarValue> Registry<S> {
         if self.declares(name) {
             return Err(RegistryError::AlreadyRegistered);
         }
-        let meta = T::meta(self.alloc, info, self)?;
+        let meta = meta_of::<T, S>(self.alloc, info)?;
+        self.await_referred(&meta)?;
         self.declare(name, meta)?;
         Ok(())
     }
@@ -132,7 +142,9 @@ impl<S: ScalarValue> Registry<S> {
         ensures awaited { Awaits result (innermost (T.reference info.now)) (view_registry S.shown self.old) (view_registry S.shown self.new) }
         ensures added { KeepsAdding (view_registry S.shown self.old) (view_registry S.shown self.new) }
     {
-        T::type_in(self.alloc, info, self)
+        let reference = reference_of::<T, S>(self.alloc, info)?;
+        self.await_type(reference.innermost_name())?;
+        Ok(reference)
     }
 
     /// The field of this name and type, without description and arguments, and not deprecated. The registry changes as by
@@ -179,8 +191,9 @@ impl<S: ScalarValue> Registry<S> {
         Ok(Argument::new(own, self.get_type::<T>(info)?))
     }
 
-    /// The argument of this name, type and default value, without description. The registry changes as by `get_type`; an
-    /// error where memory is refused.
+    /// The argument of this name, type and default value, without description (3.6.1): of a scalar, an enum's value and null the
+    /// default is known exactly, of lists and objects by its meaning. The registry changes as by `get_type`; an error where
+    /// memory is refused.
     pub fn arg_with_default<T: GraphQLReference<S> + ToInputValue<S>>(
         &mut self,
         name: &str,
@@ -188,6 +201,7 @@ impl<S: ScalarValue> Registry<S> {
         info: &T::TypeInfo,
     ) -> Result<Argument<S>, AllocError>
         ensures made { IfOk result (λ a. IsDefaulted (view_argument S.shown a) name.now (T.reference info.now) (T.input value.now)) }
+        ensures exact { IfSome (input_of (T.input value.now)) (λ v. IfOk result (λ a. view_argument S.shown a ≡ input_with_default name.now (T.reference info.now) v)) }
         ensures awaited { Awaits result (innermost (T.reference info.now)) (view_registry S.shown self.old) (view_registry S.shown self.new) }
         ensures added { KeepsAdding (view_registry S.shown self.old) (view_registry S.shown self.new) }
     {
@@ -195,6 +209,26 @@ impl<S: ScalarValue> Registry<S> {
         let argument = self.arg::<T>(name, info)?;
         Ok(argument.default_value(own_value))
     }
+}
+
+/// The reference to a type, which it says with a registry of its own.
+fn reference_of<T: GraphQLReference<S>, S: ScalarValue>(
+    alloc: Global,
+    info: &T::TypeInfo,
+) -> Result<Type<String>, AllocError>
+    ensures { IfOk result (λ t. view_type t ≡ T.reference info.now) }
+{
+    T::type_in(alloc, info, &mut Registry::empty(alloc))
+}
+
+/// The declaration of a type, which it says with a registry of its own.
+fn meta_of<T: GraphQLType<S>, S: ScalarValue>(
+    alloc: Global,
+    info: &T::TypeInfo,
+) -> Result<MetaType<S>, AllocError>
+    ensures { IfOk result (λ m. view_meta S.shown m ≡ T.declaration info.now) }
+{
+    T::meta(alloc, info, &mut Registry::empty(alloc))
 }
 
 /// The name of a type that has one.

@@ -24,7 +24,6 @@ impl<S: ScalarValue> GraphQLReference<S> for i32 {
         Some("Int")
     }
 
-    #[tactic(auto, unfolding(graphql_spec::specs::Types::innermost))]
     fn type_in(
         _alloc: Global,
         _info: &(),
@@ -60,7 +59,6 @@ impl<S: ScalarValue> GraphQLReference<S> for bool {
         Some("Boolean")
     }
 
-    #[tactic(auto, unfolding(graphql_spec::specs::Types::innermost))]
     fn type_in(
         _alloc: Global,
         _info: &(),
@@ -96,7 +94,6 @@ impl<S: ScalarValue> GraphQLReference<S> for String {
         Some("String")
     }
 
-    #[tactic(auto, unfolding(graphql_spec::specs::Types::innermost))]
     fn type_in(
         _alloc: Global,
         _info: &(),
@@ -132,7 +129,6 @@ impl<S: ScalarValue> GraphQLReference<S> for ID {
         Some("ID")
     }
 
-    #[tactic(auto, unfolding(graphql_spec::specs::Types::innermost))]
     fn type_in(
         _alloc: Global,
         _info: &(),

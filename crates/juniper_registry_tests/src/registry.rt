@@ -1,15 +1,14 @@
 //! Tests of the registry: what stands at its names, how types are referred to, what is built, and texts.
 
-use crate::samples::{Episode, Human};
+use crate::samples::{Character, Episode, Found, Human, Review};
 use crate::tables::{Told, check};
 use juniper_id::ID;
 use juniper_meta::meta::Field;
 use juniper_meta::{MetaType, ScalarKinds};
 use juniper_nullable::Nullable;
-use juniper_registry::{GraphQLReference, Registry, RegistryError, TypeKind};
+use juniper_registry::{GraphQLReference, GraphQLType, Registry, RegistryError, TypeKind};
 use juniper_syntax::DefaultScalarValue;
 use std::alloc::{AllocError, Global};
-use std::collections::HashMap;
 
 /// For a type the reference to it.
 const REFERENCES: &str = "\
@@ -39,7 +38,24 @@ argument => built";
 
 /// What stands at the name of an object before and after it is referred to, after it is registered, at the name of a type
 /// that it refers to, what a second registration is, what stands at the name then, and how many names there are.
-const STEPS: &str = "Human => nothing, placeholder, object, placeholder, refused, object, 3";
+const STEPS: &str = "Human => nothing, placeholder, object, placeholder, refused, object, 7";
+
+/// What stands at the name of a type that is registered, and how many names there are.
+const KINDS: &str = "\
+Episode => enum, 1
+Character => interface, 3
+Human => object, 7
+Found => union, 3
+Review => input object, 6";
+
+/// The default values of the fields of an input object, as they are written.
+const DEFAULTS: &str = "\
+stars => 5
+text => \"good\"
+sure => false
+by => \"me\"
+film => none
+other => no such case";
 
 /// Texts of errors and of kinds, and a default value as it is written.
 const SHOWN: &str = "\
@@ -49,9 +65,8 @@ InputObject => INPUT_OBJECT
 default value => 7";
 
 /// An empty registry.
-#[tactic(auto, unfolding(graphql_spec::specs::Fields::entry_in))]
 fn empty(alloc: Global) -> Registry<DefaultScalarValue> {
-    Registry::new(alloc, HashMap::new(alloc))
+    Registry::empty(alloc)
 }
 
 /// What is told of a case that no table has.
@@ -157,6 +172,10 @@ fn is_built(registry: Registry<DefaultScalarValue>, alloc: Global, kind: &str) -
 fn kind_at(registry: &Registry<DefaultScalarValue>, name: &str) -> &'static str {
     match registry.types().get(name) {
         Some(MetaType::Object(_)) => "object",
+        Some(MetaType::Enum(_)) => "enum",
+        Some(MetaType::Interface(_)) => "interface",
+        Some(MetaType::Union(_)) => "union",
+        Some(MetaType::InputObject(_)) => "input object",
         Some(MetaType::Placeholder(_)) => "placeholder",
         Some(_) => "another",
         None => "nothing",
@@ -201,6 +220,36 @@ fn again(registry: &mut Registry<DefaultScalarValue>) -> &'static str {
     }
 }
 
+/// What stands at the name of a type once it alone is registered, and how many names there are.
+pub fn kind_of(alloc: Global, name: &str) -> Result<String, AllocError> {
+    let mut registry = empty(alloc);
+    let registered = match name {
+        "Episode" => registry.register::<Episode>(&()),
+        "Character" => registry.register::<Character>(&()),
+        "Human" => registry.register::<Human>(&()),
+        "Found" => registry.register::<Found>(&()),
+        _ => registry.register::<Review>(&()),
+    };
+    if registered.is_err() {
+        return String::from_str(alloc, "refused");
+    }
+    let kind = kind_at(&registry, name);
+    let count = registry.into_types().len();
+    format!(in alloc; "{kind}, {count}")
+}
+
+/// The default value of a field of an input object, as it is written.
+pub fn default_of(alloc: Global, name: &str) -> Result<String, AllocError> {
+    let review = Review::meta(alloc, &(), &mut empty(alloc))?;
+    match review.input_field_by_name(name) {
+        Some(field) => match &field.default_value {
+            Some(value) => value.to_string(alloc),
+            None => String::from_str(alloc, "none"),
+        },
+        None => unknown(alloc),
+    }
+}
+
 /// The text of an error or of a kind, and a default value as it is written.
 pub fn shown_of(alloc: Global, name: &str) -> Result<String, AllocError> {
     match name {
@@ -239,6 +288,16 @@ fn declarations_are_built(rt: HostRuntime) {
 #[test]
 fn placeholders_are_filled(rt: HostRuntime) {
     check(&rt, rt.alloc(), Told::Steps, STEPS);
+}
+
+#[test]
+fn each_kind_is_registered(rt: HostRuntime) {
+    check(&rt, rt.alloc(), Told::Kind, KINDS);
+}
+
+#[test]
+fn defaults_are_declared(rt: HostRuntime) {
+    check(&rt, rt.alloc(), Told::Default, DEFAULTS);
 }
 
 #[test]

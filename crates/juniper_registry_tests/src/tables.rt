@@ -1,6 +1,6 @@
 //! Tables of rows, each a case and what is told of it.
 
-use crate::registry::{built_of, field_of, reference_of, shown_of, steps};
+use crate::registry::{built_of, default_of, field_of, kind_of, reference_of, shown_of, steps};
 use std::alloc::{AllocError, Global};
 use std::process::Abort;
 
@@ -17,6 +17,10 @@ pub enum Told {
     Built,
     /// What stands at names after each step.
     Steps,
+    /// What stands at the name of a type that is registered.
+    Kind,
+    /// The default value of a field of an input object.
+    Default,
     /// The text of an error, a kind or a default value.
     Shown,
 }
@@ -29,6 +33,8 @@ fn told_of(alloc: Global, told: Told, case: &str) -> Result<String, AllocError> 
         Told::Field => field_of(alloc, case),
         Told::Built => String::from_str(alloc, built_of(alloc, case)),
         Told::Steps => steps(alloc),
+        Told::Kind => kind_of(alloc, case),
+        Told::Default => default_of(alloc, case),
         Told::Shown => shown_of(alloc, case),
     }
 }

@@ -7,7 +7,7 @@ use Rattle.std.specs.Ordering.{nat_cmp}
 use Rattle.std.specs.List.Sorted.{IsSortedBy, IsStableBy, ties}
 use Rattle.std.proofs.lemmas.Bool.{cases_Bool}
 use Rattle.std.proofs.lemmas.List.Sorted.{sorted_far}
-use Rattle.juniper_schema.specs.TypeList.{put_in_order, in_order}
+use Rattle.graphql_spec.specs.TypeList.{put_in_order, in_order}
 
 module _ {X : Type 0} where
   head_or : X → List X → X

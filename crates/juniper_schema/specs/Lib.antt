@@ -2,5 +2,4 @@ pub mod SchemaView
 pub mod MadeTypes
 pub mod Fitting
 pub mod EntryTests
-pub mod TypeList
 pub mod ListedTypes

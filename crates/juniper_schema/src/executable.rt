@@ -15,6 +15,7 @@ ghost use Rattle.juniper_schema.specs.SchemaView.{view_schema};
 use crate::executable::defaults::defaults_fit;
 use crate::executable::distinct_names::all_names_differ;
 use crate::executable::entry_names::entries_are_named;
+pub use crate::executable::entry_names::is_reserved;
 use crate::executable::interfaces::interfaces_are_met;
 use crate::executable::known_types::types_are_known;
 use crate::executable::roots::roots_are_objects;

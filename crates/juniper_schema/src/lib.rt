@@ -11,7 +11,7 @@ mod schema;
 mod subtypes;
 mod type_type;
 
-pub use executable::schema_is_executable;
+pub use executable::{is_reserved, schema_is_executable};
 pub use juniper_meta::{
     Argument, DeprecationStatus, DirectiveLocation, DirectiveType, EnumMeta, EnumValue,
     InputObjectMeta, InterfaceMeta, ListMeta, MetaType, NullableMeta, ObjectMeta, PlaceholderMeta,

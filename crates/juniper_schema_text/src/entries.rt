@@ -7,11 +7,22 @@ use juniper_meta::{
 };
 use juniper_schema::SchemaType;
 use juniper_syntax::Type;
-use std::alloc::{AllocError, Global};
+use std::alloc::Global;
 use std::collections::HashMap;
 
 /// Types by name.
 type Types = HashMap<String, MetaType<Scalar>>;
+
+/// What a text declares.
+#[derive(Drop)]
+pub struct Declarations<'t> {
+    /// The name of the query type.
+    pub query: &'t str,
+    /// The name of the mutation type, where there is one.
+    pub mutation: Option<&'t str>,
+    /// What stands at each key.
+    pub types: HashMap<String, MetaType<Scalar>>,
+}
 
 impl<'t> Reader<'t> {
     fn read_scalar(&mut self, name: String) -> MetaType<Scalar> {
@@ -124,19 +135,23 @@ impl<'t> Reader<'t> {
         types
     }
 
-    /// A whole schema.
-    fn read_schema(&mut self) -> Result<SchemaType<Scalar>, AllocError> {
-        let mut query = "Query";
-        if self.eats("query") {
-            query = self.word();
+    /// All of a text.
+    fn read_declarations(&mut self) -> Declarations<'t> {
+        let query = if self.eats("query") {
+            self.word()
+        } else {
+            "Query"
+        };
+        let mutation = if self.eats("mutation") {
+            Some(self.word())
+        } else {
+            None
+        };
+        Declarations {
+            query,
+            mutation,
+            types: self.read_types(),
         }
-        let mut mutation = None;
-        if self.eats("mutation") {
-            mutation = Some(self.name());
-        }
-        let types = self.read_types();
-        let query = self.text(query);
-        SchemaType::new(self.alloc, types, query, mutation)
     }
 }
 
@@ -152,11 +167,30 @@ pub fn kept<'k, T: Drop + 'k, E: Drop>(alloc: Global, made: Result<T, E>) -> Opt
     Some(place)
 }
 
+/// What a text declares; `None` where the text has another form, or memory is refused.
+pub fn read_declarations<'t>(alloc: Global, text: &'t str) -> Option<Declarations<'t>> {
+    let mut reader = Reader::new(alloc, text);
+    let declarations = reader.read_declarations();
+    if reader.is_done() {
+        Some(declarations)
+    } else {
+        None
+    }
+}
+
 /// The schema of a text; `None` where the text has another form, or memory is refused.
 pub fn read_schema(alloc: Global, text: &str) -> Option<SchemaType<Scalar>> {
-    let mut reader = Reader::new(alloc, text);
-    let schema = reader.read_schema().ok()?;
-    if reader.is_done() { Some(schema) } else { None }
+    let Declarations {
+        query,
+        mutation,
+        types,
+    } = read_declarations(alloc, text)?;
+    let query = String::from_str(alloc, query).ok()?;
+    let mutation = match mutation {
+        Some(name) => Some(String::from_str(alloc, name).ok()?),
+        None => None,
+    };
+    SchemaType::new(alloc, types, query, mutation).ok()
 }
 
 /// The same, which stays to the end of the program.

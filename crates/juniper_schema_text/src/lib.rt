@@ -13,8 +13,9 @@
 //! - A `#` ends the text.
 //!
 //! The description of an entry is its first word, and the URL of a scalar is `there`. Fields are described as `field` and
-//! deprecated as `old`, values of enums are described as `value` and deprecated without a reason, and arguments and fields of
-//! input objects are described as `argument`. A text among values has no blanks, commas and marks.
+//! deprecated as `old`, values of enums are described as `value` and deprecated without a reason, but for those that stand
+//! behind a `;`, which are not deprecated; arguments and fields of input objects are described as `argument`. A text among
+//! values has no blanks, commas and marks.
 //!
 //! What tests make stays to the end of the program: so they hold references alone, and what is proved of them is short.
 #![tactic(auto)]
@@ -25,6 +26,6 @@ mod members;
 mod reader;
 mod values;
 
-pub use entries::{kept, placed, read_schema, schema_of};
+pub use entries::{Declarations, kept, placed, read_declarations, read_schema, schema_of};
 pub use line::Line;
 pub use reader::{Reader, Scalar};

@@ -31,6 +31,7 @@ impl<'t> Reader<'t> {
     }
 
     fn read_field(&mut self) -> Field<Scalar> {
+        let is_current = self.eats(";");
         let mut field = Field::new(self.name(), Type::Named(self.text("")));
         if self.eats("(") {
             for _turn in 0..self.left() {
@@ -43,6 +44,9 @@ impl<'t> Reader<'t> {
         self.expect(":");
         field.field_type = self.read_type();
         let described = field.description(self.text("field"));
+        if is_current {
+            return described;
+        }
         described.deprecated(Some(self.text("old")))
     }
 
@@ -88,10 +92,19 @@ impl<'t> Reader<'t> {
             if self.eats("}") {
                 break;
             }
-            let value = EnumValue::new(self.name()).description(self.text("value"));
-            self.push(&mut values, value.deprecated(None));
+            let value = self.read_enum_value();
+            self.push(&mut values, value);
         }
         values
+    }
+
+    fn read_enum_value(&mut self) -> EnumValue {
+        let is_current = self.eats(";");
+        let value = EnumValue::new(self.name()).description(self.text("value"));
+        if is_current {
+            return value;
+        }
+        value.deprecated(None)
     }
 
     /// Names, each behind this mark.

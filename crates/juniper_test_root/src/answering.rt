@@ -1,18 +1,21 @@
 //! What requests are answered, as a line.
 
 use crate::reader::read_script;
-use crate::script::{Notes, Script};
+use crate::registry::registry_of;
+use crate::script::{Notes, RootType, Script};
 use crate::table::Request;
 use crate::variables::variables_of;
-use juniper::{EmptySubscription, GraphQLError, RootNode, execute_sync};
+use juniper::{EmptySubscription, GraphQLError, RootError, RootNode, execute_sync};
 use juniper_response::answer_line;
-use juniper_schema::schema_is_executable;
-use juniper_schema_text::{Reader, Scalar, read_schema};
+use juniper_schema_text::{Declarations, Scalar, read_declarations};
 use std::alloc::{AllocError, Global};
 use std::fmt;
 
 /// The root of a script, which answers the fields of nodes and takes the steps of mutations.
 pub type ScriptRoot = RootNode<Script, Script, EmptySubscription<Notes>, Scalar>;
+
+/// The name of the mutation type where there is none.
+const NO_MUTATION: &str = "_EmptyMutation";
 
 /// What of a request cannot be read.
 #[derive(Clone, Copy, Debug, PartialEq, Eq)]
@@ -44,7 +47,15 @@ pub fn read_root(
     schema: &'static str,
     answers: &'static str,
 ) -> Result<ScriptRoot, Unread> {
-    let (query, mutation) = root_types(alloc, schema);
+    let Some(declarations) = read_declarations(alloc, schema) else {
+        return Err(Unread::Schema);
+    };
+    let Declarations {
+        query,
+        mutation,
+        types,
+    } = declarations;
+    let mutation = mutation.unwrap_or(NO_MUTATION);
     let script = match read_script(alloc, answers, query) {
         Ok(script) => script,
         Err(number) => return Err(Unread::Answers(number)),
@@ -53,30 +64,24 @@ pub fn read_root(
         Ok(steps) => steps,
         Err(number) => return Err(Unread::Answers(number)),
     };
-    let Some(schema) = read_schema(alloc, schema) else {
-        return Err(Unread::Schema);
-    };
-    if !schema_is_executable(&schema) {
+    let Some(registry) = registry_of(alloc, types) else {
         return Err(Unread::NotExecutable);
+    };
+    let root = RootNode::new(
+        alloc,
+        script,
+        steps,
+        EmptySubscription::new(),
+        registry,
+        RootType { name: query },
+        RootType { name: mutation },
+        (),
+    );
+    match root {
+        Ok(root) => Ok(root),
+        Err(RootError::NotExecutable) => Err(Unread::NotExecutable),
+        Err(RootError::Memory) => Err(Unread::Schema),
     }
-    let subscription = EmptySubscription::new();
-    Ok(RootNode::of_parts(script, steps, subscription, schema, (), (), ()))
-}
-
-/// The names of the query type and of the mutation type, with which the text of a schema may begin.
-fn root_types(alloc: Global, schema: &'static str) -> (&'static str, &'static str) {
-    let mut reader = Reader::new(alloc, schema);
-    let query = if reader.eats("query") {
-        reader.word()
-    } else {
-        "Query"
-    };
-    let mutation = if reader.eats("mutation") {
-        reader.word()
-    } else {
-        ""
-    };
-    (query, mutation)
 }
 
 /// What a request is answered: a line of JSON with its data and errors, `refused: ` and why it is refused, or `unread: ` and what of

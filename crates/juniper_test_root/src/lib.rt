@@ -4,6 +4,7 @@
 mod answering;
 mod columns;
 mod reader;
+mod registry;
 mod replies;
 mod root;
 mod script;
@@ -15,7 +16,7 @@ mod variables;
 pub use answering::{ScriptRoot, Unread, printed, read_root};
 pub use columns::columns_asked_for;
 pub use reader::read_script;
-pub use script::{Answer, Line, Node, Notes, Script, Tree};
+pub use script::{Answer, Line, Node, Notes, RootType, Script, Tree};
 pub use table::{Request, Row, read_table};
 pub use tally::{Tally, report};
 pub use variables::variables_of;

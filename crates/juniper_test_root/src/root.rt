@@ -1,14 +1,11 @@
 //! The root that answers as a script says.
 
-ghost use Rattle.std.specs.Prelude.{[], ◌∷◌, Some, codes, true};
-ghost use Rattle.graphql_spec.specs.Fields.{typename_field};
-ghost use Rattle.graphql_spec.specs.Schema.{object_type};
-ghost use Rattle.graphql_spec.specs.Types.{named as named_type};
-ghost use Rattle.juniper_meta.specs.MetaView.{named_meta};
+ghost use Rattle.std.specs.Prelude.{[], Some};
+ghost use Rattle.juniper_registry.specs.DeclaredTypes.{object, type_named};
 ghost use Rattle.juniper_test_root.specs.Scripts.{concrete_type, reply, root_of, step, torn};
 
 use crate::replies::reply;
-use crate::script::{Node, Notes, Script};
+use crate::script::{Node, Notes, RootType, Script};
 use crate::sights::is_as_told;
 use juniper_meta::MetaType;
 use juniper_resolvable::Resolved;
@@ -20,38 +17,35 @@ use juniper_values::{Arguments, ResolveError};
 use std::alloc::{AllocError, Global};
 
 impl<S: ScalarValue> GraphQLReference<S> for Script {
-    type TypeInfo = ();
+    type TypeInfo = RootType;
 
-    ghost named = { λ _. Some (codes "Query") };
+    ghost named = { λ info. Some info.name.now };
 
-    ghost reference = { λ _. named_type true (codes "Query") };
+    ghost reference = { λ info. type_named info.name.now };
 
-    fn name(_info: &Self::TypeInfo) -> Option<&str> {
-        Some("Query")
+    fn name(info: &Self::TypeInfo) -> Option<&str> {
+        Some(info.name)
     }
 
-    #[tactic(auto, unfolding(graphql_spec::specs::Types::innermost))]
     fn type_in(
         _alloc: Global,
-        _info: &Self::TypeInfo,
+        info: &Self::TypeInfo,
         registry: &mut Registry<S>,
     ) -> Result<Type<String>, AllocError> {
-        registry.named_type("Query")
+        registry.named_type(info.name)
     }
 }
 
 /// Its fields are those of the schema that is read beside it; here none are declared.
 impl<S: ScalarValue> GraphQLType<S> for Script {
-    ghost declaration = { λ _. named_meta (codes "Query") (object_type (typename_field ∷ []) []) };
+    ghost declaration = { λ info. object info.name.now [] [] };
 
-    #[tactic(auto, unfolding(graphql_spec::specs::Fields::typename_field, graphql_spec::specs::Schema::plain_field, graphql_spec::specs::Types::innermost))]
     fn meta(
-        alloc: Global,
+        _alloc: Global,
         info: &Self::TypeInfo,
         registry: &mut Registry<S>,
     ) -> Result<MetaType<S>, AllocError> {
-        let object = registry.build_object_type::<Script>(info, Vec::new(alloc))?;
-        Ok(object.into_meta())
+        registry.object_type(info.name, [])
     }
 
     ghost keeps_name = { λ _ _ e. e };
@@ -70,8 +64,8 @@ impl<S: ScalarValue> GraphQLValue<S> for Script {
 
     ghost root = { root_of };
 
-    fn type_name<'i>(&self, _info: &'i Self::TypeInfo) -> Option<&'i str> {
-        Some("Query")
+    fn type_name<'i>(&self, info: &'i Self::TypeInfo) -> Option<&'i str> {
+        Some(info.name)
     }
 
     fn root_node(&self) -> &Self::Node {
@@ -117,7 +111,7 @@ impl<S: ScalarValue> GraphQLMutationValue<S> for Script {
     fn resolve_root(
         &self,
         alloc: Global,
-        _info: &(),
+        _info: &RootType,
         field_name: &str,
         arguments: &Arguments<'_, S>,
         _executor: &Executor<(), S>,

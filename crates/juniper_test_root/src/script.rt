@@ -60,6 +60,13 @@ pub struct Script {
     pub(crate) root: Node,
 }
 
+/// The object type of a root.
+#[derive(Clone, Copy, Debug, Drop)]
+pub struct RootType {
+    /// Its name.
+    pub name: &'static str,
+}
+
 /// What a request brings along.
 #[derive(Debug, Drop)]
 pub struct Notes {

@@ -4,9 +4,13 @@
 #[cfg(test)]
 mod ahead;
 #[cfg(test)]
+mod demo;
+#[cfg(test)]
 mod errors;
 #[cfg(test)]
 mod flat;
+#[cfg(test)]
+mod introspection;
 #[cfg(test)]
 mod mutations;
 #[cfg(test)]

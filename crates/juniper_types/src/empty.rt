@@ -1,11 +1,8 @@
 //! What stands for a mutation or a subscription that a schema lacks.
 
-ghost use Rattle.std.specs.Prelude.{[], ◌∷◌, Some, codes, false, true};
-ghost use Rattle.graphql_spec.specs.Fields.{typename_field};
+ghost use Rattle.std.specs.Prelude.{[], Some, codes, false};
 ghost use Rattle.graphql_spec.specs.Resolvers.{answered, nothing};
-ghost use Rattle.graphql_spec.specs.Schema.{object_type};
-ghost use Rattle.graphql_spec.specs.Types.{named as named_type};
-ghost use Rattle.juniper_meta.specs.MetaView.{named_meta};
+ghost use Rattle.juniper_registry.specs.DeclaredTypes.{object, type_named};
 
 use crate::executor::Executor;
 use crate::mutation::GraphQLMutationValue;
@@ -41,13 +38,12 @@ impl<S: ScalarValue, T, N> GraphQLReference<S> for EmptyMutation<T, N> {
 
     ghost named = { λ _. Some (codes "_EmptyMutation") };
 
-    ghost reference = { λ _. named_type true (codes "_EmptyMutation") };
+    ghost reference = { λ _. type_named (codes "_EmptyMutation") };
 
     fn name(_info: &Self::TypeInfo) -> Option<&str> {
         Some("_EmptyMutation")
     }
 
-    #[tactic(auto, unfolding(graphql_spec::specs::Types::innermost))]
     fn type_in(
         _alloc: Global,
         _info: &Self::TypeInfo,
@@ -58,15 +54,14 @@ impl<S: ScalarValue, T, N> GraphQLReference<S> for EmptyMutation<T, N> {
 }
 
 impl<S: ScalarValue, T, N> GraphQLType<S> for EmptyMutation<T, N> {
-    ghost declaration = { λ _. named_meta (codes "_EmptyMutation") (object_type (typename_field ∷ []) []) };
+    ghost declaration = { λ _. object (codes "_EmptyMutation") [] [] };
 
     fn meta(
-        alloc: Global,
-        info: &Self::TypeInfo,
+        _alloc: Global,
+        _info: &Self::TypeInfo,
         registry: &mut Registry<S>,
     ) -> Result<MetaType<S>, AllocError> {
-        let object = registry.build_object_type::<EmptyMutation<T, N>>(info, Vec::new(alloc))?;
-        Ok(object.into_meta())
+        registry.object_type("_EmptyMutation", [])
     }
 
     ghost keeps_name = { λ _ _ e. e };
@@ -119,13 +114,12 @@ impl<S: ScalarValue, T> GraphQLReference<S> for EmptySubscription<T> {
 
     ghost named = { λ _. Some (codes "_EmptySubscription") };
 
-    ghost reference = { λ _. named_type true (codes "_EmptySubscription") };
+    ghost reference = { λ _. type_named (codes "_EmptySubscription") };
 
     fn name(_info: &Self::TypeInfo) -> Option<&str> {
         Some("_EmptySubscription")
     }
 
-    #[tactic(auto, unfolding(graphql_spec::specs::Types::innermost))]
     fn type_in(
         _alloc: Global,
         _info: &Self::TypeInfo,
@@ -136,15 +130,14 @@ impl<S: ScalarValue, T> GraphQLReference<S> for EmptySubscription<T> {
 }
 
 impl<S: ScalarValue, T> GraphQLType<S> for EmptySubscription<T> {
-    ghost declaration = { λ _. named_meta (codes "_EmptySubscription") (object_type (typename_field ∷ []) []) };
+    ghost declaration = { λ _. object (codes "_EmptySubscription") [] [] };
 
     fn meta(
-        alloc: Global,
-        info: &Self::TypeInfo,
+        _alloc: Global,
+        _info: &Self::TypeInfo,
         registry: &mut Registry<S>,
     ) -> Result<MetaType<S>, AllocError> {
-        let object = registry.build_object_type::<EmptySubscription<T>>(info, Vec::new(alloc))?;
-        Ok(object.into_meta())
+        registry.object_type("_EmptySubscription", [])
     }
 
     ghost keeps_name = { λ _ _ e. e };

@@ -1,12 +1,9 @@
 //! A resolver, contexts and the parts of a request, for tests.
 
-ghost use Rattle.std.specs.Prelude.{[], ◌∷◌, Some, codes, true};
-ghost use Rattle.graphql_spec.specs.Fields.{typename_field};
+ghost use Rattle.std.specs.Prelude.{[], Some, codes};
 ghost use Rattle.graphql_spec.specs.Resolvers.{answered, leaf};
-ghost use Rattle.graphql_spec.specs.Schema.{object_type};
 ghost use Rattle.graphql_spec.specs.Shown.{int};
-ghost use Rattle.graphql_spec.specs.Types.{named as named_type};
-ghost use Rattle.juniper_meta.specs.MetaView.{named_meta};
+ghost use Rattle.juniper_registry.specs.DeclaredTypes.{object, type_named};
 
 use crate::context::Context;
 use crate::executor::Executor;
@@ -45,13 +42,12 @@ impl<S: ScalarValue> GraphQLReference<S> for Counter {
 
     ghost named = { λ _. Some (codes "Counter") };
 
-    ghost reference = { λ _. named_type true (codes "Counter") };
+    ghost reference = { λ _. type_named (codes "Counter") };
 
     fn name(_info: &()) -> Option<&str> {
         Some("Counter")
     }
 
-    #[tactic(auto, unfolding(graphql_spec::specs::Types::innermost))]
     fn type_in(
         _alloc: Global,
         _info: &(),
@@ -62,16 +58,14 @@ impl<S: ScalarValue> GraphQLReference<S> for Counter {
 }
 
 impl<S: ScalarValue> GraphQLType<S> for Counter {
-    ghost declaration = { λ _. named_meta (codes "Counter") (object_type (typename_field ∷ []) []) };
+    ghost declaration = { λ _. object (codes "Counter") [] [] };
 
-    #[tactic(auto, unfolding(graphql_spec::specs::Fields::typename_field, graphql_spec::specs::Schema::plain_field, graphql_spec::specs::Types::innermost))]
     fn meta(
-        alloc: Global,
-        info: &(),
+        _alloc: Global,
+        _info: &(),
         registry: &mut Registry<S>,
     ) -> Result<MetaType<S>, AllocError> {
-        let object = registry.build_object_type::<Counter>(info, Vec::new(alloc))?;
-        Ok(object.into_meta())
+        registry.object_type("Counter", [])
     }
 
     ghost keeps_name = { λ _ _ e. e };

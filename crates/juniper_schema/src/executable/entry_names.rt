@@ -102,7 +102,7 @@ fn continues_name(byte: u8) -> bool
 
 /// Whether the name begins with two underscores (3.3).
 #[tactic(auto, unfolding(graphql_spec::specs::Executable::is_reserved))]
-fn is_reserved(name: &str) -> bool
+pub fn is_reserved(name: &str) -> bool
     ensures { result ≡ spec.is_reserved name.now }
 {
     match name.as_bytes() {

@@ -10,7 +10,7 @@ use Rattle.graphql_spec.specs.Selections.{keys}
 use Rattle.juniper_syntax.specs.DocumentView.{view_definition, view_document, view_operation, view_selections}
 use Rattle.juniper_syntax.specs.InputView.{view_variables}
 use Rattle.juniper_schema.specs.SchemaView.{view_schema}
-use Rattle.juniper.specs.Services.{is_undeclared, mutation_on, steps_at}
+use Rattle.juniper.specs.Services.{is_undeclared, mutation_on, rooted_steps}
 use Rattle.juniper.proofs.Executing.{left-moves, mutation-agrees, no-cycle, run-is-answer, run-left}
 use Rattle.juniper.proofs.GroupLoop.{left-same, on-err}
 use Rattle.juniper.proofs.execute.execute_mutation.Goals as goal
@@ -18,11 +18,11 @@ use Rattle.juniper.proofs.execute.execute_mutation.Goals as goal
 pub returns-in_err-fragments : goal.returns-in_err-fragments
 returns-in_err-fragments g c =
     let shown = g.S.ScalarValue.shown in
-    let root = c.args.root_node.now in
-    let s = view_schema shown root.schema in
+    let root = c.args.served.now in
+    let s = view_schema shown root.schema.now in
     let vars = view_variables shown c.args.variables.now in
-    let M = mutation_on g.Q.GraphQLValue.concrete g.Q.GraphQLValue.answer root.query root.query_info
-    (steps_at g.M.GraphQLMutationValue.step g.M.GraphQLMutationValue.torn root.mutation root.mutation_info) s vars in
+    let M = mutation_on g.Q.GraphQLValue.concrete g.Q.GraphQLValue.answer root.query.now root.query_info.now
+    (rooted_steps g.M.GraphQLMutationValue.step g.M.GraphQLMutationValue.torn root.mutation.now root.mutation_info.now) s vars in
     let T = c.args.concrete.now in
     let d = view_document shown c.args.document.now in
     let o = view_operation shown c.args.operation.now in
@@ -33,11 +33,11 @@ returns-in_err-fragments g c =
 pub returns-in_err-path : goal.returns-in_err-path
 returns-in_err-path g c =
     let shown = g.S.ScalarValue.shown in
-    let root = c.args.root_node.now in
-    let s = view_schema shown root.schema in
+    let root = c.args.served.now in
+    let s = view_schema shown root.schema.now in
     let vars = view_variables shown c.args.variables.now in
-    let M = mutation_on g.Q.GraphQLValue.concrete g.Q.GraphQLValue.answer root.query root.query_info
-    (steps_at g.M.GraphQLMutationValue.step g.M.GraphQLMutationValue.torn root.mutation root.mutation_info) s vars in
+    let M = mutation_on g.Q.GraphQLValue.concrete g.Q.GraphQLValue.answer root.query.now root.query_info.now
+    (rooted_steps g.M.GraphQLMutationValue.step g.M.GraphQLMutationValue.torn root.mutation.now root.mutation_info.now) s vars in
     let T = c.args.concrete.now in
     let d = view_document shown c.args.document.now in
     let o = view_operation shown c.args.operation.now in
@@ -48,11 +48,11 @@ returns-in_err-path g c =
 pub returns-in_err-fields : goal.returns-in_err-fields
 returns-in_err-fields g c =
     let shown = g.S.ScalarValue.shown in
-    let root = c.args.root_node.now in
-    let s = view_schema shown root.schema in
+    let root = c.args.served.now in
+    let s = view_schema shown root.schema.now in
     let vars = view_variables shown c.args.variables.now in
-    let M = mutation_on g.Q.GraphQLValue.concrete g.Q.GraphQLValue.answer root.query root.query_info
-    (steps_at g.M.GraphQLMutationValue.step g.M.GraphQLMutationValue.torn root.mutation root.mutation_info) s vars in
+    let M = mutation_on g.Q.GraphQLValue.concrete g.Q.GraphQLValue.answer root.query.now root.query_info.now
+    (rooted_steps g.M.GraphQLMutationValue.step g.M.GraphQLMutationValue.torn root.mutation.now root.mutation_info.now) s vars in
     let T = c.args.concrete.now in
     let d = view_document shown c.args.document.now in
     let o = view_operation shown c.args.operation.now in
@@ -64,12 +64,12 @@ pub root_fields-requires : goal.root_fields-requires
 unfolding is_undeclared
 root_fields-requires g c =
     let shown = g.S.ScalarValue.shown in
-    let s = view_schema shown c.args.root_node.now.schema in
+    let s = view_schema shown c.args.served.now.schema.now in
     let d = view_document shown c.args.document.now in
     let is = c.in_ok-fragments.ensures.is ∙ ap (λ ds. fragments (map (view_definition shown) ds)) c.as_slice.ensures.value in
     record {
       made = c.in_ok-fragments.ensures.made;
-      acyclic = no-cycle s d c.requires.valid _ is;
+      acyclic = no-cycle s c.args.served.now.is_introspection_disabled d c.requires.valid _ is;
       at_root = c.in_ok-path.ensures;
       unnamed =
           ap is_undeclared c.undeclared_type-undeclared.ensures;
@@ -79,12 +79,12 @@ pub run_groups-requires-clause-ready : goal.run_groups-requires-clause-ready
 unfolding is_undeclared
 run_groups-requires-clause-ready g c =
     let shown = g.S.ScalarValue.shown in
-    let s = view_schema shown c.args.root_node.now.schema in
+    let s = view_schema shown c.args.served.now.schema.now in
     let d = view_document shown c.args.document.now in
     let is = c.in_ok-fragments.ensures.is ∙ ap (λ ds. fragments (map (view_definition shown) ds)) c.as_slice.ensures.value in
     record {
       made = c.in_ok-fragments.ensures.made;
-      acyclic = no-cycle s d c.requires.valid _ is;
+      acyclic = no-cycle s c.args.served.now.is_introspection_disabled d c.requires.valid _ is;
       at_root = c.in_ok-path.ensures;
       unnamed =
           ap is_undeclared c.undeclared_type-undeclared.ensures;
@@ -93,14 +93,14 @@ run_groups-requires-clause-ready g c =
 pub run_groups-requires-clause-agree : goal.run_groups-requires-clause-agree
 run_groups-requires-clause-agree g c = λ now.
     let shown = g.S.ScalarValue.shown in
-    let root = c.args.root_node.now in
-    let s = view_schema shown root.schema in
+    let root = c.args.served.now in
+    let s = view_schema shown root.schema.now in
     let d = view_document shown c.args.document.now in
     let o = view_operation shown c.args.operation.now in
     let is = c.in_ok-fragments.ensures.is ∙ ap (λ ds. fragments (map (view_definition shown) ds)) c.as_slice.ensures.value in
-    mutation-agrees s root.executable d c.requires.valid o c.requires.member c.requires.mutation c.args.concrete.now c.requires.root
+    mutation-agrees s root.is_introspection_disabled root.executable d c.requires.valid o c.requires.member c.requires.mutation c.args.concrete.now c.requires.root
     (view_variables shown c.args.variables.now)
-    (g.Q.GraphQLValue.concrete root.query root.query_info now) (g.Q.GraphQLValue.answer root.query root.query_info now) _ is _
+    (g.Q.GraphQLValue.concrete root.query.now root.query_info.now now) (g.Q.GraphQLValue.answer root.query.now root.query_info.now now) _ is _
     (ap (view_selections shown) c.as_slice-2.ensures.value)
 
 pub run_groups-requires-clause-fields : goal.run_groups-requires-clause-fields
@@ -110,11 +110,11 @@ pub returns-in-Err : goal.returns-in-Err
 unfolding selected world_of
 returns-in-Err g c =
     let shown = g.S.ScalarValue.shown in
-    let root = c.args.root_node.now in
-    let s = view_schema shown root.schema in
+    let root = c.args.served.now in
+    let s = view_schema shown root.schema.now in
     let vars = view_variables shown c.args.variables.now in
-    let M = mutation_on g.Q.GraphQLValue.concrete g.Q.GraphQLValue.answer root.query root.query_info
-    (steps_at g.M.GraphQLMutationValue.step g.M.GraphQLMutationValue.torn root.mutation root.mutation_info) s vars in
+    let M = mutation_on g.Q.GraphQLValue.concrete g.Q.GraphQLValue.answer root.query.now root.query_info.now
+    (rooted_steps g.M.GraphQLMutationValue.step g.M.GraphQLMutationValue.torn root.mutation.now root.mutation_info.now) s vars in
     let T = c.args.concrete.now in
     let d = view_document shown c.args.document.now in
     let o = view_operation shown c.args.operation.now in
@@ -129,11 +129,11 @@ pub returns-in_err-sort_errors-in-Ok : goal.returns-in_err-sort_errors-in-Ok
 unfolding selected world_of
 returns-in_err-sort_errors-in-Ok g c =
     let shown = g.S.ScalarValue.shown in
-    let root = c.args.root_node.now in
-    let s = view_schema shown root.schema in
+    let root = c.args.served.now in
+    let s = view_schema shown root.schema.now in
     let vars = view_variables shown c.args.variables.now in
-    let M = mutation_on g.Q.GraphQLValue.concrete g.Q.GraphQLValue.answer root.query root.query_info
-    (steps_at g.M.GraphQLMutationValue.step g.M.GraphQLMutationValue.torn root.mutation root.mutation_info) s vars in
+    let M = mutation_on g.Q.GraphQLValue.concrete g.Q.GraphQLValue.answer root.query.now root.query_info.now
+    (rooted_steps g.M.GraphQLMutationValue.step g.M.GraphQLMutationValue.torn root.mutation.now root.mutation_info.now) s vars in
     let T = c.args.concrete.now in
     let d = view_document shown c.args.document.now in
     let o = view_operation shown c.args.operation.now in
@@ -149,11 +149,11 @@ pub returns : goal.returns
 unfolding selected world_of
 returns g c =
     let shown = g.S.ScalarValue.shown in
-    let root = c.args.root_node.now in
-    let s = view_schema shown root.schema in
+    let root = c.args.served.now in
+    let s = view_schema shown root.schema.now in
     let vars = view_variables shown c.args.variables.now in
-    let M = mutation_on g.Q.GraphQLValue.concrete g.Q.GraphQLValue.answer root.query root.query_info
-    (steps_at g.M.GraphQLMutationValue.step g.M.GraphQLMutationValue.torn root.mutation root.mutation_info) s vars in
+    let M = mutation_on g.Q.GraphQLValue.concrete g.Q.GraphQLValue.answer root.query.now root.query_info.now
+    (rooted_steps g.M.GraphQLMutationValue.step g.M.GraphQLMutationValue.torn root.mutation.now root.mutation_info.now) s vars in
     let T = c.args.concrete.now in
     let d = view_document shown c.args.document.now in
     let o = view_operation shown c.args.operation.now in

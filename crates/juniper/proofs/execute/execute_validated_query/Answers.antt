@@ -1,75 +1,20 @@
-use Rattle.std.proofs.Common.{option_map, refl, sym, ap, ◌∙◌}
-use Rattle.graphql_spec.specs.Requests as spec
-use Rattle.graphql_spec.specs.Shown.{Name}
-use Rattle.juniper_syntax.specs.DocumentView.{view_document, view_kind, view_operation}
-use Rattle.juniper_syntax.specs.InputView.{view_variables}
+use Rattle.std.proofs.Common.{ap}
 use Rattle.juniper_schema.specs.SchemaView.{view_schema}
-use Rattle.juniper.specs.Services.{service_in, steps_at}
-use Rattle.juniper.proofs.Composing.{subscription-ends, mutation-answers, mutation-ends, mutation-left, query-ends}
+use Rattle.juniper_syntax.specs.DocumentView.{view_document, view_operation}
+use Rattle.juniper_syntax.specs.InputView.{view_variables}
+use Rattle.juniper.specs.Answering.{outcome_of}
+use Rattle.juniper.proofs.Composing.{answers-so}
+use Rattle.juniper.proofs.RootOutcomes.{outcome-moved}
 use Rattle.juniper.proofs.execute.execute_validated_query.Goals as goal
-
-pub returns-in-Subscription : goal.returns-in-Subscription
-returns-in-Subscription g c =
-    let shown = g.S.ScalarValue.shown in
-    let root = c.args.root_node.now in
-    let s = view_schema shown root.schema in
-    let m = steps_at g.M.GraphQLMutationValue.step g.M.GraphQLMutationValue.torn root.mutation root.mutation_info in
-    let S = service_in g.Q.GraphQLValue.concrete g.Q.GraphQLValue.answer g.Q.GraphQLValue.root root.query root.query_info m s in
-    (spec.is_subscription, refl, subscription-ends S s (view_document shown c.args.document.now) (view_operation shown c.args.operation.now) (view_variables shown c.args.variables.now) c.args.context.now (ap view_kind c.in-Subscription.is))
-
-pub returns-in_default : goal.returns-in_default
-returns-in_default g c =
-    let shown = g.S.ScalarValue.shown in
-    let root = c.args.root_node.now in
-    let s = view_schema shown root.schema in
-    let m = steps_at g.M.GraphQLMutationValue.step g.M.GraphQLMutationValue.torn root.mutation root.mutation_info in
-    let S = service_in g.Q.GraphQLValue.concrete g.Q.GraphQLValue.answer g.Q.GraphQLValue.root root.query root.query_info m s in
-    let d = view_document shown c.args.document.now in
-    let o = view_operation shown c.args.operation.now in
-    let given = view_variables shown c.args.variables.now in (
-      spec.no_mutation_type,
-      refl,
-      mutation-ends S s d o given c.args.context.now (ap view_kind c.in-Mutation.is)
-          (sym c.mutation_name.ensures ∙ ap (option_map (λ n. n.now)) c.in_default.is),
-    )
-
-pub returns-in-Err : goal.returns-in-Err
-returns-in-Err g c =
-    let shown = g.S.ScalarValue.shown in
-    let root = c.args.root_node.now in
-    let s = view_schema shown root.schema in
-    let m = steps_at g.M.GraphQLMutationValue.step g.M.GraphQLMutationValue.torn root.mutation root.mutation_info in
-    let S = service_in g.Q.GraphQLValue.concrete g.Q.GraphQLValue.answer g.Q.GraphQLValue.root root.query root.query_info m s in
-    let d = view_document shown c.args.document.now in
-    let o = view_operation shown c.args.operation.now in
-    let given = view_variables shown c.args.variables.now in
-    let T = c.in-Some.concrete.now in
-    let is = sym c.mutation_name.ensures ∙ ap (option_map (λ n. n.now)) c.in-Some.is in
-    mutation-left S s d o given c.args.context.now (ap view_kind c.in-Mutation.is) T is m
-    (ap (option_map (λ (n : Name). m)) is, is) _ c.in_ok-values-in-Mutation.ensures
-    c.execute_mutation.new.context c.in-Err.ensures
-
-pub returns-in-Mutation : goal.returns-in-Mutation
-returns-in-Mutation g c =
-    let shown = g.S.ScalarValue.shown in
-    let root = c.args.root_node.now in
-    let s = view_schema shown root.schema in
-    let m = steps_at g.M.GraphQLMutationValue.step g.M.GraphQLMutationValue.torn root.mutation root.mutation_info in
-    let S = service_in g.Q.GraphQLValue.concrete g.Q.GraphQLValue.answer g.Q.GraphQLValue.root root.query root.query_info m s in
-    let d = view_document shown c.args.document.now in
-    let o = view_operation shown c.args.operation.now in
-    let given = view_variables shown c.args.variables.now in
-    let T = c.in-Some.concrete.now in
-    let is = sym c.mutation_name.ensures ∙ ap (option_map (λ n. n.now)) c.in-Some.is in
-    mutation-answers S s d o given c.args.context.now (ap view_kind c.in-Mutation.is) T is m
-    (ap (option_map (λ (n : Name). m)) is, is) _ c.in_ok-values-in-Mutation.ensures
-    c.execute_mutation.new.context _ _ c.in-Ok.ensures
 
 pub returns : goal.returns
 returns g c =
     let shown = g.S.ScalarValue.shown in
     let root = c.args.root_node.now in
-    let s = view_schema shown root.schema in
-    let m = steps_at g.M.GraphQLMutationValue.step g.M.GraphQLMutationValue.torn root.mutation root.mutation_info in
-    let S = service_in g.Q.GraphQLValue.concrete g.Q.GraphQLValue.answer g.Q.GraphQLValue.root root.query root.query_info m s in
-    query-ends S s (view_document shown c.args.document.now) (view_operation shown c.args.operation.now) (view_variables shown c.args.variables.now) c.args.context.now (ap view_kind c.in-Query.is) _ c.in_ok-values-in-Query.ensures _ _ c.in_ok-answered-in-Query.ensures
+    let d = view_document shown c.args.document.now in
+    let o = view_operation shown c.args.operation.now in
+    let given = view_variables shown c.args.variables.now in
+    answers-so shown _ _
+    (λ r p. outcome-moved g.Q.GraphQLValue.concrete g.Q.GraphQLValue.answer g.Q.GraphQLValue.root g.M.GraphQLMutationValue.step g.M.GraphQLMutationValue.torn root _ _ _ _ _
+    (ap (view_schema shown) c.schema.ensures) c.is_introspection_disabled.ensures c.query_info.ensures c.mutation.ensures c.mutation_info.ensures
+    (λ x. outcome_of x d o given) c.args.context.now r c.execute_operation.new.context p) c.execute_operation.result c.execute_operation.ensures

@@ -7,14 +7,14 @@ use Rattle.graphql_spec.specs.Resolvers.{world_of}
 use Rattle.juniper_schema.specs.SchemaView.{view_schema}
 use Rattle.juniper_walk.specs.FieldWords.{head_of}
 use Rattle.juniper.specs.RootFields.{all_fields, field_in, fields_in, group_in, selected_in, values_in}
-use Rattle.juniper.specs.Services.{mutation_on, steps_at}
+use Rattle.juniper.specs.Services.{mutation_on, rooted_steps}
 use Rattle.juniper.proofs.RootGroups.{first-among, given-at, group-merges, group-ran, group-type, left-stopped, root-selected, stopped-in, told-leaves}
 use Rattle.juniper.proofs.mutation.run_group.Goals as goal
 
 pub step-answer-requires-clause-selected : goal.step-answer-requires-clause-selected
 step-answer-requires-clause-selected g c =
     let shown = g.S.ScalarValue.shown in
-    let s = view_schema shown c.args.root_node.now.schema in
+    let s = view_schema shown c.args.served.now.schema.now in
     root-selected shown c.args.walk.now c.by_name.result.now c.by_name.ensures.alike s c.args.group.now.first.now
     (first-among _ _ _ _ c.requires.group)
 
@@ -22,9 +22,9 @@ pub complete-requires-clause-merge : goal.complete-requires-clause-merge
 unfolding world_of
 complete-requires-clause-merge g c =
     let shown = g.S.ScalarValue.shown in
-    let root = c.args.root_node.now in
-    let M = mutation_on g.Q.GraphQLValue.concrete g.Q.GraphQLValue.answer root.query root.query_info
-    (steps_at g.M.GraphQLMutationValue.step g.M.GraphQLMutationValue.torn root.mutation root.mutation_info) (view_schema shown root.schema)
+    let root = c.args.served.now in
+    let M = mutation_on g.Q.GraphQLValue.concrete g.Q.GraphQLValue.answer root.query.now root.query_info.now
+    (rooted_steps g.M.GraphQLMutationValue.step g.M.GraphQLMutationValue.torn root.mutation.now root.mutation_info.now) (view_schema shown root.schema.now)
     (values_in shown c.args.walk.now) in
     group-merges (M.world c.step-answer.new.context) c.args.walk.now.concrete.now (field_in shown c.args.walk.now c.args.group.now.first.now)
     (fields_in shown c.args.walk.now c.args.group.now.others.now) _
@@ -34,11 +34,11 @@ complete-requires-clause-merge g c =
 pub returns-in-Err : goal.returns-in-Err
 returns-in-Err g c =
     let shown = g.S.ScalarValue.shown in
-    let root = c.args.root_node.now in
+    let root = c.args.served.now in
     let walk = c.args.walk.now in
-    let s = view_schema shown root.schema in
-    let M = mutation_on g.Q.GraphQLValue.concrete g.Q.GraphQLValue.answer root.query root.query_info
-    (steps_at g.M.GraphQLMutationValue.step g.M.GraphQLMutationValue.torn root.mutation root.mutation_info) s (values_in shown walk) in
+    let s = view_schema shown root.schema.now in
+    let M = mutation_on g.Q.GraphQLValue.concrete g.Q.GraphQLValue.answer root.query.now root.query_info.now
+    (rooted_steps g.M.GraphQLMutationValue.step g.M.GraphQLMutationValue.torn root.mutation.now root.mutation_info.now) s (values_in shown walk) in
     let k = response_key (head_of shown c.args.group.now.first.now) in
     let others = fields_in shown walk c.args.group.now.others.now in
     let stopped = left-stopped M walk.concrete.now
@@ -49,11 +49,11 @@ returns-in-Err g c =
 pub returns-in-Err-give : goal.returns-in-Err-give
 returns-in-Err-give g c =
     let shown = g.S.ScalarValue.shown in
-    let root = c.args.root_node.now in
+    let root = c.args.served.now in
     let walk = c.args.walk.now in
-    let s = view_schema shown root.schema in
-    let M = mutation_on g.Q.GraphQLValue.concrete g.Q.GraphQLValue.answer root.query root.query_info
-    (steps_at g.M.GraphQLMutationValue.step g.M.GraphQLMutationValue.torn root.mutation root.mutation_info) s (values_in shown walk) in
+    let s = view_schema shown root.schema.now in
+    let M = mutation_on g.Q.GraphQLValue.concrete g.Q.GraphQLValue.answer root.query.now root.query_info.now
+    (rooted_steps g.M.GraphQLMutationValue.step g.M.GraphQLMutationValue.torn root.mutation.now root.mutation_info.now) s (values_in shown walk) in
     let k = response_key (head_of shown c.args.group.now.first.now) in
     let others = fields_in shown walk c.args.group.now.others.now in
     let stopped = left-stopped M walk.concrete.now
@@ -65,11 +65,11 @@ pub returns : goal.returns
 unfolding world_of
 returns g c =
     let shown = g.S.ScalarValue.shown in
-    let root = c.args.root_node.now in
+    let root = c.args.served.now in
     let walk = c.args.walk.now in
-    let s = view_schema shown root.schema in
-    let M = mutation_on g.Q.GraphQLValue.concrete g.Q.GraphQLValue.answer root.query root.query_info
-    (steps_at g.M.GraphQLMutationValue.step g.M.GraphQLMutationValue.torn root.mutation root.mutation_info) s (values_in shown walk) in
+    let s = view_schema shown root.schema.now in
+    let M = mutation_on g.Q.GraphQLValue.concrete g.Q.GraphQLValue.answer root.query.now root.query_info.now
+    (rooted_steps g.M.GraphQLMutationValue.step g.M.GraphQLMutationValue.torn root.mutation.now root.mutation_info.now) s (values_in shown walk) in
     let k = response_key (head_of shown c.args.group.now.first.now) in
     let others = fields_in shown walk c.args.group.now.others.now in
     let group = group_in shown walk c.args.group.now in

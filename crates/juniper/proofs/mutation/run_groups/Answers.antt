@@ -9,7 +9,7 @@ use Rattle.juniper_syntax.specs.ValueView.{view_object}
 use Rattle.juniper_syntax.proofs.Values.{view-Null, view-Object}
 use Rattle.juniper_walk.specs.FieldWords.{fields_at, head_of}
 use Rattle.juniper.specs.RootFields.{all_fields, field_in, values_in}
-use Rattle.juniper.specs.Services.{mutation_on, steps_at}
+use Rattle.juniper.specs.Services.{mutation_on, rooted_steps}
 use Rattle.juniper.proofs.GroupLoop.{group-of-key, is-known, left-same, on-err, ran-moves, run-moves, to-begin, to-end, to-kept, to-known, to-lost, to-stopped}
 use Rattle.juniper.proofs.mutation.run_groups.Goals as goal
 use Rattle.juniper.proofs.mutation.run_groups.Goals.{then-not-contains_field+in-Ok+else-rises, else-not-contains_field}
@@ -17,11 +17,11 @@ use Rattle.juniper.proofs.mutation.run_groups.Goals.{then-not-contains_field+in-
 pub returns-in_err-groups : goal.returns-in_err-groups
 returns-in_err-groups g c =
     let shown = g.S.ScalarValue.shown in
-    let root = c.args.root_node.now in
+    let root = c.args.served.now in
     let walk = c.args.walk.now in
-    let s = view_schema shown root.schema in
-    let M = mutation_on g.Q.GraphQLValue.concrete g.Q.GraphQLValue.answer root.query root.query_info
-    (steps_at g.M.GraphQLMutationValue.step g.M.GraphQLMutationValue.torn root.mutation root.mutation_info) s (values_in shown walk) in
+    let s = view_schema shown root.schema.now in
+    let M = mutation_on g.Q.GraphQLValue.concrete g.Q.GraphQLValue.answer root.query.now root.query_info.now
+    (rooted_steps g.M.GraphQLMutationValue.step g.M.GraphQLMutationValue.torn root.mutation.now root.mutation_info.now) s (values_in shown walk) in
     let T = walk.concrete.now in
     let os = all_fields shown walk s in
     on-err _ _ _ c.from_residual.ensures.0 (left-same M T (keys os) os c.args.context.now)
@@ -29,11 +29,11 @@ returns-in_err-groups g c =
 pub returns-in_err-entries : goal.returns-in_err-entries
 returns-in_err-entries g c =
     let shown = g.S.ScalarValue.shown in
-    let root = c.args.root_node.now in
+    let root = c.args.served.now in
     let walk = c.args.walk.now in
-    let s = view_schema shown root.schema in
-    let M = mutation_on g.Q.GraphQLValue.concrete g.Q.GraphQLValue.answer root.query root.query_info
-    (steps_at g.M.GraphQLMutationValue.step g.M.GraphQLMutationValue.torn root.mutation root.mutation_info) s (values_in shown walk) in
+    let s = view_schema shown root.schema.now in
+    let M = mutation_on g.Q.GraphQLValue.concrete g.Q.GraphQLValue.answer root.query.now root.query_info.now
+    (rooted_steps g.M.GraphQLMutationValue.step g.M.GraphQLMutationValue.torn root.mutation.now root.mutation_info.now) s (values_in shown walk) in
     let T = walk.concrete.now in
     let os = all_fields shown walk s in
     on-err _ _ _ c.from_residual-in_err-entries.ensures.0 (left-same M T (keys os) os c.args.context.now)
@@ -41,11 +41,11 @@ returns-in_err-entries g c =
 pub loop-occurrence-init : goal.loop-occurrence-init
 loop-occurrence-init g c =
     let shown = g.S.ScalarValue.shown in
-    let root = c.args.root_node.now in
+    let root = c.args.served.now in
     let walk = c.args.walk.now in
-    let s = view_schema shown root.schema in
-    let M = mutation_on g.Q.GraphQLValue.concrete g.Q.GraphQLValue.answer root.query root.query_info
-    (steps_at g.M.GraphQLMutationValue.step g.M.GraphQLMutationValue.torn root.mutation root.mutation_info) s (values_in shown walk) in
+    let s = view_schema shown root.schema.now in
+    let M = mutation_on g.Q.GraphQLValue.concrete g.Q.GraphQLValue.answer root.query.now root.query_info.now
+    (rooted_steps g.M.GraphQLMutationValue.step g.M.GraphQLMutationValue.torn root.mutation.now root.mutation_info.now) s (values_in shown walk) in
     let T = walk.concrete.now in
     let view = λ (x : Occurrence g.row.S.Denot). field_in shown walk x.field.now in
     let fields = c.args.fields.now in
@@ -55,11 +55,11 @@ loop-occurrence-init g c =
 pub run_group-requires-clause-group : goal.run_group-requires-clause-group
 run_group-requires-clause-group g c =
     let shown = g.S.ScalarValue.shown in
-    let root = c.args.root_node.now in
+    let root = c.args.served.now in
     let walk = c.args.walk.now in
-    let s = view_schema shown root.schema in
-    let M = mutation_on g.Q.GraphQLValue.concrete g.Q.GraphQLValue.answer root.query root.query_info
-    (steps_at g.M.GraphQLMutationValue.step g.M.GraphQLMutationValue.torn root.mutation root.mutation_info) s (values_in shown walk) in
+    let s = view_schema shown root.schema.now in
+    let M = mutation_on g.Q.GraphQLValue.concrete g.Q.GraphQLValue.answer root.query.now root.query_info.now
+    (rooted_steps g.M.GraphQLMutationValue.step g.M.GraphQLMutationValue.torn root.mutation.now root.mutation_info.now) s (values_in shown walk) in
     let T = walk.concrete.now in
     let view = λ (x : Occurrence g.row.S.Denot). field_in shown walk x.field.now in
     let fields = c.args.fields.now in
@@ -82,11 +82,11 @@ run_group-requires-clause-group g c =
 pub returns-in-Err : goal.returns-in-Err
 returns-in-Err g c =
     let shown = g.S.ScalarValue.shown in
-    let root = c.args.root_node.now in
+    let root = c.args.served.now in
     let walk = c.args.walk.now in
-    let s = view_schema shown root.schema in
-    let M = mutation_on g.Q.GraphQLValue.concrete g.Q.GraphQLValue.answer root.query root.query_info
-    (steps_at g.M.GraphQLMutationValue.step g.M.GraphQLMutationValue.torn root.mutation root.mutation_info) s (values_in shown walk) in
+    let s = view_schema shown root.schema.now in
+    let M = mutation_on g.Q.GraphQLValue.concrete g.Q.GraphQLValue.answer root.query.now root.query_info.now
+    (rooted_steps g.M.GraphQLMutationValue.step g.M.GraphQLMutationValue.torn root.mutation.now root.mutation_info.now) s (values_in shown walk) in
     let T = walk.concrete.now in
     let view = λ (x : Occurrence g.row.S.Denot). field_in shown walk x.field.now in
     let fields = c.args.fields.now in
@@ -107,11 +107,11 @@ returns-in-Err g c =
 pub returns-then-rises : goal.returns-then-rises
 returns-then-rises g c =
     let shown = g.S.ScalarValue.shown in
-    let root = c.args.root_node.now in
+    let root = c.args.served.now in
     let walk = c.args.walk.now in
-    let s = view_schema shown root.schema in
-    let M = mutation_on g.Q.GraphQLValue.concrete g.Q.GraphQLValue.answer root.query root.query_info
-    (steps_at g.M.GraphQLMutationValue.step g.M.GraphQLMutationValue.torn root.mutation root.mutation_info) s (values_in shown walk) in
+    let s = view_schema shown root.schema.now in
+    let M = mutation_on g.Q.GraphQLValue.concrete g.Q.GraphQLValue.answer root.query.now root.query_info.now
+    (rooted_steps g.M.GraphQLMutationValue.step g.M.GraphQLMutationValue.torn root.mutation.now root.mutation_info.now) s (values_in shown walk) in
     let T = walk.concrete.now in
     let view = λ (x : Occurrence g.row.S.Denot). field_in shown walk x.field.now in
     let fields = c.args.fields.now in
@@ -133,11 +133,11 @@ returns-then-rises g c =
 pub loop-occurrence-preserved : goal.loop-occurrence-preserved
 loop-occurrence-preserved g c =
     let shown = g.S.ScalarValue.shown in
-    let root = c.args.root_node.now in
+    let root = c.args.served.now in
     let walk = c.args.walk.now in
-    let s = view_schema shown root.schema in
-    let M = mutation_on g.Q.GraphQLValue.concrete g.Q.GraphQLValue.answer root.query root.query_info
-    (steps_at g.M.GraphQLMutationValue.step g.M.GraphQLMutationValue.torn root.mutation root.mutation_info) s (values_in shown walk) in
+    let s = view_schema shown root.schema.now in
+    let M = mutation_on g.Q.GraphQLValue.concrete g.Q.GraphQLValue.answer root.query.now root.query_info.now
+    (rooted_steps g.M.GraphQLMutationValue.step g.M.GraphQLMutationValue.torn root.mutation.now root.mutation_info.now) s (values_in shown walk) in
     let T = walk.concrete.now in
     let view = λ (x : Occurrence g.row.S.Denot). field_in shown walk x.field.now in
     let fields = c.args.fields.now in
@@ -169,11 +169,11 @@ loop-occurrence-preserved g c =
 pub returns : goal.returns
 returns g c =
     let shown = g.S.ScalarValue.shown in
-    let root = c.args.root_node.now in
+    let root = c.args.served.now in
     let walk = c.args.walk.now in
-    let s = view_schema shown root.schema in
-    let M = mutation_on g.Q.GraphQLValue.concrete g.Q.GraphQLValue.answer root.query root.query_info
-    (steps_at g.M.GraphQLMutationValue.step g.M.GraphQLMutationValue.torn root.mutation root.mutation_info) s (values_in shown walk) in
+    let s = view_schema shown root.schema.now in
+    let M = mutation_on g.Q.GraphQLValue.concrete g.Q.GraphQLValue.answer root.query.now root.query_info.now
+    (rooted_steps g.M.GraphQLMutationValue.step g.M.GraphQLMutationValue.torn root.mutation.now root.mutation_info.now) s (values_in shown walk) in
     let T = walk.concrete.now in
     let view = λ (x : Occurrence g.row.S.Denot). field_in shown walk x.field.now in
     let fields = c.args.fields.now in

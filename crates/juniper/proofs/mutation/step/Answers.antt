@@ -7,9 +7,9 @@ use Rattle.juniper_walk.specs.FieldWords.{head_of}
 use Rattle.juniper.proofs.Asked.{asked-at}
 use Rattle.juniper.proofs.mutation.step.Goals as goal
 
-pub resolve_root-requires : goal.resolve_root-requires
+pub resolve_root-answered-requires : goal.resolve_root-answered-requires
 unfolding occurrence_at
-resolve_root-requires g c =
+resolve_root-answered-requires g c =
     let shown = g.S.ScalarValue.shown in
     let vars = c.args.walk.now.variables.now in
     let h = head_of shown c.args.site.now.field.now in

@@ -1,104 +1,133 @@
-use Rattle.std.proofs.Common.{option_map, map, refl}
+use Rattle.std.proofs.Common.{◌≡◌, [], option_map, map, refl, subst, sym, ap}
 use Rattle.graphql_spec.specs.Errors.{keys_only}
+use Rattle.graphql_spec.specs.Introspection.{rooted_service}
 use Rattle.graphql_spec.specs.Outcomes.{Request, IsOutcome, IsOutcomeOf, IsReadAsValid, responds}
 use Rattle.graphql_spec.specs.Requests.{choose}
+use Rattle.graphql_spec.specs.Rules.{rule_errors}
 use Rattle.graphql_spec.proofs.ValidRuns.{choice-in}
 use Rattle.juniper_syntax.specs.DocumentView.{view_document, view_operation}
 use Rattle.juniper_syntax.specs.InputView.{view_variables}
 use Rattle.juniper_syntax.specs.ValueView.{view_value}
 use Rattle.juniper_errors.specs.ErrorView.{view_listed}
+use Rattle.juniper_intro.specs.RootView.{schema_of}
 use Rattle.juniper_schema.specs.SchemaView.{view_schema}
-use Rattle.juniper.specs.Answering.{outcome_of}
+use Rattle.juniper.specs.Answering.{AreCoercible, AreRefused, IsInvalid, StandsFor, outcome_of}
 use Rattle.juniper.specs.RequestErrors.{view_request_error}
-use Rattle.juniper.specs.Services.{service_in, steps_at}
+use Rattle.juniper.specs.RootView.{service_of}
 use Rattle.juniper.proofs.Composing.{at-parse, at-validate, at-choose, at-coerce, at-execute, responds-so}
 use Rattle.juniper.proofs.request.execute_sync.Goals as goal
 
 pub returns-in-Err : goal.returns-in-Err
+unfolding rooted_service
 returns-in-Err g c =
     let shown = g.S.ScalarValue.shown in
     let root = c.args.root_node.now in
-    let s = view_schema shown root.schema in
-    let m = steps_at g.M.GraphQLMutationValue.step g.M.GraphQLMutationValue.torn root.mutation root.mutation_info in
-    let S = service_in g.Q.GraphQLValue.concrete g.Q.GraphQLValue.answer g.Q.GraphQLValue.root root.query root.query_info m s in
+    let S = service_of g.Q.GraphQLValue.concrete g.Q.GraphQLValue.answer g.Q.GraphQLValue.root g.M.GraphQLMutationValue.step g.M.GraphQLMutationValue.torn shown root in
     let q : Request = record { text = c.args.document_source.now; operation = option_map (λ n. n.now) c.args.operation_name; variables = view_variables shown c.args.variables.now } in
     at-parse S q c.args.context.now (view_request_error c.in-Err.error) c.in-Err.ensures
 
 pub returns-in-Err-check_document : goal.returns-in-Err-check_document
+unfolding rooted_service
 returns-in-Err-check_document g c =
     let shown = g.S.ScalarValue.shown in
     let root = c.args.root_node.now in
-    let s = view_schema shown root.schema in
-    let m = steps_at g.M.GraphQLMutationValue.step g.M.GraphQLMutationValue.torn root.mutation root.mutation_info in
-    let S = service_in g.Q.GraphQLValue.concrete g.Q.GraphQLValue.answer g.Q.GraphQLValue.root root.query root.query_info m s in
+    let s = view_schema shown (schema_of root) in
+    let S = service_of g.Q.GraphQLValue.concrete g.Q.GraphQLValue.answer g.Q.GraphQLValue.root g.M.GraphQLMutationValue.step g.M.GraphQLMutationValue.torn shown root in
+    let same = ap (view_schema shown) c.schema-schema.ensures in
+    let off = c.is_introspection_disabled.ensures in
     let q : Request = record { text = c.args.document_source.now; operation = option_map (λ n. n.now) c.args.operation_name; variables = view_variables shown c.args.variables.now } in
     let d = view_document shown c.in-Ok.document in
     let read = c.in-Ok.ensures in
-    at-validate S q c.args.context.now d read refl (view_request_error c.in-Err-check_document.error) c.in-Err-check_document.ensures
+    let e = view_request_error c.in-Err-check_document.error in
+    at-validate S q c.args.context.now d read e (subst (λ b. StandsFor (IsInvalid s b d) e) off
+    (subst (λ x. StandsFor (IsInvalid x c.is_introspection_disabled.result d) e) same c.in-Err-check_document.ensures))
 
 pub returns-in-Err-get_operation : goal.returns-in-Err-get_operation
+unfolding rooted_service
 returns-in-Err-get_operation g c =
     let shown = g.S.ScalarValue.shown in
     let root = c.args.root_node.now in
-    let s = view_schema shown root.schema in
-    let m = steps_at g.M.GraphQLMutationValue.step g.M.GraphQLMutationValue.torn root.mutation root.mutation_info in
-    let S = service_in g.Q.GraphQLValue.concrete g.Q.GraphQLValue.answer g.Q.GraphQLValue.root root.query root.query_info m s in
+    let s = view_schema shown (schema_of root) in
+    let S = service_of g.Q.GraphQLValue.concrete g.Q.GraphQLValue.answer g.Q.GraphQLValue.root g.M.GraphQLMutationValue.step g.M.GraphQLMutationValue.torn shown root in
+    let same = ap (view_schema shown) c.schema-schema.ensures in
+    let off = c.is_introspection_disabled.ensures in
     let q : Request = record { text = c.args.document_source.now; operation = option_map (λ n. n.now) c.args.operation_name; variables = view_variables shown c.args.variables.now } in
     let d = view_document shown c.in-Ok.document in
     let read = c.in-Ok.ensures in
-    let valid : IsReadAsValid S q d = (read, c.in-Ok-check_document.ensures) in
+    let valid : IsReadAsValid S q d = (read, subst (λ b. rule_errors s b d ≡ []) off (subst (λ x. rule_errors x c.is_introspection_disabled.result d ≡ []) same c.in-Ok-check_document.ensures)) in
     at-choose S q c.args.context.now d read valid (choose d q.operation) refl (view_request_error c.in-Err-get_operation.error) c.in-Err-get_operation.ensures
 
 pub returns-in-Err-check_variables : goal.returns-in-Err-check_variables
+unfolding rooted_service
 returns-in-Err-check_variables g c =
     let shown = g.S.ScalarValue.shown in
     let root = c.args.root_node.now in
-    let s = view_schema shown root.schema in
-    let m = steps_at g.M.GraphQLMutationValue.step g.M.GraphQLMutationValue.torn root.mutation root.mutation_info in
-    let S = service_in g.Q.GraphQLValue.concrete g.Q.GraphQLValue.answer g.Q.GraphQLValue.root root.query root.query_info m s in
+    let s = view_schema shown (schema_of root) in
+    let S = service_of g.Q.GraphQLValue.concrete g.Q.GraphQLValue.answer g.Q.GraphQLValue.root g.M.GraphQLMutationValue.step g.M.GraphQLMutationValue.torn shown root in
+    let same = ap (view_schema shown) c.schema-schema.ensures in
+    let off = c.is_introspection_disabled.ensures in
     let q : Request = record { text = c.args.document_source.now; operation = option_map (λ n. n.now) c.args.operation_name; variables = view_variables shown c.args.variables.now } in
     let d = view_document shown c.in-Ok.document in
     let read = c.in-Ok.ensures in
-    let valid : IsReadAsValid S q d = (read, c.in-Ok-check_document.ensures) in
+    let valid : IsReadAsValid S q d = (read, subst (λ b. rule_errors s b d ≡ []) off (subst (λ x. rule_errors x c.is_introspection_disabled.result d ≡ []) same c.in-Ok-check_document.ensures)) in
     let o = view_operation shown c.in-Ok-get_operation.operation.now in
     let choice = c.in-Ok-get_operation.ensures in
-    at-coerce S q c.args.context.now d read valid o choice (view_request_error c.in-Err-check_variables.error) c.in-Err-check_variables.ensures
+    let e = view_request_error c.in-Err-check_variables.error in
+    at-coerce S q c.args.context.now d read valid o choice e (subst (λ x. StandsFor (AreRefused x o q.variables) e) same c.in-Err-check_variables.ensures)
+
+pub execute_validated_query-requires-clause-valid : goal.execute_validated_query-requires-clause-valid
+execute_validated_query-requires-clause-valid g c =
+    let shown = g.S.ScalarValue.shown in
+    let d = view_document shown c.in-Ok.document in
+    subst (λ b. rule_errors (view_schema shown (schema_of c.args.root_node.now)) b d ≡ []) c.is_introspection_disabled.ensures
+    (subst (λ x. rule_errors x c.is_introspection_disabled.result d ≡ []) (ap (view_schema shown) c.schema-schema.ensures) c.in-Ok-check_document.ensures)
 
 pub execute_validated_query-requires-clause-member : goal.execute_validated_query-requires-clause-member
 execute_validated_query-requires-clause-member g c =
     let shown = g.S.ScalarValue.shown in
     choice-in (view_document shown c.in-Ok.document) (option_map (λ n. n.now) c.args.operation_name) (view_operation shown c.in-Ok-get_operation.operation.now) c.in-Ok-get_operation.ensures
 
+pub execute_validated_query-requires-clause-coercible : goal.execute_validated_query-requires-clause-coercible
+execute_validated_query-requires-clause-coercible g c =
+    let shown = g.S.ScalarValue.shown in
+    subst (λ x. AreCoercible x (view_operation shown c.in-Ok-get_operation.operation.now) (view_variables shown c.args.variables.now)) (ap (view_schema shown) c.schema-schema.ensures) c.in-Ok-check_variables.ensures
+
 pub returns-in-Err-execute_validated_query : goal.returns-in-Err-execute_validated_query
+unfolding rooted_service
 returns-in-Err-execute_validated_query g c =
     let shown = g.S.ScalarValue.shown in
     let root = c.args.root_node.now in
-    let s = view_schema shown root.schema in
-    let m = steps_at g.M.GraphQLMutationValue.step g.M.GraphQLMutationValue.torn root.mutation root.mutation_info in
-    let S = service_in g.Q.GraphQLValue.concrete g.Q.GraphQLValue.answer g.Q.GraphQLValue.root root.query root.query_info m s in
+    let s = view_schema shown (schema_of root) in
+    let S = service_of g.Q.GraphQLValue.concrete g.Q.GraphQLValue.answer g.Q.GraphQLValue.root g.M.GraphQLMutationValue.step g.M.GraphQLMutationValue.torn shown root in
+    let same = ap (view_schema shown) c.schema-schema.ensures in
+    let off = c.is_introspection_disabled.ensures in
     let q : Request = record { text = c.args.document_source.now; operation = option_map (λ n. n.now) c.args.operation_name; variables = view_variables shown c.args.variables.now } in
     let d = view_document shown c.in-Ok.document in
     let read = c.in-Ok.ensures in
-    let valid : IsReadAsValid S q d = (read, c.in-Ok-check_document.ensures) in
+    let valid : IsReadAsValid S q d = (read, subst (λ b. rule_errors s b d ≡ []) off (subst (λ x. rule_errors x c.is_introspection_disabled.result d ≡ []) same c.in-Ok-check_document.ensures)) in
     let o = view_operation shown c.in-Ok-get_operation.operation.now in
     let choice = c.in-Ok-get_operation.ensures in
+    let fits : AreCoercible s o q.variables = subst (λ x. AreCoercible x o q.variables) same c.in-Ok-check_variables.ensures in
     let after = c.execute_validated_query.new.context in
     responds-so (λ r. IsOutcomeOf S keys_only (outcome_of s d o q.variables) c.args.context.now r after) (λ r. IsOutcome S keys_only q c.args.context.now r after)
-    (λ r. at-execute S q c.args.context.now d read valid o choice c.in-Ok-check_variables.ensures r after) (view_request_error c.in-Err-execute_validated_query.error) c.in-Err-execute_validated_query.ensures
+    (λ r. at-execute S q c.args.context.now d read valid o choice fits r after) (view_request_error c.in-Err-execute_validated_query.error) c.in-Err-execute_validated_query.ensures
 
 pub returns : goal.returns
+unfolding rooted_service
 returns g c =
     let shown = g.S.ScalarValue.shown in
     let root = c.args.root_node.now in
-    let s = view_schema shown root.schema in
-    let m = steps_at g.M.GraphQLMutationValue.step g.M.GraphQLMutationValue.torn root.mutation root.mutation_info in
-    let S = service_in g.Q.GraphQLValue.concrete g.Q.GraphQLValue.answer g.Q.GraphQLValue.root root.query root.query_info m s in
+    let s = view_schema shown (schema_of root) in
+    let S = service_of g.Q.GraphQLValue.concrete g.Q.GraphQLValue.answer g.Q.GraphQLValue.root g.M.GraphQLMutationValue.step g.M.GraphQLMutationValue.torn shown root in
+    let same = ap (view_schema shown) c.schema-schema.ensures in
+    let off = c.is_introspection_disabled.ensures in
     let q : Request = record { text = c.args.document_source.now; operation = option_map (λ n. n.now) c.args.operation_name; variables = view_variables shown c.args.variables.now } in
     let d = view_document shown c.in-Ok.document in
     let read = c.in-Ok.ensures in
-    let valid : IsReadAsValid S q d = (read, c.in-Ok-check_document.ensures) in
+    let valid : IsReadAsValid S q d = (read, subst (λ b. rule_errors s b d ≡ []) off (subst (λ x. rule_errors x c.is_introspection_disabled.result d ≡ []) same c.in-Ok-check_document.ensures)) in
     let o = view_operation shown c.in-Ok-get_operation.operation.now in
     let choice = c.in-Ok-get_operation.ensures in
+    let fits : AreCoercible s o q.variables = subst (λ x. AreCoercible x o q.variables) same c.in-Ok-check_variables.ensures in
     let answered = c.in-Ok-execute_validated_query.answered in
-    at-execute S q c.args.context.now d read valid o choice c.in-Ok-check_variables.ensures (responds (view_value shown answered.0) (map (view_listed shown) answered.1.items))
+    at-execute S q c.args.context.now d read valid o choice fits (responds (view_value shown answered.0) (map (view_listed shown) answered.1.items))
     c.execute_validated_query.new.context c.in-Ok-execute_validated_query.ensures

@@ -3,7 +3,7 @@ use Rattle.std.proofs.lemmas.Result.{on_ok_weaker}
 use Rattle.std.proofs.lemmas.List.MinMax.{ranks_by}
 use Rattle.std.proofs.lemmas.List.Sorted.{answers_always}
 use Rattle.juniper_schema.specs.ListedTypes.{view_named}
-use Rattle.juniper_schema.specs.TypeList.{comes_before}
+use Rattle.graphql_spec.specs.TypeList.{comes_before}
 use Rattle.juniper_schema.proofs.Sorting.{names_total, seen_in_order}
 use Rattle.juniper_schema.proofs.lists.sort_types.Goals as goal
 

@@ -3,7 +3,7 @@ use Rattle.std.specs.List.{filter}
 use Rattle.juniper_meta.specs.MetaView.{entry_at, own_entry, view_meta}
 use Rattle.juniper_schema.specs.ListedTypes.{view_named}
 use Rattle.juniper_schema.specs.SchemaView.{view_schema}
-use Rattle.juniper_schema.specs.TypeList.{has_listed_name}
+use Rattle.graphql_spec.specs.TypeList.{has_listed_name}
 use Rattle.juniper_schema.proofs.schema.SchemaType.listed_types.Given as goal
 
 -- what is put in, and then what is left, are the entries

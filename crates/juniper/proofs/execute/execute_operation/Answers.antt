@@ -1,0 +1,75 @@
+use Rattle.std.proofs.Common.{option_map, refl, sym, ap, ◌∙◌}
+use Rattle.graphql_spec.specs.Requests as spec
+use Rattle.graphql_spec.specs.Shown.{Name}
+use Rattle.juniper_syntax.specs.DocumentView.{view_document, view_kind, view_operation}
+use Rattle.juniper_syntax.specs.InputView.{view_variables}
+use Rattle.juniper_schema.specs.SchemaView.{view_schema}
+use Rattle.juniper.specs.Services.{rooted_steps, service_in}
+use Rattle.juniper.proofs.Composing.{subscription-ends, mutation-answers, mutation-ends, mutation-left, query-ends}
+use Rattle.juniper.proofs.execute.execute_operation.Goals as goal
+
+pub returns-in-Subscription : goal.returns-in-Subscription
+returns-in-Subscription g c =
+    let shown = g.S.ScalarValue.shown in
+    let root = c.args.served.now in
+    let s = view_schema shown root.schema.now in
+    let m = rooted_steps g.M.GraphQLMutationValue.step g.M.GraphQLMutationValue.torn root.mutation.now root.mutation_info.now in
+    let S = service_in g.Q.GraphQLValue.concrete g.Q.GraphQLValue.answer g.Q.GraphQLValue.root root.query.now root.query_info.now m s root.is_introspection_disabled in
+    (spec.is_subscription, refl, subscription-ends S s (view_document shown c.args.document.now) (view_operation shown c.args.operation.now) (view_variables shown c.args.variables.now) c.args.context.now (ap view_kind c.in-Subscription.is))
+
+pub returns-in_default : goal.returns-in_default
+returns-in_default g c =
+    let shown = g.S.ScalarValue.shown in
+    let root = c.args.served.now in
+    let s = view_schema shown root.schema.now in
+    let m = rooted_steps g.M.GraphQLMutationValue.step g.M.GraphQLMutationValue.torn root.mutation.now root.mutation_info.now in
+    let S = service_in g.Q.GraphQLValue.concrete g.Q.GraphQLValue.answer g.Q.GraphQLValue.root root.query.now root.query_info.now m s root.is_introspection_disabled in
+    let d = view_document shown c.args.document.now in
+    let o = view_operation shown c.args.operation.now in
+    let given = view_variables shown c.args.variables.now in (
+      spec.no_mutation_type,
+      refl,
+      mutation-ends S s d o given c.args.context.now (ap view_kind c.in-Mutation.is)
+          (sym c.mutation_name.ensures ∙ ap (option_map (λ n. n.now)) c.in_default.is),
+    )
+
+pub returns-in-Err : goal.returns-in-Err
+returns-in-Err g c =
+    let shown = g.S.ScalarValue.shown in
+    let root = c.args.served.now in
+    let s = view_schema shown root.schema.now in
+    let m = rooted_steps g.M.GraphQLMutationValue.step g.M.GraphQLMutationValue.torn root.mutation.now root.mutation_info.now in
+    let S = service_in g.Q.GraphQLValue.concrete g.Q.GraphQLValue.answer g.Q.GraphQLValue.root root.query.now root.query_info.now m s root.is_introspection_disabled in
+    let d = view_document shown c.args.document.now in
+    let o = view_operation shown c.args.operation.now in
+    let given = view_variables shown c.args.variables.now in
+    let T = c.in-Some.concrete.now in
+    let is = sym c.mutation_name.ensures ∙ ap (option_map (λ n. n.now)) c.in-Some.is in
+    mutation-left S s d o given c.args.context.now (ap view_kind c.in-Mutation.is) T is m
+    (ap (option_map (λ (n : Name). m)) is, is) _ c.in_ok-values-in-Mutation.ensures
+    c.execute_mutation.new.context c.in-Err.ensures
+
+pub returns-in-Mutation : goal.returns-in-Mutation
+returns-in-Mutation g c =
+    let shown = g.S.ScalarValue.shown in
+    let root = c.args.served.now in
+    let s = view_schema shown root.schema.now in
+    let m = rooted_steps g.M.GraphQLMutationValue.step g.M.GraphQLMutationValue.torn root.mutation.now root.mutation_info.now in
+    let S = service_in g.Q.GraphQLValue.concrete g.Q.GraphQLValue.answer g.Q.GraphQLValue.root root.query.now root.query_info.now m s root.is_introspection_disabled in
+    let d = view_document shown c.args.document.now in
+    let o = view_operation shown c.args.operation.now in
+    let given = view_variables shown c.args.variables.now in
+    let T = c.in-Some.concrete.now in
+    let is = sym c.mutation_name.ensures ∙ ap (option_map (λ n. n.now)) c.in-Some.is in
+    mutation-answers S s d o given c.args.context.now (ap view_kind c.in-Mutation.is) T is m
+    (ap (option_map (λ (n : Name). m)) is, is) _ c.in_ok-values-in-Mutation.ensures
+    c.execute_mutation.new.context _ _ c.in-Ok.ensures
+
+pub returns : goal.returns
+returns g c =
+    let shown = g.S.ScalarValue.shown in
+    let root = c.args.served.now in
+    let s = view_schema shown root.schema.now in
+    let m = rooted_steps g.M.GraphQLMutationValue.step g.M.GraphQLMutationValue.torn root.mutation.now root.mutation_info.now in
+    let S = service_in g.Q.GraphQLValue.concrete g.Q.GraphQLValue.answer g.Q.GraphQLValue.root root.query.now root.query_info.now m s root.is_introspection_disabled in
+    query-ends S s (view_document shown c.args.document.now) (view_operation shown c.args.operation.now) (view_variables shown c.args.variables.now) c.args.context.now (ap view_kind c.in-Query.is) _ c.in_ok-values-in-Query.ensures _ _ c.in_ok-answered-in-Query.ensures

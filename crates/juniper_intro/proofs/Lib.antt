@@ -1,0 +1,10 @@
+pub mod Held
+pub mod HandleRows
+pub mod Naming
+pub mod Viewing
+pub mod Collected
+pub mod Rooting
+pub mod Given
+pub mod Looked
+pub mod RootSchemas
+pub mod RootReplies

@@ -1,0 +1,17 @@
+pub mod Handles
+pub mod HandleView
+pub mod Numbers
+pub mod Naming
+pub mod Collected
+pub mod References
+pub mod Shapes
+pub mod Introspectors
+pub mod Kinds
+pub mod TypeSites
+pub mod Rooting
+pub mod HeldReplies
+pub mod Roots
+pub mod Tops
+pub mod RootLaws
+pub mod RootView
+pub mod Wants

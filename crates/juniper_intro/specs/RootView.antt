@@ -1,0 +1,36 @@
+-- What a root holds (3.3).
+use Rattle.std.specs.Prelude.{Bool}
+use Rattle.std.specs.declared.cmp.PartialEq.{Ghosts as Equality}
+use Rattle.std.specs.declared.fmt.Debug.{Ghosts as Shows}
+use Rattle.juniper_intro.specs.Introspectors as introspectors
+use Rattle.juniper_intro.specs.declared.root.RootNode.{RootNode}
+use Rattle.juniper_registry.specs.declared.graphql_type.GraphQLReference.{Ghosts as References}
+use Rattle.juniper_registry.specs.declared.graphql_type.GraphQLType.{Ghosts as Types}
+use Rattle.juniper_schema.specs.declared.schema.SchemaType.{SchemaType}
+use Rattle.juniper_syntax.specs.declared.scalar.ScalarValue.{Ghosts as Scalars}
+use Rattle.juniper_types.specs.declared.resolver.GraphQLValue.{Ghosts as Values}
+
+module _ {Q M Sub S C N I J K : Type 0} {values : Values Q S C N I} {query : Types Q S I} {query_ref : References Q S I} {mutation : Types M S J}
+    {mutation_ref : References M S J} {subscription : Types Sub S K} {subscription_ref : References Sub S K}
+    {scalar : Scalars S} {equality : Equality S} {shows : Shows S} where
+  -- the schema
+  abbrev pub schema_of : RootNode Q M Sub S C N I J K values query query_ref mutation mutation_ref subscription subscription_ref scalar equality shows → SchemaType S scalar equality shows
+  schema_of r = introspectors.schema_of r.introspector
+
+  -- the query's resolver, and what it is told about its type
+  abbrev pub resolver_of : RootNode Q M Sub S C N I J K values query query_ref mutation mutation_ref subscription subscription_ref scalar equality shows → Q
+  resolver_of r = r.query
+
+  abbrev pub info_of : RootNode Q M Sub S C N I J K values query query_ref mutation mutation_ref subscription subscription_ref scalar equality shows → I
+  info_of r = r.query_info
+
+  -- the mutation's resolver, and what it is told about its type
+  abbrev pub mutation_of : RootNode Q M Sub S C N I J K values query query_ref mutation mutation_ref subscription subscription_ref scalar equality shows → M
+  mutation_of r = r.mutation
+
+  abbrev pub mutation_info_of : RootNode Q M Sub S C N I J K values query query_ref mutation mutation_ref subscription subscription_ref scalar equality shows → J
+  mutation_info_of r = r.mutation_info
+
+  -- whether introspection is disabled
+  abbrev pub is_disabled : RootNode Q M Sub S C N I J K values query query_ref mutation mutation_ref subscription subscription_ref scalar equality shows → Bool
+  is_disabled r = r.is_introspection_disabled

@@ -1,0 +1,149 @@
+//! Introspection of the demo's schema.
+
+use juniper::{DefaultScalarValue, GraphQLValue, IntrospectionFormat, introspect};
+use juniper_demo_server::{DemoContext, DemoRoot, demo_root, show};
+use std::alloc::{AllocError, Global};
+use std::test::Fail;
+
+/// How the answer for all begins, up to the types of introspection: what graphql-core 3.2.8 answers of the same schema, with types in
+/// byte order of their names, and without the descriptions that it gives to built-in scalars.
+const ALL: &str =
+    r#"{"data":{"__schema":{"description":null,"queryType":{"name":"Query"},"mutationType":{"name":"Mutation"},"subscriptionType":null,
+"types":[{"kind":"SCALAR","name":"Boolean","description":null,"specifiedByURL":null,"fields":null,"inputFields":null,"interfaces":null,
+"enumValues":null,"possibleTypes":null},{"kind":"OBJECT","name":"Cell","description":null,"specifiedByURL":null,"fields":[{"name":"a",
+"description":null,"args":[],"type":{"kind":"NON_NULL","name":null,"ofType":{"kind":"SCALAR","name":"Int","ofType":null}},
+"isDeprecated":false,"deprecationReason":null},{"name":"b","description":null,"args":[],"type":{"kind":"NON_NULL","name":null,
+"ofType":{"kind":"SCALAR","name":"Int","ofType":null}},"isDeprecated":false,"deprecationReason":null}],"inputFields":null,"interfaces":[],
+"enumValues":null,"possibleTypes":null},{"kind":"INTERFACE","name":"Character","description":null,"specifiedByURL":null,
+"fields":[{"name":"id","description":null,"args":[],"type":{"kind":"NON_NULL","name":null,"ofType":{"kind":"SCALAR","name":"ID",
+"ofType":null}},"isDeprecated":false,"deprecationReason":null},{"name":"name","description":null,"args":[],"type":{"kind":"NON_NULL",
+"name":null,"ofType":{"kind":"SCALAR","name":"String","ofType":null}},"isDeprecated":false,"deprecationReason":null},{"name":"appearsIn",
+"description":null,"args":[],"type":{"kind":"NON_NULL","name":null,"ofType":{"kind":"LIST","name":null,"ofType":{"kind":"NON_NULL",
+"name":null,"ofType":{"kind":"ENUM","name":"Episode","ofType":null}}}},"isDeprecated":false,"deprecationReason":null},{"name":"friends",
+"description":null,"args":[],"type":{"kind":"LIST","name":null,"ofType":{"kind":"INTERFACE","name":"Character","ofType":null}},
+"isDeprecated":false,"deprecationReason":null},{"name":"secret","description":null,"args":[],"type":{"kind":"NON_NULL","name":null,
+"ofType":{"kind":"SCALAR","name":"String","ofType":null}},"isDeprecated":false,"deprecationReason":null}],"inputFields":null,
+"interfaces":[],"enumValues":null,"possibleTypes":[{"kind":"OBJECT","name":"Droid","ofType":null},{"kind":"OBJECT","name":"Human",
+"ofType":null}]},{"kind":"OBJECT","name":"Droid","description":null,"specifiedByURL":null,"fields":[{"name":"id","description":null,
+"args":[],"type":{"kind":"NON_NULL","name":null,"ofType":{"kind":"SCALAR","name":"ID","ofType":null}},"isDeprecated":false,
+"deprecationReason":null},{"name":"name","description":null,"args":[],"type":{"kind":"NON_NULL","name":null,"ofType":{"kind":"SCALAR",
+"name":"String","ofType":null}},"isDeprecated":false,"deprecationReason":null},{"name":"appearsIn","description":null,"args":[],
+"type":{"kind":"NON_NULL","name":null,"ofType":{"kind":"LIST","name":null,"ofType":{"kind":"NON_NULL","name":null,"ofType":{"kind":"ENUM",
+"name":"Episode","ofType":null}}}},"isDeprecated":false,"deprecationReason":null},{"name":"friends","description":null,"args":[],
+"type":{"kind":"LIST","name":null,"ofType":{"kind":"INTERFACE","name":"Character","ofType":null}},"isDeprecated":false,
+"deprecationReason":null},{"name":"secret","description":null,"args":[],"type":{"kind":"NON_NULL","name":null,"ofType":{"kind":"SCALAR",
+"name":"String","ofType":null}},"isDeprecated":false,"deprecationReason":null},{"name":"primaryFunction","description":null,"args":[],
+"type":{"kind":"SCALAR","name":"String","ofType":null},"isDeprecated":false,"deprecationReason":null}],"inputFields":null,
+"interfaces":[{"kind":"INTERFACE","name":"Character","ofType":null}],"enumValues":null,"possibleTypes":null},{"kind":"ENUM",
+"name":"Episode","description":null,"specifiedByURL":null,"fields":null,"inputFields":null,"interfaces":null,
+"enumValues":[{"name":"NEWHOPE","description":null,"isDeprecated":false,"deprecationReason":null},{"name":"EMPIRE","description":null,
+"isDeprecated":false,"deprecationReason":null},{"name":"JEDI","description":null,"isDeprecated":false,"deprecationReason":null}],
+"possibleTypes":null},{"kind":"OBJECT","name":"Human","description":null,"specifiedByURL":null,"fields":[{"name":"id","description":null,
+"args":[],"type":{"kind":"NON_NULL","name":null,"ofType":{"kind":"SCALAR","name":"ID","ofType":null}},"isDeprecated":false,
+"deprecationReason":null},{"name":"name","description":null,"args":[],"type":{"kind":"NON_NULL","name":null,"ofType":{"kind":"SCALAR",
+"name":"String","ofType":null}},"isDeprecated":false,"deprecationReason":null},{"name":"appearsIn","description":null,"args":[],
+"type":{"kind":"NON_NULL","name":null,"ofType":{"kind":"LIST","name":null,"ofType":{"kind":"NON_NULL","name":null,"ofType":{"kind":"ENUM",
+"name":"Episode","ofType":null}}}},"isDeprecated":false,"deprecationReason":null},{"name":"friends","description":null,"args":[],
+"type":{"kind":"LIST","name":null,"ofType":{"kind":"INTERFACE","name":"Character","ofType":null}},"isDeprecated":false,
+"deprecationReason":null},{"name":"secret","description":null,"args":[],"type":{"kind":"NON_NULL","name":null,"ofType":{"kind":"SCALAR",
+"name":"String","ofType":null}},"isDeprecated":false,"deprecationReason":null},{"name":"height","description":null,"args":[],
+"type":{"kind":"SCALAR","name":"Int","ofType":null},"isDeprecated":false,"deprecationReason":null}],"inputFields":null,
+"interfaces":[{"kind":"INTERFACE","name":"Character","ofType":null}],"enumValues":null,"possibleTypes":null},{"kind":"SCALAR","name":"ID",
+"description":null,"specifiedByURL":null,"fields":null,"inputFields":null,"interfaces":null,"enumValues":null,"possibleTypes":null},
+{"kind":"SCALAR","name":"Int","description":null,"specifiedByURL":null,"fields":null,"inputFields":null,"interfaces":null,"enumValues":null,
+"possibleTypes":null},{"kind":"OBJECT","name":"Mutation","description":null,"specifiedByURL":null,"fields":[{"name":"add",
+"description":null,"args":[{"name":"n","description":null,"type":{"kind":"NON_NULL","name":null,"ofType":{"kind":"SCALAR","name":"Int",
+"ofType":null}},"defaultValue":null}],"type":{"kind":"NON_NULL","name":null,"ofType":{"kind":"OBJECT","name":"Tally","ofType":null}},
+"isDeprecated":false,"deprecationReason":null},{"name":"fail","description":null,"args":[],"type":{"kind":"NON_NULL","name":null,
+"ofType":{"kind":"SCALAR","name":"Int","ofType":null}},"isDeprecated":false,"deprecationReason":null}],"inputFields":null,"interfaces":[],
+"enumValues":null,"possibleTypes":null},{"kind":"OBJECT","name":"Query","description":null,"specifiedByURL":null,"fields":[{"name":"id",
+"description":null,"args":[],"type":{"kind":"NON_NULL","name":null,"ofType":{"kind":"SCALAR","name":"ID","ofType":null}},
+"isDeprecated":false,"deprecationReason":null},{"name":"name","description":null,"args":[],"type":{"kind":"NON_NULL","name":null,
+"ofType":{"kind":"SCALAR","name":"String","ofType":null}},"isDeprecated":false,"deprecationReason":null},{"name":"number",
+"description":null,"args":[{"name":"plus","description":null,"type":{"kind":"SCALAR","name":"Int","ofType":null},"defaultValue":"1"}],
+"type":{"kind":"SCALAR","name":"Int","ofType":null},"isDeprecated":false,"deprecationReason":null},{"name":"nothing","description":null,
+"args":[],"type":{"kind":"SCALAR","name":"String","ofType":null},"isDeprecated":false,"deprecationReason":null},{"name":"fail",
+"description":null,"args":[],"type":{"kind":"SCALAR","name":"Int","ofType":null},"isDeprecated":false,"deprecationReason":null},
+{"name":"odd","description":null,"args":[],"type":{"kind":"SCALAR","name":"Int","ofType":null},"isDeprecated":false,
+"deprecationReason":null},{"name":"hero","description":null,"args":[{"name":"episode","description":null,"type":{"kind":"ENUM",
+"name":"Episode","ofType":null},"defaultValue":null}],"type":{"kind":"INTERFACE","name":"Character","ofType":null},"isDeprecated":false,
+"deprecationReason":null},{"name":"mustHero","description":null,"args":[],"type":{"kind":"NON_NULL","name":null,
+"ofType":{"kind":"INTERFACE","name":"Character","ofType":null}},"isDeprecated":false,"deprecationReason":null},{"name":"ids",
+"description":null,"args":[],"type":{"kind":"LIST","name":null,"ofType":{"kind":"NON_NULL","name":null,"ofType":{"kind":"SCALAR",
+"name":"Int","ofType":null}}},"isDeprecated":false,"deprecationReason":null},{"name":"grid","description":null,"args":[],
+"type":{"kind":"LIST","name":null,"ofType":{"kind":"NON_NULL","name":null,"ofType":{"kind":"LIST","name":null,"ofType":{"kind":"NON_NULL",
+"name":null,"ofType":{"kind":"OBJECT","name":"Cell"}}}}},"isDeprecated":false,"deprecationReason":null},{"name":"holes","description":null,
+"args":[],"type":{"kind":"NON_NULL","name":null,"ofType":{"kind":"LIST","name":null,"ofType":{"kind":"NON_NULL","name":null,
+"ofType":{"kind":"LIST","name":null,"ofType":{"kind":"OBJECT","name":"Cell"}}}}},"isDeprecated":false,"deprecationReason":null}],
+"inputFields":null,"interfaces":[],"enumValues":null,"possibleTypes":null},{"kind":"SCALAR","name":"String","description":null,
+"specifiedByURL":null,"fields":null,"inputFields":null,"interfaces":null,"enumValues":null,"possibleTypes":null},{"kind":"OBJECT",
+"name":"Tally","description":null,"specifiedByURL":null,"fields":[{"name":"total","description":null,"args":[],"type":{"kind":"NON_NULL",
+"name":null,"ofType":{"kind":"SCALAR","name":"Int","ofType":null}},"isDeprecated":false,"deprecationReason":null},{"name":"count",
+"description":null,"args":[],"type":{"kind":"NON_NULL","name":null,"ofType":{"kind":"SCALAR","name":"Int","ofType":null}},
+"isDeprecated":false,"deprecationReason":null}],"inputFields":null,"interfaces":[],"enumValues":null,"possibleTypes":null},"#;
+
+/// How the answer without descriptions begins.
+const WITHOUT_DESCRIPTIONS: &str =
+    r#"{"data":{"__schema":{"queryType":{"name":"Query"},"mutationType":{"name":"Mutation"},"subscriptionType":null,"types":[{"kind":"SCALAR",
+"name":"Boolean","specifiedByURL":null,"fields":null,"inputFields":null,"interfaces":null,"enumValues":null,"possibleTypes":null},
+{"kind":"OBJECT","name":"Cell","specifiedByURL":null,"fields":[{"name":"a","args":[],"type":{"kind":"NON_NULL","name":null,
+"ofType":{"kind":"SCALAR","name":"Int","ofType":null}},"isDeprecated":false,"deprecationReason":null},{"name":"b","args":[],
+"type":{"kind":"NON_NULL","name":null,"ofType":{"kind":"SCALAR","name":"Int","ofType":null}},"isDeprecated":false,
+"deprecationReason":null}],"inputFields":null,"interfaces":[],"enumValues":null,"possibleTypes":null},{"kind":"INTERFACE",
+"name":"Character","specifiedByURL":null,"fields":[{"name":"id","args":[],"type":{"kind":"NON_NULL","name":null,"ofType":{"kind":"SCALAR",
+"name":"ID","ofType":null}},"isDeprecated":false,"deprecationReason":null},{"name":"name","args":[],"type":{"kind":"NON_NULL","name":null,
+"ofType":{"kind":"SCALAR","name":"String","ofType":null}},"isDeprecated":false,"deprecationReason":null},{"name":"appearsIn","args":[],
+"type":{"kind":"NON_NULL","name":null,"ofType":{"kind":"LIST","name":null,"ofType":{"kind":"NON_NULL","name":null,"ofType":{"kind":"ENUM",
+"name":"Episode","ofType":null}}}},"isDeprecated":false,"deprecationReason":null},{"name":"friends","args":[],"type":{"kind":"LIST",
+"name":null,"ofType":{"kind":"INTERFACE","name":"Character","ofType":null}},"isDeprecated":false,"deprecationReason":null},{"name":"secret",
+"args":[],"type":{"kind":"NON_NULL","name":null,"ofType":{"kind":"SCALAR","name":"String","ofType":null}},"isDeprecated":false,
+"deprecationReason":null}],"inputFields":null,"interfaces":[],"enumValues":null,"possibleTypes":[{"kind":"OBJECT","name":"Droid",
+"ofType":null},{"kind":"OBJECT","name":"Human","ofType":null}]},"#;
+
+/// A text without its line feeds.
+fn joined(alloc: Global, text: &str) -> Result<String, AllocError> {
+    let mut whole = String::new(alloc);
+    for line in text.lines() {
+        whole.push_str(line)?;
+    }
+    Ok(whole)
+}
+
+/// The demo's root.
+fn made_root(alloc: Global) -> Result<DemoRoot, AllocError> {
+    match demo_root(alloc) {
+        Ok(root) => Ok(root),
+        Err(_) => Err(AllocError),
+    }
+}
+
+/// What the demo tells of its schema.
+fn told(alloc: Global, format: IntrospectionFormat) -> Result<String, AllocError> {
+    let root = made_root(alloc)?;
+    let mut context = DemoContext::new();
+    let outcome = introspect(alloc, &root, &mut context, format);
+    Ok(show(alloc, &outcome)?.line)
+}
+
+#[test]
+fn demo_tells_of_itself(rt: HostRuntime) -> Result<(), Fail> {
+    let all = told(rt.alloc(), IntrospectionFormat::All)?;
+    assert!(rt; all.starts_with(joined(rt.alloc(), ALL)?.as_str()));
+    assert!(rt; !all.contains("\"errors\":"));
+    let short = told(rt.alloc(), IntrospectionFormat::WithoutDescriptions)?;
+    assert!(rt; short.starts_with(joined(rt.alloc(), WITHOUT_DESCRIPTIONS)?.as_str()));
+    assert!(rt; !short.contains("\"errors\":"));
+    assert!(rt; !short.contains("\"description\":"));
+    Ok(())
+}
+
+#[test]
+fn roots_show_their_parts(rt: HostRuntime) -> Result<(), Fail> {
+    let root = made_root(rt.alloc())?;
+    assert_eq!(rt; root.schema().query_name(), "Query");
+    assert_eq!(rt; root.schema().mutation_name(), Some("Mutation"));
+    let name = GraphQLValue::<DefaultScalarValue>::type_name(root.query(), root.query_info());
+    assert_eq!(rt; name, Some("Query"));
+    assert!(rt; !root.is_introspection_disabled());
+    Ok(())
+}
