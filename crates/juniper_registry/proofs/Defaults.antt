@@ -36,6 +36,7 @@ unfolding plain_input
 plain_with n t v = refl
 
 -- so is that of a plain argument that gets a default value
-pub exactly : (a b : InputDeclaration) (n : Name) (t : TypeRef) (v : Input) (m : Constant) → a ≡ with_default b v → b ≡ plain_input n t → meaning v ≡ m → IfSome (input_of m) (λ w. a ≡ input_with_default n t w)
+pub exactly : (a b : InputDeclaration) (n : Name) (t : TypeRef) (v : Input) (m : Constant) → a ≡ with_default b v → b ≡ plain_input n t
+    → meaning v ≡ m → IfSome (input_of m) (λ w. a ≡ input_with_default n t w)
 exactly a b n t v m e p q = subst (λ k. IfSome (input_of k) (λ w. a ≡ input_with_default n t w)) q
     (exact_at v a n t (e ∙ (ap (λ (x : InputDeclaration). with_default x v) p ∙ plain_with n t v)))

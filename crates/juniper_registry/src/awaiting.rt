@@ -42,7 +42,8 @@ impl<S: ScalarValue> Registry<S> {
         fields: &[Field<S>],
         interfaces: &[String],
     ) -> Result<(), AllocError>
-        ensures awaited { AwaitsEach result (fields_refer (map (view_field S.shown) fields.now) ++ view_names interfaces.now) (view_registry S.shown self.old) (view_registry S.shown self.new) }
+        ensures awaited { AwaitsEach result (fields_refer (map (view_field S.shown) fields.now) ++ view_names interfaces.now)
+            (view_registry S.shown self.old) (view_registry S.shown self.new) }
         ensures added { KeepsAdding (view_registry S.shown self.old) (view_registry S.shown self.new) }
     {
         self.await_fields(fields)?;
@@ -51,7 +52,8 @@ impl<S: ScalarValue> Registry<S> {
 
     /// The same for fields.
     fn await_fields(&mut self, fields: &[Field<S>]) -> Result<(), AllocError>
-        ensures awaited { AwaitsEach result (fields_refer (map (view_field S.shown) fields.now)) (view_registry S.shown self.old) (view_registry S.shown self.new) }
+        ensures awaited { AwaitsEach result (fields_refer (map (view_field S.shown) fields.now))
+            (view_registry S.shown self.old) (view_registry S.shown self.new) }
         ensures added { KeepsAdding (view_registry S.shown self.old) (view_registry S.shown self.new) }
     {
         for field in fields {
@@ -62,7 +64,9 @@ impl<S: ScalarValue> Registry<S> {
 
     /// The same for a field, and the arguments behind it.
     fn await_field(&mut self, field: &Field<S>) -> Result<(), AllocError>
-        ensures awaited { AwaitsEach result (innermost (view_field S.shown field.now).of_type ∷ inputs_refer (view_field S.shown field.now).arguments) (view_registry S.shown self.old) (view_registry S.shown self.new) }
+        ensures awaited { AwaitsEach result
+            (innermost (view_field S.shown field.now).of_type ∷ inputs_refer (view_field S.shown field.now).arguments)
+            (view_registry S.shown self.old) (view_registry S.shown self.new) }
         ensures added { KeepsAdding (view_registry S.shown self.old) (view_registry S.shown self.new) }
     {
         self.await_type(field.field_type.innermost_name())?;
@@ -71,7 +75,8 @@ impl<S: ScalarValue> Registry<S> {
 
     /// The same for arguments and input fields.
     fn await_inputs(&mut self, inputs: &[Argument<S>]) -> Result<(), AllocError>
-        ensures awaited { AwaitsEach result (inputs_refer (map (view_argument S.shown) inputs.now)) (view_registry S.shown self.old) (view_registry S.shown self.new) }
+        ensures awaited { AwaitsEach result (inputs_refer (map (view_argument S.shown) inputs.now))
+            (view_registry S.shown self.old) (view_registry S.shown self.new) }
         ensures added { KeepsAdding (view_registry S.shown self.old) (view_registry S.shown self.new) }
     {
         for input in inputs {

@@ -84,7 +84,8 @@ impl<S: ScalarValue> Registry<S> {
         own_fields: [Field<S>; F],
         interfaces: &[&str],
     ) -> Result<MetaType<S>, AllocError>
-        ensures { IfOk result (λ m. view_meta S.shown m ≡ object name.now (map (view_field S.shown) fields ++ map (view_field S.shown) own_fields) (map (λ n. n.now) interfaces.now)) }
+        ensures { IfOk result (λ m. view_meta S.shown m
+            ≡ object name.now (map (view_field S.shown) fields ++ map (view_field S.shown) own_fields) (map (λ n. n.now) interfaces.now)) }
     {
         let mut all = Vec::from_array(self.alloc, fields)?;
         all.append(&mut Vec::from_array(self.alloc, own_fields)?)?;

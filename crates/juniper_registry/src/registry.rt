@@ -201,7 +201,8 @@ impl<S: ScalarValue> Registry<S> {
         info: &T::TypeInfo,
     ) -> Result<Argument<S>, AllocError>
         ensures made { IfOk result (λ a. IsDefaulted (view_argument S.shown a) name.now (T.reference info.now) (T.input value.now)) }
-        ensures exact { IfSome (input_of (T.input value.now)) (λ v. IfOk result (λ a. view_argument S.shown a ≡ input_with_default name.now (T.reference info.now) v)) }
+        ensures exact { IfSome (input_of (T.input value.now))
+            (λ v. IfOk result (λ a. view_argument S.shown a ≡ input_with_default name.now (T.reference info.now) v)) }
         ensures awaited { Awaits result (innermost (T.reference info.now)) (view_registry S.shown self.old) (view_registry S.shown self.new) }
         ensures added { KeepsAdding (view_registry S.shown self.old) (view_registry S.shown self.new) }
     {

@@ -1,6 +1,8 @@
 //! Introspection of the demo's schema.
 
-use juniper::{DefaultScalarValue, GraphQLValue, IntrospectionFormat, introspect};
+use juniper::{
+    DefaultScalarValue, GraphQLValue, IntrospectionFormat, Variables, execute_sync, introspect,
+};
 use juniper_demo_server::{DemoContext, DemoRoot, demo_root, show};
 use std::alloc::{AllocError, Global};
 use std::test::Fail;
@@ -100,6 +102,113 @@ const WITHOUT_DESCRIPTIONS: &str =
 "deprecationReason":null}],"inputFields":null,"interfaces":[],"enumValues":null,"possibleTypes":[{"kind":"OBJECT","name":"Droid",
 "ofType":null},{"kind":"OBJECT","name":"Human","ofType":null}]},"#;
 
+/// The query that clients commonly send, which GraphiQL sends too.
+const CLIENTS: &str = r#"query IntrospectionQuery {
+  __schema {
+
+    queryType { name }
+    mutationType { name }
+    subscriptionType { name }
+    types {
+      ...FullType
+    }
+    directives {
+      name
+      description
+
+      locations
+      args {
+        ...InputValue
+      }
+    }
+  }
+}
+
+fragment FullType on __Type {
+  kind
+  name
+  description
+
+
+  fields(includeDeprecated: true) {
+    name
+    description
+    args {
+      ...InputValue
+    }
+    type {
+      ...TypeRef
+    }
+    isDeprecated
+    deprecationReason
+  }
+  inputFields {
+    ...InputValue
+  }
+  interfaces {
+    ...TypeRef
+  }
+  enumValues(includeDeprecated: true) {
+    name
+    description
+    isDeprecated
+    deprecationReason
+  }
+  possibleTypes {
+    ...TypeRef
+  }
+}
+
+fragment InputValue on __InputValue {
+  name
+  description
+  type { ...TypeRef }
+  defaultValue
+
+
+}
+
+fragment TypeRef on __Type {
+  kind
+  name
+  ofType {
+    kind
+    name
+    ofType {
+      kind
+      name
+      ofType {
+        kind
+        name
+        ofType {
+          kind
+          name
+          ofType {
+            kind
+            name
+            ofType {
+              kind
+              name
+              ofType {
+                kind
+                name
+                ofType {
+                  kind
+                  name
+                  ofType {
+                    kind
+                    name
+                  }
+                }
+              }
+            }
+          }
+        }
+      }
+    }
+  }
+}"#;
+
 /// A text without its line feeds.
 fn joined(alloc: Global, text: &str) -> Result<String, AllocError> {
     let mut whole = String::new(alloc);
@@ -134,6 +243,20 @@ fn demo_tells_of_itself(rt: HostRuntime) -> Result<(), Fail> {
     assert!(rt; short.starts_with(joined(rt.alloc(), WITHOUT_DESCRIPTIONS)?.as_str()));
     assert!(rt; !short.contains("\"errors\":"));
     assert!(rt; !short.contains("\"description\":"));
+    Ok(())
+}
+
+#[test]
+fn demo_answers_the_query_of_clients(rt: HostRuntime) -> Result<(), Fail> {
+    let root = made_root(rt.alloc())?;
+    let mut context = DemoContext::new();
+    let variables = Variables::new(rt.alloc());
+    let outcome = execute_sync(rt.alloc(), CLIENTS, None, &root, &variables, &mut context);
+    let line = show(rt.alloc(), &outcome)?.line;
+    let begins =
+        r#"{"data":{"__schema":{"queryType":{"name":"Query"},"mutationType":{"name":"Mutation"},"subscriptionType":null,"types":["#;
+    assert!(rt; line.starts_with(begins));
+    assert!(rt; !line.contains("\"errors\":"));
     Ok(())
 }
 
