@@ -19,12 +19,14 @@ plus = record { name = codes "plus"; description = None; of_type = may (codes "I
 -- `kept(it: Int! = 1, flag: Boolean): Int`
 unfoldable schema : Schema
 schema = record {
-  entries = entry_of (codes "String") (kinds false true false) ∷ entry_of (codes "Boolean") (kinds false false true) ∷ entry_of (codes "Int") (kinds true false false)
+  entries =
+      entry_of (codes "String") (kinds false true false) ∷ entry_of (codes "Boolean") (kinds false false true) ∷ entry_of (codes "Int") (kinds true false false)
       ∷ entry_of (codes "Query") (object_type (plain_field (codes "number") (plus ∷ []) (may (codes "Int"))
       ∷ plain_field (codes "need") (plain_input (codes "it") (must (codes "Int")) ∷ []) (may (codes "Int"))
       ∷ plain_field (codes "sum") (plain_input (codes "all") (list_of false None (must (codes "Int"))) ∷ []) (may (codes "Int"))
       ∷ plain_field (codes "pair") (plain_input (codes "two") (list_of false (Some 2) (must (codes "Int"))) ∷ []) (may (codes "Int"))
-      ∷ plain_field (codes "kept") (record { name = codes "it"; description = None; of_type = must (codes "Int"); default = Some (i.scalar (int (pos 1))) } ∷ plain_input (codes "flag") (may (codes "Boolean")) ∷ []) (may (codes "Int"))
+      ∷ plain_field (codes "kept") (record { name = codes "it"; description = None; of_type = must (codes "Int"); default = Some (i.scalar (int (pos 1))) }
+      ∷ plain_input (codes "flag") (may (codes "Boolean")) ∷ []) (may (codes "Int"))
       ∷ typename_last ∷ []) []) ∷ [];
   query = codes "Query";
   mutation = None;
@@ -52,7 +54,8 @@ abbrev bare : Text → Selections → Selections
 bare t rest = field (record { alias = None; name = word t 2; arguments = None; directives = []; has_set = false; span = span 2 3 }) end rest
 
 abbrev call_as : Text → Text → List Argument → Selections → Selections
-call_as a t as' rest = field (record { alias = Some (word a 2); name = word t 5; arguments = Some (here 2 as'); directives = []; has_set = false; span = span 2 3 }) end rest
+call_as a t as' rest =
+    field (record { alias = Some (word a 2); name = word t 5; arguments = Some (here 2 as'); directives = []; has_set = false; span = span 2 3 }) end rest
 
 abbrev bare_as : Text → Text → Selections → Selections
 bare_as a t rest = field (record { alias = Some (word a 2); name = word t 5; arguments = None; directives = []; has_set = false; span = span 2 3 }) end rest
@@ -74,7 +77,8 @@ IsRight s = found s ≡ []
 
 -- { number(plus: 1, plus: 1) }, { number(plus: 1, minus: 2, plus: true) }: the first phase alone speaks; { number(plus: 1) need(it: 1) }
 unique : Says (call (codes "number") (give (codes "plus") one ∷ give (codes "plus") one ∷ []) end) (codes "Argument name is not unique")
-    × Says (call (codes "number") (give (codes "plus") one ∷ give (codes "minus") two ∷ give (codes "plus") yes_value ∷ []) end) (codes "Argument name is not unique")
+    × Says (call (codes "number") (give (codes "plus") one ∷ give (codes "minus") two ∷ give (codes "plus") yes_value ∷ []) end)
+    (codes "Argument name is not unique")
     × IsRight (call (codes "number") (give (codes "plus") one ∷ []) (call (codes "need") (give (codes "it") one ∷ []) end))
 unfolding found
 unique = (refl, refl, refl)
@@ -95,7 +99,8 @@ fields_first : Says (call (codes "x") (give (codes "a") one ∷ []) end) (codes 
     × (found (call (codes "__type") (give (codes "a") one ∷ []) end)
     ≡ says (codes "Selection set does not fit the field") ∷ says (codes "Unknown argument") ∷ says (codes "Argument is missing") ∷ [])
     × Says (bare (codes "__schema") end) (codes "Selection set does not fit the field")
-    × (found (bare (codes "x") (call (codes "number") (give (codes "minus") one ∷ []) end)) ≡ says (codes "Unknown field") ∷ says (codes "Unknown argument") ∷ [])
+    × (found (bare (codes "x") (call (codes "number") (give (codes "minus") one ∷ []) end))
+    ≡ says (codes "Unknown field") ∷ says (codes "Unknown argument") ∷ [])
 unfolding found
 fields_first = (refl, refl, refl, refl)
 
@@ -132,11 +137,15 @@ list_values = (refl, refl, refl, refl)
 
 -- { a: number(plus: 1) a: number }, { a: number(plus: 1) a: number(plus: 1) }, { a: number(plus: 1) a: number(plus: 2) }, { a: number(plus: 1) b: number },
 -- { a: kept(it: 1, flag: true) a: kept(flag: true, it: 1) }, { a: number(plus: true) a: number }: the third phase does not run
-merging : Says (call_as (codes "a") (codes "number") (give (codes "plus") one ∷ []) (bare_as (codes "a") (codes "number") end)) (codes "Fields cannot be merged")
+merging : Says (call_as (codes "a") (codes "number") (give (codes "plus") one ∷ []) (bare_as (codes "a") (codes "number") end))
+    (codes "Fields cannot be merged")
     × IsRight (call_as (codes "a") (codes "number") (give (codes "plus") one ∷ []) (call_as (codes "a") (codes "number") (give (codes "plus") one ∷ []) end))
-    × Says (call_as (codes "a") (codes "number") (give (codes "plus") one ∷ []) (call_as (codes "a") (codes "number") (give (codes "plus") two ∷ []) end)) (codes "Fields cannot be merged")
+    × Says (call_as (codes "a") (codes "number") (give (codes "plus") one ∷ []) (call_as (codes "a") (codes "number") (give (codes "plus") two ∷ []) end))
+    (codes "Fields cannot be merged")
     × IsRight (call_as (codes "a") (codes "number") (give (codes "plus") one ∷ []) (bare_as (codes "b") (codes "number") end))
-    × IsRight (call_as (codes "a") (codes "kept") (give (codes "it") one ∷ give (codes "flag") yes_value ∷ []) (call_as (codes "a") (codes "kept") (give (codes "flag") yes_value ∷ give (codes "it") one ∷ []) end))
-    × Says (call_as (codes "a") (codes "number") (give (codes "plus") yes_value ∷ []) (bare_as (codes "a") (codes "number") end)) (codes "Argument does not fit its type")
+    × IsRight (call_as (codes "a") (codes "kept") (give (codes "it") one ∷ give (codes "flag") yes_value ∷ [])
+    (call_as (codes "a") (codes "kept") (give (codes "flag") yes_value ∷ give (codes "it") one ∷ []) end))
+    × Says (call_as (codes "a") (codes "number") (give (codes "plus") yes_value ∷ []) (bare_as (codes "a") (codes "number") end))
+    (codes "Argument does not fit its type")
 unfolding found
 merging = (refl, refl, refl, refl, refl, refl)

@@ -34,18 +34,22 @@ neither-part hs ks e = neither (list_any looks hs) (list_any looks ks) (sym (lis
 Blind : (Name → Option Contents) → Type 0
 Blind inside = (k : Name) (c : Contents) → inside k ≡ Some c → selects_only is_users_field c.selections ≡ true
 
-put-selects : (inside : Name → Option Contents) → Blind inside → (k : Name) (rest : _) → selects_only is_users_field rest ≡ true → selects_only is_users_field (put_under (inside k) rest) ≡ true
+put-selects : (inside : Name → Option Contents) → Blind inside → (k : Name) (rest : _) → selects_only is_users_field rest ≡ true →
+    selects_only is_users_field (put_under (inside k) rest) ≡ true
 unfolding put_under selects_only Blind
-put-selects inside b k rest e = elim (options (inside k)) [ inl q ↦ rw q e | inr (c, q) ↦ rw q (and_from (selects_only is_users_field c.selections) _ (b k c q) e) ]
+put-selects inside b k rest e =
+    elim (options (inside k)) [ inl q ↦ rw q e | inr (c, q) ↦ rw q (and_from (selects_only is_users_field c.selections) _ (b k c q) e) ]
 
-plain-selects : (test : Directive → Bool) (inside : Name → Option Contents) → Blind inside → (set : Selections) → list_any looks (heads set) ≡ false → selects_only is_users_field (plain test inside set) ≡ true
+plain-selects : (test : Directive → Bool) (inside : Name → Option Contents) → Blind inside → (set : Selections) → list_any looks (heads set) ≡ false →
+    selects_only is_users_field (plain test inside set) ≡ true
 unfolding plain heads selects_only is_users_field
 plain-selects test inside b end e = refl
 plain-selects test inside b (field h below rest) e =
     let a = neither (looks h) (list_any looks (heads below ++ heads rest)) e in
     let p = neither-part (heads below) (heads rest) a.1 in
     elim (cases_Bool (admits test h.directives)) [
-      | inl q ↦ rw (q, a.0) (and_from (selects_only is_users_field (plain test inside below)) _ (plain-selects test inside b below p.0) (plain-selects test inside b rest p.1))
+      | inl q ↦ rw (q, a.0) (and_from (selects_only is_users_field (plain test inside below)) _ (plain-selects test inside b below p.0)
+          (plain-selects test inside b rest p.1))
       | inr q ↦ rw q (plain-selects test inside b rest p.1)
     ]
 plain-selects test inside b (spread x rest) e = elim (cases_Bool (admits test x.directives)) [
@@ -55,7 +59,8 @@ plain-selects test inside b (spread x rest) e = elim (cases_Bool (admits test x.
 plain-selects test inside b (inline x below rest) e =
     let p = neither-part (heads below) (heads rest) e in
     elim (cases_Bool (admits test x.directives)) [
-      | inl q ↦ rw q (and_from (selects_only is_users_field (plain test inside below)) _ (plain-selects test inside b below p.0) (plain-selects test inside b rest p.1))
+      | inl q ↦ rw q (and_from (selects_only is_users_field (plain test inside below)) _ (plain-selects test inside b below p.0)
+          (plain-selects test inside b rest p.1))
       | inr q ↦ rw q (plain-selects test inside b rest p.1)
     ]
 
@@ -65,14 +70,18 @@ module _ (test : Directive → Bool) (d : Document) (none : (x : Fragment) → I
   contents-blind zero k c e = absurd (cc)
   contents-blind (suc n) k c e = elim (options (fragment_of (fragments d) k)) [
     | inl q ↦ absurd (nothing-found c (rw q at e))
-    | inr (x, q) ↦ subst (λ z. selects_only is_users_field z ≡ true) (found-selections x c (rw q at e)) (plain-selects test (contents test (fragments d) n) (contents-blind n) x.selections (none x (found-fragment d k x q).0))
+    | inr (x, q) ↦ subst (λ z. selects_only is_users_field z ≡ true) (found-selections x c (rw q at e))
+        (plain-selects test (contents test (fragments d) n) (contents-blind n) x.selections (none x (found-fragment d k x q).0))
   ]
     where
       nothing-found : (c : Contents) → None ≡ Some c → ⊥
       nothing-found c e = cc
 
-      found-selections : (x : Fragment) (c : Contents) → Some (record { condition = x.condition.item; selections = plain test (contents test (fragments d) n) x.selections }) ≡ Some c → plain test (contents test (fragments d) n) x.selections ≡ c.selections
-      found-selections x c e = let w : record { condition = x.condition.item; selections = plain test (contents test (fragments d) n) x.selections } ≡ c = cc in ap (λ z. z.selections) w
+      found-selections : (x : Fragment) (c : Contents) → Some (record
+          { condition = x.condition.item; selections = plain test (contents test (fragments d) n) x.selections }) ≡ Some c →
+          plain test (contents test (fragments d) n) x.selections ≡ c.selections
+      found-selections x c e = let w : record { condition = x.condition.item; selections = plain test (contents test (fragments d) n) x.selections } ≡ c = cc in
+          ap (λ z. z.selections) w
 
 pub disabled_looks_nowhere : DisabledLooksNowhere
 unfolding selected expand looks_at_schema can_look has_root selections_of
@@ -80,5 +89,6 @@ disabled_looks_nowhere s n given read d o vars r =
     let v = runs_are_valid s true n given read d o vars r in
     let hold = looks-hold s true d (phases-hold s true d v.1).uses in
     let own : (has_root s o && list_any looks (heads o.selections)) ≡ false = hold (operation o) v.2 in
-    plain-selects (passes vars) (contents (passes vars) (fragments d) (length (fragments d))) (contents-blind (passes vars) d (λ x i. hold (fragment x) i) (length (fragments d))) o.selections
+    plain-selects (passes vars) (contents (passes vars) (fragments d) (length (fragments d)))
+    (contents-blind (passes vars) d (λ x i. hold (fragment x) i) (length (fragments d))) o.selections
     (subst (λ z. (is_some z && list_any looks (heads o.selections)) ≡ false) v.3.1 own)

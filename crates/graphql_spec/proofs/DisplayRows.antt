@@ -32,23 +32,28 @@ unfolding display shown_text_of quoted written_byte hex_digit digits
 displayed = (refl, refl, refl, refl, refl)
 
 -- names: `true`, `false` and `null` are no enum values, but keys
-named : (is_named some_object ≡ true) × (is_named (enumerated (codes "true")) ≡ false) × (is_named (enumerated (codes "false")) ≡ false) × (is_named (enumerated (codes "null")) ≡ false)
+named : (is_named some_object ≡ true) × (is_named (enumerated (codes "true")) ≡ false) × (is_named (enumerated (codes "false")) ≡ false)
+    × (is_named (enumerated (codes "null")) ≡ false)
     × (is_named (enumerated (codes "nulls")) ≡ true) × (is_named (enumerated []) ≡ false) × (is_named (only (enumerated (codes "1a")) (span 0 1)) ≡ false)
     × (is_named (field_of (codes "null") null (span 0 1)) ≡ true)
-    × (is_named (field_of (codes "a b") null (span 0 1)) ≡ false) × (is_named (field_of (codes "a") (enumerated (codes "-")) (span 0 1)) ≡ false) × (is_named (variable (codes "$")) ≡ false)
+    × (is_named (field_of (codes "a b") null (span 0 1)) ≡ false) × (is_named (field_of (codes "a") (enumerated (codes "-")) (span 0 1)) ≡ false)
+    × (is_named (variable (codes "$")) ≡ false)
 unfolding is_named is_enum_name is_name starts_name continues_name
 named = (refl, refl, refl, refl, refl, refl, refl, refl, refl, refl, refl)
 
 -- brackets: an object with a list inside has two open
-nested : (nests 2 some_object ≡ true) × (nests 1 some_object ≡ false) × (nests most_brackets some_object ≡ true) × (nests 0 null ≡ true) × (nests 0 (list no_items) ≡ false)
+nested : (nests 2 some_object ≡ true) × (nests 1 some_object ≡ false) × (nests most_brackets some_object ≡ true) × (nests 0 null ≡ true)
+    × (nests 0 (list no_items) ≡ false)
     × (nests 0 (object no_fields) ≡ false)
     × (nests 1 (list (item (list no_items) (span 0 1) no_items)) ≡ false)
 unfolding nests
 nested = (refl, refl, refl, refl, refl, refl, refl)
 
 -- Ints of 32 bits, wherever they stand
-fit : (ints_fit some_object ≡ true) × (ints_fit (only (scalar (int (pos 2147483647))) (span 0 1)) ≡ true) × (ints_fit (only (scalar (int (pos 2147483648))) (span 0 1)) ≡ false)
-    × (ints_fit (field_of (codes "k") (scalar (int (negsuc 2147483647))) (span 0 1)) ≡ true) × (ints_fit (field_of (codes "k") (scalar (int (negsuc 2147483648))) (span 0 1)) ≡ false)
+fit : (ints_fit some_object ≡ true) × (ints_fit (only (scalar (int (pos 2147483647))) (span 0 1)) ≡ true)
+    × (ints_fit (only (scalar (int (pos 2147483648))) (span 0 1)) ≡ false)
+    × (ints_fit (field_of (codes "k") (scalar (int (negsuc 2147483647))) (span 0 1)) ≡ true)
+    × (ints_fit (field_of (codes "k") (scalar (int (negsuc 2147483648))) (span 0 1)) ≡ false)
     × (ints_fit (list (item null (span 0 1) (item (scalar (int (pos 2147483648))) (span 0 1) no_items))) ≡ false)
 unfolding ints_fit fits_int
 fit = (refl, refl, refl, refl, refl, refl)
@@ -111,20 +116,44 @@ abbrev standing : ℕ → List Token → At
 standing n ts = record { last = at n; ahead = ts }
 
 text_from5 : IsText (record { position = at 8; after_return = false }) from5 (codes "]}")
-unfolding starts_name continues_name is_name ends_before is_mark mark_text is_nil is_blank is_line_end is_source_byte ignore_byte is_ignored next_line continues_character past_byte walk
+unfolding starts_name continues_name is_name ends_before is_mark mark_text is_nil is_blank is_line_end is_source_byte ignore_byte is_ignored next_line
+    continues_character past_byte walk
 text_from5 = ([], codes "]", codes "}", refl, refl, (refl, refl), refl, refl, ([], codes "}", [], refl, refl, (refl, refl), refl, refl, refl))
 
 text_from4 : IsText (record { position = at 5; after_return = false }) from4 (codes "RED]}")
-unfolding starts_name continues_name is_name ends_before is_mark mark_text is_nil is_blank is_line_end is_source_byte ignore_byte is_ignored next_line continues_character past_byte walk
+unfolding starts_name continues_name is_name ends_before is_mark mark_text is_nil is_blank is_line_end is_source_byte ignore_byte is_ignored next_line
+    continues_character past_byte walk
 text_from4 = ([], codes "RED", codes "]}", refl, refl, (refl, refl, refl), refl, refl, text_from5)
 
 text_from2 : IsText (record { position = at 2; after_return = false }) from2 (codes ": [RED]}")
-unfolding starts_name continues_name is_name ends_before is_mark mark_text is_nil is_blank is_line_end is_source_byte ignore_byte is_ignored next_line continues_character past_byte walk
-text_from2 = ([], codes ":", codes " [RED]}", refl, refl, (refl, refl), refl, refl, (codes " ", codes "[", codes "RED]}", refl, refl, (refl, refl), refl, refl, text_from4))
+unfolding starts_name continues_name is_name ends_before is_mark mark_text is_nil is_blank is_line_end is_source_byte ignore_byte is_ignored next_line
+    continues_character past_byte walk
+text_from2 = (
+  [],
+  codes ":",
+  codes " [RED]}",
+  refl,
+  refl,
+  (refl, refl),
+  refl,
+  refl,
+  (codes " ", codes "[", codes "RED]}", refl, refl, (refl, refl), refl, refl, text_from4),
+)
 
 is_text : IsText beginning from0 (codes "{k: [RED]}")
-unfolding starts_name continues_name is_name ends_before is_mark mark_text is_nil is_blank is_line_end is_source_byte ignore_byte is_ignored next_line continues_character past_byte walk
-is_text = ([], codes "{", codes "k: [RED]}", refl, refl, (refl, refl), refl, refl, ([], codes "k", codes ": [RED]}", refl, refl, (refl, refl, refl), refl, refl, text_from2))
+unfolding starts_name continues_name is_name ends_before is_mark mark_text is_nil is_blank is_line_end is_source_byte ignore_byte is_ignored next_line
+    continues_character past_byte walk
+is_text = (
+  [],
+  codes "{",
+  codes "k: [RED]}",
+  refl,
+  refl,
+  (refl, refl),
+  refl,
+  refl,
+  ([], codes "k", codes ": [RED]}", refl, refl, (refl, refl, refl), refl, refl, text_from2),
+)
 
 abbrev inner : Input
 inner = list (item (enumerated (codes "RED")) (span 5 8) no_items)
@@ -149,7 +178,16 @@ is_outer = (
   standing 1 from1,
   standing 9 from6,
   (span 0 1, record { token = refl; last = refl }),
-  (standing 2 from2, standing 3 from3, standing 9 from6, record { token = refl; last = refl }, (span 2 3, record { token = refl; last = refl }), is_inner, refl, refl),
+  (
+    standing 2 from2,
+    standing 3 from3,
+    standing 9 from6,
+    record { token = refl; last = refl },
+    (span 2 3, record { token = refl; last = refl }),
+    is_inner,
+    refl,
+    refl,
+  ),
   (span 9 10, record { token = refl; last = refl }),
 )
 

@@ -44,7 +44,8 @@ both_before front back rest at ts is = subst (λ bytes. IsText at ts bytes) (sym
 abbrev token_at : Spot → Lexeme → List ℕ → Token
 token_at at l word = record { lexeme = l; span = record { start = at.position; end = (walk at word).position } }
 
-word_before : (at : Spot) (l : Lexeme) (word rest : List ℕ) (more : List Token) → IsToken l word rest → IsText (walk at word) more rest → IsText at (token_at at l word ∷ more) (word ++ rest)
+word_before : (at : Spot) (l : Lexeme) (word rest : List ℕ) (more : List Token) → IsToken l word rest → IsText (walk at word) more rest →
+    IsText at (token_at at l word ∷ more) (word ++ rest)
 unfolding walk is_ignored
 word_before at l word rest more is next = ([], word, rest, refl, refl, is, refl, refl, next)
 
@@ -73,14 +74,17 @@ abbrev IsDerivedAs : ℕ → Input → List Token → List Token → Type 0
 IsDerivedAs n v ts more = (last : Position) → (u : Input) × (to : Position) × (unplaced u ≡ unplaced v) × IsValue true u n (standing last ts) (standing to more)
 
 abbrev AreItemsOf : ℕ → InputItems → List Token → List Token → Type 0
-AreItemsOf n is ts more = (last : Position) → (us : InputItems) × (to : Position) × (unplaced_items us ≡ unplaced_items is) × AreItems true us n (standing last ts) (standing to more)
+AreItemsOf n is ts more =
+    (last : Position) → (us : InputItems) × (to : Position) × (unplaced_items us ≡ unplaced_items is) × AreItems true us n (standing last ts) (standing to more)
 
 abbrev AreFieldsOf : ℕ → InputFields → List Token → List Token → Type 0
-AreFieldsOf n fs ts more = (last : Position) → (us : InputFields) × (to : Position) × (unplaced_fields us ≡ unplaced_fields fs) × AreFields true us n (standing last ts) (standing to more)
+AreFieldsOf n fs ts more = (last : Position) → (us : InputFields) × (to : Position) × (unplaced_fields us ≡ unplaced_fields fs)
+    × AreFields true us n (standing last ts) (standing to more)
 
 -- before each rest of a text that ends a value, a text is tokens of which this holds
 abbrev Reads : (List Token → List Token → Type 0) → List ℕ → Type 0
-Reads R bytes = (at : Spot) (rest : List ℕ) (more : List Token) → Stops rest → IsText (walk at bytes) more rest → (ts : List Token) × IsText at ts (bytes ++ rest) × R ts more
+Reads R bytes = (at : Spot) (rest : List ℕ) (more : List Token) → Stops rest → IsText (walk at bytes) more rest →
+    (ts : List Token) × IsText at ts (bytes ++ rest) × R ts more
 
 -- one token
 one_token : (n : ℕ) (v : Input) (l : Lexeme) (word : List ℕ) → ((rest : List ℕ) → Stops rest → IsToken l word rest)
@@ -97,7 +101,8 @@ one_token n v l word is derived at rest more stops next = (
 word_token : (w rest : List ℕ) → is_name w ≡ true → Stops rest → IsToken (token.name w) w rest
 word_token w rest named stops = (refl, named, stops.name)
 
-keyword : (n : ℕ) (v : Input) (w : Text) → is_name w ≡ true → ((s t : At) (place : Span) → Takes (token.name w) place s t → IsValue true v n s t) → Reads (IsDerivedAs n v) w
+keyword : (n : ℕ) (v : Input) (w : Text) → is_name w ≡ true → ((s t : At) (place : Span) → Takes (token.name w) place s t → IsValue true v n s t) →
+    Reads (IsDerivedAs n v) w
 keyword n v w named derived = one_token n v (token.name w) w (λ rest stops. word_token w rest named stops) derived
 
 null_reads : (n : ℕ) → Reads (IsDerivedAs n null) null_word
@@ -201,19 +206,25 @@ item_reads n v place is first others at rest more stops next =
       both_before (display v) (more_items is) rest at value.0 value.1,
       λ last.
           let u = value.2 last in
-          let us = later.2 u.1 in
-          (item u.0 (span_of (standing last value.0) (standing u.1 later.0)) us.0, us.1, λ i. item (u.2 i) nowhere (us.2 i), (standing u.1 later.0, u.3, refl, us.3)),
+          let us = later.2 u.1 in (
+            item u.0 (span_of (standing last value.0) (standing u.1 later.0)) us.0,
+            us.1,
+            λ i. item (u.2 i) nowhere (us.2 i),
+            (standing u.1 later.0, u.3, refl, us.3),
+          ),
     )
 
 -- a field and those behind it
-field_reads : (n : ℕ) (k : Name) (k_at : Span) (v : Input) (v_at : Span) (fs : InputFields) → is_name k ≡ true → Reads (IsDerivedAs n v) (display v) → Reads (AreFieldsOf n fs) (more_fields fs)
+field_reads : (n : ℕ) (k : Name) (k_at : Span) (v : Input) (v_at : Span) (fs : InputFields) → is_name k ≡ true → Reads (IsDerivedAs n v) (display v) →
+    Reads (AreFieldsOf n fs) (more_fields fs)
     → Reads (AreFieldsOf n (input_field k k_at v v_at fs)) (k ++ (58 ∷ 32 ∷ (display v ++ more_fields fs)))
 unfolding unplaced walk ends_before continues_name starts_name is_mark mark_text is_blank
 field_reads n k k_at v v_at fs named first others at rest more stops next =
     let colon : Spot = walk at k in
     let here : Spot = past_byte (past_byte colon 58) 32 in
     let both : List ℕ = display v ++ more_fields fs in
-    let later = others (walk here (display v)) rest more stops (behind_both (display v) (more_fields fs) here more rest (behind_both k (58 ∷ 32 ∷ both) at more rest next)) in
+    let later = others (walk here (display v)) rest more stops (behind_both (display v) (more_fields fs) here more rest
+    (behind_both k (58 ∷ 32 ∷ both) at more rest next)) in
     let value = first here (more_fields fs ++ rest) later.0 (stops_fields fs rest stops) later.1 in
     let from_value : IsText here value.0 (both ++ rest) = both_before (display v) (more_fields fs) rest here value.0 value.1 in
     let behind_name : List Token = token_at colon (token.mark 58) (58 ∷ []) ∷ value.0 in
@@ -249,20 +260,24 @@ mark_at m place = record { lexeme = token.mark m; span = place }
 -- what stands in brackets, and the brackets
 bracketed : (opens closes : ℕ) (R S : List Token → List Token → Type 0) (body : List ℕ) → ((rest : List ℕ) → IsToken (token.mark opens) (opens ∷ []) rest)
     → ((rest : List ℕ) → IsToken (token.mark closes) (closes ∷ []) rest) → ((rest : List ℕ) → Stops (closes ∷ rest))
-    → ((ts more : List Token) (o c : Span) → R ts (mark_at closes c ∷ more) → S (mark_at opens o ∷ ts) more) → Reads R body → Reads S (opens ∷ (body ++ closes ∷ []))
+    → ((ts more : List Token) (o c : Span) → R ts (mark_at closes c ∷ more) → S (mark_at opens o ∷ ts) more) → Reads R body →
+    Reads S (opens ∷ (body ++ closes ∷ []))
 unfolding walk
 bracketed opens closes R S body is_open is_close stop whole inside at rest more stops next =
     let begin : Spot = past_byte at opens in
-    let ending = word_before (walk begin body) (token.mark closes) (closes ∷ []) rest more (is_close rest) (behind_both body (closes ∷ []) begin more rest next) in
+    let ending = word_before (walk begin body) (token.mark closes) (closes ∷ []) rest more (is_close rest)
+    (behind_both body (closes ∷ []) begin more rest next) in
     let r = inside begin (closes ∷ rest) (token_at (walk begin body) (token.mark closes) (closes ∷ []) ∷ more) (stop rest) ending in (
       token_at at (token.mark opens) (opens ∷ []) ∷ r.0,
-      word_before at (token.mark opens) (opens ∷ []) ((body ++ closes ∷ []) ++ rest) r.0 (is_open ((body ++ closes ∷ []) ++ rest)) (both_before body (closes ∷ []) rest begin r.0 r.1),
+      word_before at (token.mark opens) (opens ∷ []) ((body ++ closes ∷ []) ++ rest) r.0 (is_open ((body ++ closes ∷ []) ++ rest))
+          (both_before body (closes ∷ []) rest begin r.0 r.1),
       whole r.0 more _ _ r.2,
     )
 
 list_reads : (n : ℕ) (is : InputItems) → Reads (AreItemsOf n is) (display_items is) → Reads (IsDerivedAs (suc n) (list is)) (91 ∷ (display_items is ++ 93 ∷ []))
 unfolding unplaced is_mark mark_text
-list_reads n is inside = bracketed 91 93 (AreItemsOf n is) (IsDerivedAs (suc n) (list is)) (display_items is) (λ rest. (refl, refl)) (λ rest. (refl, refl)) stops_bracket
+list_reads n is inside =
+    bracketed 91 93 (AreItemsOf n is) (IsDerivedAs (suc n) (list is)) (display_items is) (λ rest. (refl, refl)) (λ rest. (refl, refl)) stops_bracket
     (λ ts more o c derived last. let r = derived o.end in (
       list r.0,
       c.end,
@@ -276,9 +291,11 @@ list_reads n is inside = bracketed 91 93 (AreItemsOf n is) (IsDerivedAs (suc n) 
       ),
     )) inside
 
-object_reads : (n : ℕ) (fs : InputFields) → Reads (AreFieldsOf n fs) (display_fields fs) → Reads (IsDerivedAs (suc n) (object fs)) (123 ∷ (display_fields fs ++ 125 ∷ []))
+object_reads : (n : ℕ) (fs : InputFields) → Reads (AreFieldsOf n fs) (display_fields fs) →
+    Reads (IsDerivedAs (suc n) (object fs)) (123 ∷ (display_fields fs ++ 125 ∷ []))
 unfolding unplaced is_mark mark_text
-object_reads n fs inside = bracketed 123 125 (AreFieldsOf n fs) (IsDerivedAs (suc n) (object fs)) (display_fields fs) (λ rest. (refl, refl)) (λ rest. (refl, refl)) stops_brace
+object_reads n fs inside =
+    bracketed 123 125 (AreFieldsOf n fs) (IsDerivedAs (suc n) (object fs)) (display_fields fs) (λ rest. (refl, refl)) (λ rest. (refl, refl)) stops_brace
     (λ ts more o c derived last. let r = derived o.end in (
       object r.0,
       c.end,
@@ -313,7 +330,8 @@ item_parts n v place is (const, named, fits, deep) =
     let d = and_parts (nests n v) (items_nest n is) deep in
     ((c.0, m.0, f.0, d.0), (c.1, m.1, f.1, d.1))
 
-field_parts : (n : ℕ) (k : Name) (k_at : Span) (v : Input) (v_at : Span) (fs : InputFields) → AreFitFields n (input_field k k_at v v_at fs) → (is_name k ≡ true) × IsFit n v × AreFitFields n fs
+field_parts : (n : ℕ) (k : Name) (k_at : Span) (v : Input) (v_at : Span) (fs : InputFields) → AreFitFields n (input_field k k_at v v_at fs) →
+    (is_name k ≡ true) × IsFit n v × AreFitFields n fs
 unfolding is_const is_named ints_fit nests
 field_parts n k k_at v v_at fs (const, named, fits, deep) =
     let c = and_parts (is_const v) (fields_are_const fs) const in

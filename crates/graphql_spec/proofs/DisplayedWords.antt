@@ -75,12 +75,15 @@ unfolding add_digit
 last_digit d n m is small = rw (is, not_surrogate m small, one_byte m small) refl
 
 -- one of the first three hex digits
-digit_read : (rest : Text) (x d k n : ℕ) → (k == 3) ≡ false → hex_value x ≡ Some d → decode_from (hex_digits k n) (x ∷ rest) ≡ decode_from (hex_digits (k + 1) (n * 16 + d)) rest
+digit_read : (rest : Text) (x d k n : ℕ) → (k == 3) ≡ false → hex_value x ≡ Some d →
+    decode_from (hex_digits k n) (x ∷ rest) ≡ decode_from (hex_digits (k + 1) (n * 16 + d)) rest
 digit_read rest x d k n few e =
     let more : add_digit k n d ≡ Some (hex_digits (k + 1) (n * 16 + d), []) = few_digits k n d few in
-    step rest (hex_digits k n) x (hex_digits (k + 1) (n * 16 + d), []) (digit_step x d k n e ∙ more) ∙ before_nothing (decode_from (hex_digits (k + 1) (n * 16 + d)) rest)
+    step rest (hex_digits k n) x (hex_digits (k + 1) (n * 16 + d), []) (digit_step x d k n e ∙ more)
+    ∙ before_nothing (decode_from (hex_digits (k + 1) (n * 16 + d)) rest)
 
-last_digit_read : (rest : Text) (x d n m : ℕ) → hex_value x ≡ Some d → n * 16 + d ≡ m → m < 32 → decode_from (hex_digits 3 n) (x ∷ rest) ≡ before (m ∷ []) (decode_from characters rest)
+last_digit_read : (rest : Text) (x d n m : ℕ) → hex_value x ≡ Some d → n * 16 + d ≡ m → m < 32 →
+    decode_from (hex_digits 3 n) (x ∷ rest) ≡ before (m ∷ []) (decode_from characters rest)
 last_digit_read rest x d n m e is small = step rest (hex_digits 3 n) x (characters, m ∷ []) (digit_step x d 3 n e ∙ last_digit d n m is small)
 
 zero_digit : hex_value 48 ≡ Some 0
@@ -91,7 +94,8 @@ escape_read : (rest : Text) → decode_from characters (92 ∷ 117 ∷ rest) ≡
 unfolding decode_from read_byte
 escape_read rest = before_nothing (before [] (decode_from (hex_digits 0 0) rest)) ∙ before_nothing (decode_from (hex_digits 0 0) rest)
 
-hex_read : (rest : Text) (x y d f n : ℕ) → hex_value x ≡ Some d → hex_value y ≡ Some f → (0 * 16 + d) * 16 + f ≡ n → n < 32 → IsReadAs rest n (92 ∷ 117 ∷ 48 ∷ 48 ∷ x ∷ y ∷ [])
+hex_read : (rest : Text) (x y d f n : ℕ) → hex_value x ≡ Some d → hex_value y ≡ Some f → (0 * 16 + d) * 16 + f ≡ n → n < 32 →
+    IsReadAs rest n (92 ∷ 117 ∷ 48 ∷ 48 ∷ x ∷ y ∷ [])
 hex_read rest x y d f n ex ey is small =
     escape_read (48 ∷ 48 ∷ x ∷ y ∷ rest) ∙ (digit_read (48 ∷ x ∷ y ∷ rest) 48 0 0 0 refl zero_digit ∙ (digit_read (x ∷ y ∷ rest) 48 0 1 0 refl zero_digit
     ∙ (digit_read (y ∷ rest) x d 2 0 refl ex ∙ last_digit_read rest y f (0 * 16 + d) n ey is small)))
@@ -100,7 +104,8 @@ control_read : (rest : Text) (b : ℕ) → nat_lt b 32 ≡ true → IsReadAs res
 control_read rest b low =
     let whole : b / 16 * 16 + b % 16 ≡ b = div-add-mod' b 16 in
     let small : b < 32 = grind (arith, nat_tests) in
-    hex_read rest (hex_digit (b / 16)) (hex_digit (b % 16)) (b / 16) (b % 16) b (hex_is (b / 16) (omega (arith, whole))) (hex_is (b % 16) (omega arith)) (omega (arith, whole)) small
+    hex_read rest (hex_digit (b / 16)) (hex_digit (b % 16)) (b / 16) (b % 16) b (hex_is (b / 16) (omega (arith, whole))) (hex_is (b % 16) (omega arith))
+    (omega (arith, whole)) small
 
 above : (b : ℕ) → nat_lt b 32 ≡ false → is_source_byte b ≡ true
 unfolding is_source_byte

@@ -69,12 +69,15 @@ module _ (fs : List Fragment) where
   whole set = expand (λ y. true) fs set
 
   pub whole-field : (h : Head) (below rest : Selections) → whole (Selections.field h below rest) ≡ field h (whole below) (whole rest)
-  whole-field h below rest = expand-field (λ y. true) fs h below rest ∙ ap (λ z. cond z (field h (whole below) (whole rest)) (whole rest)) (admits-all h.directives)
+  whole-field h below rest =
+      expand-field (λ y. true) fs h below rest ∙ ap (λ z. cond z (field h (whole below) (whole rest)) (whole rest)) (admits-all h.directives)
 
   pub whole-inline : (x : Inline) (below rest : Selections) → whole (Selections.inline x below rest) ≡ under (asked x.condition) (whole below) (whole rest)
-  whole-inline x below rest = expand-inline (λ y. true) fs x below rest ∙ ap (λ z. cond z (under (asked x.condition) (whole below) (whole rest)) (whole rest)) (admits-all x.directives)
+  whole-inline x below rest =
+      expand-inline (λ y. true) fs x below rest ∙ ap (λ z. cond z (under (asked x.condition) (whole below) (whole rest)) (whole rest)) (admits-all x.directives)
 
-  pub whole-spread : HasNoCycle fs → (x : Spread) (rest : Selections) → whole (Selections.spread x rest) ≡ put_under (filled (expand (λ y. true) fs) (fragment_of fs x.name.item)) (whole rest)
+  pub whole-spread : HasNoCycle fs → (x : Spread) (rest : Selections) →
+      whole (Selections.spread x rest) ≡ put_under (filled (expand (λ y. true) fs) (fragment_of fs x.name.item)) (whole rest)
   whole-spread c x rest = expand-spread (λ y. true) fs c x rest
       ∙ ap (λ z. cond z (put_under (filled (expand (λ y. true) fs) (fragment_of fs x.name.item)) (whole rest)) (whole rest)) (admits-all x.directives)
 
@@ -90,13 +93,15 @@ module _ (s : Schema) (fs : List Fragment) (c : HasNoCycle fs) where
   abbrev RightTo : ℕ → Type 0
   RightTo n = (k : Name) (f : Fragment) → fragment_of fs k ≡ Some f → deep fs n k ≡ false → AreRight s f.condition.item (whole fs f.selections)
 
-  put-right : (p : Name) (o : Option Fragment) (rest : Forest) → ((f : Fragment) → o ≡ Some f → AreRight s f.condition.item (whole fs f.selections)) → AreRight s p rest →
+  put-right : (p : Name) (o : Option Fragment) (rest : Forest) → ((f : Fragment) → o ≡ Some f → AreRight s f.condition.item (whole fs f.selections)) →
+      AreRight s p rest →
       AreRight s p (put_under (filled (expand (λ y. true) fs) o) rest)
   unfolding put_under filled condition_or
   put-right p None rest r t = t
   put-right p (Some f) rest r t = (r f refl, t)
 
-  set-right : (n : ℕ) → RightTo n → (p : Name) (set : Selections) → AreWell s fs p set → ((k : Name) → In k (spreads set) → deep fs n k ≡ false) → AreRight s p (whole fs set)
+  set-right : (n : ℕ) → RightTo n → (p : Name) (set : Selections) → AreWell s fs p set → ((k : Name) → In k (spreads set) → deep fs n k ≡ false) →
+      AreRight s p (whole fs set)
   unfolding spreads set_merges
   set-right n r p Selections.end w a = subst (AreRight s p) (sym (expand-end (λ y. true) fs)) tt
   set-right n r p (Selections.field h below rest) w a =
@@ -105,7 +110,8 @@ module _ (s : Schema) (fs : List Fragment) (c : HasNoCycle fs) where
       subst (AreRight s p) (sym (whole-field fs h below rest)) (record { declared = w.0.declared; once = w.0.once; merges = w.0.merges }, (first, second))
   set-right n r p (Selections.spread x rest) w a =
       let second = set-right n r p rest w (λ k i. a k (inr i)) in
-      subst (AreRight s p) (sym (whole-spread fs c x rest)) (put-right p (fragment_of fs x.name.item) (whole fs rest) (λ f e. r x.name.item f e (a x.name.item (inl refl))) second)
+      subst (AreRight s p) (sym (whole-spread fs c x rest)) (put-right p (fragment_of fs x.name.item) (whole fs rest)
+      (λ f e. r x.name.item f e (a x.name.item (inl refl))) second)
   set-right n r p (Selections.inline x below rest) w a =
       let first = set-right n r (name_or x.condition p) below w.1.0 (λ k i. a k (in_first k (spreads below) (spreads rest) i)) in
       let second = set-right n r p rest w.1.1 (λ k i. a k (in_second k (spreads below) (spreads rest) i)) in
@@ -114,7 +120,8 @@ module _ (s : Schema) (fs : List Fragment) (c : HasNoCycle fs) where
   right_to : FragmentsAreWell s fs → (n : ℕ) → RightTo n
   unfolding deep deep_in
   right_to w zero k f e a = absurd (both_ways (is_some (fragment_of fs k)) a (ap is_some e))
-  right_to w (suc n) k f e a = set-right n (right_to w n) f.condition.item f.selections (w k f e) (λ j i. any-at (deep fs n) (spreads f.selections) j (ap (deep_in (deep fs n)) (sym e) ∙ a) i)
+  right_to w (suc n) k f e a = set-right n (right_to w n) f.condition.item f.selections (w k f e)
+      (λ j i. any-at (deep fs n) (spreads f.selections) j (ap (deep_in (deep fs n)) (sym e) ∙ a) i)
 
   -- selections that are well are right, with every fragment put in
   pub whole_right : FragmentsAreWell s fs → (p : Name) (set : Selections) → AreWell s fs p set → AreRight s p (whole fs set)

@@ -27,10 +27,12 @@ not-reported true text x e = absurd (not-empty _ [] e)
 not-reported false text x e = refl
 
 -- what the earlier rules report, and a rule that reports nothing
-last : (violated : Bool) (text : Text) (x : Definition) (earlier : List RuleError) → earlier ++ reported violated text x ≡ [] → (earlier ≡ []) × (violated ≡ false)
+last : (violated : Bool) (text : Text) (x : Definition) (earlier : List RuleError) → earlier ++ reported violated text x ≡ [] →
+    (earlier ≡ []) × (violated ≡ false)
 last violated text x earlier e = let p = both-empty earlier (reported violated text x) e in (p.0, not-reported violated text x p.1)
 
-at_each-in : (f : List Definition → Definition → List RuleError) (earlier ds : List Definition) → at_each f earlier ds ≡ [] → (x : Definition) → In x ds → (before : List Definition) × (f before x ≡ [])
+at_each-in : (f : List Definition → Definition → List RuleError) (earlier ds : List Definition) → at_each f earlier ds ≡ [] → (x : Definition) → In x ds →
+    (before : List Definition) × (f before x ≡ [])
 unfolding at_each
 at_each-in f earlier [] e x i = absurd i
 at_each-in f earlier (z ∷ ds) e x (inl q) = (earlier, ap (f earlier) q ∙ (both-empty (f earlier z) (at_each f (earlier ++ z ∷ []) ds) e).0)

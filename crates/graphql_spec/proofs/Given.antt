@@ -17,7 +17,8 @@ use Rattle.graphql_spec.proofs.Members.{order, same_text, one_text, find-insert,
 apart_from : (k l : Name) → bytes_eq k l ≡ false → k ≡ l → ⊥
 apart_from k l e p = both_ways (bytes_eq k l) e (subst (λ z. bytes_eq k z ≡ true) p (same_refl k))
 
-find-past_at : (o : Ordering) (q k : Name) (v : Constant) (ms : Members) → order q k ≡ o → (q ≡ k → ⊥) → match_ordering o (find q ms) (Some v) (find q ms) ≡ find q ms
+find-past_at : (o : Ordering) (q k : Name) (v : Constant) (ms : Members) → order q k ≡ o → (q ≡ k → ⊥) →
+    match_ordering o (find q ms) (Some v) (find q ms) ≡ find q ms
 find-past_at Less q k v ms h apart = refl
 find-past_at Equal q k v ms h apart = absurd (apart (one_text q k h))
 find-past_at Greater q k v ms h apart = refl
@@ -26,7 +27,8 @@ find-past : (q k : Name) (v : Constant) (ms : Members) → (q ≡ k → ⊥) →
 unfolding find
 find-past q k v ms apart = find-past_at _ q k v ms refl apart
 
-find-same_at : (o : Ordering) (q l : Name) (w : Constant) (ms ns : Members) → find q ms ≡ find q ns → match_ordering o (find q ms) (Some w) (find q ms) ≡ match_ordering o (find q ns) (Some w) (find q ns)
+find-same_at : (o : Ordering) (q l : Name) (w : Constant) (ms ns : Members) → find q ms ≡ find q ns →
+    match_ordering o (find q ms) (Some w) (find q ms) ≡ match_ordering o (find q ns) (Some w) (find q ns)
 find-same_at Less q l w ms ns e = e
 find-same_at Equal q l w ms ns e = refl
 find-same_at Greater q l w ms ns e = e
@@ -57,7 +59,8 @@ find-put q k v ms = elim (cases_Bool (bytes_eq q k)) [
 ]
 
 again_at : (o : Ordering) (k l : Name) (v w x : Constant) (ms : Members) → order k l ≡ o → insert k w (insert k v ms) ≡ insert k w ms
-    → insert k w (match_ordering o (member k v (member l x ms)) (member l v ms) (member l x (insert k v ms))) ≡ match_ordering o (member k w (member l x ms)) (member l w ms) (member l x (insert k w ms))
+    → insert k w (match_ordering o (member k v (member l x ms)) (member l v ms) (member l x (insert k v ms)))
+    ≡ match_ordering o (member k w (member l x ms)) (member l w ms) (member l x (insert k w ms))
 unfolding insert
 again_at Less k l v w x ms h e = rw (same_text k) refl
 again_at Equal k l v w x ms h e = rw h refl
@@ -115,7 +118,8 @@ put_first k None = refl
 put_first k (Some v) = refl
 
 -- one more value
-pub put_all-more : (ps : List (Name × Option Constant)) (k : Name) (o : Option Constant) → put_all (ps ++ (k, o) ∷ []) ≡ cond (is_some (find k (put_all ps))) (put_all ps) (put_some k o (put_all ps))
+pub put_all-more : (ps : List (Name × Option Constant)) (k : Name) (o : Option Constant) →
+    put_all (ps ++ (k, o) ∷ []) ≡ cond (is_some (find k (put_all ps))) (put_all ps) (put_some k o (put_all ps))
 unfolding put_all
 put_all-more [] k o = put_first k o
 put_all-more (p ∷ ps) k o = ap (put_some p.0 p.1) (put_all-more ps k o) ∙ past_some p.0 p.1 k o (put_all ps)
@@ -133,18 +137,22 @@ put_given-some k (Some v) ms = refl
 given-all : (vars : Variables) (as' : List Argument) → given vars as' ≡ put_all (map (as_given vars) as')
 unfolding given put_all as_given
 given-all vars [] = refl
-given-all vars (a ∷ rest) = put_given-some a.name.item (const vars a.value.item) (given vars rest) ∙ ap (put_some a.name.item (option_map meaning (const vars a.value.item))) (given-all vars rest)
+given-all vars (a ∷ rest) = put_given-some a.name.item (const vars a.value.item) (given vars rest)
+    ∙ ap (put_some a.name.item (option_map meaning (const vars a.value.item))) (given-all vars rest)
 
 -- one more written argument
 pub given-more : (vars : Variables) (as' : List Argument) (a : Argument) →
-    given vars (as' ++ a ∷ []) ≡ cond (is_some (find a.name.item (given vars as'))) (given vars as') (put_given a.name.item (const vars a.value.item) (given vars as'))
+    given vars (as' ++ a ∷ []) ≡ cond (is_some (find a.name.item (given vars as'))) (given vars as')
+    (put_given a.name.item (const vars a.value.item) (given vars as'))
 unfolding as_given
 given-more vars as' a =
-    given-all vars (as' ++ a ∷ []) ∙ (ap put_all (map-append (as_given vars) as' (a ∷ [])) ∙ (put_all-more (map (as_given vars) as') a.name.item (option_map meaning (const vars a.value.item))
+    given-all vars (as' ++ a ∷ []) ∙ (ap put_all (map-append (as_given vars) as' (a ∷ []))
+    ∙ (put_all-more (map (as_given vars) as') a.name.item (option_map meaning (const vars a.value.item))
     ∙ rw (← given-all vars as', ← put_given-some a.name.item (const vars a.value.item) (given vars as')) refl))
 
 -- one more declared default
-pub defaults-more : (ds : List InputDeclaration) (d : InputDeclaration) (ms : Members) → with_defaults (ds ++ d ∷ []) ms ≡ put_default d.name d.default (with_defaults ds ms)
+pub defaults-more : (ds : List InputDeclaration) (d : InputDeclaration) (ms : Members) →
+    with_defaults (ds ++ d ∷ []) ms ≡ put_default d.name d.default (with_defaults ds ms)
 unfolding with_defaults
 defaults-more [] d ms = refl
 defaults-more (e ∷ ds) d ms = defaults-more ds d (put_default e.name e.default ms)

@@ -70,13 +70,15 @@ module _ (s : Schema) where
   Match (g ∷ gs) [] = ⊥
   Match (g ∷ gs) (a ∷ as') = (g.name ≡ a.0) × Fits g.of_type a.1 × Match gs as'
 
-  match-fits : (gs : List FieldDeclaration) (as' : List (Name × Tree Introspected)) → Match gs as' → (f : Name) (g : FieldDeclaration) → field_in gs f ≡ Some g → Fits g.of_type (answer_at f as')
+  match-fits : (gs : List FieldDeclaration) (as' : List (Name × Tree Introspected)) → Match gs as' → (f : Name) (g : FieldDeclaration) →
+      field_in gs f ≡ Some g → Fits g.of_type (answer_at f as')
   unfolding field_in answer_at
   match-fits [] [] m f g e = absurd (cc)
   match-fits [] (a ∷ as') m f g e = absurd m
   match-fits (h ∷ gs) [] m f g e = absurd m
   match-fits (h ∷ gs) (a ∷ as') m f g e = elim (cases_Bool (bytes_eq f h.name)) [
-    | inl q ↦ let z = rw q at e in let w : h ≡ g = cc in let p : bytes_eq f a.0 ≡ true = subst (λ k. bytes_eq f k ≡ true) m.0 q in rw p (subst (λ k. Fits k.of_type a.1) w m.1)
+    | inl q ↦ let z = rw q at e in let w : h ≡ g = cc in let p : bytes_eq f a.0 ≡ true = subst (λ k. bytes_eq f k ≡ true) m.0 q in
+        rw p (subst (λ k. Fits k.of_type a.1) w m.1)
     | inr q ↦ let p : bytes_eq f a.0 ≡ false = subst (λ k. bytes_eq f k ≡ false) m.0 q in rw p (match-fits gs as' m.2 f g (rw q at e))
   ]
 
@@ -89,10 +91,12 @@ module _ (s : Schema) where
     -- the object types of introspection are possible at themselves
     introspection-object : (T : Name) → is_reserved T ≡ true → is_object (shape_of (entry_in introspection_types T)) ≡ true → is_possible s T T ≡ true
     unfolding is_possible
-    introspection-object T r o = and_from (is_object (type_named s T)) _ (subst (λ z. is_object z ≡ true) (sym (reserved-type s x T r)) o) (rw (same_refl T) refl)
+    introspection-object T r o =
+        and_from (is_object (type_named s T)) _ (subst (λ z. is_object z ≡ true) (sym (reserved-type s x T r)) o) (rw (same_refl T) refl)
 
     own-type : (y : Introspected) → is_possible s (introspection_type y) (introspection_type y) ≡ true
-    unfolding introspection_type is_reserved is_object shape_of entry_in introspection_types schema_type type_type field_type input_value_type enum_value_type directive_type type_kind_type location_type object_entry enum_entry
+    unfolding introspection_type is_reserved is_object shape_of entry_in introspection_types schema_type type_type field_type input_value_type enum_value_type
+        directive_type type_kind_type location_type object_entry enum_entry
     own-type schema_node = introspection-object (codes "__Schema") refl refl
     own-type (type_node t) = introspection-object (codes "__Type") refl refl
     own-type (field_node f) = introspection-object (codes "__Field") refl refl
@@ -139,7 +143,8 @@ module _ (s : Schema) where
     fit-flag r b = booleans-fit s x b
 
     -- a list of what fits, and a list or null
-    fit-all : {A : Type 0} (r : Bool) (n : Name) (f : A → Tree Introspected) (xs : List A) → ((y : A) → In y xs → Fits (named true n) (f y)) → Fits (list_of r None (named true n)) (all_of f xs)
+    fit-all : {A : Type 0} (r : Bool) (n : Name) (f : A → Tree Introspected) (xs : List A) → ((y : A) → In y xs → Fits (named true n) (f y)) →
+        Fits (list_of r None (named true n)) (all_of f xs)
     unfolding all_of Fits
     fit-all r n f xs g = fit-each f (named true n) xs g
 
@@ -147,10 +152,12 @@ module _ (s : Schema) where
 
     pub types-known : (e : Entry) → In e (type_list s) → knows s e.key ≡ true
     unfolding type_list
-    types-known e i = elim (in_append e s.entries introspection_types (in-filter has_listed_name (s.entries ++ introspection_types) e (in-order comes_before (filter has_listed_name (s.entries ++ introspection_types)) e i))) [
-      | inl j ↦ in-entries s x e j
-      | inr j ↦ in-introspection s x e j
-    ]
+    types-known e i = elim (in_append e s.entries introspection_types
+        (in-filter has_listed_name (s.entries ++ introspection_types) e
+        (in-order comes_before (filter has_listed_name (s.entries ++ introspection_types)) e i))) [
+          | inl j ↦ in-entries s x e j
+          | inr j ↦ in-introspection s x e j
+        ]
 
     fit-mutation : (o : Option Name) → s.mutation ≡ o → Fits (named false (codes "__Type")) (if_any type_called o)
     unfolding if_any Fits
@@ -158,14 +165,16 @@ module _ (s : Schema) where
     fit-mutation (Some m) e = fit-called false m (mutation-known s x m e)
 
     directives-known : (d : DirectiveDeclaration) → In d directives → is_node_of s (directive_node d) ≡ true
-    unfolding directives condition_arguments selection_places plain_input is_node_of is_location knows_input innermost maybe must leaf_accepts enum_accepts declares_value location_type enum_entry value_named
+    unfolding directives condition_arguments selection_places plain_input is_node_of is_location knows_input innermost maybe must leaf_accepts enum_accepts
+        declares_value location_type enum_entry value_named
     directives-known d (inl e) = rw (e, string-known s x) refl
     directives-known d (inr (inl e)) = rw (e, boolean-known s x) refl
     directives-known d (inr (inr (inl e))) = rw (e, boolean-known s x) refl
     directives-known d (inr (inr (inr (inl e)))) = rw (e, string-known s x) refl
     directives-known d (inr (inr (inr (inr i)))) = absurd i
 
-    fit-directive : (r : Bool) (d : DirectiveDeclaration) → is_node_of s (directive_node d) ≡ true → Fits (named r (codes "__Directive")) (node (directive_node d))
+    fit-directive : (r : Bool) (d : DirectiveDeclaration) → is_node_of s (directive_node d) ≡ true →
+        Fits (named r (codes "__Directive")) (node (directive_node d))
     unfolding introspection_type
     fit-directive r d e = fit-node r (directive_node d) e
 
@@ -186,7 +195,12 @@ module _ (s : Schema) where
             (
               refl,
               refl,
-              (refl, fit-all true (codes "__Directive") (λ (d : DirectiveDeclaration). node (directive_node d)) directives (λ d i. fit-directive true d (directives-known d i)), tt),
+              (
+                refl,
+                fit-all true (codes "__Directive") (λ (d : DirectiveDeclaration). node (directive_node d)) directives
+                    (λ d i. fit-directive true d (directives-known d i)),
+                tt,
+              ),
             ),
           ),
         ),
@@ -196,7 +210,8 @@ module _ (s : Schema) where
     -- ## `__Type`
 
     kinds-fit : (k : Text) → leaf_accepts (Some type_kind_type.shape) (text k) ≡ true → accepts s (codes "__TypeKind") (text k) ≡ true
-    unfolding accepts is_reserved shape_of entry_in introspection_types schema_type type_type field_type input_value_type enum_value_type directive_type type_kind_type object_entry enum_entry
+    unfolding accepts is_reserved shape_of entry_in introspection_types schema_type type_type field_type input_value_type enum_value_type directive_type
+        type_kind_type object_entry enum_entry
     kinds-fit k e = rw (reserved-type s x (codes "__TypeKind") refl) e
 
     fit-declared_kind : (o : Option Shape) → is_some (declared_kind o) ≡ true → Fits (named true (codes "__TypeKind")) (if_any says (declared_kind o))
@@ -227,12 +242,15 @@ module _ (s : Schema) where
     fit-inside (list_of false size t) e = fit-type false t e
 
     -- the lists of what is declared
-    fit-fields : (b : Bool) (o : Option Shape) → list_all (knows_field s) (fields_of o) ≡ true → Fits (list_of false None (named true (codes "__Field"))) (if_any (all_of (λ (f : FieldDeclaration). node (field_node f))) (listed_fields b o))
+    fit-fields : (b : Bool) (o : Option Shape) → list_all (knows_field s) (fields_of o) ≡ true →
+        Fits (list_of false None (named true (codes "__Field"))) (if_any (all_of (λ (f : FieldDeclaration). node (field_node f))) (listed_fields b o))
     unfolding fields_of own_fields listed_fields if_any Fits
     fit-fields b (Some (scalar_type k u)) e = refl
     fit-fields b (Some (enum_type vs)) e = refl
-    fit-fields b (Some (object_type fs is)) e = fit-all false (codes "__Field") (λ (f : FieldDeclaration). node (field_node f)) (filter (lists_field b) fs) (λ f i. fit-field true f (all-in (knows_field s) fs f e (in-filter (lists_field b) fs f i)))
-    fit-fields b (Some (interface_type fs is)) e = fit-all false (codes "__Field") (λ (f : FieldDeclaration). node (field_node f)) (filter (lists_field b) fs) (λ f i. fit-field true f (all-in (knows_field s) fs f e (in-filter (lists_field b) fs f i)))
+    fit-fields b (Some (object_type fs is)) e = fit-all false (codes "__Field") (λ (f : FieldDeclaration). node (field_node f)) (filter (lists_field b) fs)
+        (λ f i. fit-field true f (all-in (knows_field s) fs f e (in-filter (lists_field b) fs f i)))
+    fit-fields b (Some (interface_type fs is)) e = fit-all false (codes "__Field") (λ (f : FieldDeclaration). node (field_node f)) (filter (lists_field b) fs)
+        (λ f i. fit-field true f (all-in (knows_field s) fs f e (in-filter (lists_field b) fs f i)))
     fit-fields b (Some (union_type ms)) e = refl
     fit-fields b (Some (input_object_type ds)) e = refl
     fit-fields b (Some (list_type n t)) e = refl
@@ -243,7 +261,8 @@ module _ (s : Schema) where
     fit-names : (ns : List Name) → list_all (knows s) ns ≡ true → Fits (list_of false None (named true (codes "__Type"))) (all_of type_called ns)
     fit-names ns e = fit-all false (codes "__Type") type_called ns (λ n i. fit-called true n (all-in (knows s) ns n e i))
 
-    fit-interfaces : (o : Option Shape) → list_all (knows s) (interfaces_of o) ≡ true → Fits (list_of false None (named true (codes "__Type"))) (if_any (all_of type_called) (listed_interfaces o))
+    fit-interfaces : (o : Option Shape) → list_all (knows s) (interfaces_of o) ≡ true →
+        Fits (list_of false None (named true (codes "__Type"))) (if_any (all_of type_called) (listed_interfaces o))
     unfolding interfaces_of listed_interfaces if_any Fits
     fit-interfaces (Some (scalar_type k u)) e = refl
     fit-interfaces (Some (enum_type vs)) e = refl
@@ -260,9 +279,11 @@ module _ (s : Schema) where
     unfolding implementers
     implementers-known n = all-from (knows s) (map (λ e. e.key) (in_order comes_before (filter (is_implementer n) s.entries))) (λ k i.
         let r = in-map (λ (e : Entry). e.key) (in_order comes_before (filter (is_implementer n) s.entries)) k i in
-        subst (λ z. knows s z ≡ true) (sym r.2) (in-entries s x r.0 (in-filter (is_implementer n) s.entries r.0 (in-order comes_before (filter (is_implementer n) s.entries) r.0 r.1))))
+        subst (λ z. knows s z ≡ true) (sym r.2) (in-entries s x r.0 (in-filter (is_implementer n) s.entries r.0
+        (in-order comes_before (filter (is_implementer n) s.entries) r.0 r.1))))
 
-    fit-possible : (n : Name) (o : Option Shape) → list_all (knows s) (members_of o) ≡ true → Fits (list_of false None (named true (codes "__Type"))) (if_any (all_of type_called) (possible_types s n o))
+    fit-possible : (n : Name) (o : Option Shape) → list_all (knows s) (members_of o) ≡ true →
+        Fits (list_of false None (named true (codes "__Type"))) (if_any (all_of type_called) (possible_types s n o))
     unfolding members_of possible_types if_any Fits
     fit-possible m (Some (scalar_type k u)) e = refl
     fit-possible m (Some (enum_type vs)) e = refl
@@ -275,10 +296,12 @@ module _ (s : Schema) where
     fit-possible m (Some placeholder) e = refl
     fit-possible m None e = refl
 
-    fit-values : (b : Bool) (o : Option Shape) → Fits (list_of false None (named true (codes "__EnumValue"))) (if_any (all_of (λ (v : EnumValue). node (value_node v))) (listed_values b o))
+    fit-values : (b : Bool) (o : Option Shape) → Fits (list_of false None (named true (codes "__EnumValue")))
+        (if_any (all_of (λ (v : EnumValue). node (value_node v))) (listed_values b o))
     unfolding own_values listed_values if_any Fits
     fit-values b (Some (scalar_type k u)) = refl
-    fit-values b (Some (enum_type vs)) = fit-all false (codes "__EnumValue") (λ (v : EnumValue). node (value_node v)) (filter (lists_value b) vs) (λ v i. fit-value true v)
+    fit-values b (Some (enum_type vs)) =
+        fit-all false (codes "__EnumValue") (λ (v : EnumValue). node (value_node v)) (filter (lists_value b) vs) (λ v i. fit-value true v)
     fit-values b (Some (object_type fs is)) = refl
     fit-values b (Some (interface_type fs is)) = refl
     fit-values b (Some (union_type ms)) = refl
@@ -288,7 +311,8 @@ module _ (s : Schema) where
     fit-values b (Some placeholder) = refl
     fit-values b None = refl
 
-    fit-inputs : (o : Option Shape) → list_all (knows_input s) (inputs_of o) ≡ true → Fits (list_of false None (named true (codes "__InputValue"))) (if_any (all_of an_input) (listed_inputs o))
+    fit-inputs : (o : Option Shape) → list_all (knows_input s) (inputs_of o) ≡ true →
+        Fits (list_of false None (named true (codes "__InputValue"))) (if_any (all_of an_input) (listed_inputs o))
     unfolding listed_inputs if_any Fits inputs_of input_fields_of
     fit-inputs (Some (scalar_type k u)) e = refl
     fit-inputs (Some (enum_type vs)) e = refl
@@ -307,7 +331,8 @@ module _ (s : Schema) where
     declared-speaks (named true n) = none-speaks s x
     declared-speaks (list_of r size t) = none-speaks s x
 
-    fit-possible_of : (t : TypeRef) (o : Option Shape) → list_all (knows s) (members_of o) ≡ true → Fits (list_of false None (named true (codes "__Type"))) (if_any (all_of type_called) (option_and_then (λ n. possible_types s n o) (own_name t)))
+    fit-possible_of : (t : TypeRef) (o : Option Shape) → list_all (knows s) (members_of o) ≡ true →
+        Fits (list_of false None (named true (codes "__Type"))) (if_any (all_of type_called) (option_and_then (λ n. possible_types s n o) (own_name t)))
     unfolding own_name if_any Fits
     fit-possible_of (named false n) o e = fit-possible n o e
     fit-possible_of (named true n) o e = refl
@@ -362,7 +387,8 @@ module _ (s : Schema) where
 
     -- ## `__Field`, `__InputValue`, `__EnumValue`, `__Directive`
 
-    fit-arguments : (ds : List InputDeclaration) → list_all (knows_input s) ds ≡ true → Fits (list_of true None (named true (codes "__InputValue"))) (all_of an_input ds)
+    fit-arguments : (ds : List InputDeclaration) → list_all (knows_input s) ds ≡ true →
+        Fits (list_of true None (named true (codes "__InputValue"))) (all_of an_input ds)
     fit-arguments ds e = fit-all true (codes "__InputValue") an_input ds (λ d i. fit-input true d (all-in (knows_input s) ds d e i))
 
     field-match : (f : FieldDeclaration) → knows_field s f ≡ true → Match (fields_of (Some field_type.shape)) (field_answers f)
@@ -401,10 +427,19 @@ module _ (s : Schema) where
 
     value-match : (v : EnumValue) → Match (fields_of (Some enum_value_type.shape)) (value_answers v)
     unfolding fields_of enum_value_type object_entry field_without plain_field maybe must value_answers
-    value-match v = (refl, fit-text true v.name, (refl, fit-texts v.description, (refl, fit-flag true (is_deprecated v.deprecation), (refl, fit-texts (reason_of v.deprecation), tt))))
+    value-match v = (
+      refl,
+      fit-text true v.name,
+      (
+        refl,
+        fit-texts v.description,
+        (refl, fit-flag true (is_deprecated v.deprecation), (refl, fit-texts (reason_of v.deprecation), tt)),
+      ),
+    )
 
     locations-fit : (k : Text) → is_location k ≡ true → accepts s (codes "__DirectiveLocation") (text k) ≡ true
-    unfolding is_location accepts is_reserved shape_of entry_in introspection_types schema_type type_type field_type input_value_type enum_value_type directive_type type_kind_type object_entry enum_entry location_type
+    unfolding is_location accepts is_reserved shape_of entry_in introspection_types schema_type type_type field_type input_value_type enum_value_type
+        directive_type type_kind_type object_entry enum_entry location_type
     locations-fit k e = rw (reserved-type s x (codes "__DirectiveLocation") refl) e
 
     fit-location : (r : Bool) (k : Text) → is_location k ≡ true → Fits (named r (codes "__DirectiveLocation")) (says k)
@@ -434,7 +469,8 @@ module _ (s : Schema) where
                     fit-flag true (stands_on d (codes "QUERY")),
                     (
                       refl,
-                      fit-flag true (stands_on d (codes "FRAGMENT_DEFINITION") || (stands_on d (codes "INLINE_FRAGMENT") || stands_on d (codes "FRAGMENT_SPREAD"))),
+                      fit-flag true (stands_on d (codes "FRAGMENT_DEFINITION")
+                          || (stands_on d (codes "INLINE_FRAGMENT") || stands_on d (codes "FRAGMENT_SPREAD"))),
                       (refl, fit-flag true (stands_on d (codes "FIELD")), tt),
                     ),
                   ),
@@ -451,7 +487,8 @@ module _ (s : Schema) where
     introspection_fields y = fields_of (shape_of (entry_in introspection_types (introspection_type y)))
 
     answers-match : (y : Introspected) → is_node_of s y ≡ true → (args : Members) → Match (introspection_fields y) (answers_of s y args)
-    unfolding introspection_fields introspection_type shape_of entry_in introspection_types schema_type type_type field_type input_value_type enum_value_type directive_type type_kind_type location_type object_entry enum_entry answers_of is_node_of
+    unfolding introspection_fields introspection_type shape_of entry_in introspection_types schema_type type_type field_type input_value_type enum_value_type
+        directive_type type_kind_type location_type object_entry enum_entry answers_of is_node_of
     answers-match schema_node e args = schema-match
     answers-match (type_node t) e args = type-match t e args
     answers-match (field_node f) e args = field-match f e
@@ -459,7 +496,8 @@ module _ (s : Schema) where
     answers-match (value_node v) e args = value-match v
     answers-match (directive_node d) e args = directive-match d e
 
-    pub answers-fit : (y : Introspected) → is_node_of s y ≡ true → (args : Members) (f : Name) (g : FieldDeclaration) → field_in (introspection_fields y) f ≡ Some g → Fits g.of_type (introspect s y f args)
+    pub answers-fit : (y : Introspected) → is_node_of s y ≡ true → (args : Members) (f : Name) (g : FieldDeclaration) →
+        field_in (introspection_fields y) f ≡ Some g → Fits g.of_type (introspect s y f args)
     unfolding introspect
     answers-fit y e args f g h = match-fits (introspection_fields y) (answers_of s y args) (answers-match y e args) f g h
 

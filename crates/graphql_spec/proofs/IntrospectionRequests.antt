@@ -65,21 +65,28 @@ abbrev named_object : Text → Value
 named_object n = object (entry (codes "name") (str n) no_entries)
 
 -- { __type(name: "Nope") { name } __typename }
-unknown_type : gives (asking (given_field None (codes "__type") (codes "name") (i.scalar (text (codes "Nope"))) 2 true (leaf_field (codes "name") 3 end) (leaf_field (codes "__typename") 4 end)))
+unknown_type : gives (asking (given_field None (codes "__type") (codes "name") (i.scalar (text (codes "Nope"))) 2 true (leaf_field (codes "name") 3 end)
+    (leaf_field (codes "__typename") 4 end)))
     ≡ object (entry (codes "__type") null (entry (codes "__typename") (str (codes "Query")) no_entries))
 unfolding gives
 unknown_type = refl
 
 -- { __type(name: "Item") { fields { name } } __schema { mutationType { name } queryType { name __typename } } }
-mixed : gives (asking (given_field None (codes "__type") (codes "name") (i.scalar (text (codes "Item"))) 2 true (set_field (codes "fields") 3 (leaf_field (codes "name") 4 end) end)
-    (set_field (codes "__schema") 5 (set_field (codes "mutationType") 6 (leaf_field (codes "name") 7 end) (set_field (codes "queryType") 8 (leaf_field (codes "name") 9 (leaf_field (codes "__typename") 10 end)) end)) end)))
-    ≡ object (entry (codes "__type") (object (entry (codes "fields") (list (item (named_object (codes "id")) (item (named_object (codes "name")) (item (named_object (codes "grid")) no_items)))) no_entries))
-    (entry (codes "__schema") (object (entry (codes "mutationType") null (entry (codes "queryType") (object (entry (codes "name") (str (codes "Query")) (entry (codes "__typename") (str (codes "__Type")) no_entries))) no_entries))) no_entries))
+mixed : gives (asking (given_field None (codes "__type") (codes "name") (i.scalar (text (codes "Item"))) 2 true
+    (set_field (codes "fields") 3 (leaf_field (codes "name") 4 end) end)
+    (set_field (codes "__schema") 5 (set_field (codes "mutationType") 6 (leaf_field (codes "name") 7 end)
+    (set_field (codes "queryType") 8 (leaf_field (codes "name") 9 (leaf_field (codes "__typename") 10 end)) end)) end)))
+    ≡ object (entry (codes "__type") (object (entry (codes "fields")
+    (list (item (named_object (codes "id")) (item (named_object (codes "name")) (item (named_object (codes "grid")) no_items)))) no_entries))
+    (entry (codes "__schema") (object (entry (codes "mutationType") null
+    (entry (codes "queryType") (object (entry (codes "name") (str (codes "Query")) (entry (codes "__typename") (str (codes "__Type")) no_entries)))
+    no_entries))) no_entries))
 unfolding gives
 mixed = refl
 
 -- { item { id } __schema { __typename } }: the user's field is answered by the user's resolver
-beside : gives (asking (set_field (codes "item") 2 (leaf_field (codes "id") 3 end) (set_field (codes "__schema") 4 (leaf_field (codes "__typename") 5 end) end)))
+beside : gives (asking (set_field (codes "item") 2 (leaf_field (codes "id") 3 end)
+    (set_field (codes "__schema") 4 (leaf_field (codes "__typename") 5 end) end)))
     ≡ object (entry (codes "item") null (entry (codes "__schema") (object (entry (codes "__typename") (str (codes "__Schema")) no_entries)) no_entries))
 unfolding gives
 beside = refl
@@ -87,16 +94,47 @@ beside = refl
 -- ## The introspection query
 
 unfoldable the_query : Definition
-the_query = operation (record { kind = query; name = Some (word (codes "IntrospectionQuery") 0); variables = None; directives = []; selections = set_field (codes "__schema") 0 (leaf_field (codes "description") 0 (set_field (codes "queryType") 0 (leaf_field (codes "name") 0 end) (set_field (codes "mutationType") 0 (leaf_field (codes "name") 0 end) (set_field (codes "subscriptionType") 0 (leaf_field (codes "name") 0 end) (set_field (codes "types") 0 (spread_of (codes "FullType") 0 end) (set_field (codes "directives") 0 (leaf_field (codes "name") 0 (leaf_field (codes "description") 0 (leaf_field (codes "isRepeatable") 0 (leaf_field (codes "locations") 0 (set_field (codes "args") 0 (spread_of (codes "InputValue") 0 end) end))))) end)))))) end; span = span 0 0 })
+the_query = operation (record {
+  kind = query;
+  name = Some (word (codes "IntrospectionQuery") 0);
+  variables = None;
+  directives = [];
+  selections = set_field (codes "__schema") 0 (leaf_field (codes "description") 0
+      (set_field (codes "queryType") 0 (leaf_field (codes "name") 0 end)
+      (set_field (codes "mutationType") 0 (leaf_field (codes "name") 0 end)
+      (set_field (codes "subscriptionType") 0 (leaf_field (codes "name") 0 end)
+      (set_field (codes "types") 0 (spread_of (codes "FullType") 0 end)
+      (set_field (codes "directives") 0 (leaf_field (codes "name") 0
+      (leaf_field (codes "description") 0 (leaf_field (codes "isRepeatable") 0
+      (leaf_field (codes "locations") 0 (set_field (codes "args") 0 (spread_of (codes "InputValue") 0 end) end))))) end)))))) end;
+  span = span 0 0;
+})
 
 unfoldable full_type : Definition
-full_type = fragment_on (codes "FullType") (codes "__Type") 0 (leaf_field (codes "kind") 0 (leaf_field (codes "name") 0 (leaf_field (codes "description") 0 (leaf_field (codes "specifiedByURL") 0 (given_field None (codes "fields") (codes "includeDeprecated") (i.scalar (boolean true)) 0 true (leaf_field (codes "name") 0 (leaf_field (codes "description") 0 (set_field (codes "args") 0 (spread_of (codes "InputValue") 0 end) (set_field (codes "type") 0 (spread_of (codes "TypeRef") 0 end) (leaf_field (codes "isDeprecated") 0 (leaf_field (codes "deprecationReason") 0 end)))))) (set_field (codes "inputFields") 0 (spread_of (codes "InputValue") 0 end) (set_field (codes "interfaces") 0 (spread_of (codes "TypeRef") 0 end) (given_field None (codes "enumValues") (codes "includeDeprecated") (i.scalar (boolean true)) 0 true (leaf_field (codes "name") 0 (leaf_field (codes "description") 0 (leaf_field (codes "isDeprecated") 0 (leaf_field (codes "deprecationReason") 0 end)))) (set_field (codes "possibleTypes") 0 (spread_of (codes "TypeRef") 0 end) end)))))))))
+full_type = fragment_on (codes "FullType") (codes "__Type") 0 (leaf_field (codes "kind") 0
+    (leaf_field (codes "name") 0 (leaf_field (codes "description") 0
+    (leaf_field (codes "specifiedByURL") 0 (given_field None (codes "fields") (codes "includeDeprecated") (i.scalar (boolean true)) 0 true
+    (leaf_field (codes "name") 0 (leaf_field (codes "description") 0
+    (set_field (codes "args") 0 (spread_of (codes "InputValue") 0 end)
+    (set_field (codes "type") 0 (spread_of (codes "TypeRef") 0 end) (leaf_field (codes "isDeprecated") 0 (leaf_field (codes "deprecationReason") 0 end))))))
+    (set_field (codes "inputFields") 0 (spread_of (codes "InputValue") 0 end)
+    (set_field (codes "interfaces") 0 (spread_of (codes "TypeRef") 0 end)
+    (given_field None (codes "enumValues") (codes "includeDeprecated") (i.scalar (boolean true)) 0 true
+    (leaf_field (codes "name") 0 (leaf_field (codes "description") 0 (leaf_field (codes "isDeprecated") 0 (leaf_field (codes "deprecationReason") 0 end))))
+    (set_field (codes "possibleTypes") 0 (spread_of (codes "TypeRef") 0 end) end)))))))))
 
 unfoldable input_value : Definition
-input_value = fragment_on (codes "InputValue") (codes "__InputValue") 0 (leaf_field (codes "name") 0 (leaf_field (codes "description") 0 (set_field (codes "type") 0 (spread_of (codes "TypeRef") 0 end) (leaf_field (codes "defaultValue") 0 end))))
+input_value = fragment_on (codes "InputValue") (codes "__InputValue") 0
+    (leaf_field (codes "name") 0 (leaf_field (codes "description") 0
+    (set_field (codes "type") 0 (spread_of (codes "TypeRef") 0 end) (leaf_field (codes "defaultValue") 0 end))))
 
 unfoldable type_reference : Definition
-type_reference = fragment_on (codes "TypeRef") (codes "__Type") 0 (leaf_field (codes "kind") 0 (leaf_field (codes "name") 0 (set_field (codes "ofType") 0 (leaf_field (codes "kind") 0 (leaf_field (codes "name") 0 (set_field (codes "ofType") 0 (leaf_field (codes "kind") 0 (leaf_field (codes "name") 0 (set_field (codes "ofType") 0 (leaf_field (codes "kind") 0 (leaf_field (codes "name") 0 (set_field (codes "ofType") 0 (leaf_field (codes "kind") 0 (leaf_field (codes "name") 0 end)) end))) end))) end))) end)))
+type_reference = fragment_on (codes "TypeRef") (codes "__Type") 0
+    (leaf_field (codes "kind") 0 (leaf_field (codes "name") 0 (set_field (codes "ofType") 0
+    (leaf_field (codes "kind") 0 (leaf_field (codes "name") 0 (set_field (codes "ofType") 0
+    (leaf_field (codes "kind") 0 (leaf_field (codes "name") 0 (set_field (codes "ofType") 0
+    (leaf_field (codes "kind") 0 (leaf_field (codes "name") 0 (set_field (codes "ofType") 0
+    (leaf_field (codes "kind") 0 (leaf_field (codes "name") 0 end)) end))) end))) end))) end)))
 
 -- the text that `introspect` sends, as a document without places
 unfoldable everything : Document

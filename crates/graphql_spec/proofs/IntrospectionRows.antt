@@ -21,7 +21,13 @@ use Rattle.graphql_spec.proofs.IntrospectionDemo.{may, must, filter_fields, grid
 
 -- what is asked of a schema, and all that this unfolds
 unfoldable pub ask_of : Schema → Introspected → Text → Members → Tree Introspected
-unfolding introspect answers_of schema_answers type_answers field_answers input_answers value_answers directive_answers stands_on root_answers type_if_known given_text includes_deprecated is_yes an_input type_called a_type answer_at if_any all_of each tells says introspection_type is_deprecated reason_of own_name of_type declaration_of declared_as declared_kind kind_of description_of url_of lists_field own_fields listed_fields listed_interfaces is_implementer implementers possible_types lists_value own_values listed_values listed_inputs put_in_order in_order type_list hex_digit written_byte quoted shown_text_of display is_reserved entry_in shape_of or_else is_object interfaces_of maybe must_be maybe_all must_all object_entry value_named enum_entry field_without include_deprecated old_flag schema_type type_type field_type input_value_type enum_value_type directive_type type_kind_type location_type introspection_types condition_arguments selection_places directives plain_field plain_input filter_fields grid old green entries demo changing find digits
+unfolding introspect answers_of schema_answers type_answers field_answers input_answers value_answers directive_answers stands_on root_answers type_if_known
+    given_text includes_deprecated is_yes an_input type_called a_type answer_at if_any all_of each tells says introspection_type is_deprecated reason_of
+    own_name of_type declaration_of declared_as declared_kind kind_of description_of url_of lists_field own_fields listed_fields listed_interfaces
+    is_implementer implementers possible_types lists_value own_values listed_values listed_inputs put_in_order in_order type_list hex_digit written_byte quoted
+    shown_text_of display is_reserved entry_in shape_of or_else is_object interfaces_of maybe must_be maybe_all must_all object_entry value_named enum_entry
+    field_without include_deprecated old_flag schema_type type_type field_type input_value_type enum_value_type directive_type type_kind_type location_type
+    introspection_types condition_arguments selection_places directives plain_field plain_input filter_fields grid old green entries demo changing find digits
 ask_of s x f args = introspect s x f args
 
 abbrev ask : Introspected → Text → Tree Introspected
@@ -78,8 +84,10 @@ Tells a x = a ≡ leaf x
 
 -- no description; the types by the bytes of their names, without the two that stand for none
 schema_says : Null (ask schema_node (codes "description"))
-    × (names (ask schema_node (codes "types")) ≡ some (codes "Any" ∷ codes "Boolean" ∷ codes "Color" ∷ codes "Date" ∷ codes "Filter" ∷ codes "Int" ∷ codes "Item" ∷ codes "Named" ∷ codes "Node" ∷ codes "Query" ∷ codes "String" ∷ codes "Zebra"
-    ∷ codes "__Directive" ∷ codes "__DirectiveLocation" ∷ codes "__EnumValue" ∷ codes "__Field" ∷ codes "__InputValue" ∷ codes "__Schema" ∷ codes "__Type" ∷ codes "__TypeKind" ∷ []))
+    × (names (ask schema_node (codes "types")) ≡ some (codes "Any" ∷ codes "Boolean" ∷ codes "Color" ∷ codes "Date" ∷ codes "Filter" ∷ codes "Int"
+    ∷ codes "Item" ∷ codes "Named" ∷ codes "Node" ∷ codes "Query" ∷ codes "String" ∷ codes "Zebra"
+    ∷ codes "__Directive" ∷ codes "__DirectiveLocation" ∷ codes "__EnumValue" ∷ codes "__Field" ∷ codes "__InputValue" ∷ codes "__Schema" ∷ codes "__Type"
+    ∷ codes "__TypeKind" ∷ []))
     × Answers (text_is (name_in (ask schema_node (codes "queryType")))) (codes "Query")
     × Null (ask schema_node (codes "mutationType"))
     × Answers (text_is (name_in (ask_of changing schema_node (codes "mutationType") no_members))) (codes "Zebra")
@@ -145,9 +153,14 @@ unfolding ask_of name_in names_in names
 fields_are = (refl, refl, refl, refl, refl, refl, refl, refl, refl, refl, refl, refl)
 
 -- the introspection types show their fields too: the older flags are deprecated
-own_types_list : (names (of_type_called (codes "__Directive") (codes "fields")) ≡ some (codes "name" ∷ codes "description" ∷ codes "locations" ∷ codes "args" ∷ codes "isRepeatable" ∷ []))
-    × (names (including (c.scalar (boolean true)) (codes "__Directive") (codes "fields")) ≡ some (codes "name" ∷ codes "description" ∷ codes "locations" ∷ codes "args" ∷ codes "isRepeatable" ∷ codes "onOperation" ∷ codes "onFragment" ∷ codes "onField" ∷ []))
-    × (names (of_type_called (codes "__Type") (codes "fields")) ≡ some (codes "kind" ∷ codes "name" ∷ codes "description" ∷ codes "specifiedByURL" ∷ codes "specifiedByUrl" ∷ codes "fields" ∷ codes "interfaces" ∷ codes "possibleTypes" ∷ codes "enumValues" ∷ codes "inputFields" ∷ codes "ofType" ∷ []))
+own_types_list : (names (of_type_called (codes "__Directive") (codes "fields"))
+    ≡ some (codes "name" ∷ codes "description" ∷ codes "locations" ∷ codes "args" ∷ codes "isRepeatable" ∷ []))
+    × (names (including (c.scalar (boolean true)) (codes "__Directive") (codes "fields"))
+    ≡ some (codes "name" ∷ codes "description" ∷ codes "locations" ∷ codes "args" ∷ codes "isRepeatable" ∷ codes "onOperation" ∷ codes "onFragment"
+    ∷ codes "onField" ∷ []))
+    × (names (of_type_called (codes "__Type") (codes "fields")) ≡ some
+    (codes "kind" ∷ codes "name" ∷ codes "description" ∷ codes "specifiedByURL" ∷ codes "specifiedByUrl" ∷ codes "fields" ∷ codes "interfaces"
+    ∷ codes "possibleTypes" ∷ codes "enumValues" ∷ codes "inputFields" ∷ codes "ofType" ∷ []))
 unfolding ask_of name_in names_in names
 own_types_list = (refl, refl, refl)
 
@@ -176,21 +189,25 @@ possible_are = (refl, refl, refl, refl, refl, refl)
 values_are : (names (of_type_called (codes "Color") (codes "enumValues")) ≡ some (codes "RED" ∷ codes "BLUE" ∷ []))
     × (names (including (c.scalar (boolean true)) (codes "Color") (codes "enumValues")) ≡ some (codes "RED" ∷ codes "GREEN" ∷ codes "BLUE" ∷ []))
     × (names (including c.null (codes "Color") (codes "enumValues")) ≡ some (codes "RED" ∷ codes "BLUE" ∷ []))
-    × (names (of_type_called (codes "__TypeKind") (codes "enumValues")) ≡ some (codes "SCALAR" ∷ codes "OBJECT" ∷ codes "INTERFACE" ∷ codes "UNION" ∷ codes "ENUM" ∷ codes "INPUT_OBJECT" ∷ codes "LIST" ∷ codes "NON_NULL" ∷ []))
+    × (names (of_type_called (codes "__TypeKind") (codes "enumValues"))
+    ≡ some (codes "SCALAR" ∷ codes "OBJECT" ∷ codes "INTERFACE" ∷ codes "UNION" ∷ codes "ENUM" ∷ codes "INPUT_OBJECT" ∷ codes "LIST" ∷ codes "NON_NULL"
+    ∷ []))
     × (names (of_type_called (codes "Item") (codes "enumValues")) ≡ None)
     × (names (of_ref (must (codes "Color")) (codes "enumValues")) ≡ None)
 unfolding ask_of name_in names_in names
 values_are = (refl, refl, refl, refl, refl, refl)
 
 -- of input objects, in declared order
-inputs_are : (names (of_type_called (codes "Filter") (codes "inputFields")) ≡ some (codes "text" ∷ codes "number" ∷ codes "flag" ∷ codes "color" ∷ codes "none" ∷ codes "many" ∷ codes "inner" ∷ codes "plain" ∷ []))
+inputs_are : (names (of_type_called (codes "Filter") (codes "inputFields"))
+    ≡ some (codes "text" ∷ codes "number" ∷ codes "flag" ∷ codes "color" ∷ codes "none" ∷ codes "many" ∷ codes "inner" ∷ codes "plain" ∷ []))
     × (names (of_type_called (codes "Item") (codes "inputFields")) ≡ None)
     × (names (of_ref (must (codes "Filter")) (codes "inputFields")) ≡ None)
 unfolding ask_of name_in names_in names
 inputs_are = (refl, refl, refl)
 
 -- of `[[Int!]!]!` inwards, whatever the expected size
-insides_are : (of_ref (list_of true (Some 3) (list_of true None (must (codes "Int")))) (codes "ofType") ≡ node (type_node (list_of false (Some 3) (list_of true None (must (codes "Int"))))))
+insides_are : (of_ref (list_of true (Some 3) (list_of true None (must (codes "Int")))) (codes "ofType")
+    ≡ node (type_node (list_of false (Some 3) (list_of true None (must (codes "Int"))))))
     × (of_ref (list_of false (Some 3) (list_of true None (must (codes "Int")))) (codes "ofType") ≡ node (type_node (list_of true None (must (codes "Int")))))
     × (of_ref (list_of true None (must (codes "Int"))) (codes "ofType") ≡ node (type_node (list_of false None (must (codes "Int")))))
     × (of_ref (list_of false None (must (codes "Int"))) (codes "ofType") ≡ node (type_node (must (codes "Int"))))
@@ -222,7 +239,8 @@ unfolding ask_of
 defaults [] = []
 defaults (d ∷ ds) = ask (input_node d) (codes "defaultValue") ∷ defaults ds
 
-input_says : (defaults filter_fields ≡ text_is (codes "\"a\\\"b\"") ∷ text_is (codes "-5") ∷ text_is (codes "true") ∷ text_is (codes "RED") ∷ text_is (codes "null") ∷ text_is (codes "[1, 2]") ∷ text_is (codes "{plain: 3}") ∷ nothing ∷ [])
+input_says : (defaults filter_fields ≡ text_is (codes "\"a\\\"b\"") ∷ text_is (codes "-5") ∷ text_is (codes "true") ∷ text_is (codes "RED")
+    ∷ text_is (codes "null") ∷ text_is (codes "[1, 2]") ∷ text_is (codes "{plain: 3}") ∷ nothing ∷ [])
     × Answers (ask (input_node (plain_input (codes "at") (must (codes "Int")))) (codes "name")) (codes "at")
     × Null (ask (input_node (plain_input (codes "at") (must (codes "Int")))) (codes "description"))
     × (ask (input_node (plain_input (codes "at") (must (codes "Int")))) (codes "type") ≡ node (type_node (must (codes "Int"))))
@@ -262,9 +280,11 @@ abbrev yes_tree : Tree Introspected
 yes_tree = leaf (boolean true)
 
 -- `deprecated`, `include`, `skip`, `specifiedBy`: none is repeatable; two stand on fields and fragments
-directives_say : (of_directives (codes "name") ≡ text_is (codes "deprecated") ∷ text_is (codes "include") ∷ text_is (codes "skip") ∷ text_is (codes "specifiedBy") ∷ [])
+directives_say : (of_directives (codes "name") ≡ text_is (codes "deprecated") ∷ text_is (codes "include") ∷ text_is (codes "skip")
+    ∷ text_is (codes "specifiedBy") ∷ [])
     × (of_directives (codes "description") ≡ nothing ∷ nothing ∷ nothing ∷ nothing ∷ [])
-    × (map names (of_directives (codes "locations")) ≡ some (codes "FIELD_DEFINITION" ∷ codes "ENUM_VALUE" ∷ []) ∷ some (codes "FIELD" ∷ codes "FRAGMENT_SPREAD" ∷ codes "INLINE_FRAGMENT" ∷ [])
+    × (map names (of_directives (codes "locations")) ≡ some (codes "FIELD_DEFINITION" ∷ codes "ENUM_VALUE" ∷ [])
+    ∷ some (codes "FIELD" ∷ codes "FRAGMENT_SPREAD" ∷ codes "INLINE_FRAGMENT" ∷ [])
     ∷ some (codes "FIELD" ∷ codes "FRAGMENT_SPREAD" ∷ codes "INLINE_FRAGMENT" ∷ []) ∷ some (codes "SCALAR" ∷ []) ∷ [])
     × (map names (of_directives (codes "args")) ≡ some (codes "reason" ∷ []) ∷ some (codes "if" ∷ []) ∷ some (codes "if" ∷ []) ∷ some (codes "url" ∷ []) ∷ [])
     × (of_directives (codes "isRepeatable") ≡ yes_or_no no_tree no_tree no_tree no_tree)

@@ -58,22 +58,26 @@ module _ (s : Schema) (x : Executable s) (vars : Variables) where
   unfolding meta_fields field_in typename_field plain_field
   meta-none T f q e = elim (cases_Bool (is_composite (type_named s T))) [ inl c ↦ rw (c, q, e) refl | inr c ↦ rw c refl ]
 
-  own-field : (y : Introspected) (f : Name) (g : FieldDeclaration) → bytes_eq f typename ≡ false → field_of s (introspection_type y) f ≡ Some g → field_in (introspection_fields s x y) f ≡ Some g
+  own-field : (y : Introspected) (f : Name) (g : FieldDeclaration) → bytes_eq f typename ≡ false → field_of s (introspection_type y) f ≡ Some g →
+      field_in (introspection_fields s x y) f ≡ Some g
   unfolding field_of introspection_fields
-  own-field y f g e h = elim (or_else_parts (field_in (fields_of (type_named s (introspection_type y))) f) (field_in (meta_fields s (introspection_type y)) f) g h) [
-    | inl a ↦ subst (λ z. field_in (fields_of z) f ≡ Some g) (reserved-type s x (introspection_type y) (type-reserved s x y)) a
-    | inr b ↦ absurd (none-some g (sym (meta-none (introspection_type y) f (not-query (introspection_type y) (type-reserved s x y)) e) ∙ b))
-  ]
+  own-field y f g e h =
+      elim (or_else_parts (field_in (fields_of (type_named s (introspection_type y))) f) (field_in (meta_fields s (introspection_type y)) f) g h) [
+        | inl a ↦ subst (λ z. field_in (fields_of z) f ≡ Some g) (reserved-type s x (introspection_type y) (type-reserved s x y)) a
+        | inr b ↦ absurd (none-some g (sym (meta-none (introspection_type y) f (not-query (introspection_type y) (type-reserved s x y)) e) ∙ b))
+      ]
     where
       none-some : (g : FieldDeclaration) → None ≡ Some g → ⊥
       none-some g e = cc
 
-  typename-at : (T : Name) → is_reserved T ≡ true → field_in (fields_of (shape_of (entry_in introspection_types T))) typename ≡ None → is_composite (shape_of (entry_in introspection_types T)) ≡ true → field_of s T typename ≡ Some typename_field
+  typename-at : (T : Name) → is_reserved T ≡ true → field_in (fields_of (shape_of (entry_in introspection_types T))) typename ≡ None →
+      is_composite (shape_of (entry_in introspection_types T)) ≡ true → field_of s T typename ≡ Some typename_field
   unfolding field_of meta_fields or_else field_in typename_field plain_field
   typename-at T r e c = rw (reserved-type s x T r, e, c) refl
 
   typename-type : (y : Introspected) → field_of s (introspection_type y) typename ≡ Some typename_field
-  unfolding introspection_type is_reserved field_in fields_of is_composite shape_of entry_in introspection_types schema_type type_type field_type input_value_type enum_value_type directive_type type_kind_type location_type object_entry enum_entry field_without old_flag plain_field
+  unfolding introspection_type is_reserved field_in fields_of is_composite shape_of entry_in introspection_types schema_type type_type field_type
+      input_value_type enum_value_type directive_type type_kind_type location_type object_entry enum_entry field_without old_flag plain_field
   typename-type schema_node = typename-at (codes "__Schema") refl refl refl
   typename-type (type_node t) = typename-at (codes "__Type") refl refl refl
   typename-type (field_node f) = typename-at (codes "__Field") refl refl refl
@@ -95,7 +99,8 @@ module _ (s : Schema) (x : Executable s) (vars : Variables) where
     | inl q ↦ record {
       tree_is = leaf (text (introspection_type y));
       reply_is = rw q refl;
-      fits = subst (λ z. Fits s (declared_type z) (leaf (text (introspection_type y)))) (sym (subst (λ z. field_of s (introspection_type y) z ≡ Some typename_field) (sym (same_true h.name.item typename q)) (typename-type y)))
+      fits = subst (λ z. Fits s (declared_type z) (leaf (text (introspection_type y))))
+          (sym (subst (λ z. field_of s (introspection_type y) z ≡ Some typename_field) (sym (same_true h.name.item typename q)) (typename-type y)))
           (texts-fit s x (introspection_type y));
     }
     | inr q ↦ elim (options (field_of s (introspection_type y) h.name.item)) [
@@ -113,12 +118,14 @@ module _ (s : Schema) (x : Executable s) (vars : Variables) where
   module _ (at : Place → Place → Name → Introspected → List Failure) where
     -- nothing fails at the nodes that are possible at a name
     abbrev NoneAt : Name → Type 0
-    NoneAt n = (place to : Place) (y : Introspected) → is_node_of s y ≡ true → is_possible s (introspection_type y) n ≡ true → at place to (introspection_type y) y ≡ []
+    NoneAt n = (place to : Place) (y : Introspected) → is_node_of s y ≡ true → is_possible s (introspection_type y) n ≡ true →
+        at place to (introspection_type y) y ≡ []
 
     mutual
       unfolding faults Fits introspection_world world_of required innermost
 
-      faults-none : (here : Place) (starts : List Position) (above : Place) (t : TypeRef) (a : Tree Introspected) → Fits s t a → NoneAt (innermost t) → faults W at here starts above t a ≡ []
+      faults-none : (here : Place) (starts : List Position) (above : Place) (t : TypeRef) (a : Tree Introspected) → Fits s t a → NoneAt (innermost t) →
+          faults W at here starts above t a ≡ []
       faults-none here starts above (named r n) nothing f none = rw f refl
       faults-none here starts above (list_of r size t) nothing f none = rw f refl
       faults-none here starts above (named r n) (leaf v) f none = rw f refl
@@ -128,19 +135,24 @@ module _ (s : Schema) (x : Executable s) (vars : Variables) where
       faults-none here starts above (named r n) (items ts) f none = absurd f
       faults-none here starts above (list_of r size t) (items ts) f none = faults-none_all here 0 starts (landing (list_of r size t) here above) t ts f none
 
-      faults-none_all : (here : Place) (i : ℕ) (starts : List Position) (above : Place) (t : TypeRef) (ts : Trees Introspected) → FitAll s t ts → NoneAt (innermost t) → all_faults W at here i starts above t ts ≡ []
+      faults-none_all : (here : Place) (i : ℕ) (starts : List Position) (above : Place) (t : TypeRef) (ts : Trees Introspected) → FitAll s t ts →
+          NoneAt (innermost t) → all_faults W at here i starts above t ts ≡ []
       faults-none_all here i starts above t no_trees f none = refl
-      faults-none_all here i starts above t (tree a rest) (f, g) none = ap₂ (λ us vs. us ++ vs) (faults-none (here ++ index i ∷ []) starts above t a f none) (faults-none_all here (suc i) starts above t rest g none)
+      faults-none_all here i starts above t (tree a rest) (f, g) none =
+          ap₂ (λ us vs. us ++ vs) (faults-none (here ++ index i ∷ []) starts above t a f none) (faults-none_all here (suc i) starts above t rest g none)
 
-    reply-none : (here above : Place) (starts : List Position) (y : Introspected) (h : Head) → Fitting y h → NoneAt (innermost (W.field_type (introspection_type y) h.name.item)) →
+    reply-none : (here above : Place) (starts : List Position) (y : Introspected) (h : Head) → Fitting y h →
+        NoneAt (innermost (W.field_type (introspection_type y) h.name.item)) →
         reply_faults W at here starts above (W.field_type (introspection_type y) h.name.item) (reply_to W (introspection_type y) y h) ≡ []
     unfolding reply_faults
-    reply-none here above starts y h f none = rw (f.reply_is) (faults-none here starts above (W.field_type (introspection_type y) h.name.item) f.tree_is f.fits none)
+    reply-none here above starts y h f none =
+        rw (f.reply_is) (faults-none here starts above (W.field_type (introspection_type y) h.name.item) f.tree_is f.fits none)
 
   -- ## Objects
 
   -- what is declared below one occurrence of a key is declared below all of it
-  declared-below : (d : ℕ) (T U : Name) (o : Occurrence) (os : List Occurrence) → ((p : Occurrence) → In p os → p.head.name.item ≡ o.head.name.item) → AreDeclared s (suc d) T os →
+  declared-below : (d : ℕ) (T U : Name) (o : Occurrence) (os : List Occurrence) → ((p : Occurrence) → In p os → p.head.name.item ≡ o.head.name.item) →
+      AreDeclared s (suc d) T os →
       IsTrue (is_possible s U (innermost (declared_type (field_of s T o.head.name.item)))) → AreDeclared s d U (occurrences (is_possible s) U (all_below os))
   declared-below zero T U o os same a p = tt
   declared-below (suc d) T U o os same a p = λ q i.
@@ -155,22 +167,26 @@ module _ (s : Schema) (x : Executable s) (vars : Variables) where
   flat-none f [] e = refl
   flat-none f (k ∷ ks) e = rw (e k) (flat-none f ks e)
 
-  agree-all : (d : ℕ) (U : Name) (os : List Occurrence) → ((p q : Occurrence) → In p os → In q os → Agree W d U (occurrences W.possible U p.below ++ occurrences W.possible U q.below)) → Agree W d U (occurrences W.possible U (all_below os))
+  agree-all : (d : ℕ) (U : Name) (os : List Occurrence) → ((p q : Occurrence) → In p os → In q os →
+      Agree W d U (occurrences W.possible U p.below ++ occurrences W.possible U q.below)) → Agree W d U (occurrences W.possible U (all_below os))
   agree-all zero U os c = tt
   agree-all (suc d) U os c = λ p q i j e.
       let a = in_below p W.possible U os i in
       let b = in_below q W.possible U os j in
-      c a.0 b.0 a.1 b.1 p q (in_first p (occurrences W.possible U a.0.below) (occurrences W.possible U b.0.below) a.2) (in_second q (occurrences W.possible U a.0.below) (occurrences W.possible U b.0.below) b.2) e
+      c a.0 b.0 a.1 b.1 p q (in_first p (occurrences W.possible U a.0.below) (occurrences W.possible U b.0.below) a.2)
+      (in_second q (occurrences W.possible U a.0.below) (occurrences W.possible U b.0.below) b.2) e
 
   -- nothing fails below nodes of the schema, to the depth d
   abbrev NeverAt : ℕ → Type 0
-  NeverAt d = (y : Introspected) → is_node_of s y ≡ true → (os : List Occurrence) → Agree W d (introspection_type y) os → AreDeclared s d (introspection_type y) os → (here above : Place) →
+  NeverAt d = (y : Introspected) → is_node_of s y ≡ true → (os : List Occurrence) → Agree W d (introspection_type y) os →
+      AreDeclared s d (introspection_type y) os → (here above : Place) →
       failures W d here above (introspection_type y) y os ≡ []
 
   -- the occurrences of one key
   record IsGroup (d : ℕ) (T : Name) (os : List Occurrence) : Type 0 where
     pub same : (p q : Occurrence) → In p os → In q os → p.head.name.item ≡ q.head.name.item
-    pub agree : (p q : Occurrence) → In p os → In q os → (U : Name) → IsTrue (W.possible U (innermost (W.field_type T p.head.name.item))) → Agree W d U (occurrences W.possible U p.below ++ occurrences W.possible U q.below)
+    pub agree : (p q : Occurrence) → In p os → In q os → (U : Name) → IsTrue (W.possible U (innermost (W.field_type T p.head.name.item))) →
+        Agree W d U (occurrences W.possible U p.below ++ occurrences W.possible U q.below)
     pub declared : AreDeclared s (suc d) T os
 
   group-of : (d : ℕ) (T k : Name) (os : List Occurrence) → Agree W (suc d) T os → AreDeclared s (suc d) T os → IsGroup d T (with_key k os)
@@ -180,11 +196,14 @@ module _ (s : Schema) (x : Executable s) (vars : Variables) where
     declared = part-declared (suc d) T k os a;
   }
     where
-      both : (p q : Occurrence) → In p (with_key k os) → In q (with_key k os) → (p.head.name.item ≡ q.head.name.item) × (W.arguments T p.head ≡ W.arguments T q.head)
-          × ((U : Name) → IsTrue (W.possible U (innermost (W.field_type T p.head.name.item))) → Agree W d U (occurrences W.possible U p.below ++ occurrences W.possible U q.below))
+      both : (p q : Occurrence) → In p (with_key k os) → In q (with_key k os) →
+          (p.head.name.item ≡ q.head.name.item) × (W.arguments T p.head ≡ W.arguments T q.head)
+          × ((U : Name) → IsTrue (W.possible U (innermost (W.field_type T p.head.name.item))) →
+          Agree W d U (occurrences W.possible U p.below ++ occurrences W.possible U q.below))
       both p q i j = let u = in_with_key p k os i in let v = in_with_key q k os j in c p q u.0 v.0 (sym u.1 ∙ v.1)
 
-  group-none : (d : ℕ) → NeverAt d → (y : Introspected) → is_node_of s y ≡ true → (os : List Occurrence) → IsGroup d (introspection_type y) os → (here above : Place) →
+  group-none : (d : ℕ) → NeverAt d → (y : Introspected) → is_node_of s y ≡ true → (os : List Occurrence) → IsGroup d (introspection_type y) os →
+      (here above : Place) →
       key_failures W (failures W d) here above (introspection_type y) y os ≡ []
   unfolding key_failures type_of reply_of reply_faults faults required introspection_world world_of
   group-none d ih y e [] g here above = refl
@@ -192,13 +211,16 @@ module _ (s : Schema) (x : Executable s) (vars : Variables) where
       reply-none (λ place to U n. failures W d place to U n (occurrences (is_possible s) U (all_below (o ∷ os)))) here above (starts_of (o ∷ os)) y o.head
       (reply-fitting y e o.head (g.declared o (inl refl)).0)
       (λ place to n k p. ih n k (occurrences (is_possible s) (introspection_type n) (all_below (o ∷ os)))
-      (agree-all d (introspection_type n) (o ∷ os) (λ u v i j. g.agree u v i j (introspection_type n) (subst (λ z. IsTrue (is_possible s (introspection_type n) (innermost (declared_type (field_of s (introspection_type y) z))))) (g.same o u (inl refl) i) p)))
+      (agree-all d (introspection_type n) (o ∷ os) (λ u v i j. g.agree u v i j (introspection_type n)
+      (subst (λ z. IsTrue (is_possible s (introspection_type n) (innermost (declared_type (field_of s (introspection_type y) z)))))
+      (g.same o u (inl refl) i) p)))
       (declared-below d (introspection_type y) (introspection_type n) o (o ∷ os) (λ u i. g.same u o i (inl refl)) g.declared p) place to)
 
   never : (d : ℕ) → NeverAt d
   unfolding failures
   never zero y e os c a here above = refl
-  never (suc d) y e os c a here above = flat-none (λ k. key_failures W (failures W d) (here ++ key k ∷ []) above (introspection_type y) y (with_key k os)) (keys os)
+  never (suc d) y e os c a here above =
+      flat-none (λ k. key_failures W (failures W d) (here ++ key k ∷ []) above (introspection_type y) y (with_key k os)) (keys os)
       (λ k. group-none d (never d) y e (with_key k os) (group-of d (introspection_type y) k os c a) (here ++ key k ∷ []) above)
 
 pub replies_fit : RepliesFit
@@ -211,7 +233,8 @@ introspection_never_fails s e vars y k d os c a here above = never s (executable
 -- ## The root
 
 -- a field that is found among free ones is free, and has its name
-found-free : (fs : List FieldDeclaration) (f : Name) (g : FieldDeclaration) → list_all field_is_free fs ≡ true → field_in fs f ≡ Some g → (field_is_free g ≡ true) × (f ≡ g.name)
+found-free : (fs : List FieldDeclaration) (f : Name) (g : FieldDeclaration) → list_all field_is_free fs ≡ true → field_in fs f ≡ Some g →
+    (field_is_free g ≡ true) × (f ≡ g.name)
 unfolding field_in
 found-free [] f g a h = cc
 found-free (y ∷ fs) f g a h = let p = and_parts (field_is_free y) (list_all field_is_free fs) a in elim (cases_Bool (bytes_eq f y.name)) [
@@ -254,7 +277,8 @@ module _ {N : Type 0} (s : Schema) (x : Executable s) (vars : Variables) (top : 
       composite placeholder e = absurd (both_ways false refl e)
 
   -- a declared field whose name is reserved is `__typename: String!`
-  reserved-field : (f : Name) (g : FieldDeclaration) → is_reserved f ≡ true → field_in (fields_of (type_named s s.query)) f ≡ Some g → (is_typename_field g ≡ true) × (f ≡ g.name)
+  reserved-field : (f : Name) (g : FieldDeclaration) → is_reserved f ≡ true → field_in (fields_of (type_named s s.query)) f ≡ Some g →
+      (is_typename_field g ≡ true) × (f ≡ g.name)
   unfolding type_named or_else shape_of entries_are_named entry_is_named shape_fields field_is_free
   reserved-field f g r e =
       let q = query-entry in
@@ -274,8 +298,10 @@ module _ {N : Type 0} (s : Schema) (x : Executable s) (vars : Variables) (top : 
   unfolding field_of meta_fields field_in typename_field plain_field is_typename_field Fits is_reserved
   typename-fits g e = elim (or_else_parts (field_in (fields_of (type_named s s.query)) typename) (field_in (meta_fields s s.query) typename) g e) [
     | inl a ↦ let b = and_parts (bytes_eq g.name typename) _ (reserved-field typename g refl a).0 in
-        subst (λ z. Fits s z (leaf (text s.query))) (sym (as_string g.of_type (and_parts (same_type g.of_type (named true (codes "String"))) _ b.1).0)) (texts-fit s x s.query)
-    | inr b ↦ let c : Some typename_field ≡ Some g = rw query-object at b in let w : typename_field ≡ g = cc in subst (λ z. Fits s z.of_type (leaf (text s.query))) w (texts-fit s x s.query)
+        subst (λ z. Fits s z (leaf (text s.query))) (sym (as_string g.of_type (and_parts (same_type g.of_type (named true (codes "String"))) _ b.1).0))
+        (texts-fit s x s.query)
+    | inr b ↦ let c : Some typename_field ≡ Some g = rw query-object at b in let w : typename_field ≡ g = cc in
+        subst (λ z. Fits s z.of_type (leaf (text s.query))) w (texts-fit s x s.query)
   ]
 
   type-fits : (o : Option Name) → Fits s (named false (codes "__Type")) (if_any (type_if_known s) o)
@@ -284,51 +310,66 @@ module _ {N : Type 0} (s : Schema) (x : Executable s) (vars : Variables) (top : 
   type-fits (Some n) = elim (cases_Bool (is_some (declaration_of s n))) [ inl e ↦ rw e (fit-called s x false n (declared-known s x n e)) | inr e ↦ rw e refl ]
 
   -- neither of the two fields is declared
-  not-declared : (f : Name) (g : FieldDeclaration) → is_reserved f ≡ true → bytes_eq f typename ≡ false → field_in (fields_of (type_named s s.query)) f ≡ Some g → ⊥
+  not-declared : (f : Name) (g : FieldDeclaration) → is_reserved f ≡ true → bytes_eq f typename ≡ false →
+      field_in (fields_of (type_named s s.query)) f ≡ Some g → ⊥
   unfolding is_typename_field
-  not-declared f g r e h = let a = reserved-field f g r h in both_ways (bytes_eq f typename) e (subst (λ z. bytes_eq z typename ≡ true) (sym a.1) (and_parts (bytes_eq g.name typename) _ a.0).0)
+  not-declared f g r e h = let a = reserved-field f g r h in both_ways (bytes_eq f typename) e
+      (subst (λ z. bytes_eq z typename ≡ true) (sym a.1) (and_parts (bytes_eq g.name typename) _ a.0).0)
 
-  schema-fits : (g : FieldDeclaration) (args : Members) → field_of s s.query (codes "__schema") ≡ Some g → Fits s g.of_type (answer_at (codes "__schema") (root_answers s args))
+  schema-fits : (g : FieldDeclaration) (args : Members) → field_of s s.query (codes "__schema") ≡ Some g →
+      Fits s g.of_type (answer_at (codes "__schema") (root_answers s args))
   unfolding field_of meta_fields field_in root_fields typename_field plain_field plain_input is_reserved answer_at root_answers is_node_of introspection_type
-  schema-fits g args e = elim (or_else_parts (field_in (fields_of (type_named s s.query)) (codes "__schema")) (field_in (meta_fields s s.query) (codes "__schema")) g e) [
-    | inl a ↦ absurd (not-declared (codes "__schema") g refl refl a)
-    | inr b ↦ let c = rw (query-object, same_refl s.query) at b in let w : plain_field (codes "__schema") [] (named true (codes "__Schema")) ≡ g = cc in
-        subst (λ z. Fits s z.of_type (node schema_node)) w (fit-node s x true schema_node refl)
-  ]
+  schema-fits g args e =
+      elim (or_else_parts (field_in (fields_of (type_named s s.query)) (codes "__schema")) (field_in (meta_fields s s.query) (codes "__schema")) g e) [
+        | inl a ↦ absurd (not-declared (codes "__schema") g refl refl a)
+        | inr b ↦ let c = rw (query-object, same_refl s.query) at b in let w : plain_field (codes "__schema") [] (named true (codes "__Schema")) ≡ g = cc in
+            subst (λ z. Fits s z.of_type (node schema_node)) w (fit-node s x true schema_node refl)
+      ]
 
-  named-fits : (g : FieldDeclaration) (args : Members) → field_of s s.query (codes "__type") ≡ Some g → Fits s g.of_type (answer_at (codes "__type") (root_answers s args))
+  named-fits : (g : FieldDeclaration) (args : Members) → field_of s s.query (codes "__type") ≡ Some g →
+      Fits s g.of_type (answer_at (codes "__type") (root_answers s args))
   unfolding field_of meta_fields field_in root_fields typename_field plain_field plain_input is_reserved answer_at root_answers
-  named-fits g args e = elim (or_else_parts (field_in (fields_of (type_named s s.query)) (codes "__type")) (field_in (meta_fields s s.query) (codes "__type")) g e) [
-    | inl a ↦ absurd (not-declared (codes "__type") g refl refl a)
-    | inr b ↦ let c = rw (query-object, same_refl s.query) at b in let w : plain_field (codes "__type") (plain_input (codes "name") (named true (codes "String")) ∷ []) (named false (codes "__Type")) ≡ g = cc in
-        subst (λ z. Fits s z.of_type (if_any (type_if_known s) (given_text (find (codes "name") args)))) w (type-fits (given_text (find (codes "name") args)))
-  ]
+  named-fits g args e =
+      elim (or_else_parts (field_in (fields_of (type_named s s.query)) (codes "__type")) (field_in (meta_fields s s.query) (codes "__type")) g e) [
+        | inl a ↦ absurd (not-declared (codes "__type") g refl refl a)
+        | inr b ↦ let c = rw (query-object, same_refl s.query) at b in
+            let w : plain_field (codes "__type") (plain_input (codes "name") (named true (codes "String")) ∷ []) (named false (codes "__Type")) ≡ g = cc in
+            subst (λ z. Fits s z.of_type (if_any (type_if_known s) (given_text (find (codes "name") args)))) w
+            (type-fits (given_text (find (codes "name") args)))
+      ]
 
   -- the two fields of the query type (4.2)
-  fit-root : (f : Name) (g : FieldDeclaration) (args : Members) → is_introspection f ≡ true → field_of s s.query f ≡ Some g → Fits s g.of_type (answer_at f (root_answers s args))
+  fit-root : (f : Name) (g : FieldDeclaration) (args : Members) → is_introspection f ≡ true → field_of s s.query f ≡ Some g →
+      Fits s g.of_type (answer_at f (root_answers s args))
   unfolding is_introspection
   fit-root f g args i e = elim (or_cases (bytes_eq f (codes "__schema")) (bytes_eq f (codes "__type")) i) [
-    | inl q ↦ let w : f ≡ codes "__schema" = same_true f (codes "__schema") q in subst (λ z. Fits s g.of_type (answer_at z (root_answers s args))) (sym w) (schema-fits g args (subst (λ z. field_of s s.query z ≡ Some g) w e))
-    | inr q ↦ let w : f ≡ codes "__type" = same_true f (codes "__type") q in subst (λ z. Fits s g.of_type (answer_at z (root_answers s args))) (sym w) (named-fits g args (subst (λ z. field_of s s.query z ≡ Some g) w e))
+    | inl q ↦ let w : f ≡ codes "__schema" = same_true f (codes "__schema") q in
+        subst (λ z. Fits s g.of_type (answer_at z (root_answers s args))) (sym w) (schema-fits g args (subst (λ z. field_of s s.query z ≡ Some g) w e))
+    | inr q ↦ let w : f ≡ codes "__type" = same_true f (codes "__type") q in
+        subst (λ z. Fits s g.of_type (answer_at z (root_answers s args))) (sym w) (named-fits g args (subst (λ z. field_of s s.query z ≡ Some g) w e))
   ]
 
   own-types : (y : Introspected) → introspection_type y ≡ rooted_concrete top concrete (introspected y)
   unfolding rooted_concrete
   own-types y = refl
 
-  own-replies : (y : Introspected) (f : Name) (args : Members) → IsTrue true → map_reply introspected (answered (introspect s y f args)) ≡ rooted_answer top s answer (introspected y) f args
+  own-replies : (y : Introspected) (f : Name) (args : Members) → IsTrue true →
+      map_reply introspected (answered (introspect s y f args)) ≡ rooted_answer top s answer (introspected y) f args
   unfolding map_reply rooted_answer
   own-replies y f args e = refl
 
   -- below the root the nodes are those of introspection alone
-  failures-alike : (d : ℕ) (place to : Place) (U : Name) (y : Introspected) (os : List Occurrence) → failures (introspection_world s vars) d place to U y os ≡ failures V d place to U (introspected y) os
+  failures-alike : (d : ℕ) (place to : Place) (U : Name) (y : Introspected) (os : List Occurrence) →
+      failures (introspection_world s vars) d place to U y os ≡ failures V d place to U (introspected y) os
   unfolding introspection_world
-  failures-alike d place to U y os = failures-seen s vars introspected introspection_type (λ y f args. answered (introspect s y f args)) (rooted_concrete top concrete) (rooted_answer top s answer)
+  failures-alike d place to U y os = failures-seen s vars introspected introspection_type (λ y f args. answered (introspect s y f args))
+      (rooted_concrete top concrete) (rooted_answer top s answer)
       own-types (λ f. true) own-replies d place to U y os (λ o i. (refl, selects-any o.below))
 
   -- ## The replies of the root and of users' nodes
 
-  module _ (m : RootedNode N) (asks : (f : Name) (args : Members) → is_introspection f ≡ true → rooted_answer top s answer m f args ≡ answered (map_tree introspected (answer_at f (root_answers s args)))) where
+  module _ (m : RootedNode N) (asks : (f : Name) (args : Members) → is_introspection f ≡ true →
+      rooted_answer top s answer m f args ≡ answered (map_tree introspected (answer_at f (root_answers s args)))) where
     record RootFitting (h : Head) : Type 0 where
       pub tree_is : Tree Introspected
       pub reply_is : reply_to V s.query m h ≡ map_reply introspected (answered tree_is)
@@ -342,60 +383,79 @@ module _ {N : Type 0} (s : Schema) (x : Executable s) (vars : Variables) (top : 
         | inl q ↦ record {
           tree_is = leaf (text s.query);
           reply_is = rw q refl;
-          fits = subst (λ z. Fits s (declared_type z) (leaf (text s.query))) (sym f) (typename-fits g (subst (λ z. field_of s s.query z ≡ Some g) (same_true o.head.name.item typename q) f));
+          fits = subst (λ z. Fits s (declared_type z) (leaf (text s.query))) (sym f)
+              (typename-fits g (subst (λ z. field_of s s.query z ≡ Some g) (same_true o.head.name.item typename q) f));
         }
         | inr q ↦ let i = asked o k q in record {
           tree_is = answer_at o.head.name.item (root_answers s (V.arguments s.query o.head));
           reply_is = rw (q, asks o.head.name.item (V.arguments s.query o.head) i) refl;
-          fits = subst (λ z. Fits s (declared_type z) (answer_at o.head.name.item (root_answers s (V.arguments s.query o.head)))) (sym f) (fit-root o.head.name.item g (V.arguments s.query o.head) i f);
+          fits = subst (λ z. Fits s (declared_type z) (answer_at o.head.name.item (root_answers s (V.arguments s.query o.head)))) (sym f)
+              (fit-root o.head.name.item g (V.arguments s.query o.head) i f);
         }
       ]
     ]
       where
         asked : (o : Occurrence) → asks_schema o ≡ true → bytes_eq o.head.name.item typename ≡ false → is_introspection o.head.name.item ≡ true
-        asked o k q = elim (or_cases (is_introspection o.head.name.item) (bytes_eq o.head.name.item typename) k) [ inl i ↦ i | inr u ↦ absurd (both_ways (bytes_eq o.head.name.item typename) q u) ]
+        asked o k q = elim (or_cases (is_introspection o.head.name.item) (bytes_eq o.head.name.item typename) k)
+            [ inl i ↦ i | inr u ↦ absurd (both_ways (bytes_eq o.head.name.item typename) q u) ]
 
-    root-group-none : (d : ℕ) (os : List Occurrence) → IsGroup s x vars d s.query os → ((o : Occurrence) → In o os → asks_schema o ≡ true) → (here above : Place) → key_failures V (failures V d) here above s.query m os ≡ []
+    root-group-none : (d : ℕ) (os : List Occurrence) → IsGroup s x vars d s.query os → ((o : Occurrence) → In o os → asks_schema o ≡ true) →
+        (here above : Place) → key_failures V (failures V d) here above s.query m os ≡ []
     unfolding key_failures type_of reply_of reply_faults faults required world_of introspection_world
     root-group-none d [] g k here above = refl
     root-group-none d (o ∷ os) g k here above =
         let f = root-fitting o (k o (inl refl)) (g.declared o (inl refl)).0 in
         let t : TypeRef = declared_type (field_of s s.query o.head.name.item) in
-        rw (f.reply_is) (sym (reply_faults-seen s vars introspected introspection_type (λ y f args. answered (introspect s y f args)) (rooted_concrete top concrete) (rooted_answer top s answer) own-types
-        (λ place to U n. failures (introspection_world s vars) d place to U n (occurrences (is_possible s) U (all_below (o ∷ os)))) (λ place to U n. failures V d place to U n (occurrences (is_possible s) U (all_below (o ∷ os))))
-        (λ place to U y. failures-alike d place to U y (occurrences (is_possible s) U (all_below (o ∷ os)))) here (starts_of (o ∷ os)) above t (answered f.tree_is))
-        ∙ faults-none s x vars (λ place to U n. failures (introspection_world s vars) d place to U n (occurrences (is_possible s) U (all_below (o ∷ os)))) here (starts_of (o ∷ os)) above t f.tree_is f.fits
+        rw (f.reply_is) (sym (reply_faults-seen s vars introspected introspection_type (λ y f args. answered (introspect s y f args))
+        (rooted_concrete top concrete) (rooted_answer top s answer) own-types
+        (λ place to U n. failures (introspection_world s vars) d place to U n (occurrences (is_possible s) U (all_below (o ∷ os))))
+        (λ place to U n. failures V d place to U n (occurrences (is_possible s) U (all_below (o ∷ os))))
+        (λ place to U y. failures-alike d place to U y (occurrences (is_possible s) U (all_below (o ∷ os)))) here (starts_of (o ∷ os)) above t
+        (answered f.tree_is))
+        ∙ faults-none s x vars (λ place to U n. failures (introspection_world s vars) d place to U n (occurrences (is_possible s) U (all_below (o ∷ os)))) here
+        (starts_of (o ∷ os)) above t f.tree_is f.fits
         (λ place to n k p. never s x vars d n k (occurrences (is_possible s) (introspection_type n) (all_below (o ∷ os)))
-        (agree-all s x vars d (introspection_type n) (o ∷ os) (λ u v i j. g.agree u v i j (introspection_type n) (subst (λ z. IsTrue (is_possible s (introspection_type n) (innermost (declared_type (field_of s s.query z))))) (g.same o u (inl refl) i) p)))
+        (agree-all s x vars d (introspection_type n) (o ∷ os) (λ u v i j. g.agree u v i j (introspection_type n)
+        (subst (λ z. IsTrue (is_possible s (introspection_type n) (innermost (declared_type (field_of s s.query z))))) (g.same o u (inl refl) i) p)))
         (declared-below s x vars d s.query (introspection_type n) o (o ∷ os) (λ u i. g.same u o i (inl refl)) g.declared p) place to))
 
-  root-asks : (f : Name) (args : Members) → is_introspection f ≡ true → rooted_answer top s answer root f args ≡ answered (map_tree introspected (answer_at f (root_answers s args)))
+  root-asks : (f : Name) (args : Members) → is_introspection f ≡ true →
+      rooted_answer top s answer root f args ≡ answered (map_tree introspected (answer_at f (root_answers s args)))
   unfolding rooted_answer user_reply
   root-asks f args i = rw i refl
 
-  users-ask : (m : RootedNode N) → is_users m ≡ true → (f : Name) (args : Members) → is_introspection f ≡ true → rooted_answer top s answer m f args ≡ answered (map_tree introspected (answer_at f (root_answers s args)))
+  users-ask : (m : RootedNode N) → is_users m ≡ true → (f : Name) (args : Members) → is_introspection f ≡ true →
+      rooted_answer top s answer m f args ≡ answered (map_tree introspected (answer_at f (root_answers s args)))
   unfolding rooted_answer user_reply is_users
   users-ask root u f args i = rw i refl
   users-ask (user n) u f args i = rw i refl
   users-ask (introspected y) u f args i = absurd (both_ways false refl u)
 
-  pub adds-none : (m : RootedNode N) → is_users m ≡ true → (d : ℕ) (os : List Occurrence) → Agree V (suc d) s.query os → AreDeclared s (suc d) s.query os → (k : Name) → list_all asks_schema (with_key k os) ≡ true → (here above : Place) →
+  pub adds-none : (m : RootedNode N) → is_users m ≡ true → (d : ℕ) (os : List Occurrence) → Agree V (suc d) s.query os → AreDeclared s (suc d) s.query os →
+      (k : Name) → list_all asks_schema (with_key k os) ≡ true → (here above : Place) →
       key_failures V (failures V d) here above s.query m (with_key k os) ≡ []
   unfolding world_of introspection_world
-  adds-none m u d os c a k e here above = root-group-none m (users-ask m u) d (with_key k os) (group-of s x vars d s.query k os c a) (λ o i. all-in asks_schema (with_key k os) o e i) here above
+  adds-none m u d os c a k e here above =
+      root-group-none m (users-ask m u) d (with_key k os) (group-of s x vars d s.query k os c a) (λ o i. all-in asks_schema (with_key k os) o e i) here above
 
-  root-never : (d : ℕ) (os : List Occurrence) → Agree V d s.query os → AreDeclared s d s.query os → list_all asks_schema os ≡ true → (here above : Place) → failures V d here above s.query root os ≡ []
+  root-never : (d : ℕ) (os : List Occurrence) → Agree V d s.query os → AreDeclared s d s.query os → list_all asks_schema os ≡ true → (here above : Place) →
+      failures V d here above s.query root os ≡ []
   unfolding failures world_of introspection_world
   root-never zero os c a k here above = refl
-  root-never (suc d) os c a k here above = flat-none s x vars (λ k. key_failures V (failures V d) (here ++ key k ∷ []) above s.query root (with_key k os)) (keys os)
-      (λ n. root-group-none root root-asks d (with_key n os) (group-of s x vars d s.query n os c a) (λ o i. all-in asks_schema os o k (in_with_key o n os i).0) (here ++ key n ∷ []) above)
+  root-never (suc d) os c a k here above =
+      flat-none s x vars (λ k. key_failures V (failures V d) (here ++ key k ∷ []) above s.query root (with_key k os)) (keys os)
+      (λ n. root-group-none root root-asks d (with_key n os) (group-of s x vars d s.query n os c a) (λ o i. all-in asks_schema os o k (in_with_key o n os i).0)
+      (here ++ key n ∷ []) above)
 
 pub looking_never_fails : {N : Type 0} → LookingNeverFails N
 unfolding failures_of world_of rooted_world root_type
 looking_never_fails s e disabled n given read d o vars r is_query looks top concrete answer =
-    let a = runs_agree s disabled n given read d o vars r e (rooted_concrete top concrete) (rooted_answer top s answer) s.query (subst (λ k. root_type s k ≡ Some s.query) (sym is_query) refl) (depth (selected d o vars)) in
-    root-never s (executable s e) vars top concrete answer (depth (selected d o vars)) (occurrences (is_possible s) s.query (selected d o vars)) a.0 a.1 looks [] []
+    let a = runs_agree s disabled n given read d o vars r e (rooted_concrete top concrete) (rooted_answer top s answer) s.query
+    (subst (λ k. root_type s k ≡ Some s.query) (sym is_query) refl) (depth (selected d o vars)) in
+    root-never s (executable s e) vars top concrete answer (depth (selected d o vars)) (occurrences (is_possible s) s.query (selected d o vars)) a.0 a.1 looks
+    [] []
 
 pub introspection_adds_none : {N : Type 0} → IntrospectionAddsNone N
 unfolding rooted_world
-introspection_adds_none s e vars top concrete answer m u d os c a k looks here above = adds-none s (executable s e) vars top concrete answer m u d os c a k looks here above
+introspection_adds_none s e vars top concrete answer m u d os c a k looks here above =
+    adds-none s (executable s e) vars top concrete answer m u d os c a k looks here above

@@ -67,46 +67,57 @@ wider_items = with_entries (entry_of (codes "K") (interface_type (plain_field (c
     ∷ object_p (codes "K") (plain_field (codes "a") [] (all (may (codes "Character"))) ∷ []) ∷ [])
 
 abbrev no_argument : Schema
-no_argument = with_entries (entry_of (codes "K") (interface_type (plain_field (codes "a") (plain_input (codes "n") (may (codes "Int")) ∷ []) (may (codes "Droid")) ∷ []) [])
+no_argument = with_entries (entry_of (codes "K") (interface_type
+    (plain_field (codes "a") (plain_input (codes "n") (may (codes "Int")) ∷ []) (may (codes "Droid")) ∷ []) [])
     ∷ object_p (codes "K") (a_of (codes "Droid") ∷ []) ∷ [])
 
 abbrev no_field : Schema
 no_field = with_entries (interface_k (codes "Character") ∷ object_p (codes "K") [] ∷ [])
 
-fields : (is_executable keeping ≡ true) × (loses_object (codes "a") (codes "Droid") keeping ≡ false) × (loses_object (codes "a") (codes "Human") keeping ≡ false)
+fields : (is_executable keeping ≡ true) × (loses_object (codes "a") (codes "Droid") keeping ≡ false)
+    × (loses_object (codes "a") (codes "Human") keeping ≡ false)
     × (is_executable other_type ≡ false) × (loses_object (codes "a") (codes "Cell") other_type ≡ true)
     × (is_executable wider_type ≡ false) × (loses_object (codes "a") (codes "Human") wider_type ≡ true)
     × (is_executable wider_items ≡ false) × (loses_object (codes "a") (codes "Human") wider_items ≡ true)
     × (is_executable no_argument ≡ false) × (loses_argument (codes "n") no_argument ≡ true)
     × (is_executable no_field ≡ false) × (loses_field (codes "P") (codes "K") (codes "a") no_field ≡ true)
-unfolding outcome asking_on loses_object loses_field loses_argument Rattle.graphql_spec.specs.Tokens.is_name Rattle.graphql_spec.specs.Tokens.starts_name Rattle.graphql_spec.specs.Tokens.continues_name
+unfolding outcome asking_on loses_object loses_field loses_argument Rattle.graphql_spec.specs.Tokens.is_name Rattle.graphql_spec.specs.Tokens.starts_name
+    Rattle.graphql_spec.specs.Tokens.continues_name
 fields = (refl, refl, refl, refl, refl, refl, refl, refl, refl, refl, refl, refl, refl)
 
 -- a union with an interface among its members; an interface whose own interface is not listed with it
 abbrev wide_union : Schema
-wide_union = with_entries (entry_of (codes "U") (union_type (codes "Character" ∷ [])) ∷ interface_k (codes "U") ∷ object_p (codes "K") (a_of (codes "Character") ∷ []) ∷ [])
+wide_union = with_entries (entry_of (codes "U") (union_type (codes "Character" ∷ [])) ∷ interface_k (codes "U")
+    ∷ object_p (codes "K") (a_of (codes "Character") ∷ []) ∷ [])
 
 abbrev half_listed : Schema
-half_listed = with_entries (entry_of (codes "J") (interface_type [] []) ∷ entry_of (codes "I") (interface_type [] (codes "J" ∷ [])) ∷ entry_of (codes "Q") (object_type [] (codes "I" ∷ []))
+half_listed = with_entries (entry_of (codes "J") (interface_type [] []) ∷ entry_of (codes "I") (interface_type [] (codes "J" ∷ []))
+    ∷ entry_of (codes "Q") (object_type [] (codes "I" ∷ []))
     ∷ interface_k (codes "J") ∷ object_p (codes "K") (a_of (codes "I") ∷ []) ∷ [])
 
-subtypes : (is_executable wide_union ≡ false) × (loses_type (codes "Droid") (codes "Character") (codes "U") wide_union ≡ true) × (loses_object (codes "a") (codes "Droid") wide_union ≡ true)
-    × (is_executable half_listed ≡ false) × (loses_type (codes "Q") (codes "I") (codes "J") half_listed ≡ true) × (loses_object (codes "a") (codes "Q") half_listed ≡ true)
-unfolding outcome asking_on loses_object loses_type Rattle.graphql_spec.specs.Tokens.is_name Rattle.graphql_spec.specs.Tokens.starts_name Rattle.graphql_spec.specs.Tokens.continues_name
+subtypes : (is_executable wide_union ≡ false) × (loses_type (codes "Droid") (codes "Character") (codes "U") wide_union ≡ true)
+    × (loses_object (codes "a") (codes "Droid") wide_union ≡ true)
+    × (is_executable half_listed ≡ false) × (loses_type (codes "Q") (codes "I") (codes "J") half_listed ≡ true)
+    × (loses_object (codes "a") (codes "Q") half_listed ≡ true)
+unfolding outcome asking_on loses_object loses_type Rattle.graphql_spec.specs.Tokens.is_name Rattle.graphql_spec.specs.Tokens.starts_name
+    Rattle.graphql_spec.specs.Tokens.continues_name
 subtypes = (refl, refl, refl, refl, refl, refl)
 
 -- an object type that lists another one; an interface as the query type; `__typename` of another type
 abbrev object_listed : Schema
-object_listed = with_entries (object_p (codes "Cell") (plain_field (codes "a") [] (must (codes "Int")) ∷ plain_field (codes "b") [] (must (codes "Int")) ∷ typename_last ∷ []) ∷ [])
+object_listed = with_entries (object_p (codes "Cell") (plain_field (codes "a") [] (must (codes "Int")) ∷ plain_field (codes "b") [] (must (codes "Int"))
+    ∷ typename_last ∷ []) ∷ [])
 
 abbrev wide_query : Schema
 wide_query = asking_on (codes "Character") []
 
 abbrev other_typename : Schema
-other_typename = with_entries (interface_k (codes "Character") ∷ object_p (codes "K") (a_of (codes "Character") ∷ plain_field (codes "__typename") [] (must (codes "Cell")) ∷ []) ∷ [])
+other_typename = with_entries (interface_k (codes "Character") ∷ object_p (codes "K")
+    (a_of (codes "Character") ∷ plain_field (codes "__typename") [] (must (codes "Cell")) ∷ []) ∷ [])
 
 others : (is_executable object_listed ≡ false) × (stands_elsewhere (codes "P") (codes "Cell") object_listed ≡ true)
     × (is_executable wide_query ≡ false) × (loses_field (codes "Droid") (codes "Character") (codes "__schema") wide_query ≡ true)
     × (is_executable other_typename ≡ false) × (loses_object (codes "__typename") (codes "Cell") other_typename ≡ true)
-unfolding outcome asking_on loses_object loses_field stands_elsewhere Rattle.graphql_spec.specs.Tokens.is_name Rattle.graphql_spec.specs.Tokens.starts_name Rattle.graphql_spec.specs.Tokens.continues_name
+unfolding outcome asking_on loses_object loses_field stands_elsewhere Rattle.graphql_spec.specs.Tokens.is_name Rattle.graphql_spec.specs.Tokens.starts_name
+    Rattle.graphql_spec.specs.Tokens.continues_name
 others = (refl, refl, refl, refl, refl, refl)

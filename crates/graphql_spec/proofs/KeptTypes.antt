@@ -104,7 +104,8 @@ with_members (Some (nullable_type t)) m e = absurd (both_ways false refl e)
 with_members (Some placeholder) m e = absurd (both_ways false refl e)
 
 -- a field that is found passes what all pass, and has its name
-field_all : (P : FieldDeclaration → Bool) (fs : List FieldDeclaration) (f : Name) (g : FieldDeclaration) → list_all P fs ≡ true → field_in fs f ≡ Some g → (P g ≡ true) × (f ≡ g.name)
+field_all : (P : FieldDeclaration → Bool) (fs : List FieldDeclaration) (f : Name) (g : FieldDeclaration) → list_all P fs ≡ true → field_in fs f ≡ Some g →
+    (P g ≡ true) × (f ≡ g.name)
 unfolding field_in
 field_all P [] f g a h = cc
 field_all P (x ∷ fs) f g a h = let p = and_parts (P x) (list_all P fs) a in elim (cases_Bool (bytes_eq f x.name)) [
@@ -117,13 +118,15 @@ unfolding field_in
 nowhere f g d = cc
 
 -- a field that is declared is the type's
-declared_field : (s : Schema) (n f : Name) (x : Option Shape) (g : FieldDeclaration) → type_named s n ≡ x → field_in (fields_of x) f ≡ Some g → field_of s n f ≡ Some g
+declared_field : (s : Schema) (n f : Name) (x : Option Shape) (g : FieldDeclaration) → type_named s n ≡ x → field_in (fields_of x) f ≡ Some g →
+    field_of s n f ≡ Some g
 unfolding field_of or_else
 declared_field s n f x g q e = rw (q, e) refl
 
 -- ## Arguments
 
-declaration_passes : (P : InputDeclaration → Bool) (ds : List InputDeclaration) (k : Name) (a : InputDeclaration) → list_all P ds ≡ true → declaration_in ds k ≡ Some a → P a ≡ true
+declaration_passes : (P : InputDeclaration → Bool) (ds : List InputDeclaration) (k : Name) (a : InputDeclaration) → list_all P ds ≡ true →
+    declaration_in ds k ≡ Some a → P a ≡ true
 unfolding declaration_in
 declaration_passes P [] k a p e = cc
 declaration_passes P (d ∷ ds) k a p e = let c = and_parts (P d) (list_all P ds) p in elim (cases_Bool (bytes_eq k d.name)) [
@@ -156,11 +159,13 @@ arguments_refl as' = (
 arguments-kept : (as' bs : List InputDeclaration) → list_all (takes_argument bs) as' ≡ true → list_all (may_be_left_out as') bs ≡ true → KeepsArguments as' bs
 unfolding takes_argument
 arguments-kept as' bs p q = (
-  λ k a e. there k a (declaration_in bs k) refl (subst (λ z. elim (declaration_in bs z) [ None ↦ false | Some x ↦ same_type x.of_type a.of_type ] ≡ true) (sym (declaration_name as' k a e)) (declaration_passes (takes_argument bs) as' k a p e)),
+  λ k a e. there k a (declaration_in bs k) refl (subst (λ z. elim (declaration_in bs z) [ None ↦ false | Some x ↦ same_type x.of_type a.of_type ] ≡ true)
+      (sym (declaration_name as' k a e)) (declaration_passes (takes_argument bs) as' k a p e)),
   λ k b e. declaration_passes (may_be_left_out as') bs k b q e,
 )
   where
-    there : (k : Name) (a : InputDeclaration) (o : Option InputDeclaration) → declaration_in bs k ≡ o → elim o [ None ↦ false | Some x ↦ same_type x.of_type a.of_type ] ≡ true →
+    there : (k : Name) (a : InputDeclaration) (o : Option InputDeclaration) → declaration_in bs k ≡ o →
+        elim o [ None ↦ false | Some x ↦ same_type x.of_type a.of_type ] ≡ true →
         (b : InputDeclaration) × (declaration_in bs k ≡ Some b) × IsTrue (same_type b.of_type a.of_type)
     there k a None w t = absurd (both_ways false refl t)
     there k a (Some b) w t = (b, w, t)
@@ -235,16 +240,26 @@ Possible s T n = (T ≡ n) ⊎ ((list_any (bytes_eq n) (interfaces_of (type_name
 possible_cases : (s : Schema) (T n : Name) → IsTrue (is_possible s T n) → (is_object (type_named s T) ≡ true) × Possible s T n
 unfolding is_possible
 possible_cases s T n p =
-    let a = and_parts (is_object (type_named s T)) _ p in
-    (a.0, elim (or_cases (bytes_eq T n) _ a.1) [ inl q ↦ inl (same_true T n q) | inr q ↦ inr (or_cases (list_any (bytes_eq n) (interfaces_of (type_named s T))) _ q) ])
+    let a = and_parts (is_object (type_named s T)) _ p in (
+      a.0,
+      elim (or_cases (bytes_eq T n) _ a.1) [
+        | inl q ↦ inl (same_true T n q)
+        | inr q ↦
+            inr (or_cases (list_any (bytes_eq n) (interfaces_of (type_named s T))) _ q)
+      ],
+    )
 
-possible_listed : (s : Schema) (T n : Name) → is_object (type_named s T) ≡ true → list_any (bytes_eq n) (interfaces_of (type_named s T)) ≡ true → IsTrue (is_possible s T n)
+possible_listed : (s : Schema) (T n : Name) → is_object (type_named s T) ≡ true → list_any (bytes_eq n) (interfaces_of (type_named s T)) ≡ true →
+    IsTrue (is_possible s T n)
 unfolding is_possible
-possible_listed s T n o e = and_from (is_object (type_named s T)) _ o (or_right (bytes_eq T n) _ (or_left (list_any (bytes_eq n) (interfaces_of (type_named s T))) _ e))
+possible_listed s T n o e =
+    and_from (is_object (type_named s T)) _ o (or_right (bytes_eq T n) _ (or_left (list_any (bytes_eq n) (interfaces_of (type_named s T))) _ e))
 
-possible_member : (s : Schema) (T n : Name) → is_object (type_named s T) ≡ true → list_any (bytes_eq T) (members_of (type_named s n)) ≡ true → IsTrue (is_possible s T n)
+possible_member : (s : Schema) (T n : Name) → is_object (type_named s T) ≡ true → list_any (bytes_eq T) (members_of (type_named s n)) ≡ true →
+    IsTrue (is_possible s T n)
 unfolding is_possible
-possible_member s T n o e = and_from (is_object (type_named s T)) _ o (or_right (bytes_eq T n) _ (or_right (list_any (bytes_eq n) (interfaces_of (type_named s T))) _ e))
+possible_member s T n o e =
+    and_from (is_object (type_named s T)) _ o (or_right (bytes_eq T n) _ (or_right (list_any (bytes_eq n) (interfaces_of (type_named s T))) _ e))
 
 module _ (s : Schema) (k : Kept s) where
   -- a union's members are objects
@@ -253,11 +268,13 @@ module _ (s : Schema) (k : Kept s) where
   member_is_object T n e = elim (options (entry_in s.entries n)) [
     | inl q ↦ absurd (both_ways false refl (rw (introspection_joins_none n) at (rw q at e)))
     | inr (x, q) ↦ let z : list_any (bytes_eq T) (members_of (Some x.shape)) ≡ true = rw q at e in
-        any_in (λ m. is_object (entry_named s m)) T (members_of (Some x.shape)) z (members_pass s x.shape (entry_all (λ e. entry_names_differ s e.shape) s.entries n x k.all_differ q))
+        any_in (λ m. is_object (entry_named s m)) T (members_of (Some x.shape)) z
+        (members_pass s x.shape (entry_all (λ e. entry_names_differ s e.shape) s.entries n x k.all_differ q))
   ]
 
   -- an interface's own interfaces are listed with it
-  lists_further : (T a b : Name) → list_any (bytes_eq a) (interfaces_of (type_named s T)) ≡ true → list_any (bytes_eq b) (interfaces_of (type_named s a)) ≡ true →
+  lists_further : (T a b : Name) → list_any (bytes_eq a) (interfaces_of (type_named s T)) ≡ true →
+      list_any (bytes_eq b) (interfaces_of (type_named s a)) ≡ true →
       list_any (bytes_eq b) (interfaces_of (type_named s T)) ≡ true
   unfolding implements
   lists_further T a b i j =
@@ -292,12 +309,14 @@ module _ (s : Schema) (k : Kept s) where
 
   not_query : (n : Name) → is_object (type_named s n) ≡ false → bytes_eq n s.query ≡ false
   not_query n o = elim (cases_Bool (bytes_eq n s.query)) [
-    | inl q ↦ absurd (both_ways (is_object (type_named s n)) o (subst (λ z. is_object (type_named s z) ≡ true) (sym (same_true n s.query q)) (object_type_named s s.query query_is_object)))
+    | inl q ↦ absurd (both_ways (is_object (type_named s n)) o (subst (λ z. is_object (type_named s z) ≡ true) (sym (same_true n s.query q))
+        (object_type_named s s.query query_is_object)))
     | inr q ↦ q
   ]
 
   -- what is no object has beside its declared fields `__typename` alone
-  meta_typename : (n f : Name) (g : FieldDeclaration) → is_object (type_named s n) ≡ false → field_in (meta_fields s n) f ≡ Some g → (f ≡ typename) × IsTypename g
+  meta_typename : (n f : Name) (g : FieldDeclaration) → is_object (type_named s n) ≡ false → field_in (meta_fields s n) f ≡ Some g →
+      (f ≡ typename) × IsTypename g
   unfolding meta_fields field_in typename_field plain_field
   meta_typename n f g o e = elim (cases_Bool (is_composite (type_named s n))) [
     | inl c ↦ let e' = rw c at e in elim (cases_Bool (bytes_eq f typename)) [
@@ -308,16 +327,19 @@ module _ (s : Schema) (k : Kept s) where
   ]
 
   -- where it is declared, `__typename` is a `String!`
-  typename_string : (T : Name) (x : Entry) → entry_in s.entries T ≡ Some x → (h : FieldDeclaration) → field_in (fields_of (Some x.shape)) typename ≡ Some h → IsTypename h
+  typename_string : (T : Name) (x : Entry) → entry_in s.entries T ≡ Some x → (h : FieldDeclaration) → field_in (fields_of (Some x.shape)) typename ≡ Some h →
+      IsTypename h
   unfolding entries_are_named shape_fields field_is_free is_typename_field is_reserved
   typename_string T x q h e =
       let a = field_all field_is_free (fields_of (Some x.shape)) typename h (fields_are_free x (entry_all entry_is_named s.entries T x k.are_named q)) e in
       let b = and_parts (not (is_reserved h.name) || is_typename_field h) _ a.0 in
       let c : (same_type h.of_type (named true (codes "String")) && no_declarations h.arguments) ≡ true = rw (sym a.1) at b.0 in
-      let d = and_parts (same_type h.of_type (named true (codes "String"))) _ c in record { is_string = as_string h.of_type d.0; takes_nothing = none_declared h.arguments d.1 }
+      let d = and_parts (same_type h.of_type (named true (codes "String"))) _ c in
+      record { is_string = as_string h.of_type d.0; takes_nothing = none_declared h.arguments d.1 }
 
   -- an object type with an entry has a field `__typename: String!`
-  has_typename : (T : Name) (x : Entry) → is_object (type_named s T) ≡ true → entry_in s.entries T ≡ Some x → (h : FieldDeclaration) × (field_of s T typename ≡ Some h) × IsTypename h
+  has_typename : (T : Name) (x : Entry) → is_object (type_named s T) ≡ true → entry_in s.entries T ≡ Some x →
+      (h : FieldDeclaration) × (field_of s T typename ≡ Some h) × IsTypename h
   unfolding field_of or_else meta_fields field_in typename_field plain_field
   has_typename T x o q = elim (options (field_in (fields_of (type_named s T)) typename)) [
     | inl e ↦ (typename_field, rw (e, object_is_composite (type_named s T) o) refl, typename_is)
@@ -328,7 +350,8 @@ module _ (s : Schema) (k : Kept s) where
   abbrev Keeps : Name → Name → FieldDeclaration → Type 0
   Keeps T f g = (h : FieldDeclaration) × (field_of s T f ≡ Some h) × IsTrue (is_subtype s h.of_type g.of_type) × KeepsArguments g.arguments h.arguments
 
-  keeps_typename : (T n f : Name) (x : Entry) (g : FieldDeclaration) → is_object (type_named s T) ≡ true → entry_in s.entries T ≡ Some x → is_object (type_named s n) ≡ false →
+  keeps_typename : (T n f : Name) (x : Entry) (g : FieldDeclaration) → is_object (type_named s T) ≡ true → entry_in s.entries T ≡ Some x →
+      is_object (type_named s n) ≡ false →
       field_in (meta_fields s n) f ≡ Some g → Keeps T f g
   keeps_typename T n f x g o q i e =
       let m = meta_typename n f g i e in let h = has_typename T x o q in (
@@ -338,7 +361,8 @@ module _ (s : Schema) (k : Kept s) where
         subst (λ z. KeepsArguments z h.0.arguments) (h.2.takes_nothing ∙ sym m.1.takes_nothing) (arguments_refl h.0.arguments),
       )
 
-  keeps_by : (T f : Name) (g : FieldDeclaration) (x : Entry) → entry_in s.entries T ≡ Some x → (o : Option FieldDeclaration) → field_in (fields_of (Some x.shape)) f ≡ o →
+  keeps_by : (T f : Name) (g : FieldDeclaration) (x : Entry) → entry_in s.entries T ≡ Some x → (o : Option FieldDeclaration) →
+      field_in (fields_of (Some x.shape)) f ≡ o →
       implements_field s o g ≡ true → Keeps T f g
   unfolding implements_field
   keeps_by T f g x q None w i = absurd (both_ways false refl i)
@@ -356,7 +380,8 @@ module _ (s : Schema) (k : Kept s) where
       let r = and_parts _ (list_all (λ g. implements_field s (field_in (fields_of (Some m.entry.shape)) g.name) g) (fields_of (entry_named s n))) q.1 in
       let a = field_all (λ g. implements_field s (field_in (fields_of (Some m.entry.shape)) g.name) g) (fields_of (entry_named s n)) f g r.1
       (subst (λ z. field_in (fields_of z) f ≡ Some g) (interface_entry s n p.0) e) in
-      keeps_by T f g m.entry m.entry_is (field_in (fields_of (Some m.entry.shape)) f) refl (subst (λ z. implements_field s (field_in (fields_of (Some m.entry.shape)) z) g ≡ true) (sym a.1) a.0)
+      keeps_by T f g m.entry m.entry_is (field_in (fields_of (Some m.entry.shape)) f) refl
+      (subst (λ z. implements_field s (field_in (fields_of (Some m.entry.shape)) z) g ≡ true) (sym a.1) a.0)
 
   fields-kept : (T n f : Name) (g : FieldDeclaration) → IsTrue (is_possible s T n) → field_of s n f ≡ Some g → Keeps T f g
   unfolding field_of
@@ -391,7 +416,8 @@ pub schemas_keep_types : {N : Type 0} → SchemasKeepTypes N
 unfolding world_of declared_type
 schemas_keep_types s e vars concrete answer = record {
   alone = λ U n p o. objects_stand_alone s e U n p o;
-  alike = λ U h i q a. rw q (same_arguments_seen (declared_arguments (field_of s U i.name.item)) vars (written h.arguments) (written i.arguments) a.first_differ a.second_differ a.same);
+  alike = λ U h i q a. rw q (same_arguments_seen (declared_arguments (field_of s U i.name.item)) vars (written h.arguments)
+      (written i.arguments) a.first_differ a.second_differ a.same);
   narrower = λ U n f V p d v. narrow U n f V p v (options (field_of s n f)) d;
 }
   where

@@ -41,12 +41,14 @@ module _ (d : Document) (good : (x : Definition) → In x d → spreads_itself d
   unfolding spreads_itself
   kept-apart n k f l e =
       let p = found-fragment d k f e in
-      let g : list_any (λ i. bytes_eq f.name.item i || reaches (fragments d) (length (fragments d)) i f.name.item) (spreads f.selections) ≡ false = good (fragment f) p.0 in
+      let g : list_any (λ i. bytes_eq f.name.item i || reaches (fragments d) (length (fragments d)) i f.name.item) (spreads f.selections)
+      ≡ false = good (fragment f) p.0 in
       let h : list_any (λ i. bytes_eq k i || reaches (fragments d) (length (fragments d)) i k) (spreads f.selections) ≡ false =
       subst (λ z. list_any (λ i. bytes_eq z i || reaches (fragments d) (length (fragments d)) i z) (spreads f.selections) ≡ false) (sym p.1) g in
       false_from_ne_true _ (λ t.
       let w = any-where (λ i. bytes_eq k i || reaches (fragments d) n i k) (spreads f.selections) t in
-      let q = or_parts (bytes_eq k w.0) (reaches (fragments d) (length (fragments d)) w.0 k) (any-at (λ i. bytes_eq k i || reaches (fragments d) (length (fragments d)) i k) (spreads f.selections) w.0 h w.1) in
+      let q = or_parts (bytes_eq k w.0) (reaches (fragments d) (length (fragments d)) w.0 k)
+      (any-at (λ i. bytes_eq k i || reaches (fragments d) (length (fragments d)) i k) (spreads f.selections) w.0 h w.1) in
       let later : reaches (fragments d) n w.0 k ≡ true = ap (λ b. b || reaches (fragments d) n w.0 k) (sym q.0) ∙ w.2 in
       both_ways (reaches (fragments d) (length (fragments d)) w.0 k) q.1 (reach-more (fragments d) n (length (fragments d)) w.0 k (omega (arith, l)) later))
 
@@ -78,4 +80,5 @@ there (Some x) e = (x, refl)
 pub names_know_spreads : NamesKnowSpreads
 unfolding spreads_unknown
 names_know_spreads s disabled d e x i k j =
-    is-there (fragment_of (fragments d) k) (any-at (λ k. is_none (fragment_of (fragments d) k)) (spreads (selections_of x)) k (names-hold s disabled d e x i).spreads_known j)
+    is-there (fragment_of (fragments d) k) (any-at (λ k. is_none (fragment_of (fragments d) k)) (spreads (selections_of x)) k
+    (names-hold s disabled d e x i).spreads_known j)

@@ -165,7 +165,8 @@ module _ (s : Schema) (x : Executable s) where
 
   output-known : (t : TypeRef) → ends_in_output s t ≡ true → knows s (innermost t) ≡ true
   unfolding ends_in_output is_leaf is_composite
-  output-known t e = elim (or_cases (is_leaf (entry_named s (innermost t))) _ e) [ inl a ↦ test-known is_leaf (innermost t) refl a | inr a ↦ test-known is_composite (innermost t) refl a ]
+  output-known t e = elim (or_cases (is_leaf (entry_named s (innermost t))) _ e)
+      [ inl a ↦ test-known is_leaf (innermost t) refl a | inr a ↦ test-known is_composite (innermost t) refl a ]
 
   field-known : (f : FieldDeclaration) → field_is_known s f ≡ true → knows_field s f ≡ true
   unfolding field_is_known knows_field
@@ -176,10 +177,12 @@ module _ (s : Schema) (x : Executable s) where
 
   -- the names that they speak of
   spoken : List Name
-  spoken = codes "String" ∷ codes "Boolean" ∷ codes "__Schema" ∷ codes "__Type" ∷ codes "__Field" ∷ codes "__InputValue" ∷ codes "__EnumValue" ∷ codes "__Directive" ∷ codes "__TypeKind" ∷ codes "__DirectiveLocation" ∷ []
+  spoken = codes "String" ∷ codes "Boolean" ∷ codes "__Schema" ∷ codes "__Type" ∷ codes "__Field" ∷ codes "__InputValue" ∷ codes "__EnumValue"
+      ∷ codes "__Directive" ∷ codes "__TypeKind" ∷ codes "__DirectiveLocation" ∷ []
 
   -- a scalar that takes texts or booleans
-  scalar-of : (i t b : Bool) (o : Option Shape) → accepts_just i t b o ≡ true → (k : ScalarKinds) × (u : Option (List ℕ)) × (o ≡ Some (scalar_type k u)) × (same_bool t k.text ≡ true) × (same_bool b k.boolean ≡ true)
+  scalar-of : (i t b : Bool) (o : Option Shape) → accepts_just i t b o ≡ true →
+      (k : ScalarKinds) × (u : Option (List ℕ)) × (o ≡ Some (scalar_type k u)) × (same_bool t k.text ≡ true) × (same_bool b k.boolean ≡ true)
   unfolding accepts_just
   scalar-of i t b (Some (scalar_type k u)) e =
       let p = and_parts (same_bool i k.int) _ e in
@@ -236,12 +239,17 @@ module _ (s : Schema) (x : Executable s) where
   reserved-known n r e = rw (reserved-free n r) e
 
   spoken-known : list_all (knows s) spoken ≡ true
-  unfolding spoken is_reserved declared_kind shape_of entry_in introspection_types schema_type type_type field_type input_value_type enum_value_type directive_type type_kind_type location_type object_entry enum_entry
+  unfolding spoken is_reserved declared_kind shape_of entry_in introspection_types schema_type type_type field_type input_value_type enum_value_type
+      directive_type type_kind_type location_type object_entry enum_entry
   spoken-known = and_from (knows s (codes "String")) _ string-known (and_from (knows s (codes "Boolean")) _ boolean-known
-      (and_from (knows s (codes "__Schema")) _ (reserved-known (codes "__Schema") refl refl) (and_from (knows s (codes "__Type")) _ (reserved-known (codes "__Type") refl refl)
-      (and_from (knows s (codes "__Field")) _ (reserved-known (codes "__Field") refl refl) (and_from (knows s (codes "__InputValue")) _ (reserved-known (codes "__InputValue") refl refl)
-      (and_from (knows s (codes "__EnumValue")) _ (reserved-known (codes "__EnumValue") refl refl) (and_from (knows s (codes "__Directive")) _ (reserved-known (codes "__Directive") refl refl)
-      (and_from (knows s (codes "__TypeKind")) _ (reserved-known (codes "__TypeKind") refl refl) (and_from (knows s (codes "__DirectiveLocation")) _ (reserved-known (codes "__DirectiveLocation") refl refl) refl)))))))))
+      (and_from (knows s (codes "__Schema")) _ (reserved-known (codes "__Schema") refl refl)
+      (and_from (knows s (codes "__Type")) _ (reserved-known (codes "__Type") refl refl)
+      (and_from (knows s (codes "__Field")) _ (reserved-known (codes "__Field") refl refl)
+      (and_from (knows s (codes "__InputValue")) _ (reserved-known (codes "__InputValue") refl refl)
+      (and_from (knows s (codes "__EnumValue")) _ (reserved-known (codes "__EnumValue") refl refl)
+      (and_from (knows s (codes "__Directive")) _ (reserved-known (codes "__Directive") refl refl)
+      (and_from (knows s (codes "__TypeKind")) _ (reserved-known (codes "__TypeKind") refl refl)
+      (and_from (knows s (codes "__DirectiveLocation")) _ (reserved-known (codes "__DirectiveLocation") refl refl) refl)))))))))
 
   pub is_spoken : Name → Bool
   is_spoken n = list_any (bytes_eq n) spoken
@@ -257,14 +265,18 @@ module _ (s : Schema) (x : Executable s) where
   speaks-field : (f : FieldDeclaration) → speaks_field f ≡ true → knows_field s f ≡ true
   unfolding speaks_field knows_field knows_input
   speaks-field f e = let a = and_parts (is_spoken (innermost f.of_type)) _ e in
-      and_from (knows s (innermost f.of_type)) _ (spoken-is (innermost f.of_type) a.0) (all-more (λ d. is_spoken (innermost d.of_type)) (knows_input s) f.arguments (λ d p. spoken-is (innermost d.of_type) p) a.1)
+      and_from (knows s (innermost f.of_type)) _ (spoken-is (innermost f.of_type) a.0)
+      (all-more (λ d. is_spoken (innermost d.of_type)) (knows_input s) f.arguments (λ d p. spoken-is (innermost d.of_type) p) a.1)
 
   introspection-keys : list_all (λ e. is_spoken e.key) introspection_types ≡ true
-  unfolding is_spoken spoken introspection_types schema_type type_type field_type input_value_type enum_value_type directive_type type_kind_type location_type object_entry enum_entry
+  unfolding is_spoken spoken introspection_types schema_type type_type field_type input_value_type enum_value_type directive_type type_kind_type location_type
+      object_entry enum_entry
   introspection-keys = refl
 
   introspection-fields : list_all (λ e. list_all speaks_field (shape_fields e.shape)) introspection_types ≡ true
-  unfolding is_spoken spoken speaks_field shape_fields fields_of innermost introspection_types schema_type type_type field_type input_value_type enum_value_type directive_type type_kind_type location_type object_entry enum_entry plain_field plain_input field_without old_flag include_deprecated maybe must maybe_all must_all
+  unfolding is_spoken spoken speaks_field shape_fields fields_of innermost introspection_types schema_type type_type field_type input_value_type enum_value_type
+      directive_type type_kind_type location_type object_entry enum_entry plain_field plain_input field_without old_flag include_deprecated maybe must maybe_all
+      must_all
   introspection-fields = refl
 
   pub in-introspection : (e : Entry) → In e introspection_types → knows s e.key ≡ true
@@ -292,23 +304,29 @@ module _ (s : Schema) (x : Executable s) where
   entry-speaks : (n : Name) (e : Entry) → entry_in s.entries n ≡ Some e → Speaks (Some e.shape)
   unfolding types_are_known all_names_differ entry_names_differ interfaces_are_met implements inputs_of shape_fields
   entry-speaks n e h =
-      let a = and_parts (list_all (field_is_known s) (shape_fields e.shape)) _ (entry_all (λ z. list_all (field_is_known s) (shape_fields z.shape) && list_all (ends_in_input s) (input_fields_of z.shape)) s.entries n e x.are_known h) in
-      let b : list_all (implements s e.key e.shape) (interfaces_of (Some e.shape)) ≡ true = entry_all (λ z. list_all (implements s z.key z.shape) (interfaces_of (Some z.shape))) s.entries n e x.met h in record {
+      let a = and_parts (list_all (field_is_known s) (shape_fields e.shape)) _
+      (entry_all (λ z. list_all (field_is_known s) (shape_fields z.shape) && list_all (ends_in_input s) (input_fields_of z.shape)) s.entries n e x.are_known
+      h) in
+      let b : list_all (implements s e.key e.shape) (interfaces_of (Some e.shape))
+      ≡ true = entry_all (λ z. list_all (implements s z.key z.shape) (interfaces_of (Some z.shape))) s.entries n e x.met h in record {
         fields = all-more (field_is_known s) (knows_field s) (fields_of (Some e.shape)) field-known a.0;
-        interfaces = all-more (implements s e.key e.shape) (knows s) (interfaces_of (Some e.shape)) (λ i p. interface-known i (and_parts (is_interface (entry_named s i)) _ p).0) b;
+        interfaces = all-more (implements s e.key e.shape) (knows s) (interfaces_of (Some e.shape))
+            (λ i p. interface-known i (and_parts (is_interface (entry_named s i)) _ p).0) b;
         members = all-more (λ m. is_object (entry_named s m)) (knows s) (members_of (Some e.shape)) object-known
             (members-last e.shape (entry_all (λ z. entry_names_differ s z.shape) s.entries n e x.all_differ h));
         inputs = all-more (ends_in_input s) (knows_input s) (input_fields_of e.shape) input-known a.1;
       }
 
   no-inputs : list_all (λ e. no_inputs (input_fields_of e.shape)) introspection_types ≡ true
-  unfolding no_inputs input_fields_of introspection_types schema_type type_type field_type input_value_type enum_value_type directive_type type_kind_type location_type object_entry enum_entry
+  unfolding no_inputs input_fields_of introspection_types schema_type type_type field_type input_value_type enum_value_type directive_type type_kind_type
+      location_type object_entry enum_entry
   no-inputs = refl
 
   introspection-speaks : (n : Name) (e : Entry) → entry_in introspection_types n ≡ Some e → Speaks (Some e.shape)
   unfolding inputs_of shape_fields shape_of
   introspection-speaks n e h = record {
-    fields = all-more speaks_field (knows_field s) (fields_of (Some e.shape)) speaks-field (entry_all (λ z. list_all speaks_field (shape_fields z.shape)) introspection_types n e introspection-fields h);
+    fields = all-more speaks_field (knows_field s) (fields_of (Some e.shape)) speaks-field
+        (entry_all (λ z. list_all speaks_field (shape_fields z.shape)) introspection_types n e introspection-fields h);
     interfaces = subst (λ z. list_all (knows s) z ≡ true) (sym (subst (λ z. interfaces_of (shape_of z) ≡ []) h (introspection_lists_none n))) refl;
     members = subst (λ z. list_all (knows s) z ≡ true) (sym (subst (λ z. members_of (shape_of z) ≡ []) h (introspection_joins_none n))) refl;
     inputs = none-passes (knows_input s) (input_fields_of e.shape) (entry_all (λ z. no_inputs (input_fields_of z.shape)) introspection_types n e no-inputs h);
@@ -327,7 +345,8 @@ module _ (s : Schema) (x : Executable s) where
   ]
 
   introspection-kinds : list_all (λ e. is_some (declared_kind (Some e.shape))) introspection_types ≡ true
-  unfolding declared_kind introspection_types schema_type type_type field_type input_value_type enum_value_type directive_type type_kind_type location_type object_entry enum_entry
+  unfolding declared_kind introspection_types schema_type type_type field_type input_value_type enum_value_type directive_type type_kind_type location_type
+      object_entry enum_entry
   introspection-kinds = refl
 
   -- what is declared is of some kind

@@ -25,7 +25,8 @@ all-in test [] x e i = absurd i
 all-in test (z ∷ xs) x e (inl q) = ap test q ∙ (and_parts (test z) (list_all test xs) e).0
 all-in test (z ∷ xs) x e (inr i) = all-in test xs x (and_parts (test z) (list_all test xs) e).1 i
 
-each_two-in : (R : Field → Field → Bool) (xs : List Field) → each_two R xs ≡ true → (x y : Field) → In x xs → In y xs → (x ≡ y) ⊎ ((R x y ≡ true) ⊎ (R y x ≡ true))
+each_two-in : (R : Field → Field → Bool) (xs : List Field) → each_two R xs ≡ true → (x y : Field) → In x xs → In y xs →
+    (x ≡ y) ⊎ ((R x y ≡ true) ⊎ (R y x ≡ true))
 unfolding each_two
 each_two-in R [] e x y i j = absurd i
 each_two-in R (z ∷ xs) e x y (inl p) (inl q) = inl (p ∙ sym q)
@@ -39,7 +40,8 @@ past-not a b e o = rw e at o
 module _ (s : Schema) where
   -- two fields of one response key are one, or can be merged in one order or the other
   abbrev Pairs : ℕ → List Field → Type 0
-  Pairs n xs = (x y : Field) → In x xs → In y xs → response_key x.occurrence.head ≡ response_key y.occurrence.head → (x ≡ y) ⊎ ((merge s n x y ≡ true) ⊎ (merge s n y x ≡ true))
+  Pairs n xs = (x y : Field) → In x xs → In y xs → response_key x.occurrence.head ≡ response_key y.occurrence.head →
+      (x ≡ y) ⊎ ((merge s n x y ≡ true) ⊎ (merge s n y x ≡ true))
 
   keys-same : (x y : Field) → response_key x.occurrence.head ≡ response_key y.occurrence.head → same_key x y ≡ true
   unfolding same_key
@@ -140,7 +142,8 @@ module _ (s : Schema) where
 
   inside-right : (n : ℕ) (x : Field) → RightField x → depth x.occurrence.below ≤ n → RightFields n (below_of x)
   unfolding fields_below
-  inside-right n x r l = less-right (depth x.occurrence.below) n (below_of x) l (right-fields (type_below s x.parent x.occurrence.head.name.item) x.occurrence.below r.inside)
+  inside-right n x r l =
+      less-right (depth x.occurrence.below) n (below_of x) l (right-fields (type_below s x.parent x.occurrence.head.name.item) x.occurrence.below r.inside)
 
   -- a field merges with itself
   alone : (d : ℕ) → MergesTo d → (x : Field) → RightField x → AreMerged d x x
@@ -149,7 +152,8 @@ module _ (s : Schema) where
     refl,
     record { first_differ = r.own.once; second_differ = r.own.once; same = refl },
     ih (depth x.occurrence.below) (below_of x ++ below_of x)
-        (both-right (depth x.occurrence.below) (below_of x) (below_of x) (inside-right (depth x.occurrence.below) x r (omega arith)) (inside-right (depth x.occurrence.below) x r (omega arith)))
+        (both-right (depth x.occurrence.below) (below_of x) (below_of x) (inside-right (depth x.occurrence.below) x r (omega arith))
+        (inside-right (depth x.occurrence.below) x r (omega arith)))
         (λ y z i j. pairs-of (depth x.occurrence.below) (below_of x) r.own.merges y z (once y i) (once z j)),
     r.own.declared,
     r.own.declared,
@@ -159,7 +163,8 @@ module _ (s : Schema) where
       once y i = elim (in_append y (below_of x) (below_of x) i) [ inl j ↦ j | inr j ↦ j ]
 
   -- two fields that can be merged do
-  together : (d : ℕ) → MergesTo d → (n : ℕ) (x y : Field) → RightField x → RightField y → suc (depth x.occurrence.below) ≤ n → suc (depth y.occurrence.below) ≤ n → may_meet s x y ≡ true →
+  together : (d : ℕ) → MergesTo d → (n : ℕ) (x y : Field) → RightField x → RightField y → suc (depth x.occurrence.below) ≤ n →
+      suc (depth y.occurrence.below) ≤ n → may_meet s x y ≡ true →
       merge s n x y ≡ true → AreMerged d x y
   unfolding merge same_name same_arguments fields_at type_at fields_below
   together d ih zero x y a b k l p m = absurd (omega (arith, k))
@@ -175,7 +180,8 @@ module _ (s : Schema) where
           same = same_members-true
               (written_meaning (written x.occurrence.head.arguments)) (written_meaning (written y.occurrence.head.arguments)) z.1;
         },
-        ih n (below_of x ++ below_of y) (both-right n (below_of x) (below_of y) (inside-right n x a (omega (arith, k))) (inside-right n y b (omega (arith, l)))) (pairs-of n (below_of x ++ below_of y) w.1),
+        ih n (below_of x ++ below_of y) (both-right n (below_of x) (below_of y) (inside-right n x a (omega (arith, k))) (inside-right n y b (omega (arith, l))))
+            (pairs-of n (below_of x ++ below_of y) w.1),
         a.own.declared,
         b.own.declared,
       )

@@ -40,10 +40,12 @@ not_parts true b e = absurd (both_ways false refl e)
 not_parts false b e = (refl, e)
 
 -- what is found behind an entry of another key is found with it in front
-found_behind : (d : Entry) (ds : List Entry) (n : Name) (e : Entry) → list_any (bytes_eq d.key) (map (λ x. x.key) ds) ≡ false → entry_in ds n ≡ Some e → entry_in (d ∷ ds) n ≡ Some e
+found_behind : (d : Entry) (ds : List Entry) (n : Name) (e : Entry) → list_any (bytes_eq d.key) (map (λ x. x.key) ds) ≡ false → entry_in ds n ≡ Some e →
+    entry_in (d ∷ ds) n ≡ Some e
 unfolding entry_in
 found_behind d ds n e apart is = elim (cases_Bool (bytes_eq n d.key)) [
-  | inl y ↦ absurd (both_ways (list_any (bytes_eq d.key) (map (λ x. x.key) ds)) apart (subst (λ k. list_any (bytes_eq k) (map (λ x. x.key) ds) ≡ true) (same_true n d.key y) (found_key ds n e is)))
+  | inl y ↦ absurd (both_ways (list_any (bytes_eq d.key) (map (λ x. x.key) ds)) apart
+      (subst (λ k. list_any (bytes_eq k) (map (λ x. x.key) ds) ≡ true) (same_true n d.key y) (found_key ds n e is)))
   | inr y ↦ rw y is
 ]
 
@@ -52,7 +54,8 @@ unfolding entry_in
 found_in_front d ds = rw (same_refl d.key) refl
 
 -- what holds of each entry that is found holds of all, where their keys differ
-all_found : (P : Entry → Bool) (ds : List Entry) → names_differ (map (λ x. x.key) ds) ≡ true → ((n : Name) (e : Entry) → entry_in ds n ≡ Some e → P e ≡ true) → list_all P ds ≡ true
+all_found : (P : Entry → Bool) (ds : List Entry) → names_differ (map (λ x. x.key) ds) ≡ true → ((n : Name) (e : Entry) → entry_in ds n ≡ Some e → P e ≡ true) →
+    list_all P ds ≡ true
 unfolding names_differ
 all_found P [] differ h = refl
 all_found P (d ∷ ds) differ h =
@@ -60,7 +63,8 @@ all_found P (d ∷ ds) differ h =
     rw (h d.key d (found_in_front d ds)) (all_found P ds both.1 (λ n e is. h n e (found_behind d ds n e both.0 is)))
 
 -- so what holds of all entries holds of the same in another order
-all_moved : (P : Entry → Bool) (es ds : List Entry) → names_differ (map (λ x. x.key) ds) ≡ true → ((n : Name) → entry_in es n ≡ entry_in ds n) → list_all P es ≡ true → list_all P ds ≡ true
+all_moved : (P : Entry → Bool) (es ds : List Entry) → names_differ (map (λ x. x.key) ds) ≡ true → ((n : Name) → entry_in es n ≡ entry_in ds n) →
+    list_all P es ≡ true → list_all P ds ≡ true
 all_moved P es ds differ same all = all_found P ds differ (λ n e is. entry_of_all P es n e all (same n ∙ is))
 
 -- ## What is looked up
@@ -87,7 +91,8 @@ module _ (s z : Schema) (same : (n : Name) → entry_in s.entries n ≡ entry_in
     fits_same (variable x) t = refl
     fits_same (list is) (named r n) = refl
     fits_same (list is) (list_of r size t) = ap (λ b. size_met size (count_items is) && b) (all_fit_same is t)
-    fits_same (object fs) t = ap (λ f. through f t) (λ i n. (ap₂ (λ (f : List InputDeclaration → Bool) x. input_object_fits (λ ds. all_written fs ds && f ds) x) (λ j ds. (fields_fit_same fs ds) j) (type_same n)) i)
+    fits_same (object fs) t = ap (λ f. through f t) (λ i n. (ap₂ (λ (f : List InputDeclaration → Bool) x. input_object_fits (λ ds. all_written fs ds && f ds) x)
+        (λ j ds. (fields_fit_same fs ds) j) (type_same n)) i)
 
     all_fit_same : (is : InputItems) (t : TypeRef) → all_fit s false is t ≡ all_fit z false is t
     all_fit_same no_items t = refl
@@ -95,7 +100,8 @@ module _ (s z : Schema) (same : (n : Name) → entry_in s.entries n ≡ entry_in
 
     fields_fit_same : (fs : InputFields) (ds : List InputDeclaration) → fields_fit s false fs ds ≡ fields_fit z false fs ds
     fields_fit_same no_fields ds = refl
-    fields_fit_same (input_field k k_at v v_at rest) ds = ap₂ (λ (f : TypeRef → Bool) b. (not (has_field k rest) && fits_declared f (declaration_in ds k)) && b) (λ i t. (fits_same v t) i) (fields_fit_same rest ds)
+    fields_fit_same (input_field k k_at v v_at rest) ds = ap₂ (λ (f : TypeRef → Bool) b. (not (has_field k rest) && fits_declared f (declaration_in ds k)) && b)
+        (λ i t. (fits_same v t) i) (fields_fit_same rest ds)
 
   subtype_same : (t u : TypeRef) → is_subtype s t u ≡ is_subtype z t u
   unfolding is_subtype is_named_subtype
@@ -110,7 +116,8 @@ module _ (s z : Schema) (same : (n : Name) → entry_in s.entries n ≡ entry_in
 
   known_same : (f : FieldDeclaration) → field_is_known s f ≡ field_is_known z f
   unfolding field_is_known ends_in_output
-  known_same f = rw (entry_same (innermost f.of_type)) (ap (λ p. (is_leaf (entry_named z (innermost f.of_type)) || is_composite (entry_named z (innermost f.of_type))) && list_all p f.arguments) (λ i d. (input_same d) i))
+  known_same f = rw (entry_same (innermost f.of_type)) (ap (λ p. (is_leaf (entry_named z (innermost f.of_type))
+      || is_composite (entry_named z (innermost f.of_type))) && list_all p f.arguments) (λ i d. (input_same d) i))
 
   -- a name of an object
   names_object : Schema → Name → Bool
@@ -158,11 +165,13 @@ module _ (s z : Schema) (is : IsSameSchema s z) (differ : names_differ (map (λ 
 
   roots_same : roots_are_objects s ≡ roots_are_objects z
   unfolding roots_are_objects
-  roots_same = ap₂ (λ a b. is_object a && b) (entry_same s z is.entries s.query ∙ ap (entry_named z) is.query) (apart_same s.mutation ∙ ap (mutation_is_apart z) is.mutation)
+  roots_same = ap₂ (λ a b. is_object a && b) (entry_same s z is.entries s.query ∙ ap (entry_named z) is.query)
+      (apart_same s.mutation ∙ ap (mutation_is_apart z) is.mutation)
 
   known_moves : types_are_known s ≡ true → types_are_known z ≡ true
   unfolding types_are_known
-  known_moves e = moved _ _ (λ x. ap₂ (λ f g. list_all f (shape_fields x.shape) && list_all g (input_fields_of x.shape)) (λ i f. (known_same s z is.entries f) i) (λ i d. (input_same s z is.entries d) i)) e
+  known_moves e = moved _ _ (λ x. ap₂ (λ f g. list_all f (shape_fields x.shape) && list_all g (input_fields_of x.shape))
+      (λ i f. (known_same s z is.entries f) i) (λ i d. (input_same s z is.entries d) i)) e
 
   differ_moves : all_names_differ s ≡ true → all_names_differ z ≡ true
   unfolding all_names_differ
@@ -174,7 +183,8 @@ module _ (s z : Schema) (is : IsSameSchema s z) (differ : names_differ (map (λ 
 
   defaults_move : defaults_fit s ≡ true → defaults_fit z ≡ true
   unfolding defaults_fit
-  defaults_move e = moved _ _ (λ x. ap (λ p. list_all (λ f. list_all p f.arguments) (shape_fields x.shape) && list_all p (input_fields_of x.shape)) (λ i d. (default_same s z is.entries d) i)) e
+  defaults_move e = moved _ _ (λ x. ap (λ p. list_all (λ f. list_all p f.arguments) (shape_fields x.shape) && list_all p (input_fields_of x.shape))
+      (λ i d. (default_same s z is.entries d) i)) e
 
   built_ins_same : built_ins_are_right s ≡ built_ins_are_right z
   unfolding built_ins_are_right
@@ -192,7 +202,8 @@ module _ (s z : Schema) (is : IsSameSchema s z) (differ : names_differ (map (λ 
       let d = and_parts (all_names_differ s) _ c.1 in
       let i = and_parts (interfaces_are_met s) _ d.1 in
       let f = and_parts (defaults_fit s) _ i.1 in
-      both (entries_are_named z) _ (named_moves a.0) (both (roots_are_objects z) _ (sym roots_same ∙ b.0) (both (types_are_known z) _ (known_moves c.0) (both (all_names_differ z) _ (differ_moves d.0)
+      both (entries_are_named z) _ (named_moves a.0) (both (roots_are_objects z) _ (sym roots_same ∙ b.0)
+      (both (types_are_known z) _ (known_moves c.0) (both (all_names_differ z) _ (differ_moves d.0)
       (both (interfaces_are_met z) _ (interfaces_move i.0) (both (defaults_fit z) _ (defaults_move f.0) (sym built_ins_same ∙ f.1))))))
 
 pub order_is_open : OrderIsOpen

@@ -12,5 +12,6 @@ pub users_mutate : {C N : Type 0} → UsersMutate C N
 unfolding rooted_concrete
 users_mutate s vars top concrete answer m T selected e c =
     run-seen s vars user concrete answer (λ d. rooted_concrete top (concrete d)) (λ d. rooted_answer top s (answer d)) (λ d n. refl) is_users_field
-    (λ d n f args p. sym (users_answer s top (answer d) n f args p)) m T (keys (occurrences (is_possible s) T selected)) (occurrences (is_possible s) T selected)
+    (λ d n f args p. sym (users_answer s top (answer d) n f args p)) m T (keys (occurrences (is_possible s) T selected))
+    (occurrences (is_possible s) T selected)
     (selects-occurrences is_users_field (is_possible s) T selected e) c

@@ -31,21 +31,26 @@ module _ {N : Type 0} (W : World N) (T : Name) (m n : N) (same : (f : Name) (arg
   unfolding grouped of_key
   grouped-alike zero os = refl
   grouped-alike (suc d) os = ap (λ (r : Name → Reply N). whole_object (keys os) (λ k. type_of W T (with_key k os))
-      (λ k. finish W (λ U n. grouped W d U n (occurrences W.possible U (all_below (with_key k os)))) (type_of W T (with_key k os)) (r k))) (λ i k. replies-alike (with_key k os) i)
+      (λ k. finish W (λ U n. grouped W d U n (occurrences W.possible U (all_below (with_key k os)))) (type_of W T (with_key k os)) (r k)))
+      (λ i k. replies-alike (with_key k os) i)
 
   failures-alike : (d : ℕ) (here above : Place) (os : List Occurrence) → failures W d here above T m os ≡ failures W d here above T n os
   unfolding failures key_failures
   failures-alike zero here above os = refl
-  failures-alike (suc d) here above os = ap (λ (r : Name → Reply N). flat_map (λ k. reply_faults W (λ place to U n. failures W d place to U n (occurrences W.possible U (all_below (with_key k os))))
+  failures-alike (suc d) here above os = ap (λ (r : Name → Reply N). flat_map
+      (λ k. reply_faults W (λ place to U n. failures W d place to U n (occurrences W.possible U (all_below (with_key k os))))
       (here ++ key k ∷ []) (starts_of (with_key k os)) above (type_of W T (with_key k os)) (r k)) (keys os)) (λ i k. replies-alike (with_key k os) i)
 
   nulls-alike : (d : ℕ) (here : Place) (os : List Occurrence) → nulls W d here T m os ≡ nulls W d here T n os
   unfolding nulls key_standing
   nulls-alike zero here os = refl
-  nulls-alike (suc d) here os = ap (λ (r : Name → Reply N). flat_map (λ k. reply_standing W (λ U n. grouped W d U n (occurrences W.possible U (all_below (with_key k os)))) (λ place U n. nulls W d place U n (occurrences W.possible U (all_below (with_key k os))))
+  nulls-alike (suc d) here os = ap (λ (r : Name → Reply N). flat_map
+      (λ k. reply_standing W (λ U n. grouped W d U n (occurrences W.possible U (all_below (with_key k os))))
+      (λ place U n. nulls W d place U n (occurrences W.possible U (all_below (with_key k os))))
       (here ++ key k ∷ []) (type_of W T (with_key k os)) (r k)) (keys os)) (λ i k. replies-alike (with_key k os) i)
 
-same-answers : {N : Type 0} (top : N) (answer : N → Name → Members → Reply N) (s : Schema) (f : Name) (args : Members) → rooted_answer top s answer root f args ≡ rooted_answer top s answer (user top) f args
+same-answers : {N : Type 0} (top : N) (answer : N → Name → Members → Reply N) (s : Schema) (f : Name) (args : Members) →
+    rooted_answer top s answer root f args ≡ rooted_answer top s answer (user top) f args
 unfolding rooted_answer
 same-answers top answer s f args = refl
 
@@ -60,7 +65,8 @@ root_stands s vars top concrete answer T selected = let W = rooted_world top s v
 pub users_execute : {N : Type 0} → UsersExecute N
 unfolding rooted_concrete rooted_world
 users_execute s vars top concrete answer T selected e =
-    let a = seen_alike s vars user is_users_field concrete answer (rooted_concrete top concrete) (rooted_answer top s answer) (λ m. refl) (λ m f args p. sym (users_answer s top answer m f args p)) T top selected e in
+    let a = seen_alike s vars user is_users_field concrete answer (rooted_concrete top concrete) (rooted_answer top s answer) (λ m. refl)
+    (λ m f args p. sym (users_answer s top answer m f args p)) T top selected e in
     let b = root_stands s vars top concrete answer T selected in record {
       data_is = a.data_is ∙ sym b.data_is;
       failures_are = λ here above. a.failures_are here above ∙ sym (b.failures_are here above);

@@ -30,15 +30,19 @@ use Rattle.graphql_spec.proofs.Rows.{outcome}
 
 unfoldable small : Schema
 small = record {
-  entries = entry_of (codes "String") (kinds false true false) ∷ entry_of (codes "Boolean") (kinds false false true) ∷ entry_of (codes "Int") (kinds true false false) ∷ entry_of (codes "ID") (kinds true true false)
-      ∷ entry_of (codes "Query") (object_type (plain_field (codes "id") [] (must (codes "ID")) ∷ plain_field (codes "name") [] (must (codes "String")) ∷ plain_field (codes "nothing") [] (may (codes "String"))
-      ∷ plain_field (codes "fail") [] (may (codes "Int")) ∷ plain_field (codes "boom") [] (must (codes "Int")) ∷ plain_field (codes "odd") [] (may (codes "Int")) ∷ typename_last ∷ []) []) ∷ [];
+  entries = entry_of (codes "String") (kinds false true false) ∷ entry_of (codes "Boolean") (kinds false false true)
+      ∷ entry_of (codes "Int") (kinds true false false) ∷ entry_of (codes "ID") (kinds true true false)
+      ∷ entry_of (codes "Query") (object_type (plain_field (codes "id") [] (must (codes "ID")) ∷ plain_field (codes "name") [] (must (codes "String"))
+      ∷ plain_field (codes "nothing") [] (may (codes "String"))
+      ∷ plain_field (codes "fail") [] (may (codes "Int")) ∷ plain_field (codes "boom") [] (must (codes "Int"))
+      ∷ plain_field (codes "odd") [] (may (codes "Int")) ∷ typename_last ∷ []) []) ∷ [];
   query = codes "Query";
   mutation = None;
 }
 
 unfoldable reply : Node → Name → Members → Reply Node
-reply n f args = first_case (case (codes "id") (answered (leaf (text (codes "q1")))) ∷ case (codes "name") (answered (leaf (text (codes "demo")))) ∷ case (codes "fail") (failed (bad (codes "failed"))) ∷ case (codes "boom") (failed (bad (codes "boom")))
+reply n f args = first_case (case (codes "id") (answered (leaf (text (codes "q1")))) ∷ case (codes "name") (answered (leaf (text (codes "demo"))))
+    ∷ case (codes "fail") (failed (bad (codes "failed"))) ∷ case (codes "boom") (failed (bad (codes "boom")))
     ∷ case (codes "odd") (answered (leaf (text (codes "1")))) ∷ []) f
 
 abbrev none : Variables
@@ -57,7 +61,8 @@ unfolding outcome
 admitted s = expand (passes none) [] s
 
 abbrev directive : Text → Bool → ℕ → Directive
-directive d b n = record { name = word d n; arguments = Some (here n (record { name = word (codes "if") n; value = here n (i.scalar (boolean b)) } ∷ [])); span = span n n }
+directive d b n =
+    record { name = word d n; arguments = Some (here n (record { name = word (codes "if") n; value = here n (i.scalar (boolean b)) } ∷ [])); span = span n n }
 
 abbrev field_with : Text → ℕ → List Directive → Selections → Selections
 field_with t n ds rest = field (record { alias = None; name = word t n; arguments = None; directives = ds; has_set = false; span = span n n }) end rest
@@ -77,34 +82,45 @@ failing s = failures_of small_world [] [] (codes "Query") root (admitted s)
 
 -- { id again: id name @skip(if: true) fail id }
 first_line : Selections
-first_line = leaf_field (codes "id") 2 (as_field (codes "again") (codes "id") 5 (field_with (codes "name") 15 (directive (codes "skip") true 20 ∷ []) (leaf_field (codes "fail") 36 (leaf_field (codes "id") 41 end))))
+first_line = leaf_field (codes "id") 2 (as_field (codes "again") (codes "id") 5
+    (field_with (codes "name") 15 (directive (codes "skip") true 20 ∷ []) (leaf_field (codes "fail") 36 (leaf_field (codes "id") 41 end))))
 
 first_data : gives first_line ≡ object (entry (codes "id") (str (codes "q1")) (entry (codes "again") (str (codes "q1")) (entry (codes "fail") null no_entries)))
 unfolding gives first_line
 first_data = refl
 
-first_failures : failing first_line ≡ record { path = key (codes "fail") ∷ []; starts = at 36 ∷ []; error = bad (codes "failed"); rises_to = key (codes "fail") ∷ [] } ∷ []
+first_failures : failing first_line ≡ record {
+  path = key (codes "fail") ∷ [];
+  starts = at 36 ∷ [];
+  error = bad (codes "failed");
+  rises_to = key (codes "fail") ∷ [];
+} ∷ []
 unfolding failing first_line
 first_failures = refl
 
 -- { nothing __typename }; { id @skip(if: true) @include(if: true) }; { id @include(if: false) name @include(if: true) }
-more_data : (gives (leaf_field (codes "nothing") 2 (leaf_field (codes "__typename") 10 end)) ≡ object (entry (codes "nothing") null (entry (codes "__typename") (str (codes "Query")) no_entries)))
+more_data : (gives (leaf_field (codes "nothing") 2 (leaf_field (codes "__typename") 10 end))
+    ≡ object (entry (codes "nothing") null (entry (codes "__typename") (str (codes "Query")) no_entries)))
     × (failing (leaf_field (codes "nothing") 2 (leaf_field (codes "__typename") 10 end)) ≡ [])
     × (gives (field_with (codes "id") 2 (directive (codes "skip") true 5 ∷ directive (codes "include") true 21 ∷ []) end) ≡ object no_entries)
-    × (gives (field_with (codes "id") 2 (directive (codes "include") false 5 ∷ []) (field_with (codes "name") 24 (directive (codes "include") true 29 ∷ []) end)) ≡ object (entry (codes "name") (str (codes "demo")) no_entries))
+    × (gives (field_with (codes "id") 2 (directive (codes "include") false 5 ∷ [])
+    (field_with (codes "name") 24 (directive (codes "include") true 29 ∷ []) end)) ≡ object (entry (codes "name") (str (codes "demo")) no_entries))
 unfolding gives failing
 more_data = (refl, refl, refl, refl)
 
 -- { a: __typename __typename: id }: a response key alone answers no type's name
-aliases : gives (as_field (codes "a") (codes "__typename") 2 (as_field (codes "__typename") (codes "id") 16 end)) ≡ object (entry (codes "a") (str (codes "Query")) (entry (codes "__typename") (str (codes "q1")) no_entries))
+aliases : gives (as_field (codes "a") (codes "__typename") 2 (as_field (codes "__typename") (codes "id") 16 end))
+    ≡ object (entry (codes "a") (str (codes "Query")) (entry (codes "__typename") (str (codes "q1")) no_entries))
 unfolding gives
 aliases = refl
 
 -- { id boom }: the null of a non-null field rises to the data; { boom boom fail }: one failure with two occurrences, and another
 rising : (gives (leaf_field (codes "id") 2 (leaf_field (codes "boom") 5 end)) ≡ null)
-    × (failing (leaf_field (codes "id") 2 (leaf_field (codes "boom") 5 end)) ≡ record { path = key (codes "boom") ∷ []; starts = at 5 ∷ []; error = bad (codes "boom"); rises_to = [] } ∷ [])
+    × (failing (leaf_field (codes "id") 2 (leaf_field (codes "boom") 5 end))
+    ≡ record { path = key (codes "boom") ∷ []; starts = at 5 ∷ []; error = bad (codes "boom"); rises_to = [] } ∷ [])
     × (failing (leaf_field (codes "boom") 2 (leaf_field (codes "boom") 7 (leaf_field (codes "fail") 12 end)))
-    ≡ record { path = key (codes "boom") ∷ []; starts = at 2 ∷ at 7 ∷ []; error = bad (codes "boom"); rises_to = [] } ∷ record { path = key (codes "fail") ∷ []; starts = at 12 ∷ []; error = bad (codes "failed"); rises_to = key (codes "fail") ∷ [] } ∷ [])
+    ≡ record { path = key (codes "boom") ∷ []; starts = at 2 ∷ at 7 ∷ []; error = bad (codes "boom"); rises_to = [] }
+    ∷ record { path = key (codes "fail") ∷ []; starts = at 12 ∷ []; error = bad (codes "failed"); rises_to = key (codes "fail") ∷ [] } ∷ [])
 unfolding gives failing
 rising = (refl, refl, refl)
 
@@ -122,17 +138,28 @@ invalid t = refused (not_valid (record { message = t; start = at 0 } ∷ []))
 
 -- { x }; { a: id a: name }; { x a: id a: name }; { __schema }; { id a: name id }; no text that is spelled
 refusals : (becomes None (Some (asking (leaf_field (codes "x") 2 end) 5)) ≡ invalid (codes "Unknown field"))
-    × (becomes None (Some (asking (as_field (codes "a") (codes "id") 2 (as_field (codes "a") (codes "name") 8 end)) 17)) ≡ invalid (codes "Fields cannot be merged"))
-    × (becomes None (Some (asking (leaf_field (codes "x") 2 (as_field (codes "a") (codes "id") 4 (as_field (codes "a") (codes "name") 10 end))) 19)) ≡ invalid (codes "Unknown field"))
+    × (becomes None (Some (asking (as_field (codes "a") (codes "id") 2 (as_field (codes "a") (codes "name") 8 end)) 17))
+    ≡ invalid (codes "Fields cannot be merged"))
+    × (becomes None (Some (asking (leaf_field (codes "x") 2 (as_field (codes "a") (codes "id") 4 (as_field (codes "a") (codes "name") 10 end))) 19))
+    ≡ invalid (codes "Unknown field"))
     × (becomes None (Some (asking (leaf_field (codes "__schema") 2 end) 12)) ≡ invalid (codes "Selection set does not fit the field"))
-    × (becomes None (Some (asking (as_field (codes "a") (codes "id") 2 (leaf_field (codes "name") 8 (as_field (codes "a") (codes "id") 13 end))) 20)) ≡ runs (asking (as_field (codes "a") (codes "id") 2 (leaf_field (codes "name") 8 (as_field (codes "a") (codes "id") 13 end))) 20)
-    (record { kind = query; name = None; variables = None; directives = []; selections = as_field (codes "a") (codes "id") 2 (leaf_field (codes "name") 8 (as_field (codes "a") (codes "id") 13 end)); span = span 0 20 }) none)
+    × (becomes None (Some (asking (as_field (codes "a") (codes "id") 2 (leaf_field (codes "name") 8 (as_field (codes "a") (codes "id") 13 end))) 20))
+    ≡ runs (asking (as_field (codes "a") (codes "id") 2 (leaf_field (codes "name") 8 (as_field (codes "a") (codes "id") 13 end))) 20)
+    (record {
+      kind = query;
+      name = None;
+      variables = None;
+      directives = [];
+      selections = as_field (codes "a") (codes "id") 2 (leaf_field (codes "name") 8 (as_field (codes "a") (codes "id") 13 end));
+      span = span 0 20;
+    }) none)
     × (becomes None None ≡ refused not_parsed)
 unfolding becomes
 refusals = (refl, refl, refl, refl, refl, refl)
 
 -- with the name Q: { id }, and { x }, where the rules come first
-names : (becomes (Some (codes "Q")) (Some (asking (leaf_field (codes "id") 2 end) 6)) ≡ refused unknown_operation) × (becomes (Some (codes "Q")) (Some (asking (leaf_field (codes "x") 2 end) 5)) ≡ invalid (codes "Unknown field"))
+names : (becomes (Some (codes "Q")) (Some (asking (leaf_field (codes "id") 2 end) 6)) ≡ refused unknown_operation)
+    × (becomes (Some (codes "Q")) (Some (asking (leaf_field (codes "x") 2 end) 5)) ≡ invalid (codes "Unknown field"))
 unfolding becomes
 names = (refl, refl)
 
@@ -178,12 +205,19 @@ unfoldable standing_in : Selections → List Place
 unfolding outcome small small_world reply admitted gives null_or standing reply_standing key_standing nulls nulls_of
 standing_in s = null_or [] (named false []) (gives s) (nulls_of small_world [] (codes "Query") root (admitted s))
 
-stands : (standing_in first_line ≡ first_stands) × (standing_in (leaf_field (codes "nothing") 2 end) ≡ []) × (standing_in (leaf_field (codes "fail") 2 (leaf_field (codes "boom") 7 end)) ≡ [] ∷ []) × (standing_in (leaf_field (codes "odd") 2 end) ≡ (key (codes "odd") ∷ []) ∷ [])
+stands : (standing_in first_line ≡ first_stands) × (standing_in (leaf_field (codes "nothing") 2 end) ≡ [])
+    × (standing_in (leaf_field (codes "fail") 2 (leaf_field (codes "boom") 7 end)) ≡ [] ∷ [])
+    × (standing_in (leaf_field (codes "odd") 2 end) ≡ (key (codes "odd") ∷ []) ∷ [])
 unfolding standing_in first_line
 stands = (refl, refl, refl, refl)
 
 abbrev IsFirst : Value → List Listed → Type 0
-IsFirst v es = IsAnswer keys_only first_value (record { path = key (codes "fail") ∷ []; starts = at 36 ∷ []; error = bad (codes "failed"); rises_to = key (codes "fail") ∷ [] } ∷ []) first_stands v es
+IsFirst v es = IsAnswer keys_only first_value (record {
+  path = key (codes "fail") ∷ [];
+  starts = at 36 ∷ [];
+  error = bad (codes "failed");
+  rises_to = key (codes "fail") ∷ [];
+} ∷ []) first_stands v es
 
 -- the value and one error are an answer
 is_first : IsFirst first_value (failed_at 36 ∷ [])
@@ -208,7 +242,8 @@ not_twice a = let e = a.counted (λ x. true) in omega (arith, e)
 
 not_elsewhere : IsFirst first_value (failed_at 2 ∷ []) → ⊥
 unfolding pair_at pairs told keys_only
-not_elsewhere a = let b = a.belongs (failed_at 2) (inl refl) in elim b.1 [ inl e ↦ let f = ap (λ q. q.start.index) e in let g = ap (λ x. x.start.index) b.2 in omega (arith, f, g) | inr e ↦ absurd e ]
+not_elsewhere a = let b = a.belongs (failed_at 2) (inl refl) in elim b.1
+    [ inl e ↦ let f = ap (λ q. q.start.index) e in let g = ap (λ x. x.start.index) b.2 in omega (arith, f, g) | inr e ↦ absurd e ]
 
 not_null : IsFirst null (failed_at 36 ∷ []) → ⊥
 not_null a = let e = a.is_data in cc
@@ -226,7 +261,8 @@ two_nulls = object (entry (codes "fail") null (entry (codes "b") null no_entries
 abbrev two_stand : List Place
 two_stand = (key (codes "fail") ∷ []) ∷ (key (codes "b") ∷ []) ∷ []
 
-two_fail : (gives (leaf_field (codes "fail") 2 (as_field (codes "b") (codes "fail") 7 end)) ≡ two_nulls) × (failing (leaf_field (codes "fail") 2 (as_field (codes "b") (codes "fail") 7 end)) ≡ failing_as (codes "fail") 2 ∷ failing_as (codes "b") 7 ∷ [])
+two_fail : (gives (leaf_field (codes "fail") 2 (as_field (codes "b") (codes "fail") 7 end)) ≡ two_nulls)
+    × (failing (leaf_field (codes "fail") 2 (as_field (codes "b") (codes "fail") 7 end)) ≡ failing_as (codes "fail") 2 ∷ failing_as (codes "b") 7 ∷ [])
     × (standing_in (leaf_field (codes "fail") 2 (as_field (codes "b") (codes "fail") 7 end)) ≡ two_stand)
 unfolding gives failing standing_in
 two_fail = (refl, refl, refl)

@@ -23,7 +23,8 @@ use Rattle.graphql_spec.proofs.SeenNodes.{Selects, selects-key, selects-below, f
 
 module _ {C M N : Type 0} (s : Schema) (vars : Variables) (h : M → N) (concrete : C → M → Name) (answer : C → M → Name → Members → Reply M)
     (concrete' : C → N → Name) (answer' : C → N → Name → Members → Reply N) (same_type : (c : C) (m : M) → concrete c m ≡ concrete' c (h m))
-    (passes : Name → Bool) (same_reply : (c : C) (m : M) (f : Name) (args : Members) → IsTrue (passes f) → map_reply h (answer c m f args) ≡ answer' c (h m) f args)
+    (passes : Name → Bool) (same_reply : (c : C) (m : M) (f : Name) (args : Members) → IsTrue (passes f) →
+    map_reply h (answer c m f args) ≡ answer' c (h m) f args)
     (steps : Steps C M) (T : Name) where
   abbrev V : Mutation C M
   V = mutation_of s vars concrete answer steps
@@ -41,12 +42,14 @@ module _ {C M N : Type 0} (s : Schema) (vars : Variables) (h : M → N) (concret
   torn-seen c [] d = refl
   torn-seen c (o ∷ os) d = refl
 
-  data-seen : (c : C) (os : List Occurrence) → Selects passes os → (U : Name) (m : M) → data_of (V.world c) U m (all_below os) ≡ data_of (W.world c) U (h m) (all_below os)
+  data-seen : (c : C) (os : List Occurrence) → Selects passes os → (U : Name) (m : M) →
+      data_of (V.world c) U m (all_below os) ≡ data_of (W.world c) U (h m) (all_below os)
   unfolding data_of mutation_of world_of
   data-seen c os p U m = grouped-seen s vars h (concrete c) (answer c) (concrete' c) (answer' c) (same_type c) passes (same_reply c) (depth (all_below os)) U m
       (occurrences (is_possible s) U (all_below os)) (selects-below passes (is_possible s) U os p)
 
-  value-seen : (c : C) (t : TypeRef) (r : Reply M) (os : List Occurrence) → Selects passes os → value_of (V.world c) t r (all_below os) ≡ value_of (W.world c) t (map_reply h r) (all_below os)
+  value-seen : (c : C) (t : TypeRef) (r : Reply M) (os : List Occurrence) → Selects passes os →
+      value_of (V.world c) t r (all_below os) ≡ value_of (W.world c) t (map_reply h r) (all_below os)
   unfolding value_of mutation_of world_of
   value-seen c t r os p = finish-seen s vars h (concrete c) (answer c) (concrete' c) (answer' c) (same_type c)
       (λ U n. data_of (V.world c) U n (all_below os)) (λ U n. data_of (W.world c) U n (all_below os)) (data-seen c os p) t r
@@ -57,12 +60,14 @@ module _ {C M N : Type 0} (s : Schema) (vars : Variables) (h : M → N) (concret
   unfolding failures_of mutation_of world_of
   faults-seen c here t r os p = reply_faults-seen s vars h (concrete c) (answer c) (concrete' c) (answer' c) (same_type c)
       (λ place to U n. failures_of (V.world c) place to U n (all_below os)) (λ place to U n. failures_of (W.world c) place to U n (all_below os))
-      (λ place to U n. failures-seen s vars h (concrete c) (answer c) (concrete' c) (answer' c) (same_type c) passes (same_reply c) (depth (all_below os)) place to U n
+      (λ place to U n. failures-seen s vars h (concrete c) (answer c) (concrete' c) (answer' c) (same_type c) passes (same_reply c)
+      (depth (all_below os)) place to U n
       (occurrences (is_possible s) U (all_below os)) (selects-below passes (is_possible s) U os p)) here (starts_of os) [] t r
 
   standing-seen : (c : C) (here : Place) (t : TypeRef) (r : Reply M) (os : List Occurrence) → Selects passes os →
       reply_standing (V.world c) (λ U n. data_of (V.world c) U n (all_below os)) (λ place U n. nulls_of (V.world c) place U n (all_below os)) here t r
-      ≡ reply_standing (W.world c) (λ U n. data_of (W.world c) U n (all_below os)) (λ place U n. nulls_of (W.world c) place U n (all_below os)) here t (map_reply h r)
+      ≡ reply_standing (W.world c) (λ U n. data_of (W.world c) U n (all_below os)) (λ place U n. nulls_of (W.world c) place U n (all_below os)) here t
+      (map_reply h r)
   unfolding nulls_of mutation_of world_of
   standing-seen c here t r os p = reply_standing-seen s vars h (concrete c) (answer c) (concrete' c) (answer' c) (same_type c)
       (λ U n. data_of (V.world c) U n (all_below os)) (λ U n. data_of (W.world c) U n (all_below os)) (data-seen c os p)
@@ -84,10 +89,12 @@ module _ {C M N : Type 0} (s : Schema) (vars : Variables) (h : M → N) (concret
   after k ks os next =
       let g : List Occurrence = with_key k os in
       let t : TypeRef = type_of (W.world next.0) T g in
-      made k t (value_of (W.world next.0) t next.1 (all_below g)) (reply_faults (W.world next.0) (λ place to U n. failures_of (W.world next.0) place to U n (all_below g)) (key k ∷ []) (starts_of g) [] t next.1) next.0 (run W T ks os next.0)
+      made k t (value_of (W.world next.0) t next.1 (all_below g)) (reply_faults (W.world next.0)
+      (λ place to U n. failures_of (W.world next.0) place to U n (all_below g)) (key k ∷ []) (starts_of g) [] t next.1) next.0 (run W T ks os next.0)
 
   after-with : Name → List Occurrence → TypeRef → C → Reply M → Run C → Run C
-  after-with k g t c r left = made k t (value_of (W.world c) t (map_reply h r) (all_below g)) (reply_faults (W.world c) (λ place to U n. failures_of (W.world c) place to U n (all_below g)) (key k ∷ []) (starts_of g) [] t (map_reply h r)) c left
+  after-with k g t c r left = made k t (value_of (W.world c) t (map_reply h r) (all_below g))
+      (reply_faults (W.world c) (λ place to U n. failures_of (W.world c) place to U n (all_below g)) (key k ∷ []) (starts_of g) [] t (map_reply h r)) c left
 
   pub run-seen : (ks : List Name) (os : List Occurrence) → Selects passes os → (c : C) → run V T ks os c ≡ run W T ks os c
   unfolding run made after after-with
@@ -98,7 +105,8 @@ module _ {C M N : Type 0} (s : Schema) (vars : Variables) (h : M → N) (concret
       let r : Reply M = (step_of V T c g).1 in
       let q = selects-key passes k os p in
       let t : TypeRef = type_of (W.world c') T g in
-      let fails : TypeRef → List Failure = λ u. reply_faults (V.world c') (λ place to U n. failures_of (V.world c') place to U n (all_below g)) (key k ∷ []) (starts_of g) [] u r in
+      let fails : TypeRef → List Failure = λ u. reply_faults (V.world c') (λ place to U n. failures_of (V.world c') place to U n (all_below g)) (key k ∷ [])
+      (starts_of g) [] u r in
       let left : Run C = run V T ks os c' in
       ap (λ (u : TypeRef). made k u (value_of (V.world c') u r (all_below g)) (fails u) c' left) (type-same c' g)
       ∙ (ap (λ (v : Value). made k t v (fails t) c' left) (value-seen c' t r g q)
@@ -113,18 +121,21 @@ module _ {C M N : Type 0} (s : Schema) (vars : Variables) (h : M → N) (concret
       let r : Reply M = (step_of V T c g).1 in
       ap (λ (u : TypeRef). required u && is_null (value_of (V.world c') u r (all_below g))) (type-same c' g)
       ∙ (ap (λ (v : Value). required (type_of (W.world c') T g) && is_null v) (value-seen c' (type_of (W.world c') T g) r g p)
-      ∙ sym (ap (λ (next : C × Reply N). required (type_of (W.world next.0) T g) && is_null (value_of (W.world next.0) (type_of (W.world next.0) T g) next.1 (all_below g))) (step-seen c g)))
+      ∙ sym (ap (λ (next : C × Reply N). required (type_of (W.world next.0) T g)
+      && is_null (value_of (W.world next.0) (type_of (W.world next.0) T g) next.1 (all_below g))) (step-seen c g)))
 
   -- the standing nulls of a group whose step left this
   standing-after : Name → List Occurrence → C × Reply N → List Place
-  standing-after k g next = reply_standing (W.world next.0) (λ U n. data_of (W.world next.0) U n (all_below g)) (λ place U n. nulls_of (W.world next.0) place U n (all_below g)) (key k ∷ []) (type_of (W.world next.0) T g) next.1
+  standing-after k g next = reply_standing (W.world next.0) (λ U n. data_of (W.world next.0) U n (all_below g))
+      (λ place U n. nulls_of (W.world next.0) place U n (all_below g)) (key k ∷ []) (type_of (W.world next.0) T g) next.1
 
   group_nulls-seen : (k : Name) (g : List Occurrence) → Selects passes g → (c : C) → group_nulls V T k g c ≡ group_nulls W T k g c
   unfolding group_nulls standing-after
   group_nulls-seen k g p c =
       let c' : C = (step_of V T c g).0 in
       let r : Reply M = (step_of V T c g).1 in
-      ap (λ (u : TypeRef). reply_standing (V.world c') (λ U n. data_of (V.world c') U n (all_below g)) (λ place U n. nulls_of (V.world c') place U n (all_below g)) (key k ∷ []) u r) (type-same c' g)
+      ap (λ (u : TypeRef). reply_standing (V.world c') (λ U n. data_of (V.world c') U n (all_below g))
+      (λ place U n. nulls_of (V.world c') place U n (all_below g)) (key k ∷ []) u r) (type-same c' g)
       ∙ (standing-seen c' (key k ∷ []) (type_of (W.world c') T g) r g p
       ∙ sym (ap (standing-after k g) (step-seen c g)))
 
@@ -148,7 +159,10 @@ module _ {C M N : Type 0} (s : Schema) (vars : Variables) (h : M → N) (concret
   left-seen (k ∷ ks) os p c d (inr (inr (inl e))) = inr (inr (inl (e ∙ context-seen (with_key k os) c)))
   left-seen (k ∷ ks) os p c d (inr (inr (inr (e, l)))) =
       let g : List Occurrence = with_key k os in
-      inr (inr (inr (ap not (sym (loses-seen g (selects-key passes k os p) c)) ∙ e, subst (λ (b : C). IsLeft W T ks os b d) (context-seen g c) (left-seen ks os p (step_of V T c g).0 d l))))
+      inr (inr (inr (
+        ap not (sym (loses-seen g (selects-key passes k os p) c)) ∙ e,
+        subst (λ (b : C). IsLeft W T ks os b d) (context-seen g c) (left-seen ks os p (step_of V T c g).0 d l),
+      )))
 
   pub left-back : (ks : List Name) (os : List Occurrence) → Selects passes os → (c d : C) → IsLeft W T ks os c d → IsLeft V T ks os c d
   left-back [] os p c d l = l
@@ -157,4 +171,7 @@ module _ {C M N : Type 0} (s : Schema) (vars : Variables) (h : M → N) (concret
   left-back (k ∷ ks) os p c d (inr (inr (inl e))) = inr (inr (inl (e ∙ sym (context-seen (with_key k os) c))))
   left-back (k ∷ ks) os p c d (inr (inr (inr (e, l)))) =
       let g : List Occurrence = with_key k os in
-      inr (inr (inr (ap not (loses-seen g (selects-key passes k os p) c) ∙ e, left-back ks os p (step_of V T c g).0 d (subst (λ (b : C). IsLeft W T ks os b d) (sym (context-seen g c)) l))))
+      inr (inr (inr (
+        ap not (loses-seen g (selects-key passes k os p) c) ∙ e,
+        left-back ks os p (step_of V T c g).0 d (subst (λ (b : C). IsLeft W T ks os b d) (sym (context-seen g c)) l),
+      )))

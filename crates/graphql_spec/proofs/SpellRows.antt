@@ -17,7 +17,14 @@ abbrev the_directive : Directive
 the_directive = record { name = word (codes "skip") 9; arguments = Some (record { item = the_argument ∷ []; span = span 13 23 }); span = span 8 23 }
 
 abbrev the_field : Head
-the_field = record { alias = Some (word (codes "a") 2); name = word (codes "id") 5; arguments = None; directives = the_directive ∷ []; has_set = false; span = span 2 23 }
+the_field = record {
+  alias = Some (word (codes "a") 2);
+  name = word (codes "id") 5;
+  arguments = None;
+  directives = the_directive ∷ [];
+  has_set = false;
+  span = span 2 23;
+}
 
 document : Document
 document = operation (record { kind = query; name = None; variables = None; directives = []; selections = field the_field end end; span = span 0 25 }) ∷ []
@@ -103,8 +110,109 @@ abbrev at12 : At
 at12 = standing (at 25) from12
 
 is_text : IsText beginning from0 (codes "{ a: id @skip(if: true) }")
-unfolding starts_name continues_name is_name ends_before is_mark mark_text is_nil is_blank is_line_end is_source_byte ignore_byte is_ignored next_line continues_character past_byte walk
-is_text = ([], codes "{", codes " a: id @skip(if: true) }", refl, refl, (refl, refl), refl, refl, (codes " ", codes "a", codes ": id @skip(if: true) }", refl, refl, (refl, refl, refl), refl, refl, ([], codes ":", codes " id @skip(if: true) }", refl, refl, (refl, refl), refl, refl, (codes " ", codes "id", codes " @skip(if: true) }", refl, refl, (refl, refl, refl), refl, refl, (codes " ", codes "@", codes "skip(if: true) }", refl, refl, (refl, refl), refl, refl, ([], codes "skip", codes "(if: true) }", refl, refl, (refl, refl, refl), refl, refl, ([], codes "(", codes "if: true) }", refl, refl, (refl, refl), refl, refl, ([], codes "if", codes ": true) }", refl, refl, (refl, refl, refl), refl, refl, ([], codes ":", codes " true) }", refl, refl, (refl, refl), refl, refl, (codes " ", codes "true", codes ") }", refl, refl, (refl, refl, refl), refl, refl, ([], codes ")", codes " }", refl, refl, (refl, refl), refl, refl, (codes " ", codes "}", [], refl, refl, (refl, refl), refl, refl, refl))))))))))))
+unfolding starts_name continues_name is_name ends_before is_mark mark_text is_nil is_blank is_line_end is_source_byte ignore_byte is_ignored next_line
+    continues_character past_byte walk
+is_text = (
+  [],
+  codes "{",
+  codes " a: id @skip(if: true) }",
+  refl,
+  refl,
+  (refl, refl),
+  refl,
+  refl,
+  (
+    codes " ",
+    codes "a",
+    codes ": id @skip(if: true) }",
+    refl,
+    refl,
+    (refl, refl, refl),
+    refl,
+    refl,
+    (
+      [],
+      codes ":",
+      codes " id @skip(if: true) }",
+      refl,
+      refl,
+      (refl, refl),
+      refl,
+      refl,
+      (
+        codes " ",
+        codes "id",
+        codes " @skip(if: true) }",
+        refl,
+        refl,
+        (refl, refl, refl),
+        refl,
+        refl,
+        (
+          codes " ",
+          codes "@",
+          codes "skip(if: true) }",
+          refl,
+          refl,
+          (refl, refl),
+          refl,
+          refl,
+          (
+            [],
+            codes "skip",
+            codes "(if: true) }",
+            refl,
+            refl,
+            (refl, refl, refl),
+            refl,
+            refl,
+            (
+              [],
+              codes "(",
+              codes "if: true) }",
+              refl,
+              refl,
+              (refl, refl),
+              refl,
+              refl,
+              (
+                [],
+                codes "if",
+                codes ": true) }",
+                refl,
+                refl,
+                (refl, refl, refl),
+                refl,
+                refl,
+                (
+                  [],
+                  codes ":",
+                  codes " true) }",
+                  refl,
+                  refl,
+                  (refl, refl),
+                  refl,
+                  refl,
+                  (
+                    codes " ",
+                    codes "true",
+                    codes ") }",
+                    refl,
+                    refl,
+                    (refl, refl, refl),
+                    refl,
+                    refl,
+                    ([], codes ")", codes " }", refl, refl, (refl, refl), refl, refl, (codes " ", codes "}", [], refl, refl, (refl, refl), refl, refl, refl)),
+                  ),
+                ),
+              ),
+            ),
+          ),
+        ),
+      ),
+    ),
+  ),
+)
 
 some_document : document ≢ []
 unfolding document
@@ -113,19 +221,62 @@ some_document e = cc
 -- below 2 of the 256 brackets
 is_argument : IsArgument false 254 the_argument at7 at10
 unfolding begin_of span_of boolean_word
-is_argument = (at8, at9, record { token = refl; last = refl }, (span 16 17, record { token = refl; last = refl }), (span 18 22, record { token = refl; last = refl }), refl)
+is_argument = (
+  at8,
+  at9,
+  record { token = refl; last = refl },
+  (span 16 17, record { token = refl; last = refl }),
+  (span 18 22, record { token = refl; last = refl }),
+  refl,
+)
 
 is_directive : IsDirective false 255 the_directive at4 at11
 unfolding begin_of span_of
-is_directive = (at5, at6, (span 8 9, record { token = refl; last = refl }), record { token = refl; last = refl }, ((at7, at10, (span 13 14, record { token = refl; last = refl }), (at10, is_argument, refl), (span 22 23, record { token = refl; last = refl })), refl), refl)
+is_directive = (
+  at5,
+  at6,
+  (span 8 9, record { token = refl; last = refl }),
+  record { token = refl; last = refl },
+  ((at7, at10, (span 13 14, record { token = refl; last = refl }), (at10, is_argument, refl), (span 22 23, record { token = refl; last = refl })), refl),
+  refl,
+)
 
 is_field : IsField the_field end (AreSelections end) 255 at1 at11
 unfolding begin_of span_of
-is_field = (at3, at4, at4, at11, (at2, record { token = refl; last = refl }, (span 3 4, record { token = refl; last = refl })), record { token = refl; last = refl }, refl, (at11, is_directive, refl), (refl, refl), refl)
+is_field = (
+  at3,
+  at4,
+  at4,
+  at11,
+  (at2, record { token = refl; last = refl }, (span 3 4, record { token = refl; last = refl })),
+  record { token = refl; last = refl },
+  refl,
+  (at11, is_directive, refl),
+  (refl, refl),
+  refl,
+)
 
 is_derived : IsDerived from0 document
 unfolding document begin_of span_of is_end
-is_derived = (some_document, at12, (at12, (inl (refl, refl, refl, refl, (refl, at1, at11, (span 0 1, record { token = refl; last = refl }), (at11, is_field, refl), (span 24 25, record { token = refl; last = refl }))), refl), refl), refl)
+is_derived = (
+  some_document,
+  at12,
+  (
+    at12,
+    (
+      inl (
+        refl,
+        refl,
+        refl,
+        refl,
+        (refl, at1, at11, (span 0 1, record { token = refl; last = refl }), (at11, is_field, refl), (span 24 25, record { token = refl; last = refl })),
+      ),
+      refl,
+    ),
+    refl,
+  ),
+  refl,
+)
 
 spells : Spells (codes "{ a: id @skip(if: true) }") document
 spells = (from0, is_text, is_derived)

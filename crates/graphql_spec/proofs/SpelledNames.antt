@@ -75,7 +75,8 @@ many-named : {A : Type 0} (R : A → At → At → Type 0) (test : A → Bool) �
 many-named R test each [] s t h w = (refl, same-named s t h w)
 many-named R test each (x ∷ xs) s t (a, h, r) w = let p = each x s a h w in let q = many-named R test each xs a t r p.1 in (both p.0 q.0, q.1)
 
-between-named : {A : Type 0} (opens closes : ℕ) (R : ℕ → A → At → At → Type 0) (test : A → Bool) → ((n : ℕ) (x : A) (s t : At) → R n x s t → AllNamed s.ahead → Reads (test x) t)
+between-named : {A : Type 0} (opens closes : ℕ) (R : ℕ → A → At → At → Type 0) (test : A → Bool) →
+    ((n : ℕ) (x : A) (s t : At) → R n x s t → AllNamed s.ahead → Reads (test x) t)
     → (xs : List A) (n : ℕ) (s t : At) → Between opens closes R xs n s t → AllNamed s.ahead → Reads (list_all test xs) t
 between-named opens closes R test each [] n s t h w = absurd h
 between-named opens closes R test each (x ∷ xs) zero s t h w = absurd h
@@ -171,7 +172,8 @@ set-named : (below : Selections) (inside : ℕ → At → At → Type 0) → Rea
 set-named below inside each zero s t h w = absurd h
 set-named below inside each (suc n) s t (some, a, b, o, h, e) w = let p = each n a b h (mark-named 123 s a o w) in (p.0, mark-named 125 b t e p.1)
 
-opt_set-named : (b : Bool) (below : Selections) (inside : ℕ → At → At → Type 0) → ReadsNamed below inside → (n : ℕ) (s t : At) → OptSet b below inside n s t → AllNamed s.ahead
+opt_set-named : (b : Bool) (below : Selections) (inside : ℕ → At → At → Type 0) → ReadsNamed below inside → (n : ℕ) (s t : At) → OptSet b below inside n s t →
+    AllNamed s.ahead
     → Reads (selections_are_named below) t
 unfolding selections_are_named
 opt_set-named true below inside each n s t h w = set-named below inside each n s t h w
@@ -180,7 +182,8 @@ opt_set-named false below inside each n s t (none, e) w = (rw none refl, same-na
 alias-named : (x : Word) (s t : At) → Alias x s t → AllNamed s.ahead → Reads (word_is_named x) t
 alias-named x s t (a, h, m) w = let p = word-named x s a h w in (p.0, mark-named 58 a t m p.1)
 
-field-named : (h : Head) (below : Selections) (inside : ℕ → At → At → Type 0) → ReadsNamed below inside → (n : ℕ) (s t : At) → IsField h below inside n s t → AllNamed s.ahead
+field-named : (h : Head) (below : Selections) (inside : ℕ → At → At → Type 0) → ReadsNamed below inside → (n : ℕ) (s t : At) → IsField h below inside n s t →
+    AllNamed s.ahead
     → Reads (head_is_named h && selections_are_named below) t
 unfolding head_is_named word_is_named
 field-named h below inside each n s t (a, b, d, e, alias, name, arguments, directives, set, span) w =
@@ -204,7 +207,8 @@ spread-named x n s t (a, b, m, name, other, directives, span) w =
 condition-named : (x : Word) (s t : At) → TypeCondition x s t → AllNamed s.ahead → Reads (word_is_named x) t
 condition-named x s t (a, on, h) w = word-named x a t h (keyword-named on_word s a on w).1
 
-inline-named : (x : Inline) (below : Selections) (inside : ℕ → At → At → Type 0) → ReadsNamed below inside → (n : ℕ) (s t : At) → IsInline x below inside n s t → AllNamed s.ahead
+inline-named : (x : Inline) (below : Selections) (inside : ℕ → At → At → Type 0) → ReadsNamed below inside → (n : ℕ) (s t : At) →
+    IsInline x below inside n s t → AllNamed s.ahead
     → Reads (inline_is_named x && selections_are_named below) t
 unfolding inline_is_named
 inline-named x below inside each n s t (a, b, d, m, condition, directives, set, span) w =
@@ -243,7 +247,8 @@ variable-named n v s t (a, b, d, e, f, dollar, name, name_at, colon, of_type, ty
     let u = directives-named true n v.directives f t directives r.1 in (both p.0 (both q.0 (both r.0 u.0)), u.1)
 
 -- the variables of an operation, where any are written
-variables-named : (o : Operation) (n : ℕ) (vs : Option (Spanned (List VariableDefinition))) (s t : At) → o.variables ≡ vs → Opt (AreVariables n) vs s t → AllNamed s.ahead
+variables-named : (o : Operation) (n : ℕ) (vs : Option (Spanned (List VariableDefinition))) (s t : At) → o.variables ≡ vs → Opt (AreVariables n) vs s t →
+    AllNamed s.ahead
     → Reads (list_all variable_is_named (variables_of o)) t
 unfolding variables_of
 variables-named o n None s t i h w = (rw i refl, same-named s t h w)
@@ -278,4 +283,5 @@ definition-named n (fragment f) s t h w = fragment-named f n s t h w
 pub spelled_are_named : (bytes : List ℕ) (d : Document) → Spells bytes d → document_is_named d ≡ true
 unfolding document_is_named
 spelled_are_named bytes d (ts, is_text, (some, t, h, last)) =
-    (many-named (IsDefinition most_brackets) definition_is_named (definition-named most_brackets) d (record { last = origin; ahead = ts }) t h (text-named beginning ts bytes is_text)).0
+    (many-named (IsDefinition most_brackets) definition_is_named (definition-named most_brackets) d (record { last = origin; ahead = ts }) t h
+    (text-named beginning ts bytes is_text)).0

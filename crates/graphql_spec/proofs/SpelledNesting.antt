@@ -24,7 +24,8 @@ many-nest : {A : Type 0} (R : A → At → At → Type 0) (test : A → Bool) �
 many-nest R test each [] s t h = refl
 many-nest R test each (x ∷ xs) s t (a, h, r) = both (each x s a h) (many-nest R test each xs a t r)
 
-between-nests : {A : Type 0} (opens closes : ℕ) (R : ℕ → A → At → At → Type 0) (test : ℕ → A → Bool) → ((n : ℕ) (x : A) (s t : At) → R n x s t → test n x ≡ true)
+between-nests : {A : Type 0} (opens closes : ℕ) (R : ℕ → A → At → At → Type 0) (test : ℕ → A → Bool) →
+    ((n : ℕ) (x : A) (s t : At) → R n x s t → test n x ≡ true)
     → (xs : List A) (n : ℕ) (s t : At) → Between opens closes R xs n s t → nests_inside (λ m. list_all (test m) xs) n ≡ true
 unfolding nests_inside
 between-nests opens closes R test each [] n s t h = absurd h
@@ -85,7 +86,8 @@ directives-nest c n ds s t h = many-nest (IsDirective c n) (directive_nests n) (
 abbrev ReadsNesting : Selections → (ℕ → At → At → Type 0) → Type 0
 ReadsNesting below inside = (n : ℕ) (s t : At) → inside n s t → selections_nest n below ≡ true
 
-set-nests : (below : Selections) (inside : ℕ → At → At → Type 0) → ReadsNesting below inside → (n : ℕ) (s t : At) → Set below inside n s t → set_nests n below ≡ true
+set-nests : (below : Selections) (inside : ℕ → At → At → Type 0) → ReadsNesting below inside → (n : ℕ) (s t : At) → Set below inside n s t →
+    set_nests n below ≡ true
 unfolding set_nests nests_inside
 set-nests below inside each zero s t h = absurd h
 set-nests below inside each (suc n) s t (some, a, b, o, h, e) = each n a b h
@@ -102,9 +104,11 @@ selections-nest end n s t h = refl
 selections-nest (field h below rest) n s t (z, (a, b, d, e, alias, name, arguments, directives, set, span), r) =
     both (both (arguments-nest false n h.arguments b d arguments) (directives-nest false n h.directives d e directives))
     (both (opt_set-nests h.has_set below (AreSelections below) (selections-nest below) n e z set) (selections-nest rest n z t r))
-selections-nest (spread x rest) n s t (z, (a, b, m, name, other, directives, span), r) = both (directives-nest false n x.directives b z directives) (selections-nest rest n z t r)
+selections-nest (spread x rest) n s t (z, (a, b, m, name, other, directives, span), r) =
+    both (directives-nest false n x.directives b z directives) (selections-nest rest n z t r)
 selections-nest (inline x below rest) n s t (z, (a, b, d, m, condition, directives, set, span), r) =
-    both (directives-nest false n x.directives b d directives) (both (set-nests below (AreSelections below) (selections-nest below) n d z set) (selections-nest rest n z t r))
+    both (directives-nest false n x.directives b d directives) (both (set-nests below (AreSelections below) (selections-nest below) n d z set)
+    (selections-nest rest n z t r))
 
 -- ## Definitions
 
@@ -114,7 +118,8 @@ default-nests n v s t (a, m, h, e) = value-nests true v.item n a t h
 variable-nests : (n : ℕ) (v : VariableDefinition) (s t : At) → IsVariable n v s t → variable_nests n v ≡ true
 unfolding variable_nests
 variable-nests n v s t (a, b, d, e, f, dollar, name, name_at, colon, of_type, type_at, default, directives) =
-    both (type-nests v.of_type.item n d e of_type) (both (opt-nests (Default n) (λ x. nests n x.item) (default-nests n) v.default e f default) (directives-nest true n v.directives f t directives))
+    both (type-nests v.of_type.item n d e of_type) (both (opt-nests (Default n) (λ x. nests n x.item) (default-nests n) v.default e f default)
+    (directives-nest true n v.directives f t directives))
 
 variables-nest : (n : ℕ) (vs : Option (Spanned (List VariableDefinition))) (s t : At) → Opt (AreVariables n) vs s t → variables_nest n vs ≡ true
 unfolding variables_nest is_none_or

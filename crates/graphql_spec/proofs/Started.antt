@@ -27,7 +27,8 @@ no_pairs (f ∷ fs) s e = absurd (s f (inl refl) (none_mapped f.starts e))
     none_mapped [] q = refl
     none_mapped (x ∷ xs) q = cc
 
-module _ {N : Type 0} (W : World N) (at : Place → Place → Name → N → List Failure) (inside : (place to : Place) (U : Name) (n : N) → Started (at place to U n)) (starts : List Position) (some : starts ≡ [] → ⊥) where
+module _ {N : Type 0} (W : World N) (at : Place → Place → Name → N → List Failure) (inside : (place to : Place) (U : Name) (n : N) → Started (at place to U n))
+    (starts : List Position) (some : starts ≡ [] → ⊥) where
   alone : (f : Failure) → f.starts ≡ starts → Started (f ∷ [])
   alone f e g (inl q) z = some (sym e ∙ (sym (ap (λ x. x.starts) q) ∙ z))
   alone f e g (inr q) z = absurd q
@@ -52,10 +53,11 @@ module _ {N : Type 0} (W : World N) (at : Place → Place → Name → N → Lis
 
     items-started : (here : Place) (n : ℕ) (above : Place) (t : TypeRef) (ts : Trees N) → Started (all_faults W at here n starts above t ts)
     items-started here n above t no_trees g i = absurd i
-    items-started here n above t (tree a rest) g i = elim (in_append g (faults W at (here ++ index n ∷ []) starts above t a) (all_faults W at here (suc n) starts above t rest) i) [
-      | inl j ↦ faults-started (here ++ index n ∷ []) above t a g j
-      | inr j ↦ items-started here (suc n) above t rest g j
-    ]
+    items-started here n above t (tree a rest) g i =
+        elim (in_append g (faults W at (here ++ index n ∷ []) starts above t a) (all_faults W at here (suc n) starts above t rest) i) [
+          | inl j ↦ faults-started (here ++ index n ∷ []) above t a g j
+          | inr j ↦ items-started here (suc n) above t rest g j
+        ]
 
   pub reply-started : (here above : Place) (t : TypeRef) (r : Reply N) → Started (reply_faults W at here starts above t r)
   unfolding reply_faults
@@ -70,9 +72,11 @@ module _ {N : Type 0} (W : World N) where
       let r = in_flat_map g (λ k. key_failures W (failures W d) (here ++ key k ∷ []) above T m (with_key k os)) (keys os) i in
       let xs : List Occurrence = with_key r.0 os in
       let more = with_key-known r.0 os r.1 in
-      reply-started W (λ place to U n. failures W d place to U n (occurrences W.possible U (all_below xs))) (λ place to U n. started d place to U n (occurrences W.possible U (all_below xs))) (starts_of xs)
+      reply-started W (λ place to U n. failures W d place to U n (occurrences W.possible U (all_below xs)))
+      (λ place to U n. started d place to U n (occurrences W.possible U (all_below xs))) (starts_of xs)
       (λ e. let z = ap starts_of more.2 in let w = sym z ∙ e in cc) (here ++ key r.0 ∷ []) above (type_of W T xs) (reply_of W T m xs) g r.2
 
   pub failures_have_pairs : FailuresHavePairs W
   unfolding failures_of
-  failures_have_pairs here above T m s = no_pairs (failures W (depth s) here above T m (occurrences W.possible T s)) (started (depth s) here above T m (occurrences W.possible T s))
+  failures_have_pairs here above T m s =
+      no_pairs (failures W (depth s) here above T m (occurrences W.possible T s)) (started (depth s) here above T m (occurrences W.possible T s))

@@ -41,7 +41,8 @@ module _ (s : Schema) (e : IsTrue (is_executable s)) where
   -- the occurrence is declared for T, and what it selects is to the depth d
   abbrev IsDeclared : ℕ → Name → Occurrence → Type 0
   IsDeclared d T o = IsTrue (declares_field s T o.head.name.item)
-      × ((U : Name) → IsTrue (is_possible s U (innermost (declared_type (field_of s T o.head.name.item)))) → AreDeclared s d U (occurrences (is_possible s) U o.below))
+      × ((U : Name) → IsTrue (is_possible s U (innermost (declared_type (field_of s T o.head.name.item)))) →
+      AreDeclared s d U (occurrences (is_possible s) U o.below))
 
   -- fields that merge are declared
   are-declared : (d : ℕ) (T : Name) (os : List Occurrence) (xs : List Field) → Covers here (names_object s) (declares_field s) keeps T os xs →
@@ -54,7 +55,8 @@ module _ (s : Schema) (e : IsTrue (is_executable s)) where
       subst (IsDeclared d T) a.2 (
         kept-field T a.0.parent a.0.occurrence.head.name.item a.3 r.3,
         λ U p. are-declared d U (occurrences (is_possible s) U a.0.occurrence.below) (below_of a.0 ++ below_of a.0)
-            (λ y j. let b = below-covered here (names_object s) (declares_field s) keeps T U a.0 a.3 r.3 p y j in (b.0, in_first b.0 (below_of a.0) (below_of a.0) b.1, b.2, b.3)) r.2,
+            (λ y j. let b = below-covered here (names_object s) (declares_field s) keeps T U a.0 a.3 r.3 p y j in
+            (b.0, in_first b.0 (below_of a.0) (below_of a.0) b.1, b.2, b.3)) r.2,
       )
 
 pub valid_fields_are_declared : ValidFieldsAreDeclared
@@ -67,7 +69,8 @@ valid_fields_are_declared s e disabled d valid passes x i set j T p n =
     (thin-fields set.parent (expand-thin passes (λ y. true) (λ y q. refl) (fragments d) set.selections)) (valid_sets_may_merge s disabled d valid x i set j n))
 
 -- what an operation selects on its root type
-pub operation_is_declared : (s : Schema) → IsTrue (is_executable s) → (disabled : Bool) (d : Document) → IsValidDocument s disabled d → (passes : Directive → Bool) →
+pub operation_is_declared : (s : Schema) → IsTrue (is_executable s) → (disabled : Bool) (d : Document) → IsValidDocument s disabled d →
+    (passes : Directive → Bool) →
     (o : Operation) → In (operation o) d → (root : Name) → root_type s o.kind ≡ Some root → (T : Name) → IsTrue (is_possible s T root) → (n : ℕ) →
     AreDeclared s n T (occurrences (is_possible s) T (expand passes (fragments d) o.selections))
 operation_is_declared s e disabled d valid passes o i root r T p n =

@@ -41,7 +41,14 @@ second_set = on (codes "Droid") 26 third_set end
 
 -- { hero { id ...F } hero { ... on Droid { friends { name } } } }
 abbrev asked : Operation
-asked = record { kind = query; name = None; variables = None; directives = []; selections = set_field (codes "hero") 2 first_set (set_field (codes "hero") 19 second_set end); span = span 0 62 }
+asked = record {
+  kind = query;
+  name = None;
+  variables = None;
+  directives = [];
+  selections = set_field (codes "hero") 2 first_set (set_field (codes "hero") 19 second_set end);
+  span = span 0 62;
+}
 
 -- { name friends { id } }
 abbrev held : Selections
@@ -64,9 +71,12 @@ premises = (refl, refl, refl)
 
 -- the sets, each on its type: a field's on the field's innermost type, an inline fragment's and a fragment's on its condition;
 -- a field without a set selects nothing
-sets : (sets_in demo (operation asked) ≡ set_on (codes "Query") asked.selections ∷ set_on (codes "Character") first_set ∷ set_on (codes "ID") end ∷ set_on (codes "Character") second_set
+sets : (sets_in demo (operation asked) ≡ set_on (codes "Query") asked.selections ∷ set_on (codes "Character") first_set ∷ set_on (codes "ID") end
+    ∷ set_on (codes "Character") second_set
     ∷ set_on (codes "Droid") third_set ∷ set_on (codes "Character") (leaf_field (codes "name") 51 end) ∷ set_on (codes "String") end ∷ [])
-    × (sets_in demo (fragment_on (codes "F") (codes "Character") 63 held) ≡ set_on (codes "Character") held ∷ set_on (codes "String") end ∷ set_on (codes "Character") (leaf_field (codes "id") 101 end) ∷ set_on (codes "ID") end ∷ [])
+    × (sets_in demo (fragment_on (codes "F") (codes "Character") 63 held)
+    ≡ set_on (codes "Character") held ∷ set_on (codes "String") end ∷ set_on (codes "Character") (leaf_field (codes "id") 101 end) ∷ set_on (codes "ID") end
+    ∷ [])
 unfolding outcome sets_in sets_from sets_below
 sets = (refl, refl)
 
@@ -120,23 +130,30 @@ joined = (refl, refl, refl, refl, refl, refl)
 -- the law gives the same
 by_law : value (selected heroes asked no_values) ≡ join (value (part 2 first_set)) (value (part 19 second_set))
 unfolding of_document outcome
-by_law = runs_join {N = Node} demo true None no_values (Some heroes) heroes asked no_values joined.0 premises.1 concrete_of answer_of (codes "Query") premises.2 (part 2 first_set) (part 19 second_set) joined.1 false (answered (node root))
+by_law = runs_join {N = Node} demo true None no_values (Some heroes) heroes asked no_values joined.0 premises.1 concrete_of answer_of (codes "Query") premises.2
+    (part 2 first_set) (part 19 second_set) joined.1 false (answered (node root))
 
 -- the two occurrences of `hero`
 abbrev hero_at : ℕ → Selections → Occurrence
-hero_at n s = record { head = record { alias = None; name = word (codes "hero") n; arguments = None; directives = []; has_set = true; span = span n (n + 4) }; below = expand (passes no_values) (fragments heroes) s }
+hero_at n s = record {
+  head = record { alias = None; name = word (codes "hero") n; arguments = None; directives = []; has_set = true; span = span n (n + 4) };
+  below = expand (passes no_values) (fragments heroes) s;
+}
 
 -- the value of a droid for them
 abbrev droid_for : Forest → Value
 droid_for t = value_of demo_world (named false (codes "Character")) (answered (node droid)) t
 
 -- the law at their place, and what it says there by hand
-by_law_below : droid_for (chain (hero_at 2 first_set).below (hero_at 19 second_set).below) ≡ join (droid_for (hero_at 2 first_set).below) (droid_for (hero_at 19 second_set).below)
+by_law_below : droid_for (chain (hero_at 2 first_set).below (hero_at 19 second_set).below)
+    ≡ join (droid_for (hero_at 2 first_set).below) (droid_for (hero_at 19 second_set).below)
 unfolding answer of_document outcome
-by_law_below = ((runs_join_below {N = Node} demo true None no_values (Some heroes) heroes asked no_values joined.0 premises.1 concrete_of answer_of (codes "Query") premises.2 1)
+by_law_below = ((runs_join_below {N = Node} demo true None no_values (Some heroes) heroes asked no_values joined.0 premises.1 concrete_of answer_of
+    (codes "Query") premises.2 1)
     (hero_at 2 first_set) (hero_at 19 second_set) (inl refl) (inr (inl refl)) refl).0 (answered (node droid))
 
-below_by_hand : droid_for (chain (hero_at 2 first_set).below (hero_at 19 second_set).below) ≡ object (named_droid (entry (codes "friends") (friends_with (friend_id friend_name)) no_entries))
+below_by_hand : droid_for (chain (hero_at 2 first_set).below (hero_at 19 second_set).below)
+    ≡ object (named_droid (entry (codes "friends") (friends_with (friend_id friend_name)) no_entries))
 unfolding answer outcome
 below_by_hand = refl
 
@@ -147,13 +164,16 @@ adding k = record {
   name = None;
   variables = None;
   directives = [];
-  selections = given_field None (codes "add") (codes "n") (i.scalar (int (pos 1))) 11 true (leaf_field (codes "total") 23 end) (given_field None (codes "add") (codes "n") (i.scalar (int (pos k))) 31 true (leaf_field (codes "count") 43 end) end);
+  selections = given_field None (codes "add") (codes "n") (i.scalar (int (pos 1))) 11 true (leaf_field (codes "total") 23 end)
+      (given_field None (codes "add") (codes "n") (i.scalar (int (pos k))) 31 true (leaf_field (codes "count") 43 end) end);
   span = span 0 51;
 }
 
 -- with k = 1 it runs, on the mutation type, and its sets are those; with k = 2 its fields cannot be merged
-mutations : (outcome no_values (operation (adding 1) ∷ []) ≡ runs (operation (adding 1) ∷ []) (adding 1) (λ n. None)) × (root_type demo mutation ≡ Some (codes "Mutation"))
-    × (sets_in demo (operation (adding 1)) ≡ set_on (codes "Mutation") (adding 1).selections ∷ set_on (codes "Tally") (leaf_field (codes "total") 23 end) ∷ set_on (codes "Int") end
+mutations : (outcome no_values (operation (adding 1) ∷ []) ≡ runs (operation (adding 1) ∷ []) (adding 1) (λ n. None))
+    × (root_type demo mutation ≡ Some (codes "Mutation"))
+    × (sets_in demo (operation (adding 1)) ≡ set_on (codes "Mutation") (adding 1).selections ∷ set_on (codes "Tally") (leaf_field (codes "total") 23 end)
+    ∷ set_on (codes "Int") end
     ∷ set_on (codes "Tally") (leaf_field (codes "count") 43 end) ∷ set_on (codes "Int") end ∷ [])
     × (rule_errors demo true (operation (adding 2) ∷ []) ≡ record { message = codes "Fields cannot be merged"; start = at 0 } ∷ [])
     × (sets_in demo (operation (record { kind = subscription; name = None; variables = None; directives = []; selections = held; span = span 0 0 })) ≡ [])
@@ -167,21 +187,27 @@ added = occurrences (is_possible demo) (codes "Mutation") (selected (operation (
 -- by the law they agree, to every depth, and each is declared
 adding_agrees : (depth : ℕ) → Agree demo_world depth (codes "Mutation") added × AreDeclared demo depth (codes "Mutation") added
 unfolding of_document outcome
-adding_agrees depth = runs_agree {N = Node} demo true None no_values (Some (operation (adding 1) ∷ [])) (operation (adding 1) ∷ []) (adding 1) no_values mutations.0 premises.1 concrete_of answer_of (codes "Mutation") mutations.1 depth
+adding_agrees depth = runs_agree {N = Node} demo true None no_values (Some (operation (adding 1) ∷ [])) (operation (adding 1) ∷ [])
+    (adding 1) no_values mutations.0 premises.1 concrete_of answer_of (codes "Mutation") mutations.1 depth
 
 -- ## What it refuses
 
 -- { ...F } fragment F on Query { ...F }: the rules on names find it, and its spreads have no end
 abbrev round : Document
-round = operation (record { kind = query; name = None; variables = None; directives = []; selections = spread_of (codes "F") 2 end; span = span 0 8 }) ∷ fragment_on (codes "F") (codes "Query") 9 (spread_of (codes "F") 30 end) ∷ []
+round = operation (record { kind = query; name = None; variables = None; directives = []; selections = spread_of (codes "F") 2 end; span = span 0 8 })
+    ∷ fragment_on (codes "F") (codes "Query") 9 (spread_of (codes "F") 30 end) ∷ []
 
-endless : (at_each (name_errors demo true round) [] round ≡ record { message = codes "Fragment spreads itself"; start = at 9 } ∷ []) × (deep (fragments round) 1 (codes "F") ≡ true)
+endless : (at_each (name_errors demo true round) [] round ≡ record { message = codes "Fragment spreads itself"; start = at 9 } ∷ [])
+    × (deep (fragments round) 1 (codes "F") ≡ true)
 unfolding outcome deep deep_in
 endless = (refl, refl)
 
 -- a field `a` that resolves the field of the name t
 abbrev renamed : Text → Occurrence
-renamed t = record { head = record { alias = Some (word (codes "a") 2); name = word t 5; arguments = None; directives = []; has_set = false; span = span 2 2 }; below = Forest.end }
+renamed t = record {
+  head = record { alias = Some (word (codes "a") 2); name = word t 5; arguments = None; directives = []; has_set = false; span = span 2 2 };
+  below = Forest.end;
+}
 
 -- { a: fail a: odd }: the two do not merge for the object type
 differ : Merges demo_world (codes "Query") (expand (passes no_values) [] (as_field (codes "a") (codes "fail") 2 (as_field (codes "a") (codes "odd") 2 end))) → ⊥

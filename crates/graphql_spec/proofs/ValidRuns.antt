@@ -96,7 +96,8 @@ kind-runs s subscription x d o vars e = cc
 same-runs : (d e : Document) (o p : Operation) (v w : Variables) → runs d o v ≡ runs e p w → (d ≡ e) × (o ≡ p) × (v ≡ w)
 same-runs d e o p v w q = (cc, cc, cc)
 
-operation-runs : (s : Schema) (given : Variables) (d : Document) (p : Operation) (e : Document) (o : Operation) (vars : Variables) → Runs (of_operation s given d p) e o vars →
+operation-runs : (s : Schema) (given : Variables) (d : Document) (p : Operation) (e : Document) (o : Operation) (vars : Variables) →
+    Runs (of_operation s given d p) e o vars →
     (d ≡ e) × (p ≡ o) × ((root : Name) × (root_type s p.kind ≡ Some root))
 unfolding of_operation
 operation-runs s given d p e o vars q =
@@ -106,7 +107,8 @@ operation-runs s given d p e o vars q =
     let f = same-runs d e p o (coerced_variables (variables_of p) given) vars c.0 in
     (f.0, f.1, c.1)
 
-choice-runs : (s : Schema) (given : Variables) (d : Document) (c : Choice) (e : Document) (o : Operation) (vars : Variables) → Runs (of_choice s given d c) e o vars →
+choice-runs : (s : Schema) (given : Variables) (d : Document) (c : Choice) (e : Document) (o : Operation) (vars : Variables) →
+    Runs (of_choice s given d c) e o vars →
     (c ≡ chosen o) × (d ≡ e) × ((root : Name) × (root_type s o.kind ≡ Some root))
 unfolding of_choice
 choice-runs s given d (chosen p) e o vars q =
@@ -160,7 +162,8 @@ pub runs_join : {N : Type 0} → RunsJoin N
 unfolding selected innermost
 runs_join s disabled n given text d o vars e executable concrete answer root r one other split q reply =
     let v = runs_are_valid s disabled n given text d o vars e in
-    let m : Merges (world_of s vars concrete answer) root (selected d o vars) = valid_operations_merge s executable disabled d v.1 vars concrete answer (passes vars) o v.2 root r in
+    let m : Merges (world_of s vars concrete answer) root (selected d o vars) = valid_operations_merge s executable disabled d v.1 vars concrete answer
+    (passes vars) o v.2 root r in
     ap (value_of (world_of s vars concrete answer) (named q root) reply) split
     ∙ values_join (world_of s vars concrete answer) (named q root) reply one other (subst (Merges (world_of s vars concrete answer) root) split m)
 

@@ -45,7 +45,8 @@ unfolding has_argument
 has-argument-is n [] = refl
 has-argument-is n (a ∷ rest) = ap (λ b. bytes_eq n a.name.item || b) (has-argument-is n rest)
 
-none-repeats : (as' : List Argument) → repeats (map (λ a. a.name.item) as') ≡ false → list_any field_repeats (map (λ a. a.value.item) as') ≡ false → arguments_repeat as' ≡ false
+none-repeats : (as' : List Argument) → repeats (map (λ a. a.name.item) as') ≡ false → list_any field_repeats (map (λ a. a.value.item) as') ≡ false →
+    arguments_repeat as' ≡ false
 unfolding repeats arguments_repeat
 none-repeats [] n v = refl
 none-repeats (a ∷ rest) n v =
@@ -54,7 +55,8 @@ none-repeats (a ∷ rest) n v =
     or_from (has_argument a.name.item rest) (field_repeats a.value.item || arguments_repeat rest) (has-argument-is a.name.item rest ∙ p.0)
     (or_from (field_repeats a.value.item) (arguments_repeat rest) q.0 (none-repeats rest p.1 q.1))
 
-no-list-repeats : (ls : List (List Argument)) → list_any (λ as'. repeats (map (λ a. a.name.item) as')) ls ≡ false → list_any field_repeats (flat_map (λ as'. map (λ a. a.value.item) as') ls) ≡ false →
+no-list-repeats : (ls : List (List Argument)) → list_any (λ as'. repeats (map (λ a. a.name.item) as')) ls ≡ false →
+    list_any field_repeats (flat_map (λ as'. map (λ a. a.value.item) as') ls) ≡ false →
     list_any arguments_repeat ls ≡ false
 no-list-repeats [] n v = refl
 no-list-repeats (l ∷ ls) n v =
@@ -63,7 +65,8 @@ no-list-repeats (l ∷ ls) n v =
     or_from (arguments_repeat l) (list_any arguments_repeat ls) (none-repeats l p.0 q.0) (no-list-repeats ls p.1 q.1)
 
 -- no field of the definition has an argument, or an object in one a field, twice
-pub no-head-repeats : (x : Definition) → repeats_argument x ≡ false → repeats_input_field x ≡ false → list_any (λ h. arguments_repeat (written h.arguments)) (heads (selections_of x)) ≡ false
+pub no-head-repeats : (x : Definition) → repeats_argument x ≡ false → repeats_input_field x ≡ false →
+    list_any (λ h. arguments_repeat (written h.arguments)) (heads (selections_of x)) ≡ false
 unfolding repeats_argument repeats_input_field values_in argument_lists
 no-head-repeats x n v =
     let fields' = map (λ h. written h.arguments) (heads (selections_of x)) in
@@ -87,7 +90,8 @@ module _ (s : Schema) where
   composite n e = unturned (is_composite (type_named s n)) e
 
   -- a condition that is composite, and those behind it
-  condition-parts : (o : Option Word) (p : Name) (rest : List Name) (f : Name → List Placed) → list_any is_other (elim o [ None ↦ rest | Some w ↦ w.item ∷ rest ]) ≡ false →
+  condition-parts : (o : Option Word) (p : Name) (rest : List Name) (f : Name → List Placed) →
+      list_any is_other (elim o [ None ↦ rest | Some w ↦ w.item ∷ rest ]) ≡ false →
       (if_composite s p (word_name o) f ≡ f (name_or o p)) × (list_any is_other rest ≡ false)
   unfolding if_composite word_name name_or
   condition-parts None p rest f e = (refl, e)
@@ -109,11 +113,13 @@ module _ (s : Schema) where
         let o = field_of s p h.name.item in
         let u = or_parts (is_none o) (list_any lacks (if_declared s o (λ q. placed s q below) ++ placed s p rest)) a in
         let v = any-parts lacks (if_declared s o (λ q. placed s q below)) (placed s p rest) u.1 in
-        let inside : list_any lacks (placed s (type_below s p h.name.item) below) ≡ false = sym (ap (list_any lacks) (if_declared-is o (λ q. placed s q below) u.0)) ∙ v.0 in
+        let inside : list_any lacks (placed s (type_below s p h.name.item) below)
+        ≡ false = sym (ap (list_any lacks) (if_declared-is o (λ q. placed s q below) u.0)) ∙ v.0 in
         let cs = any-parts is_other (conditions below) (conditions rest) b in
         let hs = or_parts (repeats_at h) (list_any repeats_at (heads below ++ heads rest)) c in
         let hr = any-parts repeats_at (heads below) (heads rest) hs.1 in
-        let ms = and_parts (set_merges s fs (type_below s p h.name.item) below && sets_merge s fs (type_below s p h.name.item) below) (sets_merge s fs p rest) m in
+        let ms = and_parts (set_merges s fs (type_below s p h.name.item) below && sets_merge s fs (type_below s p h.name.item) below)
+        (sets_merge s fs p rest) m in
         let mb = and_parts (set_merges s fs (type_below s p h.name.item) below) (sets_merge s fs (type_below s p h.name.item) below) ms.0 in (
           record { declared = is-there o u.0; once = hs.0; merges = mb.0 },
           (well (type_below s p h.name.item) below inside cs.0 hr.0 mb.1, well p rest v.1 cs.1 hr.1 ms.1),
@@ -174,13 +180,15 @@ no-sets : (s : Schema) (o : Operation) → root_type s o.kind ≡ None → sets_
 unfolding sets_in
 no-sets s o r = rw (r, sets_in) refl
 
-placed-fragment : (s : Schema) (f : Fragment) → is_composite (type_named s f.condition.item) ≡ true → placed_in s (fragment f) ≡ placed s f.condition.item f.selections
+placed-fragment : (s : Schema) (f : Fragment) → is_composite (type_named s f.condition.item) ≡ true →
+    placed_in s (fragment f) ≡ placed s f.condition.item f.selections
 unfolding placed_in if_composite
 placed-fragment s f e = rw e refl
 
 module _ (s : Schema) (disabled : Bool) (d : Document) (valid : IsValidDocument s disabled d) where
   -- what an operation selects on its root type, and what is written below
-  operation-good : (o : Operation) (p : Name) → In (operation o) d → root_type s o.kind ≡ Some p → (set : PlacedSet) → In set (sets_from s p o.selections) → GoodSet s (fragments d) set
+  operation-good : (o : Operation) (p : Name) → In (operation o) d → root_type s o.kind ≡ Some p → (set : PlacedSet) → In set (sets_from s p o.selections) →
+      GoodSet s (fragments d) set
   unfolding selections_of has_unknown_field has_other_condition all_conditions cannot_merge
   operation-good o p i r =
       let phases = phases-hold s disabled d valid in
@@ -189,10 +197,12 @@ module _ (s : Schema) (disabled : Bool) (d : Document) (valid : IsValidDocument 
       let merged = sym (merges-operation s d o p r) ∙ unturned (definition_merges s d (operation o)) (sets-hold s disabled d phases.uses (operation o) i) in
       let m = and_parts (set_merges s (fragments d) p o.selections) (sets_merge s (fragments d) p o.selections) merged in
       let a = sym (ap (list_any (lacks s)) (placed-operation s o p r)) ∙ types.fields_known in
-      good-from s (fragments d) p o.selections m.0 (well s (fragments d) p o.selections a types.conditions_composite (no-head-repeats (operation o) names.arguments_differ names.input_fields_differ) m.1)
+      good-from s (fragments d) p o.selections m.0 (well s (fragments d) p o.selections a types.conditions_composite
+      (no-head-repeats (operation o) names.arguments_differ names.input_fields_differ) m.1)
 
   -- what a fragment holds on its condition
-  fragment-well : (f : Fragment) → In (fragment f) d → (set_merges s (fragments d) f.condition.item f.selections ≡ true) × AreWell s (fragments d) f.condition.item f.selections
+  fragment-well : (f : Fragment) → In (fragment f) d → (set_merges s (fragments d) f.condition.item f.selections ≡ true)
+      × AreWell s (fragments d) f.condition.item f.selections
   unfolding selections_of has_unknown_field has_other_condition all_conditions cannot_merge definition_merges
   fragment-well f i =
       let phases = phases-hold s disabled d valid in
@@ -231,10 +241,12 @@ valid_sets_merge s e disabled d valid vars concrete answer passes x i set j =
     schemas_merge s e vars concrete answer passes (fragments d) set.parent set.selections (valid_sets_may_merge s disabled d valid x i set j)
 
 -- what an operation selects on its root type is one of its sets
-pub operation-set : (s : Schema) (o : Operation) (root : Name) → root_type s o.kind ≡ Some root → In (record { parent = root; selections = o.selections }) (sets_in s (operation o))
+pub operation-set : (s : Schema) (o : Operation) (root : Name) → root_type s o.kind ≡ Some root →
+    In (record { parent = root; selections = o.selections }) (sets_in s (operation o))
 unfolding sets_from
 operation-set s o root r = subst (In (record { parent = root; selections = o.selections })) (sym (sets-operation s o root r)) (inl refl)
 
 pub valid_operations_merge : {N : Type 0} → ValidOperationsMerge N
 valid_operations_merge s e disabled d valid vars concrete answer passes o i root r =
-    valid_sets_merge s e disabled d valid vars concrete answer passes (operation o) i (record { parent = root; selections = o.selections }) (operation-set s o root r)
+    valid_sets_merge s e disabled d valid vars concrete answer passes (operation o) i (record { parent = root; selections = o.selections })
+    (operation-set s o root r)

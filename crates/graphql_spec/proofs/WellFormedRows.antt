@@ -30,7 +30,14 @@ sample_inside name = spread (record { name = word (name 13) 0; directives = dire
 
 -- 9: 10(11: null) @12 { .. } 18
 abbrev sample_set : (ℕ → Name) → Selections
-sample_set name = field (record { alias = Some (word (name 9) 0); name = word (name 10) 0; arguments = one (name 11) null; directives = directive (name 12) None ∷ []; has_set = true; span = span 0 1 })
+sample_set name = field (record {
+  alias = Some (word (name 9) 0);
+  name = word (name 10) 0;
+  arguments = one (name 11) null;
+  directives = directive (name 12) None ∷ [];
+  has_set = true;
+  span = span 0 1;
+})
     (sample_inside name) (leaf_field (name 18) 0 end)
 
 -- $1: [2]! = [3] @4
@@ -51,7 +58,14 @@ sample name = operation (record {
   directives = directive (name 5) (one (name 6) (object (input_field (name 7) (span 0 1) (variable (name 8)) (span 0 1) no_fields))) ∷ [];
   selections = sample_set name;
   span = span 0 1;
-}) ∷ fragment (record { name = word (name 19) 0; condition = word (name 20) 0; directives = directive (name 21) None ∷ []; selections = leaf_field (name 22) 0 end; span = span 0 1 }) ∷ []
+}) ∷ fragment (record {
+  name =
+      word (name 19) 0;
+  condition = word (name 20) 0;
+  directives = directive (name 21) None ∷ [];
+  selections = leaf_field (name 22) 0 end;
+  span = span 0 1;
+}) ∷ []
 
 abbrev places : List ℕ
 places = 0 ∷ 1 ∷ 2 ∷ 3 ∷ 4 ∷ 5 ∷ 6 ∷ 7 ∷ 8 ∷ 9 ∷ 10 ∷ 11 ∷ 12 ∷ 13 ∷ 14 ∷ 15 ∷ 16 ∷ 17 ∷ 18 ∷ 19 ∷ 20 ∷ 21 ∷ 22 ∷ []
@@ -67,16 +81,28 @@ failing_places test (k ∷ ks) = cond (test k) (failing_places test ks) (k ∷ f
 
 -- a word with a space, an empty one or one that begins with a digit stands nowhere; `true`, `false` and `null` are names
 -- but no values of enums; `on` is a name, but of no fragment; `query` may stand anywhere
-names : (at_place (codes "a") 23 ≡ true) × (list_any (at_place (codes "a b")) places ≡ false) × (list_any (at_place []) places ≡ false) × (list_any (at_place (codes "1a")) places ≡ false)
-    × (failing_places (at_place (codes "true")) places ≡ 3 ∷ []) × (failing_places (at_place (codes "false")) places ≡ 3 ∷ []) × (failing_places (at_place (codes "null")) places ≡ 3 ∷ [])
+names : (at_place (codes "a") 23 ≡ true) × (list_any (at_place (codes "a b")) places ≡ false) × (list_any (at_place []) places ≡ false)
+    × (list_any (at_place (codes "1a")) places ≡ false)
+    × (failing_places (at_place (codes "true")) places ≡ 3 ∷ []) × (failing_places (at_place (codes "false")) places ≡ 3 ∷ [])
+    × (failing_places (at_place (codes "null")) places ≡ 3 ∷ [])
     × (failing_places (at_place (codes "on")) places ≡ 13 ∷ 19 ∷ []) × (failing_places (at_place (codes "query")) places ≡ [])
-unfolding at_place sample failing_places innermost written variables_of starts_name continues_name is_name is_enum_name is_named items_are_named fields_are_named is_none_or word_is_named is_fragment_name argument_is_named arguments_are_named directive_is_named directives_are_named head_is_named spread_is_named inline_is_named selections_are_named type_is_named variable_is_named operation_is_named fragment_is_named definition_is_named document_is_named
+unfolding at_place sample failing_places innermost written variables_of starts_name continues_name is_name is_enum_name is_named items_are_named
+    fields_are_named is_none_or word_is_named is_fragment_name argument_is_named arguments_are_named directive_is_named directives_are_named head_is_named
+    spread_is_named inline_is_named selections_are_named type_is_named variable_is_named operation_is_named fragment_is_named definition_is_named
+    document_is_named
 names = (refl, refl, refl, refl, refl, refl, refl, refl, refl)
 
 -- ## Nesting
 
 abbrev asks : Option (List VariableDefinition) → List Directive → Selections → Document
-asks vs ds s = operation (record { kind = query; name = None; variables = elim vs [ None ↦ None | Some xs ↦ Some (here 0 xs) ]; directives = ds; selections = s; span = span 0 1 }) ∷ []
+asks vs ds s = operation (record {
+  kind = query;
+  name = None;
+  variables = elim vs [ None ↦ None | Some xs ↦ Some (here 0 xs) ];
+  directives = ds;
+  selections = s;
+  span = span 0 1;
+}) ∷ []
 
 abbrev a_field : Arguments → List Directive → Selections
 a_field as' ds = field (record { alias = None; name = word (codes "a") 0; arguments = as'; directives = ds; has_set = false; span = span 0 1 }) end end
@@ -85,7 +111,8 @@ abbrev plain : Selections
 plain = leaf_field (codes "a") 0 end
 
 abbrev one_variable : TypeRef → Option Input → List Directive → List VariableDefinition
-one_variable t v ds = record { name = word (codes "v") 0; of_type = here 0 t; default = elim v [ None ↦ None | Some x ↦ Some (here 0 x) ]; directives = ds } ∷ []
+one_variable t v ds =
+    record { name = word (codes "v") 0; of_type = here 0 t; default = elim v [ None ↦ None | Some x ↦ Some (here 0 x) ]; directives = ds } ∷ []
 
 abbrev listed : Input → Input
 listed v = list (item v (span 0 1) no_items)
@@ -107,7 +134,8 @@ selections : (needs 1 0 (asks None [] plain) ≡ true)
     × (needs 2 1 (asks None [] (inline (record { condition = None; directives = []; span = span 0 1 }) plain end)) ≡ true)
     -- { ...a }
     × (needs 1 0 (asks None [] (spread (record { name = word (codes "a") 0; directives = []; span = span 0 1 }) end)) ≡ true)
-unfolding needs is_none_or nests_inside argument_nests arguments_nest directive_nests directives_nest head_nests in_set selections_nest type_nests variable_nests variables_nest set_nests operation_nests fragment_nests definition_nests document_nests nests items_nest fields_nest
+unfolding needs is_none_or nests_inside argument_nests arguments_nest directive_nests directives_nest head_nests in_set selections_nest type_nests
+    variable_nests variables_nest set_nests operation_nests fragment_nests definition_nests document_nests nests items_nest fields_nest
 selections = (refl, refl, refl, refl, refl)
 
 -- { a(x: 1) }, and those that are written above each
@@ -115,12 +143,22 @@ arguments : (needs 2 1 (asks None [] (a_field (one (codes "x") one_int) [])) ≡
     -- { a(x: [[]]) }
     × (needs 4 3 (asks None [] (a_field (one (codes "x") (listed (list no_items))) [])) ≡ true)
     -- { a @a(x: {x: []}) }
-    × (needs 4 3 (asks None [] (a_field None (directive (codes "a") (one (codes "x") (object (input_field (codes "x") (span 0 1) (list no_items) (span 0 1) no_fields))) ∷ []))) ≡ true)
+    × (needs 4 3 (asks None [] (a_field None (directive (codes "a")
+    (one (codes "x") (object (input_field (codes "x") (span 0 1) (list no_items) (span 0 1) no_fields))) ∷ []))) ≡ true)
     -- { ...a @a @a(x: 1) }
-    × (needs 2 1 (asks None [] (spread (record { name = word (codes "a") 0; directives = directive (codes "a") None ∷ directive (codes "a") (one (codes "x") one_int) ∷ []; span = span 0 1 }) end)) ≡ true)
+    × (needs 2 1 (asks None [] (spread (record {
+      name = word (codes "a") 0;
+      directives = directive (codes "a") None ∷ directive (codes "a") (one (codes "x") one_int) ∷ [];
+      span = span 0 1;
+    }) end)) ≡ true)
     -- { ... @a(x: [1]) { a } }
-    × (needs 3 2 (asks None [] (inline (record { condition = None; directives = directive (codes "a") (one (codes "x") (listed one_int)) ∷ []; span = span 0 1 }) plain end)) ≡ true)
-unfolding needs is_none_or nests_inside argument_nests arguments_nest directive_nests directives_nest head_nests in_set selections_nest type_nests variable_nests variables_nest set_nests operation_nests fragment_nests definition_nests document_nests nests items_nest fields_nest
+    × (needs 3 2 (asks None [] (inline (record {
+      condition = None;
+      directives = directive (codes "a") (one (codes "x") (listed one_int)) ∷ [];
+      span = span 0 1;
+    }) plain end)) ≡ true)
+unfolding needs is_none_or nests_inside argument_nests arguments_nest directive_nests directives_nest head_nests in_set selections_nest type_nests
+    variable_nests variables_nest set_nests operation_nests fragment_nests definition_nests document_nests nests items_nest fields_nest
 arguments = (refl, refl, refl, refl, refl)
 
 -- query ($v: Int) { a }, and those that are written above each
@@ -134,8 +172,21 @@ definitions : (needs 1 0 (asks (Some (one_variable (named false (codes "Int")) N
     -- query @a(x: [1]) { a }
     × (needs 2 1 (asks None (directive (codes "a") (one (codes "x") (listed one_int)) ∷ []) plain) ≡ true)
     -- fragment a on a @a(x: [1]) { a }
-    × (needs 2 1 (fragment (record { name = word (codes "a") 0; condition = word (codes "a") 0; directives = directive (codes "a") (one (codes "x") (listed one_int)) ∷ []; selections = plain; span = span 0 1 }) ∷ []) ≡ true)
+    × (needs 2 1 (fragment (record {
+      name = word (codes "a") 0;
+      condition = word (codes "a") 0;
+      directives = directive (codes "a") (one (codes "x") (listed one_int)) ∷ [];
+      selections = plain;
+      span = span 0 1;
+    }) ∷ []) ≡ true)
     -- fragment a on a { a { a } }
-    × (needs 2 1 (fragment (record { name = word (codes "a") 0; condition = word (codes "a") 0; directives = []; selections = set_field (codes "a") 0 plain end; span = span 0 1 }) ∷ []) ≡ true)
-unfolding needs is_none_or nests_inside argument_nests arguments_nest directive_nests directives_nest head_nests in_set selections_nest type_nests variable_nests variables_nest set_nests operation_nests fragment_nests definition_nests document_nests nests items_nest fields_nest
+    × (needs 2 1 (fragment (record {
+      name = word (codes "a") 0;
+      condition = word (codes "a") 0;
+      directives = [];
+      selections = set_field (codes "a") 0 plain end;
+      span = span 0 1;
+    }) ∷ []) ≡ true)
+unfolding needs is_none_or nests_inside argument_nests arguments_nest directive_nests directives_nest head_nests in_set selections_nest type_nests
+    variable_nests variables_nest set_nests operation_nests fragment_nests definition_nests document_nests nests items_nest fields_nest
 definitions = (refl, refl, refl, refl, refl, refl, refl)

@@ -158,7 +158,11 @@ directive_answers d = (codes "name", says d.name)
     ∷ (codes "args", all_of an_input d.arguments)
     ∷ (codes "isRepeatable", tells false)
     ∷ (codes "onOperation", tells (stands_on d (codes "QUERY")))
-    ∷ (codes "onFragment", tells (stands_on d (codes "FRAGMENT_DEFINITION") || (stands_on d (codes "INLINE_FRAGMENT") || stands_on d (codes "FRAGMENT_SPREAD"))))
+    ∷ (
+      codes "onFragment",
+      tells (stands_on d (codes "FRAGMENT_DEFINITION")
+          || (stands_on d (codes "INLINE_FRAGMENT") || stands_on d (codes "FRAGMENT_SPREAD"))),
+    )
     ∷ (codes "onField", tells (stands_on d (codes "FIELD"))) ∷ []
 
 -- what a node answers to its fields (4.2)
@@ -202,7 +206,8 @@ module _ {N : Type 0} (top : N) where
 
   -- the reply of a user's node: the schema answers `__schema` and `__type`, which the query type alone has, and the resolver all else
   unfoldable pub user_reply : Schema → (N → Name → Members → Reply N) → N → Name → Members → Reply (RootedNode N)
-  user_reply s answer n f args = cond (is_introspection f) (answered (map_tree introspected (answer_at f (root_answers s args)))) (map_reply user (answer n f args))
+  user_reply s answer n f args =
+      cond (is_introspection f) (answered (map_tree introspected (answer_at f (root_answers s args)))) (map_reply user (answer n f args))
 
   -- the reply of a node to a field
   unfoldable pub rooted_answer : Schema → (N → Name → Members → Reply N) → RootedNode N → Name → Members → Reply (RootedNode N)

@@ -134,7 +134,9 @@ IntrospectionAddsNone N = (s : Schema) → IsTrue (is_executable s) → (vars : 
 
 -- A request that runs and asks the query type about the schema alone: nothing fails in it.
 abbrev pub LookingNeverFails : Type 0 → Type 0
-LookingNeverFails N = (s : Schema) → IsTrue (is_executable s) → (disabled : Bool) (n : Option Name) (given : Variables) (read : Option Document) (d : Document) (o : Operation) (vars : Variables) →
-    of_document s disabled n given read ≡ runs d o vars → o.kind ≡ query → list_all asks_schema (occurrences (is_possible s) s.query (selected d o vars)) ≡ true →
+LookingNeverFails N = (s : Schema) → IsTrue (is_executable s) → (disabled : Bool) (n : Option Name) (given : Variables) (read : Option Document) (d : Document)
+    (o : Operation) (vars : Variables) →
+    of_document s disabled n given read ≡ runs d o vars → o.kind ≡ query →
+    list_all asks_schema (occurrences (is_possible s) s.query (selected d o vars)) ≡ true →
     (top : N) (concrete : N → Name) (answer : N → Name → Members → Reply N) →
     failures_of (rooted_world top s vars concrete answer) [] [] s.query root (selected d o vars) ≡ []

@@ -21,7 +21,8 @@ mutation_of s vars concrete answer m = record { world = λ c. world_of s vars (c
 
 -- a service by its parts
 abbrev pub service : {C N : Type 0} → Schema → Bool → (C → N → Name) → (C → N → Name → Members → Reply N) → N → Option (Steps C N) → Service C N
-service s disabled concrete answer root m = record { schema = s; introspection_disabled = disabled; concrete = concrete; answer = answer; root = root; mutation = m }
+service s disabled concrete answer root m =
+    record { schema = s; introspection_disabled = disabled; concrete = concrete; answer = answer; root = root; mutation = m }
 
 -- Where nodes are seen as others of the same types, and reply alike to each field in each context, so do the steps' replies: what is
 -- an outcome with these nodes is an outcome with those.

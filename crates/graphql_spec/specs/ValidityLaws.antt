@@ -67,7 +67,8 @@ NamesExpandInPlace = (s : Schema) (disabled : Bool) (d : Document) → HasGoodNa
 
 -- and each spread that is written has a fragment (5.5.2.1)
 abbrev pub NamesKnowSpreads : Type 0
-NamesKnowSpreads = (s : Schema) (disabled : Bool) (d : Document) → HasGoodNames s disabled d → (x : Definition) → In x d → (k : Name) → In k (spreads (selections_of x)) →
+NamesKnowSpreads =
+    (s : Schema) (disabled : Bool) (d : Document) → HasGoodNames s disabled d → (x : Definition) → In x d → (k : Name) → In k (spreads (selections_of x)) →
     IsTrue (is_some (fragment_of (fragments d) k))
 
 -- ## Merging
@@ -99,13 +100,15 @@ ValidOperationsMerge N = (s : Schema) → IsTrue (is_executable s) → (disabled
 abbrev pub AreDeclared : Schema → ℕ → Name → List Occurrence → Type 0
 AreDeclared s zero T os = Unit {0}
 AreDeclared s (suc d) T os = (o : Occurrence) → In o os → IsTrue (declares_field s T o.head.name.item)
-    × ((U : Name) → IsTrue (is_possible s U (innermost (declared_type (field_of s T o.head.name.item)))) → AreDeclared s d U (occurrences (is_possible s) U o.below))
+    × ((U : Name) → IsTrue (is_possible s U (innermost (declared_type (field_of s T o.head.name.item)))) →
+    AreDeclared s d U (occurrences (is_possible s) U o.below))
 
 -- where all rules find nothing, what is selected on a type is fields of each object type that is possible there, to every depth
 -- (5.3.1)
 abbrev pub ValidFieldsAreDeclared : Type 0
 ValidFieldsAreDeclared = (s : Schema) → IsTrue (is_executable s) → (disabled : Bool) (d : Document) → IsValidDocument s disabled d →
-    (passes : Directive → Bool) (x : Definition) → In x d → (set : PlacedSet) → In set (sets_in s x) → (T : Name) → IsTrue (is_possible s T set.parent) → (n : ℕ) →
+    (passes : Directive → Bool) (x : Definition) → In x d → (set : PlacedSet) → In set (sets_in s x) → (T : Name) → IsTrue (is_possible s T set.parent) →
+    (n : ℕ) →
     AreDeclared s n T (occurrences (is_possible s) T (expand passes (fragments d) set.selections))
 
 -- ## Joining
@@ -155,13 +158,17 @@ module _ (s : Schema) (disabled : Bool) (n : Option Name) (given : Variables) (t
 
 -- each request that runs does
 abbrev pub RunsAreValid : Type 0
-RunsAreValid = (s : Schema) (disabled : Bool) (n : Option Name) (given : Variables) (text : Option Document) (d : Document) (o : Operation) (vars : Variables) → RunIsValid s disabled n given text d o vars
+RunsAreValid = (s : Schema) (disabled : Bool) (n : Option Name) (given : Variables) (text : Option Document) (d : Document) (o : Operation) (vars : Variables) →
+    RunIsValid s disabled n given text d o vars
 
 abbrev pub RunsAgree : Type 0 → Type 0
-RunsAgree N = (s : Schema) (disabled : Bool) (n : Option Name) (given : Variables) (text : Option Document) (d : Document) (o : Operation) (vars : Variables) → RunAgrees s disabled n given text d o vars N
+RunsAgree N = (s : Schema) (disabled : Bool) (n : Option Name) (given : Variables) (text : Option Document) (d : Document) (o : Operation) (vars : Variables) →
+    RunAgrees s disabled n given text d o vars N
 
 abbrev pub RunsJoin : Type 0 → Type 0
-RunsJoin N = (s : Schema) (disabled : Bool) (n : Option Name) (given : Variables) (text : Option Document) (d : Document) (o : Operation) (vars : Variables) → RunJoins s disabled n given text d o vars N
+RunsJoin N = (s : Schema) (disabled : Bool) (n : Option Name) (given : Variables) (text : Option Document) (d : Document) (o : Operation) (vars : Variables) →
+    RunJoins s disabled n given text d o vars N
 
 abbrev pub RunsJoinBelow : Type 0 → Type 0
-RunsJoinBelow N = (s : Schema) (disabled : Bool) (n : Option Name) (given : Variables) (text : Option Document) (d : Document) (o : Operation) (vars : Variables) → RunJoinsBelow s disabled n given text d o vars N
+RunsJoinBelow N = (s : Schema) (disabled : Bool) (n : Option Name) (given : Variables) (text : Option Document) (d : Document) (o : Operation)
+    (vars : Variables) → RunJoinsBelow s disabled n given text d o vars N

@@ -67,11 +67,13 @@ type_is_named t = is_name (innermost t)
 
 -- a variable's definition (2.10)
 unfoldable pub variable_is_named : VariableDefinition → Bool
-variable_is_named v = is_name v.name.item && (type_is_named v.of_type.item && (is_none_or (λ d. is_named d.item) v.default && directives_are_named v.directives))
+variable_is_named v =
+    is_name v.name.item && (type_is_named v.of_type.item && (is_none_or (λ d. is_named d.item) v.default && directives_are_named v.directives))
 
 -- an operation (2.3)
 unfoldable pub operation_is_named : Operation → Bool
-operation_is_named o = is_none_or word_is_named o.name && (list_all variable_is_named (variables_of o) && (directives_are_named o.directives && selections_are_named o.selections))
+operation_is_named o =
+    is_none_or word_is_named o.name && (list_all variable_is_named (variables_of o) && (directives_are_named o.directives && selections_are_named o.selections))
 
 -- a fragment's definition (2.8)
 unfoldable pub fragment_is_named : Fragment → Bool

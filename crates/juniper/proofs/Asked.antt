@@ -21,10 +21,12 @@ use Rattle.juniper_types.specs.ExecutorView.{IsAskedFor, concrete_of, enclosing_
 use Rattle.juniper_types.specs.declared.executor.Executor.{Executor}
 
 module _ {C S : Type 0} {scalar : Scalars S} {equality : Equality S} {shows : Shows S} (shown : S → Shown) (e : Executor C S scalar equality shows) where
-  pub asked-at : (s : SchemaType S scalar equality shows) (vars : VariableMap S) (m : FragmentsByName S) (T : Name) (ss : List (Selection S)) (f : Spanning (Field S) Span) (name : Name) (given : Members) →
+  pub asked-at : (s : SchemaType S scalar equality shows) (vars : VariableMap S) (m : FragmentsByName S) (T : Name) (ss : List (Selection S))
+      (f : Spanning (Field S) Span) (name : Name) (given : Members) →
       schema_of e ≡ s → variables_of e ≡ vars → fragments_of e ≡ m → concrete_of e ≡ T → enclosing_of e ≡ ss → occurrence_of e ≡ f →
       (occurrence_at shown vars m f).head.name.item ≡ name →
-      given ≡ coerced_arguments (declared_arguments (field_of (view_schema shown s) T name)) (view_variables shown vars) (written (occurrence_at shown vars m f).head.arguments) →
+      given ≡ coerced_arguments (declared_arguments (field_of (view_schema shown s) T name)) (view_variables shown vars)
+      (written (occurrence_at shown vars m f).head.arguments) →
       IsSelected shown (is_possible (view_schema shown s)) vars m T ss f → IsAskedFor shown e name given
   asked-at s vars m T ss f name given of_schema of_variables of_fragments of_concrete of_enclosing of_occurrence is_named is_given selected = record {
     is_named = rw (of_variables, of_fragments, of_occurrence) is_named;

@@ -17,6 +17,8 @@ module _ {A C N : Type 0} (shown : A → Shown) (S : Service C N) (c after : C) 
   Comes q = AnswersAs shown (λ r. IsOutcome S keys_only q c r after) o
 
   -- the request of a text that is the format's, where no variable has a value
-  pub asked-as : (f : IntrospectionFormat) (t : Text) (given : Variables) → t ≡ text_of f → given ≡ (λ name. None) → Comes (record { text = t; operation = None; variables = given }) → Comes (asking f)
+  pub asked-as : (f : IntrospectionFormat) (t : Text) (given : Variables) → t ≡ text_of f → given ≡ (λ name. None) →
+      Comes (record { text = t; operation = None; variables = given }) → Comes (asking f)
   asked-as f t given same none comes =
-      subst (λ x. Comes (record { text = x; operation = None; variables = λ name. None })) same (subst (λ v. Comes (record { text = t; operation = None; variables = v })) none comes)
+      subst (λ x. Comes (record { text = x; operation = None; variables = λ name. None })) same
+      (subst (λ v. Comes (record { text = t; operation = None; variables = v })) none comes)

@@ -37,10 +37,12 @@ use Rattle.juniper.specs.RequestErrors.{of_parse_error, view_request_error, Requ
 -- ## What an error of one step stands for
 
 -- an error of the parser, other than want of memory, means that the text spells no document
-pub read-failed : (P : Type 0) (e : Spanning ParseError Span) (made : GraphQLError) → made ≡ of_parse_error e → (e.item ≢ parser.Memory → P) → StandsFor (λ r. (r ≡ spec.not_parsed) × P) (view_request_error made)
+pub read-failed : (P : Type 0) (e : Spanning ParseError Span) (made : GraphQLError) → made ≡ of_parse_error e → (e.item ≢ parser.Memory → P) →
+    StandsFor (λ r. (r ≡ spec.not_parsed) × P) (view_request_error made)
 read-failed P e made is unread = subst (λ m. StandsFor (λ r. (r ≡ spec.not_parsed) × P) (view_request_error m)) (sym is) (go e.item e.span unread)
   where
-    go : (i : ParseError) (at : Span) → (i ≢ parser.Memory → P) → StandsFor (λ r. (r ≡ spec.not_parsed) × P) (view_request_error (of_parse_error (record { item = i; span = at })))
+    go : (i : ParseError) (at : Span) → (i ≢ parser.Memory → P) → StandsFor (λ r. (r ≡ spec.not_parsed) × P)
+        (view_request_error (of_parse_error (record { item = i; span = at })))
     go (parser.LexerError x) at unread = (spec.not_parsed, refl, (refl, unread (λ e. cc)))
     go parser.UnexpectedToken at unread = (spec.not_parsed, refl, (refl, unread (λ e. cc)))
     go parser.UnexpectedEndOfFile at unread = (spec.not_parsed, refl, (refl, unread (λ e. cc)))
@@ -54,7 +56,8 @@ module _ (es : List CodeError) (b : Bool) (tested : b ≡ (length es == 0)) (fou
   pub none-found : b ≡ true → found ≡ []
   none-found e = sym seen ∙ ap (map view_rule_error) (nil_from_length es (search (rules, arith)))
 
-  pub some-found : b ≡ false → (P : Refusal → Type 0) → ((x : RuleError) (xs : List RuleError) → found ≡ x ∷ xs → P (spec.not_valid (x ∷ xs))) → StandsFor P (not_valid (map view_rule_error es))
+  pub some-found : b ≡ false → (P : Refusal → Type 0) → ((x : RuleError) (xs : List RuleError) → found ≡ x ∷ xs → P (spec.not_valid (x ∷ xs))) →
+      StandsFor P (not_valid (map view_rule_error es))
   some-found e P f = go es tested seen
     where
       go : (xs : List CodeError) → b ≡ (length xs == 0) → map view_rule_error xs ≡ found → StandsFor P (not_valid (map view_rule_error xs))
@@ -103,7 +106,8 @@ module _ {C N : Type 0} (S : Service C N) (s : Schema) (d : Document) (o : Opera
   query-runs k = ap (λ z. of_kind s z (runs d o (coerced_variables (variables_of o) given))) k
 
   pub query-ends : o.kind ≡ query → (vars : Variables) → vars ≡ coerced_variables (variables_of o) given → (v : Value) (es : List Listed) →
-      IsAnswerFor keys_only (world_in S vars c) S.schema.query S.root (selected d o vars) v es → IsOutcomeOf S keys_only (outcome_of s d o given) c (responds v es) c
+      IsAnswerFor keys_only (world_in S vars c) S.schema.query S.root (selected d o vars) v es →
+      IsOutcomeOf S keys_only (outcome_of s d o given) c (responds v es) c
   query-ends k vars e v es answer =
       (d, o, vars, query-runs k ∙ ap (runs d o) (sym e), subst (λ z. IsExecuted S keys_only z vars (selected d o vars) c v es c) (sym k) (answer, refl))
 
@@ -147,8 +151,10 @@ module _ {C N : Type 0} (S : Service C N) (q : Request) (c : C) where
         pub at-coerce : (e : RequestError) → StandsFor (AreRefused S.schema o q.variables) e → Ends e
         at-coerce e m = stands-for _ refuse-values e m
 
-        pub at-execute : AreCoercible S.schema o q.variables → (x : Response) (after : C) → IsOutcomeOf S keys_only (outcome_of S.schema d o q.variables) c x after → IsOutcome S keys_only q c x after
-        at-execute a x after i = known-outcome S keys_only q (outcome_of S.schema d o q.variables) ((steps-decide S).kind q d o v choice a.fitting a.constant) c x after i
+        pub at-execute : AreCoercible S.schema o q.variables → (x : Response) (after : C) →
+            IsOutcomeOf S keys_only (outcome_of S.schema d o q.variables) c x after → IsOutcome S keys_only q c x after
+        at-execute a x after i =
+            known-outcome S keys_only q (outcome_of S.schema d o q.variables) ((steps-decide S).kind q d o v choice a.fitting a.constant) c x after i
 
 -- an error's response under another reading
 pub responds-so : (P Q : Response → Type 0) → ((r : Response) → P r → Q r) → (e : RequestError) → Responds P e → Responds Q e
@@ -164,6 +170,7 @@ responds-so P Q f no_mutation_type (r, is, p) = (r, is, f (refuses r) p)
 responds-so P Q f (variable_not_constant n) (r, is, p) = (r, is, f (refuses r) p)
 
 -- an answer under another reading
-pub answers-so : {S : Type 0} (shown : S → Shown) (P Q : Response → Type 0) → ((r : Response) → P r → Q r) → (a : Result (Value' S × Vec (ExecutionError S) Global) GraphQLError) → AnswersAs shown P a → AnswersAs shown Q a
+pub answers-so : {S : Type 0} (shown : S → Shown) (P Q : Response → Type 0) → ((r : Response) → P r → Q r) →
+    (a : Result (Value' S × Vec (ExecutionError S) Global) GraphQLError) → AnswersAs shown P a → AnswersAs shown Q a
 answers-so shown P Q f (Ok p) x = f (responds (view_value shown p.0) (map (view_listed shown) p.1.items)) x
 answers-so shown P Q f (Err e) x = responds-so P Q f (view_request_error e) x

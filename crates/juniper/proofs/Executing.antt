@@ -43,24 +43,30 @@ no-cycle s disabled d valid fs is = subst HasNoCycle (sym is) (names_end_spreads
 kind-root : (s : Schema) (o : Operation) → o.kind ≡ query → root_type s o.kind ≡ root_type s query
 kind-root s o is = ap (root_type s) is
 
-module _ {N : Type 0} (s : Schema) (disabled : Bool) (executable : IsTrue (is_executable s)) (d : Document) (valid : rule_errors s disabled d ≡ []) (o : Operation) (member : In (operation o) d) (kind : o.kind ≡ query)
+module _ {N : Type 0} (s : Schema) (disabled : Bool) (executable : IsTrue (is_executable s)) (d : Document) (valid : rule_errors s disabled d ≡ [])
+    (o : Operation) (member : In (operation o) d) (kind : o.kind ≡ query)
     (vars : Variables) (concrete : N → Name) (answer : N → Name → Members → Reply N) where
   agrees : SelectionsAgree (world_of s vars concrete answer) s.query (expand (passes vars) (fragments d) o.selections)
   unfolding world_of root_type
-  agrees = λ depth. valid_operations_merge s executable disabled d valid vars concrete answer (passes vars) o member s.query (kind-root s o kind) depth s.query (roots_are_possible s executable query s.query refl)
+  agrees = λ depth. valid_operations_merge s executable disabled d valid vars concrete answer (passes vars) o member s.query (kind-root s o kind) depth s.query
+      (roots_are_possible s executable query s.query refl)
 
   -- what the query selects agrees
   pub query-agrees : (T : Name) → T ≡ s.query → (fs : List Fragment) → fs ≡ fragments d → (set : Selections) → set ≡ o.selections →
       SelectionsAgree (world_of s vars concrete answer) T (expand (passes vars) fs set)
   query-agrees T t fs f set e =
       subst (λ U. SelectionsAgree (world_of s vars concrete answer) U (expand (passes vars) fs set)) (sym t)
-      (subst (λ x. SelectionsAgree (world_of s vars concrete answer) s.query x) (sym (ap (λ gs. expand (passes vars) gs set) f ∙ ap (expand (passes vars) (fragments d)) e)) agrees)
+      (subst (λ x. SelectionsAgree (world_of s vars concrete answer) s.query x)
+      (sym (ap (λ gs. expand (passes vars) gs set) f ∙ ap (expand (passes vars) (fragments d)) e)) agrees)
 
 -- an answer, by other names for its parts
-pub answer-moves : {N : Type 0} (W : World N) (T U : Name) (m n : N) (x y : Forest) (v : Value) (es : List Listed) → T ≡ U → m ≡ n → x ≡ y → IsAnswerFor keys_only W T m x v es → IsAnswerFor keys_only W U n y v es
-answer-moves W T U m n x y v es t e f a = subst (λ z. IsAnswerFor keys_only W U n z v es) f (subst (λ z. IsAnswerFor keys_only W U z x v es) e (subst (λ z. IsAnswerFor keys_only W z m x v es) t a))
+pub answer-moves : {N : Type 0} (W : World N) (T U : Name) (m n : N) (x y : Forest) (v : Value) (es : List Listed) → T ≡ U → m ≡ n → x ≡ y →
+    IsAnswerFor keys_only W T m x v es → IsAnswerFor keys_only W U n y v es
+answer-moves W T U m n x y v es t e f a =
+    subst (λ z. IsAnswerFor keys_only W U n z v es) f (subst (λ z. IsAnswerFor keys_only W U z x v es) e (subst (λ z. IsAnswerFor keys_only W z m x v es) t a))
 
-module _ {N : Type 0} (s : Schema) (disabled : Bool) (executable : IsTrue (is_executable s)) (d : Document) (valid : rule_errors s disabled d ≡ []) (o : Operation)
+module _ {N : Type 0} (s : Schema) (disabled : Bool) (executable : IsTrue (is_executable s)) (d : Document) (valid : rule_errors s disabled d ≡ [])
+    (o : Operation)
     (member : In (operation o) d)
     (kind : o.kind ≡ mutation) (T : Name) (root : s.mutation ≡ Some T) (vars : Variables) (concrete : N → Name) (answer : N → Name → Members → Reply N) where
   mutation-type : root_type s o.kind ≡ Some T

@@ -40,8 +40,10 @@ top-seen s names (node.User n) e = cc
 top-seen s names (node.Introspected h) e = cc
 
 -- steps whose replies are a root's nodes are seen as the user's
-steps-seen : {M J C N : Type 0} (step : M → J → C → Name → Members → C × Reply N) (torn : M → J → C → Name → Members → C → Bool) (m : M) (j : J) (s : Schema) (names : List Name) (o : Option Name) →
-    option_map (seen_steps (view_node s names)) (option_map (λ (T : Name). rooted_steps step torn m j) o) ≡ option_map (seen_steps rooted.user) (option_map (λ (T : Name). steps_at step torn m j) o)
+steps-seen : {M J C N : Type 0} (step : M → J → C → Name → Members → C × Reply N) (torn : M → J → C → Name → Members → C → Bool) (m : M) (j : J) (s : Schema)
+    (names : List Name) (o : Option Name) →
+    option_map (seen_steps (view_node s names)) (option_map (λ (T : Name). rooted_steps step torn m j) o)
+    ≡ option_map (seen_steps rooted.user) (option_map (λ (T : Name). steps_at step torn m j) o)
 unfolding seen_steps
 steps-seen step torn m j s names None = refl
 steps-seen step torn m j s names (Some T) =
@@ -56,11 +58,13 @@ module _ {Q M Sub S C N I J K : Type 0} {values : Values Q S C N I} {query : Typ
   -- the root's schema with the meaning of the root as a resolver
   abbrev pub held_service : (S → Shown) → Schema → Bool → I → M → J → Service C (RootedNode N)
   held_service shown s disabled i m j = service s disabled (λ c. held_concrete (concrete (resolver_of r) i c) (root (resolver_of r)))
-      (λ c. held_answer (view_schema shown (schema_of r)) (names_of r.introspector) (number_of r.introspector) (answer (resolver_of r) i c) (root (resolver_of r)))
+      (λ c. held_answer (view_schema shown (schema_of r)) (names_of r.introspector) (number_of r.introspector) (answer (resolver_of r) i c)
+      (root (resolver_of r)))
       r.top (option_map (λ (T : Name). rooted_steps step torn m j) s.mutation)
 
   pub outcome-rooted : (y : Outcome) (c : C) (x : Response) (after : C) →
-      IsOutcomeOf (held_service scalar.shown (view_schema scalar.shown (schema_of r)) (is_disabled r) (info_of r) (mutation_of r) (mutation_info_of r)) keys_only y c x after →
+      IsOutcomeOf (held_service scalar.shown (view_schema scalar.shown (schema_of r)) (is_disabled r) (info_of r) (mutation_of r) (mutation_info_of r))
+      keys_only y c x after →
       IsOutcomeOf (service_of concrete answer root step torn scalar.shown r) keys_only y c x after
   unfolding rooted_service
   outcome-rooted y c x after o =
@@ -69,16 +73,20 @@ module _ {Q M Sub S C N I J K : Type 0} {values : Values Q S C N I} {query : Typ
       let q = resolver_of r in
       let i = info_of r in
       let all = all-named s names r.introspector.names.numbers r.introspector.named r.introspector.names.numbered in
-      let seen = (seen_outcomes s (is_disabled r) (view_node s names) (λ d. held_concrete (concrete q i d) (root q)) (λ d. held_answer s names (number_of r.introspector) (answer q i d) (root q))
+      let seen = (seen_outcomes s (is_disabled r) (view_node s names) (λ d. held_concrete (concrete q i d) (root q))
+      (λ d. held_answer s names (number_of r.introspector) (answer q i d) (root q))
       (λ d. rooted_concrete (root q) (concrete q i d)) (λ d. rooted_answer (root q) s (answer q i d))
-      (λ d n. types-rooted s names (concrete q i d) (root q) n) (λ d n f args. replies-rooted s r.introspector.executable names (number_of r.introspector) all (answer q i d) (root q) n f args)
+      (λ d n. types-rooted s names (concrete q i d) (root q) n) (λ d n f args. replies-rooted s r.introspector.executable names (number_of r.introspector) all
+      (answer q i d) (root q) n f args)
       r.top (option_map (λ (T : Name). rooted_steps step torn (mutation_of r) (mutation_info_of r)) s.mutation) keys_only).1 y c x after o in
       subst (λ (V : Service C (rooted.RootedNode N)). IsOutcomeOf V keys_only y c x after)
-      (ap₂ (λ (top : rooted.RootedNode N) (m : Option (Steps C (rooted.RootedNode N))). service s (is_disabled r) (λ d. rooted_concrete (root q) (concrete q i d)) (λ d. rooted_answer (root q) s (answer q i d)) top m)
+      (ap₂ (λ (top : rooted.RootedNode N) (m : Option (Steps C (rooted.RootedNode N))). service s (is_disabled r)
+      (λ d. rooted_concrete (root q) (concrete q i d)) (λ d. rooted_answer (root q) s (answer q i d)) top m)
       (top-seen s names r.top r.at_top) (steps-seen step torn (mutation_of r) (mutation_info_of r) s names s.mutation)) seen
 
   -- the same where the parts of the root come by other names
-  pub outcome-moved : (x : Schema) (b : Bool) (i : I) (m : M) (j : J) → x ≡ view_schema scalar.shown (schema_of r) → b ≡ is_disabled r → i ≡ info_of r → m ≡ mutation_of r → j ≡ mutation_info_of r →
+  pub outcome-moved : (x : Schema) (b : Bool) (i : I) (m : M) (j : J) → x ≡ view_schema scalar.shown (schema_of r) → b ≡ is_disabled r → i ≡ info_of r →
+      m ≡ mutation_of r → j ≡ mutation_info_of r →
       (y : Schema → Outcome) (c : C) (z : Response) (after : C) → IsOutcomeOf (held_service scalar.shown x b i m j) keys_only (y x) c z after →
       IsOutcomeOf (service_of concrete answer root step torn scalar.shown r) keys_only (y (view_schema scalar.shown (schema_of r))) c z after
   outcome-moved x b i m j ex eb ei em ej y c z after o =

@@ -24,7 +24,8 @@ module _ {Q M Sub S C N I J K : Type 0} {values : Values Q S C N I} {query : Typ
       (M → J → C → Name → Members → C × Reply N) → (M → J → C → Name → Members → C → Bool) → (S → Shown) →
       RootNode Q M Sub S C N I J K values query query_ref mutation mutation_ref subscription subscription_ref scalar equality shows → Service C N
   users_service_of concrete answer root step torn shown r =
-      service_in concrete answer root (resolver_of r) (info_of r) (steps_at step torn (mutation_of r) (mutation_info_of r)) (view_schema shown (schema_of r)) (is_disabled r)
+      service_in concrete answer root (resolver_of r) (info_of r) (steps_at step torn (mutation_of r) (mutation_info_of r)) (view_schema shown (schema_of r))
+      (is_disabled r)
 
   -- the same with introspection (4)
   abbrev pub service_of : (Q → I → C → N → Name) → (Q → I → C → N → Name → Members → Reply N) → (Q → N) →

@@ -39,7 +39,8 @@ steps_at step torn m j = record { step = step m j; torn = torn m j }
 -- ## Only private clauses cite what follows
 
 -- the same with a root's nodes in place of the user's
-abbrev pub rooted_steps : {M J C N : Type 0} → (M → J → C → Name → Members → C × Reply N) → (M → J → C → Name → Members → C → Bool) → M → J → Steps C (RootedNode N)
+abbrev pub rooted_steps : {M J C N : Type 0} → (M → J → C → Name → Members → C × Reply N) → (M → J → C → Name → Members → C → Bool) → M → J →
+    Steps C (RootedNode N)
 rooted_steps step torn m j = record { step = λ c f args. ((step m j c f args).0, map_reply of_user (step m j c f args).1); torn = torn m j }
 
 -- the type that stands for that of a field which is not declared: nullable, and without a name

@@ -31,7 +31,8 @@ pub(crate) fn coerce_arguments<'a, 'b, S: ScalarValue>(
     field: &'b Spanning<Field<'a, S>, Span>,
     variables: &Variables<S>,
 ) -> Result<Arguments<'b, S>, AllocError>
-    ensures { IfOk result (λ made. view_arguments S.shown made ≡ coerced_arguments (map (view_meta_argument S.shown) declared.now) (view_variables S.shown variables.now) (written (head_of S.shown field.now).arguments)) }
+    ensures { IfOk result (λ made. view_arguments S.shown made ≡ coerced_arguments (map (view_meta_argument S.shown) declared.now)
+        (view_variables S.shown variables.now) (written (head_of S.shown field.now).arguments)) }
 {
     let given = give(alloc, written_arguments(field), variables)?;
     Arguments::new(alloc, Some(given), Some(declared))
@@ -72,7 +73,9 @@ fn put_given<'a, 'b, S: ScalarValue>(
     argument: &'b Written<'a, S>,
     variables: &Variables<S>,
 ) -> Result<(), AllocError>
-    ensures { OnOk result (members_of S.shown items.new.entries ≡ cond (is_some (find argument.now.0.item.now (members_of S.shown items.old.entries))) (members_of S.shown items.old.entries) (put_given argument.now.0.item.now (const (view_variables S.shown variables.now) (view_argument S.shown argument.now).value.item) (members_of S.shown items.old.entries))) }
+    ensures { OnOk result (members_of S.shown items.new.entries ≡ cond (is_some (find argument.now.0.item.now (members_of S.shown items.old.entries)))
+        (members_of S.shown items.old.entries) (put_given argument.now.0.item.now
+        (const (view_variables S.shown variables.now) (view_argument S.shown argument.now).value.item) (members_of S.shown items.old.entries))) }
 {
     let name = argument.0.item;
     if items.contains_key(name) {

@@ -97,7 +97,8 @@ fn execute_operation<
     variables: &Variables<S>,
     context: &mut Q::Context,
 ) -> Result<(Value<S>, Vec<ExecutionError<S>>), GraphQLError>
-    requires valid { rule_errors (view_schema S.shown (serving.schema_of served.now)) (serving.is_disabled served.now) (view_document S.shown document.now) ≡ [] }
+    requires valid { rule_errors (view_schema S.shown (serving.schema_of served.now)) (serving.is_disabled served.now) (view_document S.shown document.now)
+        ≡ [] }
     requires member { In (documents.operation (view_operation S.shown operation.now)) (view_document S.shown document.now) }
     requires coercible { AreCoercible (view_schema S.shown (serving.schema_of served.now)) (view_operation S.shown operation.now)
         (view_variables S.shown variables.now) }
@@ -144,11 +145,13 @@ fn execute_query<
     variables: &Variables<S>,
     context: &Q::Context,
 ) -> Result<(Value<S>, Vec<ExecutionError<S>>), AllocError>
-    requires valid { rule_errors (view_schema S.shown (serving.schema_of served.now)) (serving.is_disabled served.now) (view_document S.shown document.now) ≡ [] }
+    requires valid { rule_errors (view_schema S.shown (serving.schema_of served.now)) (serving.is_disabled served.now) (view_document S.shown document.now)
+        ≡ [] }
     requires member { In (documents.operation (view_operation S.shown operation.now)) (view_document S.shown document.now) }
     requires query { (view_operation S.shown operation.now).kind ≡ documents.query }
     ensures { IfOk result (λ p. IsAnswerFor keys_only
-        (world_in Q.concrete Q.answer (serving.resolver_of served.now) (serving.info_of served.now) context.now (view_schema S.shown (serving.schema_of served.now))
+        (world_in Q.concrete Q.answer (serving.resolver_of served.now) (serving.info_of served.now) context.now
+        (view_schema S.shown (serving.schema_of served.now))
         (view_variables S.shown variables.now)) (view_schema S.shown (serving.schema_of served.now)).query (Q.root (serving.resolver_of served.now))
         (selected (view_document S.shown document.now) (view_operation S.shown operation.now) (view_variables S.shown variables.now))
         (view_value S.shown p.0) (map (view_listed S.shown) p.1.items)) }
@@ -198,13 +201,15 @@ fn execute_mutation<
     variables: &Variables<S>,
     context: &mut Q::Context,
 ) -> Result<(Value<S>, Vec<ExecutionError<S>>), AllocError>
-    requires valid { rule_errors (view_schema S.shown (serving.schema_of served.now)) (serving.is_disabled served.now) (view_document S.shown document.now) ≡ [] }
+    requires valid { rule_errors (view_schema S.shown (serving.schema_of served.now)) (serving.is_disabled served.now) (view_document S.shown document.now)
+        ≡ [] }
     requires member { In (documents.operation (view_operation S.shown operation.now)) (view_document S.shown document.now) }
     requires mutation { (view_operation S.shown operation.now).kind ≡ documents.mutation }
     requires root { (view_schema S.shown (serving.schema_of served.now)).mutation ≡ Some concrete.now }
     ensures { MatchResult result
         (λ p. IsMutationAnswerFor (mutation_root Q.concrete Q.answer M.step M.torn S.shown served.now (view_variables S.shown variables.now))
-        concrete.now keys_only (selected (view_document S.shown document.now) (view_operation S.shown operation.now) (view_variables S.shown variables.now)) context.old
+        concrete.now keys_only (selected (view_document S.shown document.now) (view_operation S.shown operation.now) (view_variables S.shown variables.now))
+        context.old
         (view_value S.shown p.0) (map (view_listed S.shown) p.1.items) context.new)
         (λ _. IsLeftOf (mutation_root Q.concrete Q.answer M.step M.torn S.shown served.now (view_variables S.shown variables.now)) concrete.now
         (selected (view_document S.shown document.now) (view_operation S.shown operation.now) (view_variables S.shown variables.now)) context.old context.new) }

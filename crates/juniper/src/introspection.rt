@@ -159,7 +159,8 @@ pub fn introspect<
     format: IntrospectionFormat,
 ) -> Result<(Value<S>, Vec<ExecutionError<S>>), GraphQLError>
     ensures { AnswersAs S.shown
-        (λ r. IsOutcome (service_of Q.concrete Q.answer Q.root M.step M.torn S.shown root_node.now) keys_only (asking format) context.old r context.new) result }
+        (λ r. IsOutcome (service_of Q.concrete Q.answer Q.root M.step M.torn S.shown root_node.now) keys_only (asking format) context.old r context.new)
+        result }
 {
     let variables = no_variables(alloc);
     execute_sync(

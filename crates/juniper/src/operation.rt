@@ -41,7 +41,8 @@ fn operation_named<'d, 'a, S: ScalarValue>(
     document: &'d [Definition<'a, S>],
     name: &str,
 ) -> Option<&'d Spanning<Operation<'a, S>, Span>>
-    ensures { choice_of (option_map (λ o. view_operation S.shown o.now) result) ≡ choose_named name.now (documents.operations (map (view_definition S.shown) document.now)) unknown }
+    ensures { choice_of (option_map (λ o. view_operation S.shown o.now) result)
+        ≡ choose_named name.now (documents.operations (map (view_definition S.shown) document.now)) unknown }
 {
     let mut found = None;
     for definition in document {
@@ -56,7 +57,8 @@ fn later_named<'d, 'a, S: ScalarValue>(
     definition: &'d Definition<'a, S>,
     name: &str,
 ) -> Option<&'d Spanning<Operation<'a, S>, Span>>
-    ensures { choice_of (option_map (λ o. view_operation S.shown o.now) result) ≡ later name.now (view_definition S.shown definition.now) (choice_of (option_map (λ o. view_operation S.shown o.now) found.entry)) }
+    ensures { choice_of (option_map (λ o. view_operation S.shown o.now) result)
+        ≡ later name.now (view_definition S.shown definition.now) (choice_of (option_map (λ o. view_operation S.shown o.now) found.entry)) }
 {
     match operation_in(definition) {
         Some(operation) => {

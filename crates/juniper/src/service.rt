@@ -56,7 +56,8 @@ impl<'r, Q: GraphQLValue<S>, S: ScalarValue> Conditions for Service<'r, Q, S> {
 impl<'r, Q: GraphQLValue<S>, S: ScalarValue> Completer<S> for Service<'r, Q, S> {
     type Node = Q::Node;
 
-    ghost world = { λ r. world_in Q.concrete Q.answer r.resolver.now r.info.now r.context.now (view_schema S.shown r.schema.now) (view_variables S.shown r.variables.now) };
+    ghost world = { λ r. world_in Q.concrete Q.answer r.resolver.now r.info.now r.context.now (view_schema S.shown r.schema.now)
+        (view_variables S.shown r.variables.now) };
 
     #[tactic(auto, unfolding(graphql_spec::specs::Resolvers::world_of))]
     fn accepts(&self, type_name: &str, scalar: &S) -> bool {
@@ -108,11 +109,14 @@ impl<'r, Q: GraphQLValue<S>, S: ScalarValue> Service<'r, Q, S> {
         declared: &Type<String>,
         arguments: &[Argument<S>],
     ) -> Result<Resolved<Q::Node, S>, ResolveError<S>>
-        requires arguments { map (view_argument S.shown) arguments.now ≡ declared_arguments (field_of (view_schema S.shown self.now.schema.now) concrete.now (head_of S.shown site.now.field.now).name.item) }
+        requires arguments { map (view_argument S.shown) arguments.now
+            ≡ declared_arguments (field_of (view_schema S.shown self.now.schema.now) concrete.now (head_of S.shown site.now.field.now).name.item) }
         requires acyclic { IsAcyclic S.shown site.now.fragments.now }
-        requires selected { IsSelected S.shown (is_possible (view_schema S.shown self.now.schema.now)) self.now.variables.now site.now.fragments.now concrete.now site.now.enclosing.now
+        requires selected { IsSelected S.shown (is_possible (view_schema S.shown self.now.schema.now)) self.now.variables.now site.now.fragments.now
+            concrete.now site.now.enclosing.now
             site.now.field.now }
-        ensures { Answers S.shown result (reply_to (world_in Q.concrete Q.answer self.now.resolver.now self.now.info.now self.now.context.now (view_schema S.shown self.now.schema.now)
+        ensures { Answers S.shown result (reply_to (world_in Q.concrete Q.answer self.now.resolver.now self.now.info.now self.now.context.now
+            (view_schema S.shown self.now.schema.now)
             (view_variables S.shown self.now.variables.now)) concrete.now node.now (head_of S.shown site.now.field.now)) }
     {
         let written = site.field;
@@ -133,12 +137,16 @@ impl<'r, Q: GraphQLValue<S>, S: ScalarValue> Service<'r, Q, S> {
         declared: &Type<String>,
         arguments: &[Argument<S>],
     ) -> Result<Resolved<Q::Node, S>, ResolveError<S>>
-        requires arguments { map (view_argument S.shown) arguments.now ≡ declared_arguments (field_of (view_schema S.shown self.now.schema.now) concrete.now (head_of S.shown site.now.field.now).name.item) }
+        requires arguments { map (view_argument S.shown) arguments.now
+            ≡ declared_arguments (field_of (view_schema S.shown self.now.schema.now) concrete.now (head_of S.shown site.now.field.now).name.item) }
         requires acyclic { IsAcyclic S.shown site.now.fragments.now }
-        requires selected { IsSelected S.shown (is_possible (view_schema S.shown self.now.schema.now)) self.now.variables.now site.now.fragments.now concrete.now site.now.enclosing.now
+        requires selected { IsSelected S.shown (is_possible (view_schema S.shown self.now.schema.now)) self.now.variables.now site.now.fragments.now
+            concrete.now site.now.enclosing.now
             site.now.field.now }
-        ensures { Answers S.shown result (Q.answer self.now.resolver.now self.now.info.now self.now.context.now node.now (head_of S.shown site.now.field.now).name.item
-            (coerced_arguments (map (view_argument S.shown) arguments.now) (view_variables S.shown self.now.variables.now) (written (head_of S.shown site.now.field.now).arguments))) }
+        ensures { Answers S.shown result (Q.answer self.now.resolver.now self.now.info.now self.now.context.now node.now
+            (head_of S.shown site.now.field.now).name.item
+            (coerced_arguments (map (view_argument S.shown) arguments.now) (view_variables S.shown self.now.variables.now)
+            (written (head_of S.shown site.now.field.now).arguments))) }
     {
         let arguments = coerce_arguments(alloc, arguments, site.field, self.variables)?;
         let declared = shown_type(alloc, self.schema, self.query_type, declared)?;

@@ -22,7 +22,8 @@ pub(crate) fn first_not_constant<'a, S: ScalarValue>(
     operation: &Spanning<Operation<'a, S>, Span>,
     variables: &Variables<S>,
 ) -> Option<&'a str>
-    ensures { option_map (λ n. n.now) result ≡ requests.first_not_constant (variables_of (view_operation S.shown operation.now)) (view_variables S.shown variables.now) }
+    ensures { option_map (λ n. n.now) result ≡ requests.first_not_constant (variables_of (view_operation S.shown operation.now))
+        (view_variables S.shown variables.now) }
 {
     first_inconstant(defined_variables(operation), variables)
 }
@@ -74,7 +75,8 @@ pub(crate) fn coerce_variables<S: ScalarValue>(
     operation: &Spanning<Operation<'_, S>, Span>,
     variables: &Variables<S>,
 ) -> Result<Variables<S>, AllocError>
-    ensures { IfOk result (λ made. view_variables S.shown made ≡ coerced_variables (variables_of (view_operation S.shown operation.now)) (view_variables S.shown variables.now)) }
+    ensures { IfOk result (λ made. view_variables S.shown made ≡ coerced_variables (variables_of (view_operation S.shown operation.now))
+        (view_variables S.shown variables.now)) }
 {
     let values = values_of(alloc, defined_variables(operation), variables)?;
     Ok(values)
@@ -86,7 +88,8 @@ fn values_of<S: ScalarValue>(
     defined: &[Defined<'_, S>],
     variables: &Variables<S>,
 ) -> Result<Variables<S>, AllocError>
-    ensures { IfOk result (λ made. view_variables S.shown made ≡ coerced_variables (map (view_variable S.shown) defined.now) (view_variables S.shown variables.now)) }
+    ensures { IfOk result (λ made. view_variables S.shown made ≡ coerced_variables (map (view_variable S.shown) defined.now)
+        (view_variables S.shown variables.now)) }
 {
     let mut made = Variables::new(alloc);
     for index in 0..defined.len() {
@@ -126,7 +129,8 @@ fn value_of<'b, S: ScalarValue>(
     variables: &'b Variables<S>,
     variable: &'b Defined<'_, S>,
 ) -> Option<&'b InputValue<S>>
-    ensures { option_map (λ v. view_input S.shown v.now) result ≡ value_or (view_variables S.shown variables.now (view_variable S.shown variable.now).name.item) (item_of (view_variable S.shown variable.now).default) }
+    ensures { option_map (λ v. view_input S.shown v.now) result ≡ value_or (view_variables S.shown variables.now (view_variable S.shown variable.now).name.item)
+        (item_of (view_variable S.shown variable.now).default) }
 {
     match variables.get(variable.0.item) {
         Some(value) => Some(value),

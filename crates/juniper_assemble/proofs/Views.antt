@@ -12,7 +12,8 @@ module _ {S : Type 0} (shown : S → Shown) where
   pub skeleton-Filled : (s : S) → view_skeleton shown (Filled s) ≡ plain.filled (shown s)
   skeleton-Filled s = search (rules, skeleton_lemmas)
 
-  pub skeleton-Several : (r : Bool) (v : Vec (Skeleton S) Global) → view_skeleton shown (Several r v) ≡ plain.several r (skeletons_of (map (view_skeleton shown) v.items))
+  pub skeleton-Several : (r : Bool) (v : Vec (Skeleton S) Global) →
+      view_skeleton shown (Several r v) ≡ plain.several r (skeletons_of (map (view_skeleton shown) v.items))
   skeleton-Several r v = search (rules, skeleton_lemmas)
 
   pub skeleton-Hole : view_skeleton shown Hole ≡ plain.hole

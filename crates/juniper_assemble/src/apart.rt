@@ -87,7 +87,8 @@ fn null_apart<S: ScalarValue>(
     declared: &Type<String>,
     faults: &mut Vec<Fault>,
 ) -> Result<Skeleton<S>, AllocError>
-    ensures { IfOk result (λ s. IsNullApart (view_type (λ n. string_bytes n) declared.now) (view_skeleton S.shown s) (map view_fault faults.old.items) (map view_fault faults.new.items)) }
+    ensures { IfOk result (λ s. IsNullApart (view_type (λ n. string_bytes n) declared.now) (view_skeleton S.shown s) (map view_fault faults.old.items)
+        (map view_fault faults.new.items)) }
 {
     if declared.is_non_null() {
         faults.push(Fault::NullAtNonNull)?;

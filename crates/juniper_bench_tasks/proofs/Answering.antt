@@ -18,7 +18,8 @@ pub answers-refusal : {E : Type 0} (t : Text) (r : Result Answer E) (e : ParseEr
 answers-refusal t (Ok a) e p none status line = inr (e, p, none, status, line)
 answers-refusal t (Err _) e p none status line = tt
 
-pub answers-test : {E : Type 0} (n : ℕ) (s : Schema) (r : Result Answer E) → IfOk r (λ a. a.status ≡ 0) → IfOk r (λ a. string_bytes a.line ≡ schema_line n (is_executable s)) → IfOk r (IsTestOf n)
+pub answers-test : {E : Type 0} (n : ℕ) (s : Schema) (r : Result Answer E) → IfOk r (λ a. a.status ≡ 0) →
+    IfOk r (λ a. string_bytes a.line ≡ schema_line n (is_executable s)) → IfOk r (IsTestOf n)
 answers-test n s (Ok a) status line = (s, status, line)
 answers-test n s (Err _) status line = tt
 
@@ -32,6 +33,7 @@ lists-refusal t (Ok a) e p none status line = inr (e, p, none, status, line)
 lists-refusal t (Err _) e p none status line = tt
 
 -- as many errors as the definition has are listed
-pub answers-list : {E : Type 0} (s : Schema) (d : Document) (r : Result Answer E) (es : List RuleError) → es ≡ rule_errors s false d → IfOk r (λ a. a.status ≡ 0) → IfOk r (λ a. string_bytes a.line ≡ list_line (length d) (length es)) → IfOk r (IsListed d)
+pub answers-list : {E : Type 0} (s : Schema) (d : Document) (r : Result Answer E) (es : List RuleError) → es ≡ rule_errors s false d →
+    IfOk r (λ a. a.status ≡ 0) → IfOk r (λ a. string_bytes a.line ≡ list_line (length d) (length es)) → IfOk r (IsListed d)
 answers-list s d (Ok a) es is status line = (s, status, line ∙ ap (λ l. list_line (length d) (length l)) is)
 answers-list s d (Err _) es is status line = tt

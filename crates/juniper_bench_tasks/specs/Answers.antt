@@ -20,7 +20,8 @@ counts_line ds fs bs = codes "definitions: " ++ (decimal ds ++ (codes ", fields:
 
 -- how a refusal is told, with its place, counted from 1
 abbrev pub refusal_line : ParseError → Position → Text
-refusal_line e p = codes "refused: " ++ (refusal_text (view_refusal e) ++ (codes " at " ++ (decimal (capped (p.line + 1)) ++ (codes ":" ++ decimal (capped (p.column + 1))))))
+refusal_line e p =
+    codes "refused: " ++ (refusal_text (view_refusal e) ++ (codes " at " ++ (decimal (capped (p.line + 1)) ++ (codes ":" ++ decimal (capped (p.column + 1))))))
 
 -- a text that spells a document: what it counts, with status 0
 abbrev pub IsCounted : Text → Answer → Type 0

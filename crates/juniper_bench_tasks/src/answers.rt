@@ -54,7 +54,8 @@ fn counted(
     bytes: usize,
 ) -> Result<Answer, AllocError>
     ensures status { IfOk result (λ a. a.status ≡ 0) }
-    ensures line { IfOk result (λ a. string_bytes a.line ≡ counts_line (length (view_document default_shown document.now)) (capped (fields_of (view_document default_shown document.now))) bytes) }
+    ensures line { IfOk result (λ a. string_bytes a.line ≡ counts_line (length (view_document default_shown document.now))
+        (capped (fields_of (view_document default_shown document.now))) bytes) }
 {
     let definitions = document.len();
     let fields = count_fields(document);
@@ -113,7 +114,8 @@ fn list_answer(
     errors: &Vec<RuleError>,
 ) -> Result<Answer, AllocError>
     ensures status { IfOk result (λ a. a.status ≡ 0) }
-    ensures line { IfOk result (λ a. string_bytes a.line ≡ list_line (length (view_document default_shown document.now)) (length (map view_rule_error errors.now.items))) }
+    ensures line { IfOk result (λ a. string_bytes a.line ≡ list_line (length (view_document default_shown document.now))
+        (length (map view_rule_error errors.now.items))) }
 {
     let definition_count = document.len();
     let error_count = errors.len();

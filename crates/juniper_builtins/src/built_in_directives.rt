@@ -28,7 +28,16 @@ pub fn directives<S: ScalarValue>(alloc: Global) -> Result<Vec<DirectiveType<S>>
 
 /// `@deprecated(reason: String = "No longer supported")` (3.13.3).
 fn deprecated_directive<S: ScalarValue>(alloc: Global) -> Result<DirectiveType<S>, AllocError>
-    ensures { IfOk result (λ d. view_directive S.shown d ≡ record { name = codes "deprecated"; locations = codes "FIELD_DEFINITION" ∷ codes "ENUM_VALUE" ∷ []; arguments = record { name = codes "reason"; description = None; of_type = maybe (codes "String"); default = Some (scalar (text (codes "No longer supported"))) } ∷ [] }) }
+    ensures { IfOk result (λ d. view_directive S.shown d ≡ record {
+      name = codes "deprecated";
+      locations = codes "FIELD_DEFINITION" ∷ codes "ENUM_VALUE" ∷ [];
+      arguments = record {
+        name = codes "reason";
+        description = None;
+        of_type = maybe (codes "String");
+        default = Some (scalar (text (codes "No longer supported")));
+      } ∷ [];
+    }) }
 {
     let name = String::from_str(alloc, "deprecated")?;
     let locations = vec![in alloc;
@@ -42,7 +51,12 @@ fn deprecated_directive<S: ScalarValue>(alloc: Global) -> Result<DirectiveType<S
 /// `reason: String = "No longer supported"`
 #[tactic(auto, unfolding(graphql_spec::specs::Schema::plain_input))]
 fn reason_argument<S: ScalarValue>(alloc: Global) -> Result<Argument<S>, AllocError>
-    ensures { IfOk result (λ a. view_argument S.shown a ≡ record { name = codes "reason"; description = None; of_type = maybe (codes "String"); default = Some (scalar (text (codes "No longer supported"))) }) }
+    ensures { IfOk result (λ a. view_argument S.shown a ≡ record {
+      name = codes "reason";
+      description = None;
+      of_type = maybe (codes "String");
+      default = Some (scalar (text (codes "No longer supported")));
+    }) }
 {
     let argument = argument_of(alloc, "reason", maybe(alloc, "String")?)?;
     let reason = text_of(alloc, "No longer supported")?;
@@ -72,7 +86,11 @@ fn condition_directive<S: ScalarValue>(
 
 /// `@specifiedBy(url: String!)` (3.13.4).
 fn specified_by_directive<S: ScalarValue>(alloc: Global) -> Result<DirectiveType<S>, AllocError>
-    ensures { IfOk result (λ d. view_directive S.shown d ≡ record { name = codes "specifiedBy"; locations = codes "SCALAR" ∷ []; arguments = plain_input (codes "url") (must (codes "String")) ∷ [] }) }
+    ensures { IfOk result (λ d. view_directive S.shown d ≡ record {
+      name = codes "specifiedBy";
+      locations = codes "SCALAR" ∷ [];
+      arguments = plain_input (codes "url") (must (codes "String")) ∷ [];
+    }) }
 {
     let name = String::from_str(alloc, "specifiedBy")?;
     let locations = vec![in alloc; DirectiveLocation::Scalar]?;

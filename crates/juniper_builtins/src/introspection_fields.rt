@@ -27,7 +27,8 @@ pub fn meta_fields<S: ScalarValue>(alloc: Global) -> Result<Vec<Field<S>>, Alloc
 /// `__type(name: String!): __Type` (4.2).
 #[tactic(auto, unfolding(graphql_spec::specs::BuiltIns::must, graphql_spec::specs::BuiltIns::maybe, graphql_spec::specs::Schema::plain_field, graphql_spec::specs::Schema::plain_input))]
 fn type_field<S: ScalarValue>(alloc: Global) -> Result<Field<S>, AllocError>
-    ensures { IfOk result (λ f. view_field S.shown f ≡ plain_field (codes "__type") (plain_input (codes "name") (must (codes "String")) ∷ []) (maybe (codes "__Type"))) }
+    ensures { IfOk result (λ f. view_field S.shown f ≡ plain_field (codes "__type") (plain_input (codes "name") (must (codes "String")) ∷ [])
+        (maybe (codes "__Type"))) }
 {
     let name = String::from_str(alloc, "__type")?;
     let field = Field::new(name, maybe(alloc, "__Type")?);

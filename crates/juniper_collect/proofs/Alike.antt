@@ -154,14 +154,16 @@ module _ (fs gs : List Fragment) (found : FoundAlike fs gs) where
   unfolding deep
   same-deep-in zero k = some-core (fragment_of fs k) ∙ (ap is_some (found k) ∙ sym (some-core (fragment_of gs k)))
   same-deep-in (suc n) k = deep-spreads (deep fs n) (fragment_of fs k)
-      ∙ (any-same (deep fs n) (deep gs n) (same-deep-in n) (spreads_in (fragment_of fs k)) ∙ (ap (list_any (deep gs n)) (same-spreads k) ∙ sym (deep-spreads (deep gs n) (fragment_of gs k))))
+      ∙ (any-same (deep fs n) (deep gs n) (same-deep-in n) (spreads_in (fragment_of fs k))
+      ∙ (ap (list_any (deep gs n)) (same-spreads k) ∙ sym (deep-spreads (deep gs n) (fragment_of gs k))))
 
   same-contents : (test : Directive → Bool) (n : ℕ) (k : Name) → contents test fs n k ≡ contents test gs n k
   unfolding contents
   same-contents test zero k = refl
   same-contents test (suc n) k =
       filled-core (plain test (contents test fs n)) (fragment_of fs k)
-      ∙ (filled_core-same (plain test (contents test fs n)) (plain test (contents test gs n)) (plain-alike test (contents test fs n) (contents test gs n) (same-contents test n)) (option_map core (fragment_of fs k))
+      ∙ (filled_core-same (plain test (contents test fs n)) (plain test (contents test gs n))
+      (plain-alike test (contents test fs n) (contents test gs n) (same-contents test n)) (option_map core (fragment_of fs k))
       ∙ (ap (filled_core (plain test (contents test gs n))) (found k) ∙ sym (filled-core (plain test (contents test gs n)) (fragment_of gs k))))
 
   alike-acyclic : HasNoCycle fs → HasNoCycle gs
@@ -188,7 +190,8 @@ module _ {S : Type 0} (shown : S → Shown) where
   among-entries [] k = refl
   among-entries (e ∷ es) k =
       cond-map core (bytes_eq k e.0.now) (named_fragment shown e) (fragment_of (map (named_fragment shown) es) k)
-      ∙ (ap (cond (bytes_eq k e.0.now) (Some (core-of-lent e.1.now))) (among-entries es k) ∙ sym (cond-map (λ f. core-of-lent f.now) (bytes_eq k e.0.now) e.1 (lookup (λ n. bytes_eq k n.now) es)))
+      ∙ (ap (cond (bytes_eq k e.0.now) (Some (core-of-lent e.1.now))) (among-entries es k)
+      ∙ sym (cond-map (λ f. core-of-lent f.now) (bytes_eq k e.0.now) e.1 (lookup (λ n. bytes_eq k n.now) es)))
 
   map-map : {A B C : Type 0} (g : B → C) (f : A → B) (o : Option A) → option_map g (option_map f o) ≡ option_map (λ x. g (f x)) o
   map-map g f None = refl

@@ -77,40 +77,49 @@ fragment-none k = refl
 
 -- ## A loop over definitions
 
-module _ {A D : Type 0} (F : List spec.Definition → Name → Option A) (splits : (x : spec.Definition) (xs : List spec.Definition) (k : Name) → F (x ∷ xs) k ≡ option_or (F (x ∷ []) k) (F xs k)) (none : (k : Name) → F [] k ≡ None)
+module _ {A D : Type 0} (F : List spec.Definition → Name → Option A)
+    (splits : (x : spec.Definition) (xs : List spec.Definition) (k : Name) → F (x ∷ xs) k ≡ option_or (F (x ∷ []) k) (F xs k))
+    (none : (k : Name) → F [] k ≡ None)
     (view : D → spec.Definition) (ds : List D) where
   pub first-init : (has : Name → Option A) → ((k : Name) → has k ≡ None) → (k : Name) → option_or (has k) (F (map view ds) k) ≡ F (map view ds) k
   first-init has empty k = ap (λ o. option_or o (F (map view ds) k)) (empty k)
 
-  pub first-next : (has now : Name → Option A) (i : ℕ) (x : D) → i < length ds → x ≡ get_or ds i x → ((k : Name) → option_or (has k) (F (map view (drop i ds)) k) ≡ F (map view ds) k) →
+  pub first-next : (has now : Name → Option A) (i : ℕ) (x : D) → i < length ds → x ≡ get_or ds i x →
+      ((k : Name) → option_or (has k) (F (map view (drop i ds)) k) ≡ F (map view ds) k) →
       ((k : Name) → now k ≡ option_or (has k) (F (view x ∷ []) k)) → (k : Name) → option_or (now k) (F (map view (drop (i + 1) ds)) k) ≡ F (map view ds) k
   first-next has now i x below is so_far one k =
       ap (λ o. option_or o (F (map view (drop (i + 1) ds)) k)) (one k)
       ∙ (or-moves (has k) (F (view x ∷ []) k) (F (map view (drop (i + 1) ds)) k)
       ∙ (ap (option_or (has k)) (sym (splits (view x) (map view (drop (i + 1) ds)) k) ∙ ap (λ l. F l k) (sym (seen-left-is view ds i x below is))) ∙ so_far k))
 
-  pub first-all : (has : Name → Option A) (i : ℕ) → length ds ≤ i → ((k : Name) → option_or (has k) (F (map view (drop i ds)) k) ≡ F (map view ds) k) → (k : Name) → has k ≡ F (map view ds) k
+  pub first-all : (has : Name → Option A) (i : ℕ) → length ds ≤ i → ((k : Name) → option_or (has k) (F (map view (drop i ds)) k) ≡ F (map view ds) k) →
+      (k : Name) → has k ≡ F (map view ds) k
   first-all has i past so_far k =
       or-none (has k) ∙ (ap (option_or (has k)) (sym (ap (λ l. F (map view l) k) (drop_all i ds past) ∙ none k)) ∙ so_far k)
 
 -- ## One entry more
 
-put-one : {V W : Type 0} (view : V → W) (b : Bool) (old new : Option V) (x : V) → new ≡ cond b (Some x) old → (b ≡ true → is_some old ≡ false) → option_map view new ≡ option_or (option_map view old) (cond b (Some (view x)) None)
+put-one : {V W : Type 0} (view : V → W) (b : Bool) (old new : Option V) (x : V) → new ≡ cond b (Some x) old → (b ≡ true → is_some old ≡ false) →
+    option_map view new ≡ option_or (option_map view old) (cond b (Some (view x)) None)
 put-one view true old new x e absent = ap (option_map view) e ∙ or-unknown (option_map view old) (Some (view x)) (some-map view old ∙ absent refl)
 put-one view false old new x e absent = ap (option_map view) e ∙ or-none (option_map view old)
 
 module _ {V W H : Type 0} (view : V → W) where
   pub put-first : (m n : HashMap (Bor (List ℕ)) V H) (name : Name) (x : V) → is_some (get_by (λ i. bytes_eq name i.now) m) ≡ false →
       ((cs : List ℕ) → get_by (λ i. bytes_eq cs i.now) n ≡ update bytes_eq (λ ds. get_by (λ i. bytes_eq ds i.now) m) name (Some x) cs) →
-      (k : Name) → option_map view (get_by (λ i. bytes_eq k i.now) n) ≡ option_or (option_map view (get_by (λ i. bytes_eq k i.now) m)) (cond (bytes_eq k name) (Some (view x)) None)
+      (k : Name) → option_map view (get_by (λ i. bytes_eq k i.now) n)
+      ≡ option_or (option_map view (get_by (λ i. bytes_eq k i.now) m)) (cond (bytes_eq k name) (Some (view x)) None)
   put-first m n name x absent put k =
-      put-one view (bytes_eq name k) (get_by (λ i. bytes_eq k i.now) m) (get_by (λ i. bytes_eq k i.now) n) x (put k) (λ e. subst (λ j. is_some (get_by (λ i. bytes_eq j i.now) m) ≡ false) (same name k e) absent)
+      put-one view (bytes_eq name k) (get_by (λ i. bytes_eq k i.now) m) (get_by (λ i. bytes_eq k i.now) n) x (put k)
+      (λ e. subst (λ j. is_some (get_by (λ i. bytes_eq j i.now) m) ≡ false) (same name k e) absent)
       ∙ ap (λ b. option_or (option_map view (get_by (λ i. bytes_eq k i.now) m)) (cond b (Some (view x)) None)) (nat_list_eq_equiv.symm name k)
 
   pub put-not : (m : HashMap (Bor (List ℕ)) V H) (name : Name) (x : W) → is_some (get_by (λ i. bytes_eq name i.now) m) ≡ true →
-      (k : Name) → option_map view (get_by (λ i. bytes_eq k i.now) m) ≡ option_or (option_map view (get_by (λ i. bytes_eq k i.now) m)) (cond (bytes_eq k name) (Some x) None)
+      (k : Name) → option_map view (get_by (λ i. bytes_eq k i.now) m)
+      ≡ option_or (option_map view (get_by (λ i. bytes_eq k i.now) m)) (cond (bytes_eq k name) (Some x) None)
   put-not m name x there k = elim (cases_Bool (bytes_eq k name)) [
-    | inl q ↦ rw q (or-known (option_map view (get_by (λ i. bytes_eq k i.now) m)) (Some x) (some-map view (get_by (λ i. bytes_eq k i.now) m) ∙ subst (λ j. is_some (get_by (λ i. bytes_eq j i.now) m) ≡ true) (sym (same k name q)) there))
+    | inl q ↦ rw q (or-known (option_map view (get_by (λ i. bytes_eq k i.now) m)) (Some x)
+        (some-map view (get_by (λ i. bytes_eq k i.now) m) ∙ subst (λ j. is_some (get_by (λ i. bytes_eq j i.now) m) ≡ true) (sym (same k name q)) there))
     | inr q ↦ rw q (or-none (option_map view (get_by (λ i. bytes_eq k i.now) m)))
   ]
 
@@ -150,5 +159,6 @@ no-fragment None is = refl
 no-fragment (Some x) is = true_false true refl (ap is_some is)
 
 -- nothing is in an empty map
-pub empty-at : {V W H : Type 0} (view : V → W) (m : HashMap (Bor (List ℕ)) V H) → m.entries ≡ [] → (k : Name) → option_map view (get_by (λ n. bytes_eq k n.now) m) ≡ None
+pub empty-at : {V W H : Type 0} (view : V → W) (m : HashMap (Bor (List ℕ)) V H) → m.entries ≡ [] → (k : Name) →
+    option_map view (get_by (λ n. bytes_eq k n.now) m) ≡ None
 empty-at view m none k = ap (λ es. option_map view (lookup (λ n. bytes_eq k n.now) es)) none

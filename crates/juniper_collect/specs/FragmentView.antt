@@ -16,7 +16,8 @@ use Rattle.juniper_collect.specs.declared.fragments.FragmentMap.{FragmentMap}
 
 -- a fragment, but for where it is written
 abbrev pub unplaced : spec.Fragment → spec.Fragment
-unplaced f = record { name = f.name; condition = f.condition; directives = f.directives; selections = f.selections; span = record { start = origin; end = origin } }
+unplaced f =
+    record { name = f.name; condition = f.condition; directives = f.directives; selections = f.selections; span = record { start = origin; end = origin } }
 
 -- the first fragment of a name, but for where it is written (2.8)
 unfoldable pub fragment_named : List spec.Fragment → Name → Option spec.Fragment

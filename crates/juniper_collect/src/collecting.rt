@@ -37,7 +37,8 @@ pub fn collect<'d, 'a, S: ScalarValue, P: Conditions>(
     selections: &'d [Selection<'a, S>],
 ) -> Result<Collected<'d, 'a, S>, AllocError>
     requires { IsReady S.shown collector.now }
-    ensures { IfOk result (λ r. view_all S.shown collector.now r.items ≡ occurrences (P.possible collector.now.possible) concrete.now (expansion S.shown collector.now (view_selections S.shown selections.now))) }
+    ensures { IfOk result (λ r. view_all S.shown collector.now r.items
+        ≡ occurrences (P.possible collector.now.possible) concrete.now (expansion S.shown collector.now (view_selections S.shown selections.now))) }
 {
     let mut fields = Vec::new(alloc);
     let spreads_left = collector.fragments.count;
@@ -56,7 +57,8 @@ fn add_fields<'d, 'a, S: ScalarValue, P: Conditions>(
     requires ready { IsReady S.shown collector.now }
     requires within { IsWithin S.shown collector.now spreads_left (view_selections S.shown selections.now) }
     ensures { OnOk result (view_all S.shown collector.now fields.new.items
-        ≡ view_all S.shown collector.now fields.old.items ++ occurrences (P.possible collector.now.possible) concrete.now (expansion S.shown collector.now (view_selections S.shown selections.now))) }
+        ≡ view_all S.shown collector.now fields.old.items ++ occurrences (P.possible collector.now.possible) concrete.now
+        (expansion S.shown collector.now (view_selections S.shown selections.now))) }
 {
     for selection in selections {
         match part_of(collector, concrete, selection, spreads_left) {

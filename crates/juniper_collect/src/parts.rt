@@ -43,7 +43,8 @@ pub(crate) fn part_of<'d, 'a, S: ScalarValue, P: Conditions>(
     spreads_left: usize,
 ) -> Part<'d, 'a, S>
     requires { IsReady S.shown collector.now }
-    ensures { IsPart S.shown collector.now (P.possible collector.now.possible) concrete.now (put_selection S.shown selection.now) spreads_left (size-Selection S selection.now) result }
+    ensures { IsPart S.shown collector.now (P.possible collector.now.possible) concrete.now (put_selection S.shown selection.now) spreads_left
+        (size-Selection S selection.now) result }
 {
     match selection {
         Selection::Field(field) => field_part(collector, field),
@@ -61,7 +62,9 @@ fn field_part<'d, 'a, S: ScalarValue, P: Conditions>(
     collector: &Collector<'_, 'd, 'a, S, P>,
     field: &'d Spanning<Field<'a, S>, Span>,
 ) -> Part<'d, 'a, S>
-    ensures { (T : _) (n size : _) → IsPart S.shown collector.now (P.possible collector.now.possible) T (document.field (view_head S.shown (out-Field S field.now.item) (view_span field.now.span)) (view_set S.shown (out-Field S field.now.item).selection_set)) n size result }
+    ensures { (T : _) (n size : _) → IsPart S.shown collector.now (P.possible collector.now.possible) T
+        (document.field (view_head S.shown (out-Field S field.now.item) (view_span field.now.span))
+        (view_set S.shown (out-Field S field.now.item).selection_set)) n size result }
 {
     if is_taken(collector, &field.item.directives) {
         Part::Field(field)
@@ -78,7 +81,8 @@ fn spread_part<'d, 'a, S: ScalarValue, P: Conditions>(
     spreads_left: usize,
 ) -> Part<'d, 'a, S>
     requires { IsReady S.shown collector.now }
-    ensures { (size : _) → IsPart S.shown collector.now (P.possible collector.now.possible) concrete.now (document.spread (view_spread S.shown spread.now.item (view_span spread.now.span))) spreads_left size result }
+    ensures { (size : _) → IsPart S.shown collector.now (P.possible collector.now.possible) concrete.now
+        (document.spread (view_spread S.shown spread.now.item (view_span spread.now.span))) spreads_left size result }
 {
     if spreads_left == 0 {
         return Part::Nothing;
@@ -108,7 +112,10 @@ fn inline_part<'d, 'a, S: ScalarValue, P: Conditions>(
     inline: &'d Spanning<InlineFragment<'a, S>, Span>,
     spreads_left: usize,
 ) -> Part<'d, 'a, S>
-    ensures { (size : _) → nesting (out-InlineFragment S inline.now.item).selection_set.items < size → IsPart S.shown collector.now (P.possible collector.now.possible) concrete.now (document.inline (inline_head S.shown (out-InlineFragment S inline.now.item) (view_span inline.now.span)) (view_selections S.shown (out-InlineFragment S inline.now.item).selection_set.items)) spreads_left size result }
+    ensures { (size : _) → nesting (out-InlineFragment S inline.now.item).selection_set.items < size →
+        IsPart S.shown collector.now (P.possible collector.now.possible) concrete.now
+        (document.inline (inline_head S.shown (out-InlineFragment S inline.now.item) (view_span inline.now.span))
+        (view_selections S.shown (out-InlineFragment S inline.now.item).selection_set.items)) spreads_left size result }
 {
     if !is_taken(collector, &inline.item.directives) {
         return Part::Nothing;

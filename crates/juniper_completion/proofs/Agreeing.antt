@@ -31,7 +31,8 @@ module _ {N : Type 0} (W : World N) where
 
     all-possible : (t : TypeRef) (ts : Trees N) (n : N) → In n (all_nodes W t ts) → W.possible (W.concrete n) (innermost t) ≡ true
     all-possible t no_trees n i = absurd i
-    all-possible t (tree a rest) n i = elim (in_append n (nodes_of W t a) (all_nodes W t rest) i) [ inl j ↦ node-possible t a n j | inr j ↦ all-possible t rest n j ]
+    all-possible t (tree a rest) n i =
+        elim (in_append n (nodes_of W t a) (all_nodes W t rest) i) [ inl j ↦ node-possible t a n j | inr j ↦ all-possible t rest n j ]
 
   -- so is that of each node of a reply
   pub reply-possible : (t : TypeRef) (r : Reply N) (n : N) → In n (reply_nodes W t r) → W.possible (W.concrete n) (innermost t) ≡ true

@@ -42,7 +42,8 @@ unfolding all_listed
 all-listed-append [] ys = refl
 all-listed-append (es ∷ xs) ys = ap (λ z. es ++ z) (all-listed-append xs ys) ∙ sym (append_assoc es (all_listed xs) (all_listed ys))
 
-module _ (tell : Place → Place) {N : Type 0} (W : World N) (objects : Name → N → Value) (at : Place → Place → Name → N → List Failure) (nulls : Place → Name → N → List Place) (start : Position) where
+module _ (tell : Place → Place) {N : Type 0} (W : World N) (objects : Name → N → Value) (at : Place → Place → Name → N → List Failure)
+    (nulls : Place → Name → N → List Place) (start : Position) where
   abbrev Are : List (Stop N) → List Value → List (List Listed) → Type 0
   Are = AreObjectsOf tell W objects at nulls
 
@@ -61,15 +62,18 @@ module _ (tell : Place → Place) {N : Type 0} (W : World N) (objects : Name →
     same : IsListedAs (apart ++ all_listed ess) errors
 
   -- where there is no node
-  alone : (rises : Bool) (es : List Listed) (fs : List Failure) (above : Place) (stands : List Place) (vs : List Value) (ess : List (List Listed)) → Are [] vs ess → Met tell rises es fs above stands → IsMet rises es ess fs above stands
+  alone : (rises : Bool) (es : List Listed) (fs : List Failure) (above : Place) (stands : List Place) (vs : List Value) (ess : List (List Listed)) →
+      Are [] vs ess → Met tell rises es fs above stands → IsMet rises es ess fs above stands
   unfolding all_listed
   alone rises es fs above stands vs ess o m =
       let none = none-are tell W objects at nulls vs ess o in
       record { errors = es; met = m; same = listed-same (es ++ all_listed ess) es (ap (λ z. es ++ all_listed z) none.1 ∙ append-nil es) }
 
   -- one node
-  node-met : (here above : Place) (t : TypeRef) (m : N) (vs : List Value) (ess : List (List Listed)) → Are (record { place = here; lands = landing t here above; node = m } ∷ []) vs ess →
-      IsMet (is_null (objects (W.concrete m) m) && required t) [] ess (at here (landing t here above) (W.concrete m) m) above (null_or here t (objects (W.concrete m) m) (nulls here (W.concrete m) m))
+  node-met : (here above : Place) (t : TypeRef) (m : N) (vs : List Value) (ess : List (List Listed)) →
+      Are (record { place = here; lands = landing t here above; node = m } ∷ []) vs ess →
+      IsMet (is_null (objects (W.concrete m) m) && required t) [] ess (at here (landing t here above) (W.concrete m) m) above
+      (null_or here t (objects (W.concrete m) m) (nulls here (W.concrete m) m))
   unfolding all_listed
   node-met here above t m [] [] o = absurd o
   node-met here above t m [] (es ∷ ess) o = absurd o
@@ -78,19 +82,22 @@ module _ (tell : Place → Place) {N : Type 0} (W : World N) (objects : Name →
       let none = none-are tell W objects at nulls vs ess o in
       record {
         errors = es;
-        met = subst (λ z. Met tell (is_null z && required t) es (at here (landing t here above) (W.concrete m) m) above (null_or here t z (nulls here (W.concrete m) m))) x.value
+        met = subst (λ z. Met tell (is_null z && required t) es (at here (landing t here above) (W.concrete m) m) above
+            (null_or here t z (nulls here (W.concrete m) m))) x.value
             (met-place tell here above t v es (at here (landing t here above) (W.concrete m) m) (nulls here (W.concrete m) m) x.errors);
         same = listed-same (es ++ all_listed ess) es (ap (λ z. es ++ all_listed z) none.1 ∙ append-nil es);
       }
 
   -- a null that the resolver answered
   nothing-met : (here above elsewhere : Place) (t : TypeRef) (vs : List Value) (ess : List (List Listed)) → Are [] vs ess →
-      IsMet (required t) (map listed (cond (required t) (record { path = here; starts = start ∷ []; error = null_at_non_null; rises_to = elsewhere } ∷ []) [])) ess
+      IsMet (required t) (map listed (cond (required t) (record { path = here; starts = start ∷ []; error = null_at_non_null; rises_to = elsewhere } ∷ []) []))
+      ess
       (cond (required t) (record { path = here; starts = start ∷ []; error = null_at_non_null; rises_to = above } ∷ []) []) above []
   unfolding landing
   nothing-met here above elsewhere t vs ess o = go (required t) refl
     where
-      go : (q : Bool) → required t ≡ q → IsMet q (map listed (cond q (record { path = here; starts = start ∷ []; error = null_at_non_null; rises_to = elsewhere } ∷ []) [])) ess
+      go : (q : Bool) → required t ≡ q → IsMet q (map listed (cond q
+          (record { path = here; starts = start ∷ []; error = null_at_non_null; rises_to = elsewhere } ∷ []) [])) ess
           (cond q (record { path = here; starts = start ∷ []; error = null_at_non_null; rises_to = above } ∷ []) []) above []
       go true e = alone true _ _ above [] vs ess o (let m = met-failure tell here above start t null_at_non_null in rw e at m)
       go false e = alone false [] [] above [] vs ess o (met-nothing tell above)
@@ -104,7 +111,8 @@ module _ (tell : Place → Place) {N : Type 0} (W : World N) (objects : Name →
 
   -- a list, with its items
   list-met : (here above : Place) (t item_type : TypeRef) (us : Values) (apart : List Listed) (ess : List (List Listed)) (fs : List Failure) (st : List Place) →
-      IsMet (any_null us && required item_type) apart ess fs (landing t here above) st → IsMet (is_null (whole_list (required item_type) us) && required t) apart ess fs above (null_or here t (whole_list (required item_type) us) st)
+      IsMet (any_null us && required item_type) apart ess fs (landing t here above) st →
+      IsMet (is_null (whole_list (required item_type) us) && required t) apart ess fs above (null_or here t (whole_list (required item_type) us) st)
   list-met here above t item_type us apart ess fs st m = record {
     errors = m.errors;
     met = met-place tell here above t (whole_list (required item_type) us) m.errors fs st (rw (whole-null (required item_type) us) m.met);
@@ -112,13 +120,16 @@ module _ (tell : Place → Place) {N : Type 0} (W : World N) (objects : Name →
   }
 
   -- an item, and those behind it
-  both-met : (q : Bool) (u : Value) (us : Values) (ap1 ap2 : List Listed) (ess1 ess2 : List (List Listed)) (gs hs : List Failure) (above : Place) (xs ys : List Place) →
-      IsMet (is_null u && q) ap1 ess1 gs above xs → IsMet (any_null us && q) ap2 ess2 hs above ys → IsMet (any_null (item u us) && q) (ap1 ++ ap2) (ess1 ++ ess2) (gs ++ hs) above (xs ++ ys)
+  both-met : (q : Bool) (u : Value) (us : Values) (ap1 ap2 : List Listed) (ess1 ess2 : List (List Listed)) (gs hs : List Failure) (above : Place)
+      (xs ys : List Place) →
+      IsMet (is_null u && q) ap1 ess1 gs above xs → IsMet (any_null us && q) ap2 ess2 hs above ys →
+      IsMet (any_null (item u us) && q) (ap1 ++ ap2) (ess1 ++ ess2) (gs ++ hs) above (xs ++ ys)
   unfolding any_null tally
   both-met q u us ap1 ap2 ess1 ess2 gs hs above xs ys m n = record {
     errors = m.errors ++ n.errors;
     met = subst (λ z. Met tell z (m.errors ++ n.errors) (gs ++ hs) above (xs ++ ys)) (and-or (is_null u) (any_null us) q)
-        (met-join tell (is_null u && q) (any_null us && q) m.errors n.errors (gs ++ hs) gs hs above (xs ++ ys) xs ys m.met n.met (λ p. tally-append p gs hs) (λ p i. in_append p xs ys i));
+        (met-join tell (is_null u && q) (any_null us && q) m.errors n.errors (gs ++ hs) gs hs above (xs ++ ys) xs ys m.met n.met (λ p. tally-append p gs hs)
+        (λ p i. in_append p xs ys i));
     same = rw (all-listed-append ess1 ess2) (listed-both ap1 (all_listed ess1) ap2 (all_listed ess2) m.errors n.errors m.same n.same);
   }
 
@@ -126,7 +137,8 @@ module _ (tell : Place → Place) {N : Type 0} (W : World N) (objects : Name →
     unfolding stops faults standing complete is_null any_null null_or
 
     tree-met : (here above elsewhere : Place) (t : TypeRef) (a : Tree N) (vs : List Value) (ess : List (List Listed)) → Are (stops W here above t a) vs ess →
-        IsMet (is_null (complete W objects t a) && required t) (map listed (faults W without_nodes here (start ∷ []) elsewhere t a)) ess (faults W at here (start ∷ []) above t a) above (standing W objects nulls here t a)
+        IsMet (is_null (complete W objects t a) && required t) (map listed (faults W without_nodes here (start ∷ []) elsewhere t a)) ess
+        (faults W at here (start ∷ []) above t a) above (standing W objects nulls here t a)
     tree-met here above elsewhere (named r n) nothing vs ess o = nothing-met here above elsewhere (named r n) vs ess o
     tree-met here above elsewhere (list_of r size t) nothing vs ess o = nothing-met here above elsewhere (list_of r size t) vs ess o
     tree-met here above elsewhere (named r n) (leaf x) vs ess o = elim (cases_Bool (W.accepts n x)) [
@@ -138,23 +150,34 @@ module _ (tell : Place → Place) {N : Type 0} (W : World N) (objects : Name →
       | inr e ↦ rw e (wrong-met here above (landing (named r n) here elsewhere) (named r n) wrong_shape vs ess (rw e at o))
     ]
     tree-met here above elsewhere (named r n) (items ts) vs ess o = wrong-met here above (landing (named r n) here elsewhere) (named r n) wrong_shape vs ess o
-    tree-met here above elsewhere (list_of r size t) (leaf x) vs ess o = wrong-met here above (landing (list_of r size t) here elsewhere) (list_of r size t) wrong_shape vs ess o
-    tree-met here above elsewhere (list_of r size t) (node m) vs ess o = wrong-met here above (landing (list_of r size t) here elsewhere) (list_of r size t) wrong_shape vs ess o
+    tree-met here above elsewhere (list_of r size t) (leaf x) vs ess o =
+        wrong-met here above (landing (list_of r size t) here elsewhere) (list_of r size t) wrong_shape vs ess o
+    tree-met here above elsewhere (list_of r size t) (node m) vs ess o =
+        wrong-met here above (landing (list_of r size t) here elsewhere) (list_of r size t) wrong_shape vs ess o
     tree-met here above elsewhere (list_of r size t) (items ts) vs ess o =
-        list-met here above (list_of r size t) t (complete_all W objects t ts) _ ess _ _ (trees-met here 0 (landing (list_of r size t) here above) (landing (list_of r size t) here elsewhere) t ts vs ess o)
+        list-met here above (list_of r size t) t (complete_all W objects t ts) _ ess _ _
+        (trees-met here 0 (landing (list_of r size t) here above) (landing (list_of r size t) here elsewhere) t ts vs ess o)
 
-    trees-met : (here : Place) (i : ℕ) (above elsewhere : Place) (t : TypeRef) (ts : Trees N) (vs : List Value) (ess : List (List Listed)) → Are (all_stops W here i above t ts) vs ess →
-        IsMet (any_null (complete_all W objects t ts) && required t) (map listed (all_faults W without_nodes here i (start ∷ []) elsewhere t ts)) ess (all_faults W at here i (start ∷ []) above t ts) above (all_standing W objects nulls here i t ts)
+    trees-met : (here : Place) (i : ℕ) (above elsewhere : Place) (t : TypeRef) (ts : Trees N) (vs : List Value) (ess : List (List Listed)) →
+        Are (all_stops W here i above t ts) vs ess →
+        IsMet (any_null (complete_all W objects t ts) && required t) (map listed (all_faults W without_nodes here i (start ∷ []) elsewhere t ts)) ess
+        (all_faults W at here i (start ∷ []) above t ts) above (all_standing W objects nulls here i t ts)
     trees-met here i above elsewhere t no_trees vs ess o = alone false [] [] above [] vs ess o (met-nothing tell above)
     trees-met here i above elsewhere t (tree a ts) vs ess o =
         let p = parts tell W objects at nulls (stops W (here ++ index i ∷ []) above t a) (all_stops W here (suc i) above t ts) vs ess o in
         let front = tree-met (here ++ index i ∷ []) above elsewhere t a p.first_values p.first_errors p.first in
         let back = trees-met here (suc i) above elsewhere t ts p.second_values p.second_errors p.second in
-        rw (p.errors, map-append listed (faults W without_nodes (here ++ index i ∷ []) (start ∷ []) elsewhere t a) (all_faults W without_nodes here (suc i) (start ∷ []) elsewhere t ts))
+        rw (
+          p.errors,
+          map-append listed (faults W without_nodes (here ++ index i ∷ []) (start ∷ []) elsewhere t a)
+              (all_faults W without_nodes here (suc i) (start ∷ []) elsewhere t ts),
+        )
         (both-met (required t) (complete W objects t a) (complete_all W objects t ts) _ _ p.first_errors p.second_errors _ _ above _ _ front back)
 
   pub reply-met : (here above : Place) (t : TypeRef) (r : Reply N) (vs : List Value) (ess : List (List Listed)) → Are (reply_stops W here above t r) vs ess →
-      Met tell (is_null (finish W objects t r) && required t) (listed_apart W tell here start t r ++ all_listed ess) (reply_faults W at here (start ∷ []) above t r) above (reply_standing W objects nulls here t r)
+      Met tell (is_null (finish W objects t r) && required t) (listed_apart W tell here start t r ++ all_listed ess)
+      (reply_faults W at here (start ∷ []) above t r) above (reply_standing W objects nulls here t r)
   unfolding reply_stops reply_faults reply_standing finish listed_apart is_null
   reply-met here above t (answered a) vs ess o = let m = tree-met here above [] t a vs ess o in met-listed tell _ _ m.errors _ above _ m.same m.met
-  reply-met here above t (failed e) vs ess o = let m = wrong-met here above (landing t here []) t e vs ess o in met-listed tell _ _ m.errors _ above _ m.same m.met
+  reply-met here above t (failed e) vs ess o =
+      let m = wrong-met here above (landing t here []) t e vs ess o in met-listed tell _ _ m.errors _ above _ m.same m.met

@@ -50,7 +50,8 @@ unfolding look_up
 found-behind k j w rest e = rw e refl
 
 -- a key that is there: its value is joined
-joins-at : (k : Name) (u : Value) (es : Entries) → keys_differ es ≡ true → has_entry k es ≡ true → join_entries es (entry k u no_entries) ≡ put k (joined (λ v. join v u) u (look_up k es)) es
+joins-at : (k : Name) (u : Value) (es : Entries) → keys_differ es ≡ true → has_entry k es ≡ true →
+    join_entries es (entry k u no_entries) ≡ put k (joined (λ v. join v u) u (look_up k es)) es
 unfolding join_entries look_up has_entry keys_differ put joined
 joins-at k u no_entries d h = cc
 joins-at k u (entry j w rest) d h =

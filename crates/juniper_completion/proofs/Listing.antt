@@ -33,18 +33,29 @@ nil-both xs ys a b = rw (a, b) refl
 -- what stands before and behind in two parts, each put together
 pub listed-both : (a b c d es fs : List Listed) → IsListedAs (a ++ b) es → IsListedAs (c ++ d) fs → IsListedAs ((a ++ c) ++ (b ++ d)) (es ++ fs)
 listed-both a b c d es fs x y = record {
-  counts = λ p. let q = x.counts p in let r = y.counts p in let ab = count-listed-append p a b in let cd = count-listed-append p c d in let ac = count-listed-append p a c in let bd = count-listed-append p b d in
+  counts = λ p. let q = x.counts p in let r = y.counts p in let ab = count-listed-append p a b in let cd = count-listed-append p c d in
+      let ac = count-listed-append p a c in let bd = count-listed-append p b d in
       let whole = count-listed-append p (a ++ c) (b ++ d) in let ef = count-listed-append p es fs in omega (arith, q, r, ab, cd, ac, bd, whole, ef);
   inside = λ l i. elim (in_append l es fs i) [
-    | inl j ↦ elim (in_append l a b (x.inside l j)) [ inl k ↦ in_first l (a ++ c) (b ++ d) (in_first l a c k) | inr k ↦ in_second l (a ++ c) (b ++ d) (in_first l b d k) ]
-    | inr j ↦ elim (in_append l c d (y.inside l j)) [ inl k ↦ in_first l (a ++ c) (b ++ d) (in_second l a c k) | inr k ↦ in_second l (a ++ c) (b ++ d) (in_second l b d k) ]
+    | inl j ↦ elim (in_append l a b (x.inside l j)) [
+      | inl k ↦ in_first l (a ++ c) (b ++ d) (in_first l a c k)
+      | inr k ↦
+          in_second l (a ++ c) (b ++ d) (in_first l b d k)
+    ]
+    | inr j ↦ elim (in_append l c d (y.inside l j)) [
+      | inl k ↦ in_first l (a ++ c) (b ++ d) (in_second l a c k)
+      | inr k ↦
+          in_second l (a ++ c) (b ++ d) (in_second l b d k)
+    ]
   ];
-  none = λ e. let w = nil-parts (a ++ c) (b ++ d) e in let f = nil-parts a c w.0 in let g = nil-parts b d w.1 in nil-both es fs (x.none (nil-both a b f.0 g.0)) (y.none (nil-both c d f.1 g.1));
+  none = λ e. let w = nil-parts (a ++ c) (b ++ d) e in let f = nil-parts a c w.0 in let g = nil-parts b d w.1 in
+      nil-both es fs (x.none (nil-both a b f.0 g.0)) (y.none (nil-both c d f.1 g.1));
 }
 
 module _ (tell : Place → Place) where
   -- the order makes no difference
-  pub met-listed : (rises : Bool) (ds es : List Listed) (fs : List Failure) (above : Place) (stands : List Place) → IsListedAs ds es → Met tell rises es fs above stands → Met tell rises ds fs above stands
+  pub met-listed : (rises : Bool) (ds es : List Listed) (fs : List Failure) (above : Place) (stands : List Place) → IsListedAs ds es →
+      Met tell rises es fs above stands → Met tell rises ds fs above stands
   met-listed rises ds es fs above stands l m = record {
     counted = λ p. rw (l.counts p) (m.counted p);
     found = λ e. m.found (l.none e);
@@ -64,7 +75,8 @@ module _ (tell : Place → Place) where
 
   -- one failure, at one start
   pub met-failure : (here above : Place) (start : Position) (t : TypeRef) (x : Error) →
-      Met tell (required t) (record { path = tell here; start = start; error = x } ∷ []) (record { path = here; starts = start ∷ []; error = x; rises_to = landing t here above } ∷ []) above (cond (required t) [] (here ∷ []))
+      Met tell (required t) (record { path = tell here; start = start; error = x } ∷ [])
+      (record { path = here; starts = start ∷ []; error = x; rises_to = landing t here above } ∷ []) above (cond (required t) [] (here ∷ []))
   unfolding pairs pair_at count_listed count told landing
   met-failure here above start t x = record {
     counted = λ p. omega arith;

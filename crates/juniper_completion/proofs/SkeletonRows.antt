@@ -54,7 +54,8 @@ unfolding world heroes three here listed_apart faults reply_faults landing requi
 listed start = refl
 
 -- values fill the holes in order, and the last is left
-fills : (u v w : Value) → fill (several false (skeleton hole (skeleton absent (skeleton (filled (text (codes "1"))) (skeleton hole no_skeletons))))) (u ∷ v ∷ w ∷ [])
+fills : (u v w : Value) → fill (several false (skeleton hole (skeleton absent (skeleton (filled (text (codes "1"))) (skeleton hole no_skeletons)))))
+    (u ∷ v ∷ w ∷ [])
     ≡ record { value = list (item u (item null (item (scalar (text (codes "1"))) (item v no_items)))); left = w ∷ [] }
 unfolding fill first_of whole_list
 fills u v w = refl

@@ -31,7 +31,8 @@ keys-index (index n ∷ here) i = keys-index here i
 
 module _ {N : Type 0} (W : World N) (d : ℕ) (s : Forest) (deep : depth s ≤ d) (told : Place) where
   abbrev Objects : List (Stop N) → List Value → List (List Listed) → Type 0
-  Objects = AreObjectsOf keys_only W (λ T n. grouped W d T n (occurrences W.possible T s)) (λ place lands T n. failures W d place lands T n (occurrences W.possible T s)) (λ place T n. nulls W d place T n (occurrences W.possible T s))
+  Objects = AreObjectsOf keys_only W (λ T n. grouped W d T n (occurrences W.possible T s))
+      (λ place lands T n. failures W d place lands T n (occurrences W.possible T s)) (λ place T n. nulls W d place T n (occurrences W.possible T s))
 
   abbrev Walked : List N → List Value → List (List Listed) → Type 0
   Walked = AreWalkedAt keys_only W told s
@@ -61,9 +62,11 @@ module _ {N : Type 0} (W : World N) (d : ℕ) (s : Forest) (deep : depth s ≤ d
     told-tree here above (named r n) (items ts) e = tt
     told-tree here above (list_of r size t) (items ts) e = told-trees here 0 (landing (list_of r size t) here above) t ts e
 
-    told-trees : (here : Place) (i : ℕ) (above : Place) (t : TypeRef) (ts : Trees N) → keys_only here ≡ told → Told (all_stops W here i above t ts) (all_nodes W t ts)
+    told-trees : (here : Place) (i : ℕ) (above : Place) (t : TypeRef) (ts : Trees N) → keys_only here ≡ told →
+        Told (all_stops W here i above t ts) (all_nodes W t ts)
     told-trees here i above t no_trees e = tt
-    told-trees here i above t (tree a rest) e = told-append (stops W (here ++ index i ∷ []) above t a) (all_stops W here (suc i) above t rest) (nodes_of W t a) (all_nodes W t rest)
+    told-trees here i above t (tree a rest) e =
+        told-append (stops W (here ++ index i ∷ []) above t a) (all_stops W here (suc i) above t rest) (nodes_of W t a) (all_nodes W t rest)
         (told-tree (here ++ index i ∷ []) above t a (keys-index here i ∙ e)) (told-trees here (suc i) above t rest e)
 
   told-reply : (here above : Place) (t : TypeRef) (r : Reply N) → keys_only here ≡ told → Told (reply_stops W here above t r) (reply_nodes W t r)
@@ -86,7 +89,8 @@ module _ {N : Type 0} (W : World N) (d : ℕ) (s : Forest) (deep : depth s ≤ d
       let b = rw (← f) at a in (record { value = b.value; errors = b.errors }, objects-are xs ns vs ess c w)
 
   -- nodes that were walked, wherever their places are told so, are a reply's objects
-  pub reply-objects : (here above : Place) (t : TypeRef) (r : Reply N) (vs : List Value) (ess : List (List Listed)) → keys_only here ≡ told → Walked (reply_nodes W t r) vs ess → Objects (reply_stops W here above t r) vs ess
+  pub reply-objects : (here above : Place) (t : TypeRef) (r : Reply N) (vs : List Value) (ess : List (List Listed)) → keys_only here ≡ told →
+      Walked (reply_nodes W t r) vs ess → Objects (reply_stops W here above t r) vs ess
   reply-objects here above t r vs ess e w = objects-are (reply_stops W here above t r) (reply_nodes W t r) vs ess (told-reply here above t r e) w
 
 -- what is listed of a reply apart from its nodes: its errors, each at the same keys
@@ -97,16 +101,19 @@ module _ {N : Type 0} (W : World N) (told : Place) (start : Position) where
   abbrev without_nodes : Place → Place → Name → N → List Failure
   without_nodes place to T m = []
 
-  one-listed : (here to : Place) (e : Error) → keys_only here ≡ told → map listed (record { path = here; starts = start ∷ []; error = e; rises_to = to } ∷ []) ≡ listed_at told start (e ∷ [])
+  one-listed : (here to : Place) (e : Error) → keys_only here ≡ told →
+      map listed (record { path = here; starts = start ∷ []; error = e; rises_to = to } ∷ []) ≡ listed_at told start (e ∷ [])
   unfolding listed_at
   one-listed here to e same = ap (λ z. record { path = z; start = start; error = e } ∷ []) same
 
-  one-listed-where : (q : Bool) (here to : Place) (e : Error) → keys_only here ≡ told → map listed (cond q (record { path = here; starts = start ∷ []; error = e; rises_to = to } ∷ []) []) ≡ listed_at told start (cond q (e ∷ []) [])
+  one-listed-where : (q : Bool) (here to : Place) (e : Error) → keys_only here ≡ told →
+      map listed (cond q (record { path = here; starts = start ∷ []; error = e; rises_to = to } ∷ []) []) ≡ listed_at told start (cond q (e ∷ []) [])
   unfolding listed_at
   one-listed-where true here to e same = one-listed here to e same
   one-listed-where false here to e same = refl
 
-  one-listed-but : (q : Bool) (here to : Place) (e : Error) → keys_only here ≡ told → map listed (cond q [] (record { path = here; starts = start ∷ []; error = e; rises_to = to } ∷ [])) ≡ listed_at told start (cond q [] (e ∷ []))
+  one-listed-but : (q : Bool) (here to : Place) (e : Error) → keys_only here ≡ told →
+      map listed (cond q [] (record { path = here; starts = start ∷ []; error = e; rises_to = to } ∷ [])) ≡ listed_at told start (cond q [] (e ∷ []))
   unfolding listed_at
   one-listed-but true here to e same = refl
   one-listed-but false here to e same = one-listed here to e same
@@ -114,7 +121,8 @@ module _ {N : Type 0} (W : World N) (told : Place) (start : Position) where
   mutual
     unfolding errors_of faults required listed_at
 
-    listed-tree : (here above : Place) (t : TypeRef) (a : Tree N) → keys_only here ≡ told → map listed (faults W without_nodes here (start ∷ []) above t a) ≡ listed_at told start (errors_of W t a)
+    listed-tree : (here above : Place) (t : TypeRef) (a : Tree N) → keys_only here ≡ told →
+        map listed (faults W without_nodes here (start ∷ []) above t a) ≡ listed_at told start (errors_of W t a)
     listed-tree here above (named r n) nothing e = one-listed-where r here above null_at_non_null e
     listed-tree here above (list_of r size t) nothing e = one-listed-where r here above null_at_non_null e
     listed-tree here above (named r n) (leaf x) e = one-listed-but (W.accepts n x) here (landing (named r n) here above) wrong_shape e
@@ -124,14 +132,17 @@ module _ {N : Type 0} (W : World N) (told : Place) (start : Position) where
     listed-tree here above (named r n) (items ts) e = one-listed here (landing (named r n) here above) wrong_shape e
     listed-tree here above (list_of r size t) (items ts) e = listed-trees here 0 (landing (list_of r size t) here above) t ts e
 
-    listed-trees : (here : Place) (i : ℕ) (above : Place) (t : TypeRef) (ts : Trees N) → keys_only here ≡ told → map listed (all_faults W without_nodes here i (start ∷ []) above t ts) ≡ listed_at told start (all_errors W t ts)
+    listed-trees : (here : Place) (i : ℕ) (above : Place) (t : TypeRef) (ts : Trees N) → keys_only here ≡ told →
+        map listed (all_faults W without_nodes here i (start ∷ []) above t ts) ≡ listed_at told start (all_errors W t ts)
     listed-trees here i above t no_trees e = refl
     listed-trees here i above t (tree a rest) e =
-        map-append listed (faults W without_nodes (here ++ index i ∷ []) (start ∷ []) above t a) (all_faults W without_nodes here (suc i) (start ∷ []) above t rest)
+        map-append listed (faults W without_nodes (here ++ index i ∷ []) (start ∷ []) above t a)
+        (all_faults W without_nodes here (suc i) (start ∷ []) above t rest)
         ∙ (ap₂ (λ xs ys. xs ++ ys) (listed-tree (here ++ index i ∷ []) above t a (keys-index here i ∙ e)) (listed-trees here (suc i) above t rest e)
         ∙ sym (map-append (λ x. record { path = told; start = start; error = x }) (errors_of W t a) (all_errors W t rest)))
 
-  pub listed-reply : (here : Place) (t : TypeRef) (r : Reply N) → keys_only here ≡ told → listed_apart W keys_only here start t r ≡ listed_at told start (reply_errors W t r)
+  pub listed-reply : (here : Place) (t : TypeRef) (r : Reply N) → keys_only here ≡ told →
+      listed_apart W keys_only here start t r ≡ listed_at told start (reply_errors W t r)
   unfolding listed_apart reply_errors reply_faults
   listed-reply here t (answered a) e = listed-tree here [] t a e
   listed-reply here t (failed x) e = one-listed here (landing t here []) x e

@@ -27,10 +27,12 @@ use Rattle.juniper_completion.proofs.Completing.{reply-met}
 use Rattle.juniper_completion.proofs.Telling.{reply-objects, listed-reply}
 use Rattle.juniper_completion.proofs.Joining.{join-one}
 
-to-base : (tell : Place → Place) {N : Type 0} (W : World N) (d : ℕ) (here above : Place) (T : Name) (m : N) (os : List Occurrence) (v : Value) (es : List Listed) → IsWalked tell W d here above T m os v es → base.Walked tell W d here above T m os v es
+to-base : (tell : Place → Place) {N : Type 0} (W : World N) (d : ℕ) (here above : Place) (T : Name) (m : N) (os : List Occurrence) (v : Value)
+    (es : List Listed) → IsWalked tell W d here above T m os v es → base.Walked tell W d here above T m os v es
 to-base tell W d here above T m os v es w = record { value = w.value; errors = w.errors }
 
-from-base : (tell : Place → Place) {N : Type 0} (W : World N) (d : ℕ) (here above : Place) (T : Name) (m : N) (os : List Occurrence) (v : Value) (es : List Listed) → base.Walked tell W d here above T m os v es → IsWalked tell W d here above T m os v es
+from-base : (tell : Place → Place) {N : Type 0} (W : World N) (d : ℕ) (here above : Place) (T : Name) (m : N) (os : List Occurrence) (v : Value)
+    (es : List Listed) → base.Walked tell W d here above T m os v es → IsWalked tell W d here above T m os v es
 from-base tell W d here above T m os v es w = record { value = w.value; errors = w.errors }
 
 pub none-walked : {N : Type 0} (W : World N) → NoneWalked W
@@ -53,7 +55,8 @@ entry-lost tell k t u e = go (required t) (is_null u) e
     go false true e = cc
     go false false e = cc
 
-entry-kept : (tell : Place → Place) (k : Name) (t : TypeRef) (u : Value) → (is_null u && required t) ≡ false → one_entry tell k t u ≡ object (entry k u no_entries)
+entry-kept : (tell : Place → Place) (k : Name) (t : TypeRef) (u : Value) → (is_null u && required t) ≡ false →
+    one_entry tell k t u ≡ object (entry k u no_entries)
 unfolding one_entry
 entry-kept tell k t u e = go (required t) (is_null u) e
   where
@@ -64,7 +67,8 @@ entry-kept tell k t u e = go (required t) (is_null u) e
     go false false e = refl
 
 -- where all of a list agree, so do parts of it
-agree-part : {N : Type 0} (W : World N) (d : ℕ) (T : Name) (os ps : List Occurrence) → ((x : Occurrence) → In x ps → In x os) → Agree W (suc d) T os → Agree W (suc d) T ps
+agree-part : {N : Type 0} (W : World N) (d : ℕ) (T : Name) (os ps : List Occurrence) → ((x : Occurrence) → In x ps → In x os) → Agree W (suc d) T os →
+    Agree W (suc d) T ps
 agree-part W d T os ps inside a = λ x y i j. a x y (inside x i) (inside y j)
 
 in-front : (x o : Occurrence) (front rest : List Occurrence) → In x (front ++ o ∷ []) → In x (front ++ o ∷ rest)
@@ -84,8 +88,10 @@ module _ {N : Type 0} (W : World N) (d : ℕ) (here above : Place) (T : Name) (m
   reply = reply_of W T m (o ∷ [])
 
   -- one field alone
-  field-walked : (vs : List Value) (ess : List (List Listed)) → AreWalkedAt keys_only W (keys_only place) o.below (reply_nodes W declared reply) vs ess → (v : Value) → v ≡ (fill (reply_skeleton W declared reply) vs).value →
-      base.Walked keys_only W (suc d) here above T m (o ∷ []) (one_entry keys_only (response_key o.head) declared v) (listed_apart W keys_only place o.head.span.start declared reply ++ all_listed ess)
+  field-walked : (vs : List Value) (ess : List (List Listed)) → AreWalkedAt keys_only W (keys_only place) o.below (reply_nodes W declared reply) vs ess →
+      (v : Value) → v ≡ (fill (reply_skeleton W declared reply) vs).value →
+      base.Walked keys_only W (suc d) here above T m (o ∷ []) (one_entry keys_only (response_key o.head) declared v)
+      (listed_apart W keys_only place o.head.span.start declared reply ++ all_listed ess)
   unfolding of_key key_failures key_standing starts_of
   field-walked vs ess w v is =
       let objects = reply-objects W d o.below deep (keys_only place) place above declared reply vs ess refl w in
@@ -93,15 +99,21 @@ module _ {N : Type 0} (W : World N) (d : ℕ) (here above : Place) (T : Name) (m
       let value = reply-fills keys_only W _ _ _ place above declared reply vs ess objects in
       let met = reply-met keys_only W _ _ _ o.head.span.start place above declared reply vs ess objects in
       let path : (λ U. occurrences W.possible U o.below) ≡ (λ U. occurrences W.possible U (all_below (o ∷ []))) = λ i U. below U i in
-      let same : finish W (λ U n. grouped W d U n (occurrences W.possible U o.below)) declared reply ≡ finish W (λ U n. grouped W d U n (occurrences W.possible U (all_below (o ∷ [])))) declared reply
+      let same : finish W (λ U n. grouped W d U n (occurrences W.possible U o.below)) declared reply
+      ≡ finish W (λ U n. grouped W d U n (occurrences W.possible U (all_below (o ∷ [])))) declared reply
       = ap (λ (F : Name → List Occurrence). finish W (λ U n. grouped W d U n (F U)) declared reply) path in
       let all = is ∙ (value ∙ same) in
       let listed = listed_apart W keys_only place o.head.span.start declared reply ++ all_listed ess in
-      let moved = subst (λ (F : Name → List Occurrence). Met keys_only (is_null (finish W (λ U n. grouped W d U n (F U)) declared reply) && required declared) listed
-      (reply_faults W (λ at to U n. failures W d at to U n (F U)) place (o.head.span.start ∷ []) above declared reply) above (reply_standing W (λ U n. grouped W d U n (F U)) (λ at U n. nulls W d at U n (F U)) place declared reply)) path met in
+      let moved = subst (λ (F : Name → List Occurrence). Met keys_only
+      (is_null (finish W (λ U n. grouped W d U n (F U)) declared reply) && required declared) listed
+      (reply_faults W (λ at to U n. failures W d at to U n (F U)) place (o.head.span.start ∷ []) above declared reply) above
+      (reply_standing W (λ U n. grouped W d U n (F U)) (λ at U n. nulls W d at U n (F U)) place declared reply)) path met in
       walked-one keys_only W d here above T m o v listed all
-      (subst (λ z. Met keys_only (is_null z && required declared) listed (reply_faults W (λ at to U n. failures W d at to U n (occurrences W.possible U (all_below (o ∷ [])))) place (o.head.span.start ∷ []) above declared reply) above
-      (reply_standing W (λ U n. grouped W d U n (occurrences W.possible U (all_below (o ∷ [])))) (λ at U n. nulls W d at U n (occurrences W.possible U (all_below (o ∷ [])))) place declared reply)) (sym all) moved)
+      (subst (λ z. Met keys_only (is_null z && required declared) listed
+      (reply_faults W (λ at to U n. failures W d at to U n (occurrences W.possible U (all_below (o ∷ [])))) place
+      (o.head.span.start ∷ []) above declared reply) above
+      (reply_standing W (λ U n. grouped W d U n (occurrences W.possible U (all_below (o ∷ []))))
+      (λ at U n. nulls W d at U n (occurrences W.possible U (all_below (o ∷ [])))) place declared reply)) (sym all) moved)
 
 pub one-more-walked : {N : Type 0} (W : World N) → OneMoreWalked W
 one-more-walked W zero here above T m front rest o deep agrees es differ errors before vs ess walked v is more listed = absurd (omega (arith, deep))
@@ -111,14 +123,22 @@ one-more-walked W (suc d) here above T m front rest o deep agrees es differ erro
     let agree : Agree W (suc d) T (front ++ o ∷ []) = agree-part W d T (front ++ o ∷ rest) (front ++ o ∷ []) (λ x i. in-front x o front rest i) agrees in
     let at = here ++ key k ∷ [] in
     let apart = listed_at (keys_only at) o.head.span.start (reply_errors W t (reply_of W T m (o ∷ []))) ++ all_listed ess in
-    let alone = subst (λ z. base.Walked keys_only W (suc d) here above T m (o ∷ []) (one_entry keys_only k t v) (z ++ all_listed ess)) (listed-reply W (keys_only at) o.head.span.start at t (reply_of W T m (o ∷ [])) refl) (field-walked W d here above T m o (omega (arith, deep)) vs ess walked v is) in
-    let both = walked-join keys_only W (suc d) here above T m front (o ∷ []) (object es) (one_entry keys_only k t v) errors apart agree (to-base keys_only W (suc d) here above T m front (object es) errors before) alone in
-    let joined' = subst (λ z. base.Walked keys_only W (suc d) here above T m (front ++ o ∷ []) (join (object es) (one_entry keys_only k t v)) z) (sym listed) both in (
+    let alone = subst (λ z. base.Walked keys_only W (suc d) here above T m (o ∷ []) (one_entry keys_only k t v) (z ++ all_listed ess))
+    (listed-reply W (keys_only at) o.head.span.start at t (reply_of W T m (o ∷ [])) refl)
+    (field-walked W d here above T m o (omega (arith, deep)) vs ess walked v is) in
+    let both = walked-join keys_only W (suc d) here above T m front (o ∷ []) (object es) (one_entry keys_only k t v) errors apart agree
+    (to-base keys_only W (suc d) here above T m front (object es) errors before) alone in
+    let joined' = subst (λ z. base.Walked keys_only W (suc d) here above T m (front ++ o ∷ []) (join (object es) (one_entry keys_only k t v)) z)
+    (sym listed) both in (
       λ kept. from-base keys_only W (suc d) here above T m (front ++ o ∷ []) (object (joined_in k v es)) more
-          (subst (λ z. base.Walked keys_only W (suc d) here above T m (front ++ o ∷ []) z more) (ap (join (object es)) (entry-kept keys_only k t v kept) ∙ join-one k v es differ) joined'),
-      λ lost. let stopped : base.Walked keys_only W (suc d) here above T m (front ++ o ∷ []) null more = subst (λ z. base.Walked keys_only W (suc d) here above T m (front ++ o ∷ []) z more) (ap (join (object es)) (entry-lost keys_only k t v lost) ∙ join-null (object es)) joined' in
+          (subst (λ z. base.Walked keys_only W (suc d) here above T m (front ++ o ∷ []) z more)
+          (ap (join (object es)) (entry-kept keys_only k t v kept) ∙ join-one k v es differ) joined'),
+      λ lost. let stopped : base.Walked keys_only W (suc d) here above T m (front ++ o ∷ []) null more = subst
+          (λ z. base.Walked keys_only W (suc d) here above T m (front ++ o ∷ []) z more)
+          (ap (join (object es)) (entry-lost keys_only k t v lost) ∙ join-null (object es)) joined' in
           let whole : (front ++ o ∷ []) ++ rest ≡ front ++ o ∷ rest = append_assoc front (o ∷ []) rest in
-          from-base keys_only W (suc d) here above T m (front ++ o ∷ rest) null more (subst (λ z. base.Walked keys_only W (suc d) here above T m z null more) whole
+          from-base keys_only W (suc d) here above T m (front ++ o ∷ rest) null more
+          (subst (λ z. base.Walked keys_only W (suc d) here above T m z null more) whole
           (walked-stop keys_only W (suc d) here above T m (front ++ o ∷ []) rest more (subst (λ z. Agree W (suc d) T z) (sym whole) agrees) stopped)),
     )
 

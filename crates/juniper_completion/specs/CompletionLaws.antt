@@ -17,7 +17,8 @@ unfoldable pub all_listed : List (List Listed) → List Listed
 all_listed [] = []
 all_listed (es ∷ ess) = es ++ all_listed ess
 
-module _ (tell : Place → Place) {N : Type 0} (W : World N) (objects : Name → N → Value) (at : Place → Place → Name → N → List Failure) (nulls : Place → Name → N → List Place) where
+module _ (tell : Place → Place) {N : Type 0} (W : World N) (objects : Name → N → Value) (at : Place → Place → Name → N → List Failure)
+    (nulls : Place → Name → N → List Place) where
   -- the value is the node's object, and these errors are listed of what fails in it
   pub record IsObjectOf (x : Stop N) (v : Value) (es : List Listed) : Type 0 where
     pub value : v ≡ objects (W.concrete x.node) x.node
@@ -31,6 +32,8 @@ module _ (tell : Place → Place) {N : Type 0} (W : World N) (objects : Name →
 
   -- a reply is completed by the objects of its nodes: they fill the holes, and their errors follow those of the rest
   abbrev pub CompletesApart : Type 0
-  CompletesApart = (here above : Place) (start : Position) (t : TypeRef) (r : Reply N) (vs : List Value) (ess : List (List Listed)) → AreObjectsOf (reply_stops W here above t r) vs ess →
+  CompletesApart = (here above : Place) (start : Position) (t : TypeRef) (r : Reply N) (vs : List Value) (ess : List (List Listed)) →
+      AreObjectsOf (reply_stops W here above t r) vs ess →
       ((fill (reply_skeleton W t r) vs).value ≡ finish W objects t r)
-      × Met tell (is_null (finish W objects t r) && required t) (listed_apart W tell here start t r ++ all_listed ess) (reply_faults W at here (start ∷ []) above t r) above (reply_standing W objects nulls here t r)
+      × Met tell (is_null (finish W objects t r) && required t) (listed_apart W tell here start t r ++ all_listed ess)
+      (reply_faults W at here (start ∷ []) above t r) above (reply_standing W objects nulls here t r)

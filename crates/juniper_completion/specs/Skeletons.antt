@@ -45,7 +45,8 @@ module _ {N : Type 0} (W : World N) where
   unfoldable mutual
     -- the nodes for which it has holes, in order
     pub stops : Place → Place → TypeRef → Tree N → List (Stop N)
-    stops here above (named r n) (node m) = cond (W.possible (W.concrete m) n) (record { place = here; lands = landing (named r n) here above; node = m } ∷ []) []
+    stops here above (named r n) (node m) =
+        cond (W.possible (W.concrete m) n) (record { place = here; lands = landing (named r n) here above; node = m } ∷ []) []
     stops here above (list_of r size t) (items ts) = all_stops here 0 (landing (list_of r size t) here above) t ts
     stops here above t other = []
 
@@ -100,7 +101,8 @@ module _ {N : Type 0} (W : World N) where
 
   -- what is listed, for a field that starts there, of the failures that are not its nodes' (6.4.4)
   unfoldable pub listed_apart : (Place → Place) → Place → Position → TypeRef → Reply N → List Listed
-  listed_apart tell here start t r = map (λ f. record { path = tell f.path; start = start; error = f.error }) (reply_faults W (λ place to T m. []) here (start ∷ []) [] t r)
+  listed_apart tell here start t r =
+      map (λ f. record { path = tell f.path; start = start; error = f.error }) (reply_faults W (λ place to T m. []) here (start ∷ []) [] t r)
 
 -- a value, and those that are not used yet
 pub record Filled : Type 0 where

@@ -27,7 +27,8 @@ module _ (tell : Place → Place) {N : Type 0} (W : World N) where
 
   -- so were the selections s of a node, wherever its place is told as `at`
   abbrev pub IsWalkedAt : Place → Forest → N → Value → List Listed → Type 0
-  IsWalkedAt at s n v es = (place lands : Place) → tell place ≡ at → IsWalked (depth s) place lands (W.concrete n) n (occurrences W.possible (W.concrete n) s) v es
+  IsWalkedAt at s n v es =
+      (place lands : Place) → tell place ≡ at → IsWalked (depth s) place lands (W.concrete n) n (occurrences W.possible (W.concrete n) s) v es
 
   -- and those of each node
   abbrev pub AreWalkedAt : Place → Forest → List N → List Value → List (List Listed) → Type 0
@@ -42,10 +43,12 @@ NoneWalked {N} W = (d : ℕ) (here above : Place) (T : Name) (m : N) → IsWalke
 -- One more field, o: the nodes of its reply were walked, their objects filled its holes, and what fails was listed of it and then
 -- of them. Where its null doesn't rise, it is joined with what its key holds; else the walk may end, whatever fields follow.
 abbrev pub OneMoreWalked : {N : Type 0} → World N → Type 0
-OneMoreWalked {N} W = (d : ℕ) (here above : Place) (T : Name) (m : N) (front rest : List Occurrence) (o : Occurrence) → depth o.below < d → Agree W d T (front ++ o ∷ rest) →
+OneMoreWalked {N} W =
+    (d : ℕ) (here above : Place) (T : Name) (m : N) (front rest : List Occurrence) (o : Occurrence) → depth o.below < d → Agree W d T (front ++ o ∷ rest) →
     (es : Entries) → IsTrue (keys_differ es) → (errors : List Listed) → IsWalked keys_only W d here above T m front (object es) errors →
     (let at : Place = here ++ key (response_key o.head) ∷ [] in let t : TypeRef = type_of W T (o ∷ []) in let r : Reply N = reply_of W T m (o ∷ []) in
-    (vs : List Value) (ess : List (List Listed)) → AreWalkedAt keys_only W (keys_only at) o.below (reply_nodes W t r) vs ess → (v : Value) → v ≡ (fill (reply_skeleton W t r) vs).value →
+    (vs : List Value) (ess : List (List Listed)) → AreWalkedAt keys_only W (keys_only at) o.below (reply_nodes W t r) vs ess → (v : Value) →
+    v ≡ (fill (reply_skeleton W t r) vs).value →
     (more : List Listed) → more ≡ errors ++ (listed_at (keys_only at) o.head.span.start (reply_errors W t r) ++ all_listed ess) →
     ((is_null v && required t) ≡ false → IsWalked keys_only W d here above T m (front ++ o ∷ []) (object (joined_in (response_key o.head) v es)) more)
     × ((is_null v && required t) ≡ true → IsWalked keys_only W d here above T m (front ++ o ∷ rest) null more))
@@ -61,9 +64,11 @@ FieldsAreShallower = (possible : Name → Name → Bool) (T : Name) (s : Forest)
 -- where occurrences agree to every depth, so does what each of them selects, for the object type of each node of its reply
 abbrev pub AgreesBelow : {N : Type 0} → World N → Type 0
 AgreesBelow {N} W = (T : Name) (m : N) (os : List Occurrence) → ((d : ℕ) → Agree W d T os) → (o : Occurrence) → In o os →
-    (n : N) → In n (reply_nodes W (type_of W T (o ∷ [])) (reply_of W T m (o ∷ []))) → (d : ℕ) → Agree W d (W.concrete n) (occurrences W.possible (W.concrete n) o.below)
+    (n : N) → In n (reply_nodes W (type_of W T (o ∷ [])) (reply_of W T m (o ∷ []))) → (d : ℕ) →
+    Agree W d (W.concrete n) (occurrences W.possible (W.concrete n) o.below)
 
 -- what was walked of a whole request is an answer to it, with its errors in an order that is sorted
 abbrev pub WalkAnswers : {N : Type 0} → World N → Type 0
-WalkAnswers {N} W = (T : Name) (m : N) (s : Forest) (v : Value) (es ds : List Listed) → IsWalked keys_only W (depth s) [] [] T m (occurrences W.possible T s) v es →
+WalkAnswers {N} W =
+    (T : Name) (m : N) (s : Forest) (v : Value) (es ds : List Listed) → IsWalked keys_only W (depth s) [] [] T m (occurrences W.possible T s) v es →
     ((p : Listed → Bool) → count_listed p ds ≡ count_listed p es) → IsTrue (is_sorted ds) → IsAnswerFor keys_only W T m s v ds

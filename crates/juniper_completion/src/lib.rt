@@ -15,7 +15,8 @@ ghost use Rattle.juniper_completion.specs.Walks.{AgreesBelow, FieldsAreShallower
 /// A reply whose holes are filled by the objects of its nodes is completed, and what is listed of it and of them meets what
 /// fails.
 pub fn completes_apart<N>()
-    ensures { (tell : Place → Place) (W : World N) (objects : Name → N → Value) (at : Place → Place → Name → N → List Failure) (nulls : Place → Name → N → List Place) → CompletesApart tell W objects at nulls }
+    ensures { (tell : Place → Place) (W : World N) (objects : Name → N → Value) (at : Place → Place → Name → N → List Failure)
+        (nulls : Place → Name → N → List Place) → CompletesApart tell W objects at nulls }
 {}
 
 /// A selection set is walked field by field: an empty one, and one more field, which selects less deep than the set that holds

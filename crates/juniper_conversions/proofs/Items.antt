@@ -7,14 +7,16 @@ use Rattle.graphql_spec.specs.Constants.{Constant}
 use Rattle.juniper_conversions.specs.ListConversions.{EachGives, FirstFails}
 
 -- good items, then a bad one: it decides
-pub FirstFails-after : {A E : Type 0} (inner : Constant → Result A E → Type 0) (before : List Constant) (xs : List A) (v : Constant) (after : List Constant) (e : E)
+pub FirstFails-after : {A E : Type 0} (inner : Constant → Result A E → Type 0) (before : List Constant) (xs : List A) (v : Constant) (after : List Constant)
+    (e : E)
     → EachGives inner before xs → inner v (Err e) → FirstFails inner (before ++ v ∷ after) e
 FirstFails-after inner [] xs v after e each bad = inl bad
 FirstFails-after inner (b ∷ before) (x ∷ xs) v after e each bad =
     inr (x, each.0, FirstFails-after inner before xs v after e each.1 bad)
 FirstFails-after inner (b ∷ before) [] v after e each bad = elim each [ ]
 
-module _ {B A E : Type 0} (inner : Constant → Result A E → Type 0) (f : B → Constant) (items : List B) (i : ℕ) (b : B) (is : b ≡ get_or items i b) (within : i < length items) (xs : List A) (each : EachGives inner (map f (take i items)) xs) where
+module _ {B A E : Type 0} (inner : Constant → Result A E → Type 0) (f : B → Constant) (items : List B) (i : ℕ) (b : B) (is : b ≡ get_or items i b)
+    (within : i < length items) (xs : List A) (each : EachGives inner (map f (take i items)) xs) where
   pub each_next : (x : A) → inner (f b) (Ok x) → EachGives inner (map f (take (i + 1) items)) (xs ++ x ∷ [])
   each_next x good =
       let e : take (i + 1) items ≡ take i items ++ b ∷ [] = take_more items i b within ∙ ap (λ c. take i items ++ c ∷ []) (sym is) in
@@ -27,7 +29,8 @@ module _ {B A E : Type 0} (inner : Constant → Result A E → Type 0) (f : B �
       (rw map-append (FirstFails-after inner (map f (take i items)) xs (f b) (map f (drop (suc i) items)) e each bad))
 
 -- one more item is written
-pub written_next : {A B : Type 0} (f : B → Constant) (input : A → Constant) (xs : List B) (values : List A) (i : ℕ) (a : A) → a ≡ get_or values i a → i < length values
+pub written_next : {A B : Type 0} (f : B → Constant) (input : A → Constant) (xs : List B) (values : List A) (i : ℕ) (a : A) → a ≡ get_or values i a →
+    i < length values
     → map f xs ≡ map input (take i values) → (b : B) → f b ≡ input a → map f (xs ++ b ∷ []) ≡ map input (take (i + 1) values)
 written_next f input xs values i a is within so_far b same =
     let e : take (i + 1) values ≡ take i values ++ a ∷ [] = take_more values i a within ∙ ap (λ c. take i values ++ c ∷ []) (sym is) in

@@ -48,7 +48,8 @@ module _ (S : Type 0) {A E : Type 0} (gives : Constant → Result A E → Type 0
   pub vec_given : (xs : List A) (back : Vec A Global) → EachComesBackAs gives input xs back.items → GivesVec {S = S} gives (list_input input xs) (Ok back)
   vec_given xs back h = rw items_of-constants_of (each_given gives input xs back.items h)
 
-  pub vec_back : (xs : List A) → All (ComesBack gives input) xs → (answer : Result (Vec A Global) (FromInputValueVecError A S E)) → GivesVec gives (list_input input xs) answer
+  pub vec_back : (xs : List A) → All (ComesBack gives input) xs → (answer : Result (Vec A Global) (FromInputValueVecError A S E)) →
+      GivesVec gives (list_input input xs) answer
       → IsOkAnd answer (λ back. EachComesBackAs gives input xs back.items)
   vec_back xs all (Ok back) h = each_back gives input xs back.items (rw items_of-constants_of at h)
   vec_back xs all (Err vec.Null) h = elim h [ ]
@@ -56,10 +57,12 @@ module _ (S : Type 0) {A E : Type 0} (gives : Constant → Result A E → Type 0
 
   -- ## Arrays
 
-  pub array_given : (n : ℕ) (xs back : List A) → length xs ≡ n → EachComesBackAs gives input xs back → GivesArray {S = S} n gives (list_input input xs) (Ok back)
+  pub array_given : (n : ℕ) (xs back : List A) → length xs ≡ n → EachComesBackAs gives input xs back →
+      GivesArray {S = S} n gives (list_input input xs) (Ok back)
   array_given n xs back count h = rw items_of-constants_of (rw length-map count, each_given gives input xs back h)
 
-  pub array_back : (n : ℕ) (xs : List A) → length xs ≡ n → All (ComesBack gives input) xs → (answer : Result (List A) (FromInputValueArrayError A S E)) → GivesArray n gives (list_input input xs) answer
+  pub array_back : (n : ℕ) (xs : List A) → length xs ≡ n → All (ComesBack gives input) xs → (answer : Result (List A) (FromInputValueArrayError A S E)) →
+      GivesArray n gives (list_input input xs) answer
       → IsOkAnd answer (λ back. EachComesBackAs gives input xs back)
   array_back n xs count all (Ok back) h = each_back gives input xs back (rw items_of-constants_of at h.1)
   array_back n xs count all (Err array.Null) h = elim h [ ]
@@ -67,9 +70,18 @@ module _ (S : Type 0) {A E : Type 0} (gives : Constant → Result A E → Type 0
   array_back n xs count all (Err (array.Item e)) h = absurd (none_fails gives input xs all e (rw items_of-constants_of at h.1))
 
 -- a vector of as many items exists
-pub vec_exists : (S : Type 0) {A E : Type 0} (gives : Constant → Result A E → Type 0) (input : A → Constant) (v : Vec A Global) → All (BringsBack gives input) v.items
+pub vec_exists : (S : Type 0) {A E : Type 0} (gives : Constant → Result A E → Type 0) (input : A → Constant) (v : Vec A Global) →
+    All (BringsBack gives input) v.items
     → (back : Vec A Global) × GivesVec {S = S} gives (list_input input v.items) (Ok back)
 vec_exists S gives input v all =
     let found = some_each gives input v.items all in
-    let back : Vec _ Global = record { ptr = v.ptr; len = v.len; cap = v.cap; alloc = v.alloc; items = found.0; ok = (v.ok.0 ∙ sym (AllZip-long (ComesBackAs gives input) v.items found.0 found.1), v.ok.1); small = v.small } in
+    let back : Vec _ Global = record {
+      ptr = v.ptr;
+      len = v.len;
+      cap = v.cap;
+      alloc = v.alloc;
+      items = found.0;
+      ok = (v.ok.0 ∙ sym (AllZip-long (ComesBackAs gives input) v.items found.0 found.1), v.ok.1);
+      small = v.small;
+    } in
     (back, vec_given S gives input v.items back found.1)

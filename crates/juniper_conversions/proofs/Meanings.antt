@@ -29,7 +29,8 @@ module _ {S : Type 0} (shown : S → Shown) where
   unfolding meaning
   means-List v = ap meaning (view-List shown v)
 
-  pub means-Object : (v : Vec (Spanning (String Global) Span × Spanning (InputValue S) Span) Global) → meaning (view_input shown (Object v)) ≡ object (members (view_fields shown v.items))
+  pub means-Object : (v : Vec (Spanning (String Global) Span × Spanning (InputValue S) Span) Global) →
+      meaning (view_input shown (Object v)) ≡ object (members (view_fields shown v.items))
   unfolding meaning
   means-Object v = ap meaning (view-Object shown v)
 

@@ -45,10 +45,12 @@ items_of-constants_of [] = refl
 items_of-constants_of (v ∷ vs) = ap (λ ws. v ∷ ws) (items_of-constants_of vs)
 
 module _ {S : Type 0} (shown : S → Shown) where
-  pub meanings-constants : (xs : List (Spanning (InputValue S) Span)) → meanings (view_items shown xs) ≡ constants_of (map (λ x. meaning (view_input shown x.item)) xs)
+  pub meanings-constants : (xs : List (Spanning (InputValue S) Span)) →
+      meanings (view_items shown xs) ≡ constants_of (map (λ x. meaning (view_input shown x.item)) xs)
   unfolding meaning
   meanings-constants [] = refl
   meanings-constants (x ∷ xs) = ap (constant (meaning (view_input shown x.item))) (meanings-constants xs)
 
-  pub list_of-List : (v : Vec (Spanning (InputValue S) Span) Global) → list_of (meaning (view_input shown (ListOf v))) ≡ Some (map (λ x. meaning (view_input shown x.item)) v.items)
+  pub list_of-List : (v : Vec (Spanning (InputValue S) Span) Global) →
+      list_of (meaning (view_input shown (ListOf v))) ≡ Some (map (λ x. meaning (view_input shown x.item)) v.items)
   list_of-List v = ap list_of (means-List shown v) ∙ ap Some (ap items_of (meanings-constants v.items) ∙ items_of-constants_of _)

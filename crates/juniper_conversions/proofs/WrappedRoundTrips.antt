@@ -16,7 +16,8 @@ module _ {A E : Type 0} (gives : Constant → Result A E → Type 0) where
   box_back input x there (Ok back) h = h
   box_back input x there (Err e) h = absurd (there e h)
 
-  pub nullable_back : (input : A → Constant) (x : A) → input x ≢ null → ComesBack gives input x → (answer : Result (Nullable A) E) → GivesNullable gives (input x) answer
+  pub nullable_back : (input : A → Constant) (x : A) → input x ≢ null → ComesBack gives input x → (answer : Result (Nullable A) E) →
+      GivesNullable gives (input x) answer
       → IsOkAnd answer (λ back. IsSomeAnd (some back) (ComesBackAs gives input x))
   nullable_back input x written there (Ok nullable.ImplicitNull) h = elim h [ ]
   nullable_back input x written there (Ok nullable.ExplicitNull) h = absurd (written h)

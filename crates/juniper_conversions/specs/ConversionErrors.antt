@@ -16,5 +16,6 @@ vec_error inner (vec.Item e) = inner e
 -- of an array: that null is no list, how many items there are and should be, or what the error of the item becomes
 abbrev pub array_error : {A S E : Type 0} → (E → Error) → FromInputValueArrayError A S E → Error
 array_error inner array.Null = message_alone (codes "Failed to convert into exact-size array: Value cannot be `null`")
-array_error inner (array.WrongCount actual expected) = message_alone (codes "Failed to convert into exact-size array: wrong elements count: " ++ decimal actual ++ codes " instead of " ++ decimal expected)
+array_error inner (array.WrongCount actual expected) =
+    message_alone (codes "Failed to convert into exact-size array: wrong elements count: " ++ decimal actual ++ codes " instead of " ++ decimal expected)
 array_error inner (array.Item e) = inner e

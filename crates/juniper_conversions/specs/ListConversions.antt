@@ -61,7 +61,8 @@ abbrev pub GivesVec : {A E S : Type 0} → (Constant → Result A E → Type 0) 
 GivesVec inner v answer = ByShape v (answer ≡ Err vec.Null) (λ vs. GivesListed inner vs answer) (GivesListed inner (v ∷ []) answer)
 
 -- an array of n items from a list: the count is compared first, and then the list goes item by item
-abbrev pub GivesCounted : {A E S : Type 0} → (n : ℕ) → (Constant → Result A E → Type 0) → List Constant → Result (List A) (FromInputValueArrayError A S E) → Type 0
+abbrev pub GivesCounted : {A E S : Type 0} → (n : ℕ) → (Constant → Result A E → Type 0) → List Constant → Result (List A) (FromInputValueArrayError A S E) →
+    Type 0
 GivesCounted n inner vs (Ok xs) = (length vs ≡ n) × EachGives inner vs xs
 GivesCounted n inner vs (Err array.Null) = ⊥
 GivesCounted n inner vs (Err (array.WrongCount actual expected)) = (length vs ≢ n) × (actual ≡ length vs) × (expected ≡ n)

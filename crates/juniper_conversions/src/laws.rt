@@ -24,18 +24,22 @@ pub fn booleans_come_back<S: ScalarValue>(value: bool)
 /// A String comes back from the input value that it makes.
 pub fn strings_come_back<S: ScalarValue>(value: &String)
     ensures given { ⟦<String as FromInputValue<S>>⟧.gives (⟦<String as ToInputValue<S>>⟧.input value.now) (Ok value.now) }
-    ensures back { (answer : _) → ⟦<String as FromInputValue<S>>⟧.gives (⟦<String as ToInputValue<S>>⟧.input value.now) answer → MatchResult answer (λ text. string_bytes text ≡ string_bytes value.now) (λ e. ⊥) }
+    ensures back { (answer : _) → ⟦<String as FromInputValue<S>>⟧.gives (⟦<String as ToInputValue<S>>⟧.input value.now) answer →
+        MatchResult answer (λ text. string_bytes text ≡ string_bytes value.now) (λ e. ⊥) }
 {}
 
 /// An ID comes back from the input value that it makes (3.5.5).
 pub fn ids_come_back<S: ScalarValue>(value: &ID)
     ensures given { ⟦<ID as FromInputValue<S>>⟧.gives (⟦<ID as ToInputValue<S>>⟧.input value.now) (Ok value.now) }
-    ensures back { (answer : _) → ⟦<ID as FromInputValue<S>>⟧.gives (⟦<ID as ToInputValue<S>>⟧.input value.now) answer → MatchResult answer (λ id. id_text id ≡ id_text value.now) (λ e. ⊥) }
+    ensures back { (answer : _) → ⟦<ID as FromInputValue<S>>⟧.gives (⟦<ID as ToInputValue<S>>⟧.input value.now) answer →
+        MatchResult answer (λ id. id_text id ≡ id_text value.now) (λ e. ⊥) }
 {}
 
 /// `None` comes back from null. `Some` of a value comes back where the value does and is not written as null: what each
 /// answer for the value passes, each answer for `Some` of it passes, inside `Some`.
 pub fn options_come_back<T: FromInputValue<S> + ToInputValue<S>, S: ScalarValue>(value: &T)
     ensures none { (answer : _) → ⟦<Option<T> as FromInputValue<S>>⟧.gives (⟦<Option<T> as ToInputValue<S>>⟧.input None) answer → answer ≡ Ok None }
-    ensures some { (test : T → Bool) → ((answer : _) → T.gives (T.input value.now) answer → is_ok_by test answer ≡ true) → T.input value.now ≢ null → (answer : _) → ⟦<Option<T> as FromInputValue<S>>⟧.gives (⟦<Option<T> as ToInputValue<S>>⟧.input (Some value.now)) answer → is_ok_by (is_some_by test) answer ≡ true }
+    ensures some { (test : T → Bool) → ((answer : _) → T.gives (T.input value.now) answer → is_ok_by test answer ≡ true) → T.input value.now ≢ null →
+        (answer : _) → ⟦<Option<T> as FromInputValue<S>>⟧.gives (⟦<Option<T> as ToInputValue<S>>⟧.input (Some value.now)) answer →
+        is_ok_by (is_some_by test) answer ≡ true }
 {}

@@ -43,20 +43,23 @@ Comes m x b s q c after o = AnswersAs default_shown (λ r. IsOutcome (service_fr
 
 -- what is shown of it
 abbrev pub IsShown : Outcome → Answer → Type 0
-IsShown o a = MatchResult o (λ p. ShowsData (view_value default_shown p.0) (map (view_listed default_shown) p.1.items) a) (λ e. ShowsRefusal (view_request_error e) a)
+IsShown o a =
+    MatchResult o (λ p. ShowsData (view_value default_shown p.0) (map (view_listed default_shown) p.1.items) a) (λ e. ShowsRefusal (view_request_error e) a)
 
 module _ (t : Text) (c after : DemoContext) where
   -- a request with these values of variables
   abbrev asked : Option Name → Variables → Request
   asked n vars = record { text = t; operation = n; variables = vars }
 
-  shown : (n : Option Name) (vars : Variables) (s : Schema) → IsSameSchema demo_schema s → (o : Outcome) (a : Answer) → Comes Query (Some demo_steps) false s (asked n vars) c after o
+  shown : (n : Option Name) (vars : Variables) (s : Schema) → IsSameSchema demo_schema s → (o : Outcome) (a : Answer) →
+      Comes Query (Some demo_steps) false s (asked n vars) c after o
       → IsShown o a → IsAnswerWith t n vars c a after
   shown n vars s same (Ok p) a comes shows = (s, same, inl (_, _, comes, shows))
   shown n vars s same (Err e) a comes shows = (s, same, inr (_, comes, shows))
 
   -- what comes about with equal parts
-  of_demo : (n l : Option Name) (vars : Variables) (m : DemoNode) (x : Option (Steps DemoContext DemoNode)) (b : Bool) (s : Schema) (o : Outcome) → l ≡ n → m ≡ Query → x ≡ Some demo_steps
+  of_demo : (n l : Option Name) (vars : Variables) (m : DemoNode) (x : Option (Steps DemoContext DemoNode)) (b : Bool) (s : Schema) (o : Outcome) → l ≡ n →
+      m ≡ Query → x ≡ Some demo_steps
       → b ≡ false → Comes m x b s (asked l vars) c after o → Comes Query (Some demo_steps) false s (asked n vars) c after o
   of_demo n l vars m x b s o is_name is_root steps enabled comes =
       subst (λ z. Comes Query (Some demo_steps) false s (asked z vars) c after o) is_name
@@ -64,7 +67,8 @@ module _ (t : Text) (c after : DemoContext) where
       (subst (λ z. Comes m z false s (asked l vars) c after o) steps
       (subst (λ z. Comes m x z s (asked l vars) c after o) enabled comes)))
 
-  pub request_answered : (n l : Option Name) (vars : Variables) (m : DemoNode) (x : Option (Steps DemoContext DemoNode)) (b : Bool) (s : Schema) (o : Outcome) (a : Answer) → l ≡ n → m ≡ Query
+  pub request_answered : (n l : Option Name) (vars : Variables) (m : DemoNode) (x : Option (Steps DemoContext DemoNode)) (b : Bool) (s : Schema) (o : Outcome)
+      (a : Answer) → l ≡ n → m ≡ Query
       → x ≡ Some demo_steps → b ≡ false → IsSameSchema demo_schema s → Comes m x b s (asked l vars) c after o → IsShown o a → IsAnswerWith t n vars c a after
   request_answered n l vars m x b s o a is_name is_root steps enabled same comes shows =
       shown n vars s same o a (of_demo n l vars m x b s o is_name is_root steps enabled comes) shows
@@ -81,12 +85,16 @@ module _ (t : Text) (c after : DemoContext) where
   responded P no_mutation_type (r, is, p) = (refuses r, p)
   responded P (variable_not_constant n) (r, is, p) = (refuses r, p)
 
-  left : (n : Option Name) (vars : Variables) (s : Schema) → IsSameSchema demo_schema s → (o : Outcome) → Comes Query (Some demo_steps) false s (asked n vars) c after o
+  left : (n : Option Name) (vars : Variables) (s : Schema) → IsSameSchema demo_schema s → (o : Outcome) →
+      Comes Query (Some demo_steps) false s (asked n vars) c after o
       → MayLeave t n vars c after
   left n vars s same (Ok p) comes = inr (s, same, (responds (view_value default_shown p.0) (map (view_listed default_shown) p.1.items), comes))
-  left n vars s same (Err e) comes = inr (s, same, responded (λ r. IsOutcome (service_from Query (Some demo_steps) false s) keys_only (asked n vars) c r after) (view_request_error e) comes)
+  left n vars s same (Err e) comes =
+      inr (s, same, responded (λ r. IsOutcome (service_from Query (Some demo_steps) false s) keys_only (asked n vars) c r after) (view_request_error e) comes)
 
   -- and where it cannot be shown, the context is that after an outcome
-  pub request_left : (n l : Option Name) (vars : Variables) (m : DemoNode) (x : Option (Steps DemoContext DemoNode)) (b : Bool) (s : Schema) (o : Outcome) → l ≡ n → m ≡ Query
+  pub request_left : (n l : Option Name) (vars : Variables) (m : DemoNode) (x : Option (Steps DemoContext DemoNode)) (b : Bool) (s : Schema) (o : Outcome) →
+      l ≡ n → m ≡ Query
       → x ≡ Some demo_steps → b ≡ false → IsSameSchema demo_schema s → Comes m x b s (asked l vars) c after o → MayLeave t n vars c after
-  request_left n l vars m x b s o is_name is_root steps enabled same comes = left n vars s same o (of_demo n l vars m x b s o is_name is_root steps enabled comes)
+  request_left n l vars m x b s o is_name is_root steps enabled same comes =
+      left n vars s same o (of_demo n l vars m x b s o is_name is_root steps enabled comes)

@@ -21,7 +21,12 @@ use Rattle.juniper_schema.specs.SchemaView.{with_built_ins}
 use Rattle.juniper_demo_server.specs.DemoSchema.{demo_schema, demo_types}
 
 demo_is_executable : is_executable demo_schema ≡ true
-unfolding typename_field is_const fits through scalar_fits accepts_kind type_named or_else required plain_field innermost same_type is_name starts_name continues_name same_bool entry_in shape_of entry_named is_object is_interface is_composite is_leaf is_input interfaces_of members_of fields_of values_of input_fields_of shape_fields names_differ is_filled is_reserved no_declarations is_typename_field input_is_free field_is_free is_own_name entry_is_named entries_are_named mutation_is_apart roots_are_objects ends_in_output ends_in_input field_is_known types_are_known input_names_differ is_value_name entry_names_differ all_names_differ implements interfaces_are_met default_is_right defaults_fit accepts_just scalar_if_there built_ins_are_right is_executable plain_input value_named nullable implements_field field_in is_subtype is_named_subtype
+unfolding typename_field is_const fits through scalar_fits accepts_kind type_named or_else required plain_field innermost same_type is_name starts_name
+    continues_name same_bool entry_in shape_of entry_named is_object is_interface is_composite is_leaf is_input interfaces_of members_of fields_of values_of
+    input_fields_of shape_fields names_differ is_filled is_reserved no_declarations is_typename_field input_is_free field_is_free is_own_name entry_is_named
+    entries_are_named mutation_is_apart roots_are_objects ends_in_output ends_in_input field_is_known types_are_known input_names_differ is_value_name
+    entry_names_differ all_names_differ implements interfaces_are_met default_is_right defaults_fit accepts_just scalar_if_there built_ins_are_right
+    is_executable plain_input value_named nullable implements_field field_in is_subtype is_named_subtype
 demo_is_executable = refl
 
 -- the demo's types, with the built-in scalars, are the entries of its schema
@@ -41,7 +46,8 @@ completed n = elim (cases_Bool (bytes_eq n (codes "String"))) [
   ]
 ]
   where
-    at : (k : Name) → k ≡ n → with_built_ins k (entry_in demo_types k) ≡ entry_in demo_schema.entries k → with_built_ins n (entry_in demo_types n) ≡ entry_in demo_schema.entries n
+    at : (k : Name) → k ≡ n → with_built_ins k (entry_in demo_types k) ≡ entry_in demo_schema.entries k →
+        with_built_ins n (entry_in demo_types n) ≡ entry_in demo_schema.entries n
     at k is same = subst (λ m. with_built_ins m (entry_in demo_types m) ≡ entry_in demo_schema.entries m) is same
 
 -- a table of the demo's types
@@ -54,7 +60,8 @@ name_or_empty None = []
 name_or_empty (Some n) = n
 
 -- a schema that is made of the demo's types is the demo's
-pub made_is_same : (types : Table) (s : Schema) → IsDemo types → IsSchemaOf types (Some (codes "Query")) (Some (codes "Mutation")) s → IsSameSchema demo_schema s
+pub made_is_same : (types : Table) (s : Schema) → IsDemo types → IsSchemaOf types (Some (codes "Query")) (Some (codes "Mutation")) s →
+    IsSameSchema demo_schema s
 made_is_same types s at made = record {
   entries = λ n. sym (made.held n ∙ (ap (with_built_ins n) (at n) ∙ completed n));
   query = ap name_or_empty made.query_is;
@@ -67,6 +74,7 @@ unfolding names_differ
 demo_is_made types at = record { held = λ n. sym (ap (with_built_ins n) (at n) ∙ completed n); distinct = refl; query_is = refl; mutation_is = refl }
 
 -- so it is never refused as one that cannot be executed
-pub refused_for_memory : {A : Type 0} (schema : A → Schema) (types : Table) → IsDemo types → (e : RootError) → Makes schema types (Some (codes "Query")) (Some (codes "Mutation")) (Err e) → e ≡ Memory
+pub refused_for_memory : {A : Type 0} (schema : A → Schema) (types : Table) → IsDemo types → (e : RootError) →
+    Makes schema types (Some (codes "Query")) (Some (codes "Mutation")) (Err e) → e ≡ Memory
 refused_for_memory schema types at NotExecutable refused = absurd (true≢false (sym demo_is_executable ∙ refused demo_schema (demo_is_made types at)))
 refused_for_memory schema types at Memory refused = refl

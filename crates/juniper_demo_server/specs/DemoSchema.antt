@@ -23,7 +23,8 @@ own_types rest =
 -- the demo's schema: its own types, and the built-in scalars (3.5)
 abbrev pub demo_schema : Schema
 demo_schema = record {
-  entries = built_in (codes "String") false true false ∷ built_in (codes "Boolean") false false true ∷ built_in (codes "Int") true false false ∷ built_in (codes "ID") true true false ∷ own_types [];
+  entries = built_in (codes "String") false true false ∷ built_in (codes "Boolean") false false true ∷ built_in (codes "Int") true false false
+      ∷ built_in (codes "ID") true true false ∷ own_types [];
   query = codes "Query";
   mutation = Some (codes "Mutation");
 }

@@ -59,7 +59,8 @@ keys-same (x ∷ xs) (y ∷ ys) e =
     (subst (λ (k : Name). bytes_eq (string_bytes x) k ≡ true) (ap head_key e) (same_refl (string_bytes x)))
     (keys-same xs ys (ap rest e))
 
-module _ (a b : Listed) (path error : Bool) (path-to : path ≡ true → a.path ≡ b.path) (path-from : a.path ≡ b.path → path ≡ true) (is : error ≡ same_value a.error.extensions b.error.extensions) where
+module _ (a b : Listed) (path error : Bool) (path-to : path ≡ true → a.path ≡ b.path) (path-from : a.path ≡ b.path → path ≡ true)
+    (is : error ≡ same_value a.error.extensions b.error.extensions) where
   abbrev listed_eq : Bool
   listed_eq = same_position a.start b.start && (path && (bytes_eq a.error.message b.error.message && error))
 

@@ -29,7 +29,8 @@ lists_exact : {K : Type 0} {R : K → K → Ordering} → CmpEqualImpliesEq R �
 lists_exact exact [] [] e = refl
 lists_exact exact [] (y ∷ ys) e = cc
 lists_exact exact (x ∷ xs) [] e = cc
-lists_exact {R = R} exact (x ∷ xs) (y ∷ ys) e = let both = both_equal (R x y) (slice_cmp R xs ys) e in ap₂ (λ z zs. z ∷ zs) (exact x y both.0) (lists_exact exact xs ys both.1)
+lists_exact {R = R} exact (x ∷ xs) (y ∷ ys) e =
+    let both = both_equal (R x y) (slice_cmp R xs ys) e in ap₂ (λ z zs. z ∷ zs) (exact x y both.0) (lists_exact exact xs ys both.1)
 
 steps_exact : CmpEqualImpliesEq compare_steps
 unfolding compare_steps
@@ -43,12 +44,17 @@ unfolding compare_positions
 positions_exact p q e =
     let first = both_equal (nat_cmp p.index q.index) (ordering_then (nat_cmp p.line q.line) (nat_cmp p.column q.column)) e in
     let second = both_equal (nat_cmp p.line q.line) (nat_cmp p.column q.column) first.1 in
-    λ i. record { index = exact_unsigned p.index q.index first.0 i; line = exact_unsigned p.line q.line second.0 i; column = exact_unsigned p.column q.column second.1 i }
+    λ i. record {
+      index = exact_unsigned p.index q.index first.0 i;
+      line = exact_unsigned p.line q.line second.0 i;
+      column = exact_unsigned p.column q.column second.1 i;
+    }
 
 pub errors_equal : (a b : Listed) → compare a b ≡ Equal → (a.start ≡ b.start) × (a.path ≡ b.path) × (a.error.message ≡ b.error.message)
 unfolding compare
 errors_equal a b e =
-    let first = both_equal (compare_positions a.start b.start) (ordering_then (slice_cmp compare_steps a.path b.path) (slice_cmp nat_cmp a.error.message b.error.message)) e in
+    let first = both_equal (compare_positions a.start b.start) (ordering_then (slice_cmp compare_steps a.path b.path)
+    (slice_cmp nat_cmp a.error.message b.error.message)) e in
     let second = both_equal (slice_cmp compare_steps a.path b.path) (slice_cmp nat_cmp a.error.message b.error.message) first.1 in
     (positions_exact a.start b.start first.0, lists_exact steps_exact a.path b.path second.0, exact_bytes a.error.message b.error.message second.1)
 
@@ -65,7 +71,8 @@ then_assoc Equal b c = refl
 then_assoc Greater b c = refl
 
 -- texts go as the keys that they are
-keys_compare : (xs ys : List (String Global)) → slice_cmp string_cmp xs ys ≡ slice_cmp compare_steps (map (λ k. key (string_bytes k)) xs) (map (λ k. key (string_bytes k)) ys)
+keys_compare : (xs ys : List (String Global)) → slice_cmp string_cmp xs ys
+    ≡ slice_cmp compare_steps (map (λ k. key (string_bytes k)) xs) (map (λ k. key (string_bytes k)) ys)
 unfolding compare_steps
 keys_compare [] [] = refl
 keys_compare [] (y ∷ ys) = refl
@@ -74,6 +81,8 @@ keys_compare (x ∷ xs) (y ∷ ys) = ap (λ o. ordering_then (string_cmp x y) o)
 
 -- by place, then by keys, then by message
 pub compares : (a b : Listed) (xs ys : List (String Global)) → a.path ≡ map (λ k. key (string_bytes k)) xs → b.path ≡ map (λ k. key (string_bytes k)) ys
-    → ordering_then (ordering_then (ordering_then (nat_cmp a.start.index b.start.index) (ordering_then (nat_cmp a.start.line b.start.line) (nat_cmp a.start.column b.start.column))) (slice_cmp string_cmp xs ys)) (slice_cmp nat_cmp a.error.message b.error.message) ≡ compare a b
+    → ordering_then (ordering_then (ordering_then (nat_cmp a.start.index b.start.index)
+    (ordering_then (nat_cmp a.start.line b.start.line) (nat_cmp a.start.column b.start.column))) (slice_cmp string_cmp xs ys))
+    (slice_cmp nat_cmp a.error.message b.error.message) ≡ compare a b
 unfolding compare compare_positions
 compares a b xs ys p q = rw (p, q, keys_compare xs ys) (simp then_assoc)

@@ -29,7 +29,8 @@ impl<S: ScalarValue> ExecutionError<S> {
         path: &[&str],
         error: FieldError<S>,
     ) -> Result<Self, AllocError>
-        ensures { IfOk result (λ made. view_listed S.shown made ≡ record { path = map (λ k. key k.now) path.now; start = view_position location; error = view_error S.shown error }) }
+        ensures { IfOk result (λ made. view_listed S.shown made ≡ record
+            { path = map (λ k. key k.now) path.now; start = view_position location; error = view_error S.shown error }) }
     {
         let path = own_keys(alloc, path)?;
         Ok(ExecutionError {

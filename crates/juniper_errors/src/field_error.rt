@@ -51,7 +51,8 @@ impl<S: ScalarValue> FieldError<S> {
     /// The error whose message is the answer of `f` on this one's message; the extensions stay.
     pub fn map_message<F: FnOnce(String) -> String>(self, f: F) -> Self
         requires { F.IsAlwaysCallable f }
-        ensures message { (given answer : _) × (string_bytes given ≡ (view_error S.shown self).message) × F.post f given answer × ((view_error S.shown result).message ≡ string_bytes answer) }
+        ensures message { (given answer : _) × (string_bytes given ≡ (view_error S.shown self).message) × F.post f given answer
+            × ((view_error S.shown result).message ≡ string_bytes answer) }
         ensures extensions { (view_error S.shown result).extensions ≡ (view_error S.shown self).extensions }
     {
         FieldError {

@@ -46,7 +46,8 @@ module _ (test : ℕ → Bool) (ks : List ℕ) where
     unfolding number_among first_alike
     kind-taken n b m l told yes' is i =
         is ∙ (ap (λ k. number_or number k (slice_get (map view_vertex vertices) (get_or ks n 0))) (sym (length-map vertices view_vertex))
-        ∙ ap (λ o. number_or number (length (map view_vertex vertices)) (first_alike (map view_vertex vertices) o)) (sym (ap (find test) (drop_more ks n 0 l) ∙ taken (drop (n + 1) ks)) ∙ i))
+        ∙ ap (λ o. number_or number (length (map view_vertex vertices)) (first_alike (map view_vertex vertices) o))
+        (sym (ap (find test) (drop_more ks n 0 l) ∙ taken (drop (n + 1) ks)) ∙ i))
       where
         taken : (rest : List ℕ) → find test (get_or ks n 0 ∷ rest) ≡ Some (get_or ks n 0)
         taken rest = let t : test (get_or ks n 0) ≡ true = sym told ∙ yes' in rw t refl
@@ -58,7 +59,9 @@ module _ (test : ℕ → Bool) (ks : List ℕ) where
         ∙ ap (λ o. number_or number (length (map view_vertex vertices)) (first_alike (map view_vertex vertices) o)) (sym (ap (find test) (drop_all n ks l)) ∙ i)
 
 -- the same lists give the same number
-pub among-same : {A : Type 0} (number : FieldAt → ℕ) (test : Option A → Bool) (vs ws : List FieldAt) (xs ys : List A) (ks ms ls : List ℕ) (n : ℕ) → vs ≡ ws → xs ≡ ys → ks ≡ ms → ms ≡ ls →
+pub among-same : {A : Type 0} (number : FieldAt → ℕ) (test : Option A → Bool) (vs ws : List FieldAt) (xs ys : List A) (ks ms ls : List ℕ) (n : ℕ) → vs ≡ ws →
+    xs ≡ ys → ks ≡ ms → ms ≡ ls →
     n ≡ number_among number vs (λ r. test (slice_get xs r)) ks → n ≡ number_among number ws (λ r. test (slice_get ys r)) ls
 among-same number test vs ws xs ys ks ms ls n e f g h is = subst (λ us. n ≡ number_among number us (λ r. test (slice_get ys r)) ls) e
-    (subst (λ us. n ≡ number_among number vs (λ r. test (slice_get us r)) ls) f (subst (λ us. n ≡ number_among number vs (λ r. test (slice_get xs r)) us) (g ∙ h) is))
+    (subst (λ us. n ≡ number_among number vs (λ r. test (slice_get us r)) ls) f
+    (subst (λ us. n ≡ number_among number vs (λ r. test (slice_get xs r)) us) (g ∙ h) is))

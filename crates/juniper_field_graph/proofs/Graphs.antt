@@ -55,11 +55,14 @@ module _ {S : Type 0} (shown : S → Shown) (s : Schema) where
     pub once : IsOnce (view_field shown f.field.now)
     pub key : v.key.now ≡ response_key (view_field shown f.field.now)
     pub on_object : v.on_object ≡ is_object (type_named s v.parent.now)
-    pub shape : v.shape ≡ number_among (λ w. w.shape) (vertices_of shown old) (λ r. has_type s (view_type f.declared_type.now) (slice_get (types_in shown old.fields.items) r))
+    pub shape : v.shape ≡ number_among (λ w. w.shape) (vertices_of shown old)
+        (λ r. has_type s (view_type f.declared_type.now) (slice_get (types_in shown old.fields.items) r))
         (group_in old.kinds v.key.now)
-    pub call : v.call ≡ number_among (λ w. w.call) (vertices_of shown old) (λ r. has_call (view_field shown f.field.now) (slice_get (written_of shown old) r)) (group_in old.kinds v.key.now)
+    pub call : v.call ≡ number_among (λ w. w.call) (vertices_of shown old) (λ r. has_call (view_field shown f.field.now) (slice_get (written_of shown old) r))
+        (group_in old.kinds v.key.now)
 
-  module _ (old new : FieldGraph S) (v : Vertex) (f : WrittenField S) (g : IsGraphOf shown s old) (made : IsMade old v f) (n : ℕ) (count : n ≡ length old.vertices.items)
+  module _ (old new : FieldGraph S) (v : Vertex) (f : WrittenField S) (g : IsGraphOf shown s old) (made : IsMade old v f) (n : ℕ)
+      (count : n ≡ length old.vertices.items)
       (vertices : new.vertices.items ≡ old.vertices.items ++ v ∷ []) (fields : new.fields.items ≡ old.fields.items ++ f ∷ [])
       (added : IsAdded (IsOwn n (view_vertex v)) v.key.now n (group_in old.kinds) (group_in new.kinds))
       (own-shape : v.shape ≡ n → In n (group_in new.kinds v.key.now)) (own-call : v.call ≡ n → In n (group_in new.kinds v.key.now)) where
@@ -108,17 +111,20 @@ module _ {S : Type 0} (shown : S → Shown) (s : Schema) where
     numbered-now : AreNumbered s (vertices_of shown new) (heads_of shown new)
     unfolding view_vertex
     numbered-now = rw (vertices-are) (subst (λ gs. AreNumbered s (vs ++ x ∷ []) (head_in gs)) (sym heads-are)
-        (still-numbered s vs ts hs (group_in old.kinds) (group_in new.kinds) x t h g.numbered g.kept made.typed made.once added' made.shape own-shape' made.call own-call'))
+        (still-numbered s vs ts hs (group_in old.kinds) (group_in new.kinds) x t h g.numbered g.kept made.typed made.once added' made.shape own-shape' made.call
+        own-call'))
 
     kept-now : AreKept s (vertices_of shown new) (types_in shown new.fields.items) (written_of shown new) (heads_of shown new) (group_in new.kinds)
     unfolding view_vertex
     kept-now = rw (vertices-are, types-are) (subst (λ gs. AreKept s (vs ++ x ∷ []) (ts ++ t ∷ []) gs (head_in gs) (group_in new.kinds)) (sym heads-are)
-        (still-kept s vs ts hs (group_in old.kinds) (group_in new.kinds) x t h g.numbered g.kept made.typed made.once added' made.shape own-shape' made.call own-call'))
+        (still-kept s vs ts hs (group_in old.kinds) (group_in new.kinds) x t h g.numbered g.kept made.typed made.once added' made.shape own-shape' made.call
+        own-call'))
 
     grown-now : Grows vs (vertices_of shown new) (heads_of shown old) (heads_of shown new)
     unfolding view_vertex
     grown-now = rw (vertices-are) (subst (λ gs. Grows vs (vs ++ x ∷ []) (head_in hs) (head_in gs)) (sym heads-are)
-        (has-grown s vs ts hs (group_in old.kinds) (group_in new.kinds) x t h g.numbered g.kept made.typed made.once added' made.shape own-shape' made.call own-call'))
+        (has-grown s vs ts hs (group_in old.kinds) (group_in new.kinds) x t h g.numbered g.kept made.typed made.once added' made.shape own-shape' made.call
+        own-call'))
 
     there-now : slice_get (vertices_of shown new) n ≡ Some x
     there-now = ap (λ ws. slice_get ws n) vertices-are ∙ last-is vs x n (sym is)

@@ -40,7 +40,8 @@ module _ (s : Schema) (fs : List Fragment) where
       go None None h e = inl (h, e)
       go None (Some g) h e = let r = are.there g (there g e) in absurd (none-some (sym h ∙ (ap held (own-name fs k g e) ∙ r.1)))
 
-  pub held-ready : (vs : List FieldAt) (words : ℕ → Head) (held : Name → Option (List ℕ)) (before : List Fragment) (f : Fragment) → AreHeld s fs vs words held before → AreWritten fs → StandsBehind fs before f →
+  pub held-ready : (vs : List FieldAt) (words : ℕ → Head) (held : Name → Option (List ℕ)) (before : List Fragment) (f : Fragment) →
+      AreHeld s fs vs words held before → AreWritten fs → StandsBehind fs before f →
       IsReady s fs vs words held f.selections
   held-ready vs words held before f are once behind = record {
     once = once f.name.item f behind.first;
@@ -50,21 +51,31 @@ module _ (s : Schema) (fs : List Fragment) where
   pub held-none : (vs : List FieldAt) (words : ℕ → Head) (held : Name → Option (List ℕ)) → ((k : Name) → held k ≡ None) → AreHeld s fs vs words held []
   held-none vs words held none = record { right = λ k js e. absurd (none-some (sym (none k) ∙ e)); there = λ f i. absurd i }
 
-  pub held-next : (vs ws : List FieldAt) (words further : ℕ → Head) → Grows vs ws words further → (held more : Name → Option (List ℕ)) (before : List Fragment) (f : Fragment) (n : List ℕ) → fragment_of fs f.name.item ≡ Some f →
-      ((k : Name) → more k ≡ cond (bytes_eq f.name.item k) (Some n) (held k)) → Covers s ws further fs f.condition.item f.selections n → AreHeld s fs vs words held before → AreHeld s fs ws further more (before ++ f ∷ [])
+  pub held-next : (vs ws : List FieldAt) (words further : ℕ → Head) → Grows vs ws words further →
+      (held more : Name → Option (List ℕ)) (before : List Fragment) (f : Fragment) (n : List ℕ) → fragment_of fs f.name.item ≡ Some f →
+      ((k : Name) → more k ≡ cond (bytes_eq f.name.item k) (Some n) (held k)) → Covers s ws further fs f.condition.item f.selections n →
+      AreHeld s fs vs words held before → AreHeld s fs ws further more (before ++ f ∷ [])
   held-next vs ws words further g held more before f n first added c are = record {
     right = λ k js e. right k js e;
     there = λ x i. elim (in_append x before (f ∷ []) i) [
       | inl j ↦ there x (are.there x j)
-      | inr (inl e) ↦ (n, ap (λ (y : Fragment). more y.name.item) e ∙ (added f.name.item ∙ ap (λ b. cond b (Some n) (held f.name.item)) (same_refl f.name.item)))
+      | inr (inl e) ↦ (
+        n,
+        ap (λ (y : Fragment). more y.name.item) e
+            ∙ (added f.name.item ∙ ap (λ b. cond b (Some n) (held f.name.item)) (same_refl f.name.item)),
+      )
       | inr (inr j) ↦ absurd j
     ];
   }
     where
-      right : (k : Name) (js : List ℕ) → more k ≡ Some js → (x : Fragment) × (fragment_of fs k ≡ Some x) × Covers s ws further fs x.condition.item x.selections js
+      right : (k : Name) (js : List ℕ) → more k ≡ Some js → (x : Fragment) × (fragment_of fs k ≡ Some x)
+          × Covers s ws further fs x.condition.item x.selections js
       right k js e = elim (cases_Bool (bytes_eq f.name.item k)) [
-        | inl y ↦ (let z : Some n ≡ Some js = sym (added k ∙ ap (λ b. cond b (Some n) (held k)) y) ∙ e in
-            (f, subst (λ i. fragment_of fs i ≡ Some f) (same_true f.name.item k y) first, subst (Covers s ws further fs f.condition.item f.selections) (some-same z) c))
+        | inl y ↦ (let z : Some n ≡ Some js = sym (added k ∙ ap (λ b. cond b (Some n) (held k)) y) ∙ e in (
+          f,
+          subst (λ i. fragment_of fs i ≡ Some f) (same_true f.name.item k y) first,
+          subst (Covers s ws further fs f.condition.item f.selections) (some-same z) c,
+        ))
         | inr y ↦ (let z : held k ≡ Some js = sym (added k ∙ ap (λ b. cond b (Some n) (held k)) y) ∙ e in let r = are.right k js z in
             (r.0, r.1, covers-more s vs ws words further fs g r.0.condition.item r.0.selections js r.2))
       ]
@@ -75,5 +86,6 @@ module _ (s : Schema) (fs : List Fragment) where
         | inr y ↦ (r.0, added x.name.item ∙ (ap (λ b. cond b (Some n) (held x.name.item)) y ∙ r.1))
       ]
 
-  pub held-all : (vs : List FieldAt) (words : ℕ → Head) (held : Name → Option (List ℕ)) (order : List Fragment) → HasNoCycle fs → IsInOrder fs order → AreHeld s fs vs words held order → (k : Name) → IsKnown s fs vs words held k
+  pub held-all : (vs : List FieldAt) (words : ℕ → Head) (held : Name → Option (List ℕ)) (order : List Fragment) → HasNoCycle fs → IsInOrder fs order →
+      AreHeld s fs vs words held order → (k : Name) → IsKnown s fs vs words held k
   held-all vs words held order ends in_order are k = known-by vs words held order are k (λ g e. in_order.all k g e (ends k))

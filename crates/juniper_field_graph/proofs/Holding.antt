@@ -21,7 +21,8 @@ module _ {H : Type 0} (m : HashMap (Bor (List ℕ)) (Vec ℕ Global) H) (k : Nam
   unfolding numbers_at
   numbers-some v e = ap (option_map (λ v. v.items)) (sym e)
 
-pub numbers-put : {H : Type 0} (m n : HashMap (Bor (List ℕ)) (Vec ℕ Global) H) (key : Name) (w : Option (Vec ℕ Global)) → hash.UpdatesBy (λ x y. bytes_eq x.now y.now) (λ k. bytes_eq key k.now) m n w →
+pub numbers-put : {H : Type 0} (m n : HashMap (Bor (List ℕ)) (Vec ℕ Global) H) (key : Name) (w : Option (Vec ℕ Global)) →
+    hash.UpdatesBy (λ x y. bytes_eq x.now y.now) (λ k. bytes_eq key k.now) m n w →
     (k : Name) → numbers_at n k ≡ cond (bytes_eq key k) (option_map (λ v. v.items) w) (numbers_at m k)
 unfolding numbers_at
 numbers-put m n key w u k =

@@ -19,7 +19,8 @@ use Rattle.juniper_field_graph.proofs.Leading.{grows-further, grows-itself}
 use Rattle.juniper_field_graph.proofs.Taken.{left-more, taken-more}
 
 module _ {S : Type 0} (shown : S → Shown) (s : Schema) (fs : List spec.Fragment) where
-  pub fragment-held : (old new : FieldGraph S) (sets then : List (List ℕ)) (held more : Name → Option (List ℕ)) (f : spec.Fragment) (n : List ℕ) → IsSetGathered shown s fs old new sets then f.condition.item f.selections n →
+  pub fragment-held : (old new : FieldGraph S) (sets then : List (List ℕ)) (held more : Name → Option (List ℕ)) (f : spec.Fragment) (n : List ℕ) →
+      IsSetGathered shown s fs old new sets then f.condition.item f.selections n →
       ((k : Name) → more k ≡ cond (bytes_eq f.name.item k) (Some n) (held k)) → IsHeld shown s fs old new held more f
   fragment-held old new sets then held more f n a put = record { graph = a.graph; grows = a.grows; numbers = n; added = put; covered = a.stands }
 
@@ -33,7 +34,8 @@ module _ {S : Type 0} (shown : S → Shown) (s : Schema) (fs : List spec.Fragmen
     pub held : AreHeld s fs (vertices_of shown now) (heads_of shown now) numbers (map view (take i order))
     pub behind : StandBehind fs (map view (take i order)) (map view (drop i order))
 
-  pub held-so-far-none : (g : FieldGraph S) (held : Name → Option (List ℕ)) (order : List (Bor (Spanning (Fragment S) Span))) → IsGraphOf shown s g → ((k : Name) → held k ≡ None) → IsInOrder fs (map view order) →
+  pub held-so-far-none : (g : FieldGraph S) (held : Name → Option (List ℕ)) (order : List (Bor (Spanning (Fragment S) Span))) → IsGraphOf shown s g →
+      ((k : Name) → held k ≡ None) → IsInOrder fs (map view order) →
       AreHeldSoFar g g held order zero
   held-so-far-none g held order is none in_order = record {
     graph = is;
@@ -42,7 +44,8 @@ module _ {S : Type 0} (shown : S → Shown) (s : Schema) (fs : List spec.Fragmen
     behind = in_order.behind;
   }
 
-  module _ (old now : FieldGraph S) (held : Name → Option (List ℕ)) (order : List (Bor (Spanning (Fragment S) Span))) (i : ℕ) (x : Bor (Spanning (Fragment S) Span)) (below : i < length order) (is : x ≡ get_or order i x)
+  module _ (old now : FieldGraph S) (held : Name → Option (List ℕ)) (order : List (Bor (Spanning (Fragment S) Span))) (i : ℕ)
+      (x : Bor (Spanning (Fragment S) Span)) (below : i < length order) (is : x ≡ get_or order i x)
       (before : AreHeldSoFar old now held order i) where
     next-behind : StandBehind fs (map view (take i order)) (view x ∷ map view (drop (i + 1) order))
     next-behind = subst (StandBehind fs (map view (take i order))) (left-more view order i x below is) before.behind
@@ -50,16 +53,20 @@ module _ {S : Type 0} (shown : S → Shown) (s : Schema) (fs : List spec.Fragmen
     pub next-ready : AreWritten fs → IsReadyIn shown s fs now held (view x).selections
     next-ready once = held-ready s fs (vertices_of shown now) (heads_of shown now) held (map view (take i order)) (view x) before.held once next-behind.0
 
-    pub held-so-far-next : (new : FieldGraph S) (more : Name → Option (List ℕ)) → IsHeld shown s fs now new held more (view x) → AreHeldSoFar old new more order (i + 1)
+    pub held-so-far-next : (new : FieldGraph S) (more : Name → Option (List ℕ)) → IsHeld shown s fs now new held more (view x) →
+        AreHeldSoFar old new more order (i + 1)
     held-so-far-next new more a = record {
       graph = a.graph;
-      grows = grows-further (vertices_of shown old) (vertices_of shown now) (vertices_of shown new) (heads_of shown old) (heads_of shown now) (heads_of shown new) before.grows a.grows;
+      grows = grows-further (vertices_of shown old) (vertices_of shown now) (vertices_of shown new) (heads_of shown old) (heads_of shown now)
+          (heads_of shown new) before.grows a.grows;
       held = subst (AreHeld s fs (vertices_of shown new) (heads_of shown new) more) (sym (taken-more view order i x below is))
-          (held-next s fs (vertices_of shown now) (vertices_of shown new) (heads_of shown now) (heads_of shown new) a.grows held more (map view (take i order)) (view x) a.numbers next-behind.0.first a.added a.covered before.held);
+          (held-next s fs (vertices_of shown now) (vertices_of shown new) (heads_of shown now) (heads_of shown new) a.grows held more (map view (take i order))
+          (view x) a.numbers next-behind.0.first a.added a.covered before.held);
       behind = subst (λ l. StandBehind fs l (map view (drop (i + 1) order))) (sym (taken-more view order i x below is)) next-behind.1;
     }
 
-  pub held-so-far-all : (old now : FieldGraph S) (held : Name → Option (List ℕ)) (order : List (Bor (Spanning (Fragment S) Span))) (i : ℕ) → length order ≤ i → HasNoCycle fs → IsInOrder fs (map view order) →
+  pub held-so-far-all : (old now : FieldGraph S) (held : Name → Option (List ℕ)) (order : List (Bor (Spanning (Fragment S) Span))) (i : ℕ) → length order ≤ i →
+      HasNoCycle fs → IsInOrder fs (map view order) →
       AreHeldSoFar old now held order i → AllKnown shown s fs old now held
   held-so-far-all old now held order i done ends in_order a = record {
     graph = a.graph;

@@ -77,7 +77,8 @@ module _ (s : Schema) (fs : List Fragment) where
         never : false ≡ true → ⊥
         never e = cc
 
-    pub all-judged : (xs : List PlacedSet) (ns : List (List ℕ)) → AreCovered s fs vs words xs ns → (b : Bool) → (b ≡ true → (n : List ℕ) → In n ns → (d : ℕ) → set_merges_at vs d n ≡ true) →
+    pub all-judged : (xs : List PlacedSet) (ns : List (List ℕ)) → AreCovered s fs vs words xs ns → (b : Bool) →
+        (b ≡ true → (n : List ℕ) → In n ns → (d : ℕ) → set_merges_at vs d n ≡ true) →
         (b ≡ false → (n : List ℕ) × In n ns × ((d : ℕ) × (set_merges_at vs d n ≡ false))) → b ≡ list_all merges xs
     all-judged xs ns c true all some = sym (all-from merges xs (λ x i. let r = c.one x i in merges-by x r.0 r.2 (each r.0 r.1)))
       where
@@ -88,7 +89,8 @@ module _ (s : Schema) (fs : List Fragment) where
 
 -- ## Definitions
 
-pub operation-judged : (s : Schema) (d : Document) (o : Operation) (p : Name) → Some p ≡ root_type s o.kind → definition_merges s d (operation o) ≡ list_all (merges s (fragments d)) (sets_from s p o.selections)
+pub operation-judged : (s : Schema) (d : Document) (o : Operation) (p : Name) → Some p ≡ root_type s o.kind →
+    definition_merges s d (operation o) ≡ list_all (merges s (fragments d)) (sets_from s p o.selections)
 unfolding definition_merges
 operation-judged s d o p r = with-root ∙ from-all s (fragments d) p o.selections
   where
@@ -99,6 +101,7 @@ pub rootless-judged : (s : Schema) (d : Document) (o : Operation) → None ≡ r
 unfolding definition_merges
 rootless-judged s d o r = rw (sym r, definition_merges) refl
 
-pub fragment-judged : (s : Schema) (d : Document) (f : Fragment) → definition_merges s d (fragment f) ≡ list_all (merges s (fragments d)) (sets_from s f.condition.item f.selections)
+pub fragment-judged : (s : Schema) (d : Document) (f : Fragment) →
+    definition_merges s d (fragment f) ≡ list_all (merges s (fragments d)) (sets_from s f.condition.item f.selections)
 unfolding definition_merges
 fragment-judged s d f = from-all s (fragments d) f.condition.item f.selections

@@ -75,7 +75,8 @@ module _ (s : Schema) (fs : List Fragment) where
     back = λ m i. absurd i;
   }
 
-  pub covered-more : (vs ws : List FieldAt) (words more : ℕ → Head) → Grows vs ws words more → (xs : List PlacedSet) (ns : List (List ℕ)) → AreCovered s fs vs words xs ns → AreCovered s fs ws more xs ns
+  pub covered-more : (vs ws : List FieldAt) (words more : ℕ → Head) → Grows vs ws words more → (xs : List PlacedSet) (ns : List (List ℕ)) →
+      AreCovered s fs vs words xs ns → AreCovered s fs ws more xs ns
   covered-more vs ws words more g xs ns a = record {
     one = λ x i. let r = a.one x i in (r.0, r.1, covers-more s vs ws words more fs g x.parent x.selections r.0 r.2);
     back = λ n i. let r = a.back n i in (r.0, r.1, covers-more s vs ws words more fs g r.0.parent r.0.selections n r.2);
@@ -86,7 +87,8 @@ module _ (s : Schema) (fs : List Fragment) where
   pub leads-nothing : (vs : List FieldAt) (words : ℕ → Head) (p : Name) (set : Selections) → Leads s fs vs words p set set [] []
   leads-nothing vs words p set ws more g js ns c a = (c, a)
 
-  pub leads-then : (vs ws : List FieldAt) (words more : ℕ → Head) → Grows vs ws words more → (p : Name) (rest mid whole : Selections) (is js : List ℕ) (ms ns : List (List ℕ)) →
+  pub leads-then : (vs ws : List FieldAt) (words more : ℕ → Head) → Grows vs ws words more →
+      (p : Name) (rest mid whole : Selections) (is js : List ℕ) (ms ns : List (List ℕ)) →
       Leads s fs vs words p mid whole is ms → Leads s fs ws more p rest mid js ns → Leads s fs ws more p rest whole (is ++ js) (ms ++ ns)
   leads-then vs ws words more g p rest mid whole is js ms ns first second us last h ks ls c a =
       let inner = second us last h ks ls c a in
@@ -96,33 +98,39 @@ module _ (s : Schema) (fs : List Fragment) where
       )
 
   -- a field, which selects what was gathered before
-  pub leads-field : (vs ws : List FieldAt) (words more : ℕ → Head) → Grows vs ws words more → (p : Name) (h : Head) (below rest : Selections) (i : ℕ) (v : FieldAt) (ms : List (List ℕ)) →
+  pub leads-field : (vs ws : List FieldAt) (words more : ℕ → Head) → Grows vs ws words more →
+      (p : Name) (h : Head) (below rest : Selections) (i : ℕ) (v : FieldAt) (ms : List (List ℕ)) →
       IsAt s ws more (record { parent = p; occurrence = record { head = h; below = expand (λ y. true) fs below } }) i v →
-      Covers s vs words fs (innermost (declared_type (field_of s p h.name.item))) below v.below → AreCovered s fs vs words (sets_from s (innermost (declared_type (field_of s p h.name.item))) below) ms →
+      Covers s vs words fs (innermost (declared_type (field_of s p h.name.item))) below v.below →
+      AreCovered s fs vs words (sets_from s (innermost (declared_type (field_of s p h.name.item))) below) ms →
       Leads s fs ws more p rest (field h below rest) (i ∷ []) ms
   unfolding sets_below sets_from
   leads-field vs ws words more g p h below rest i v ms here inside sets us last k js ns c a =
       let q = innermost (declared_type (field_of s p h.name.item)) in
       let all = grows-further vs ws us words more last g k in (
-        covers-field s us last fs p h below rest i v js (at-more s ws us more last k _ i v here) (covers-more s vs us words last fs all q below v.below inside) c,
+        covers-field s us last fs p h below rest i v js (at-more s ws us more last k _ i v here)
+            (covers-more s vs us words last fs all q below v.below inside) c,
         covered-both us last (sets_from s q below) (sets_below s p rest) ms ns (covered-more vs us words last all (sets_from s q below) ms sets) a,
       )
 
   -- a spread of a fragment whose numbers are known
-  pub leads-spread : (vs : List FieldAt) (words : ℕ → Head) → HasNoCycle fs → (p : Name) (x : Spread) (rest : Selections) (f : Fragment) (is : List ℕ) → fragment_of fs x.name.item ≡ Some f →
+  pub leads-spread : (vs : List FieldAt) (words : ℕ → Head) → HasNoCycle fs → (p : Name) (x : Spread) (rest : Selections) (f : Fragment) (is : List ℕ) →
+      fragment_of fs x.name.item ≡ Some f →
       Covers s vs words fs f.condition.item f.selections is → Leads s fs vs words p rest (spread x rest) is []
   unfolding sets_below
   leads-spread vs words ends p x rest f is found inside us last k js ns c a =
       (covers-spread s us last fs ends p x rest f is js found (covers-more s vs us words last fs k f.condition.item f.selections is inside) c, a)
 
   -- a spread of no fragment
-  pub leads-unknown : (vs : List FieldAt) (words : ℕ → Head) → HasNoCycle fs → (p : Name) (x : Spread) (rest : Selections) → fragment_of fs x.name.item ≡ None → Leads s fs vs words p rest (spread x rest) [] []
+  pub leads-unknown : (vs : List FieldAt) (words : ℕ → Head) → HasNoCycle fs → (p : Name) (x : Spread) (rest : Selections) → fragment_of fs x.name.item ≡ None →
+      Leads s fs vs words p rest (spread x rest) [] []
   unfolding sets_below
   leads-unknown vs words ends p x rest found us last k js ns c a = (covers-nothing s us last fs ends p x rest js found c, a)
 
   -- an inline fragment
   pub leads-inline : (vs : List FieldAt) (words : ℕ → Head) (p : Name) (x : Inline) (below rest : Selections) (is : List ℕ) (ms : List (List ℕ)) →
-      Covers s vs words fs (name_or x.condition p) below is → AreCovered s fs vs words (sets_from s (name_or x.condition p) below) ms → Leads s fs vs words p rest (inline x below rest) is ms
+      Covers s vs words fs (name_or x.condition p) below is → AreCovered s fs vs words (sets_from s (name_or x.condition p) below) ms →
+      Leads s fs vs words p rest (inline x below rest) is ms
   unfolding sets_below sets_from
   leads-inline vs words p x below rest is ms inside sets us last k js ns c a =
       let q = name_or x.condition p in (
@@ -131,7 +139,8 @@ module _ (s : Schema) (fs : List Fragment) where
       )
 
   -- at the end
-  pub leads-whole : (vs : List FieldAt) (words : ℕ → Head) (p : Name) (whole : Selections) (is : List ℕ) (ms : List (List ℕ)) → Leads s fs vs words p end whole is ms →
+  pub leads-whole : (vs : List FieldAt) (words : ℕ → Head) (p : Name) (whole : Selections) (is : List ℕ) (ms : List (List ℕ)) →
+      Leads s fs vs words p end whole is ms →
       Covers s vs words fs p whole is × AreCovered s fs vs words (sets_below s p whole) ms
   unfolding sets_below
   leads-whole vs words p whole is ms l =

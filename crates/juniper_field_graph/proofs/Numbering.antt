@@ -27,7 +27,8 @@ last-is xs x n e = subst (λ m. slice_get (xs ++ x ∷ []) m ≡ Some x) e (at-e
 inside : {A : Type 0} (x y : A) → Some x ≡ Some y → y ≡ x
 inside x y e = cc
 
-pub old-or-last : {A : Type 0} (xs : List A) (x : A) (i : ℕ) (y : A) → slice_get (xs ++ x ∷ []) i ≡ Some y → (slice_get xs i ≡ Some y) ⊎ ((i ≡ length xs) × (y ≡ x))
+pub old-or-last : {A : Type 0} (xs : List A) (x : A) (i : ℕ) (y : A) → slice_get (xs ++ x ∷ []) i ≡ Some y →
+    (slice_get xs i ≡ Some y) ⊎ ((i ≡ length xs) × (y ≡ x))
 old-or-last [] x zero y e = inr (refl, inside x y e)
 old-or-last [] x (suc i) y e = cc
 old-or-last (z ∷ xs) x zero y e = inl e
@@ -49,7 +50,8 @@ module _ (number : FieldAt → ℕ) (vs : List FieldAt) (alike : ℕ → Bool) (
     (keyed : (r : ℕ) → In r ks → (w : FieldAt) × (slice_get vs r ≡ Some w) × (w.key ≡ key)) where
   -- the number of a kind that is alike, or that of a new vertex
   abbrev pub IsChosen : ℕ → Type 0
-  IsChosen n = ((r : ℕ) × (w : FieldAt) × In r ks × (slice_get vs r ≡ Some w) × (w.key ≡ key) × (alike r ≡ true) × (n ≡ number w)) ⊎ ((n ≡ length vs) × ((r : ℕ) → In r ks → alike r ≡ false))
+  IsChosen n = ((r : ℕ) × (w : FieldAt) × In r ks × (slice_get vs r ≡ Some w) × (w.key ≡ key) × (alike r ≡ true) × (n ≡ number w))
+      ⊎ ((n ≡ length vs) × ((r : ℕ) → In r ks → alike r ≡ false))
 
   pub chosen : (n : ℕ) → n ≡ number_among number vs alike ks → IsChosen n
   unfolding number_among number_or first_alike
@@ -63,10 +65,12 @@ module _ (number : FieldAt → ℕ) (vs : List FieldAt) (alike : ℕ → Bool) (
           let d : n ≡ number_or number (length vs) (slice_get vs r) = rw f at e in
           inl (r, q.0, p.0, q.1, q.2, p.1, rw q.1 at d)
 
-module _ {T : Type 0} (E : T → T → Bool) (itself : (t : T) → E t t ≡ true) (turned : (t u : T) → E t u ≡ E u t) (across : (t u w : T) → E t u ≡ true → E u w ≡ E t w) (number : FieldAt → ℕ) where
+module _ {T : Type 0} (E : T → T → Bool) (itself : (t : T) → E t t ≡ true) (turned : (t u : T) → E t u ≡ E u t)
+    (across : (t u w : T) → E t u ≡ true → E u w ≡ E t w) (number : FieldAt → ℕ) where
   -- of vertices with one response key equal numbers say that what they stand for is the same
   abbrev pub Tells : List FieldAt → (ℕ → FieldAt → T) → Type 0
-  Tells vs things = (i j : ℕ) (v w : FieldAt) → slice_get vs i ≡ Some v → slice_get vs j ≡ Some w → bytes_eq v.key w.key ≡ true → nat_eq (number v) (number w) ≡ E (things i v) (things j w)
+  Tells vs things = (i j : ℕ) (v w : FieldAt) → slice_get vs i ≡ Some v → slice_get vs j ≡ Some w → bytes_eq v.key w.key ≡ true →
+      nat_eq (number v) (number w) ≡ E (things i v) (things j w)
 
   pub tells-chosen : (vs : List FieldAt) (things : ℕ → FieldAt → T) (alike : ℕ → Bool) (ks : List ℕ) (key : Name) (t : T) → Tells vs things →
       ((r : ℕ) → In r ks → (w : FieldAt) × (slice_get vs r ≡ Some w) × (w.key ≡ key)) →
@@ -77,26 +81,34 @@ module _ {T : Type 0} (E : T → T → Bool) (itself : (t : T) → E t t ≡ tru
     | inl (r, w, in', there', key', yes', n-is) ↦
         (let one : bytes_eq v.key w.key ≡ true = subst (λ z. bytes_eq v.key z ≡ true) (same ∙ sym key') (same_refl v.key) in
         let yes'' : E (things r w) t ≡ true = sym (told r w there') ∙ yes' in
-        let e : E (things i v) (things r w) ≡ E (things i v) t = turned (things i v) (things r w) ∙ (sym (across (things r w) t (things i v) yes'') ∙ turned t (things i v)) in
+        let e : E (things i v) (things r w) ≡ E (things i v) t = turned (things i v) (things r w)
+        ∙ (sym (across (things r w) t (things i v) yes'') ∙ turned t (things i v)) in
         ap (nat_eq (number v)) n-is ∙ (tells i r v w at there' one ∙ e))
     | inr (n-is, none') ↦
-        (let u-key : u.key ≡ key = (let q = keyed s inside in let g : Some q.0 ≡ Some u = sym q.1 ∙ there in let h : q.0 ≡ u = cc in ap (λ (z : FieldAt). z.key) (sym h) ∙ q.2) in
+        (let u-key : u.key ≡ key = (let q = keyed s inside in let g : Some q.0 ≡ Some u = sym q.1 ∙ there in let h : q.0 ≡ u = cc in
+        ap (λ (z : FieldAt). z.key) (sym h) ∙ q.2) in
         let one : bytes_eq v.key u.key ≡ true = subst (λ z. bytes_eq v.key z ≡ true) (same ∙ sym u-key) (same_refl v.key) in
-        let e : E (things i v) (things s u) ≡ true = sym (tells i s v u at there one) ∙ subst (λ z. nat_eq (number v) z ≡ true) (sym equal) (number-itself (number v)) in
+        let e : E (things i v) (things s u) ≡ true = sym (tells i s v u at there one)
+        ∙ subst (λ z. nat_eq (number v) z ≡ true) (sym equal) (number-itself (number v)) in
         let f : E (things s u) t ≡ false = sym (told s u there) ∙ none' s inside in
         ap (nat_eq (number v)) n-is ∙ (number-below (number v) (length vs) below ∙ sym (sym (across (things i v) (things s u) t e) ∙ f)))
   ]
 
   -- a vertex more
-  pub tells-more : (vs : List FieldAt) (x : FieldAt) (things more : ℕ → FieldAt → T) → ((i : ℕ) (v : FieldAt) → slice_get vs i ≡ Some v → things i v ≡ more i v) → Tells vs things →
-      ((i : ℕ) (v : FieldAt) → slice_get vs i ≡ Some v → v.key ≡ x.key → nat_eq (number v) (number x) ≡ E (things i v) (more (length vs) x)) → Tells (vs ++ x ∷ []) more
+  pub tells-more : (vs : List FieldAt) (x : FieldAt) (things more : ℕ → FieldAt → T) →
+      ((i : ℕ) (v : FieldAt) → slice_get vs i ≡ Some v → things i v ≡ more i v) → Tells vs things →
+      ((i : ℕ) (v : FieldAt) → slice_get vs i ≡ Some v → v.key ≡ x.key → nat_eq (number v) (number x) ≡ E (things i v) (more (length vs) x)) →
+      Tells (vs ++ x ∷ []) more
   tells-more vs x things more kept tells new i j v w f g e = go (old-or-last vs x i v f) (old-or-last vs x j w g)
     where
-      with-last : (i : ℕ) (v : FieldAt) → slice_get vs i ≡ Some v → bytes_eq v.key x.key ≡ true → nat_eq (number v) (number x) ≡ E (more i v) (more (length vs) x)
+      with-last : (i : ℕ) (v : FieldAt) → slice_get vs i ≡ Some v → bytes_eq v.key x.key ≡ true →
+          nat_eq (number v) (number x) ≡ E (more i v) (more (length vs) x)
       with-last i v f e = new i v f (same_true v.key x.key e) ∙ ap (λ z. E z (more (length vs) x)) (kept i v f)
 
-      go : (slice_get vs i ≡ Some v) ⊎ ((i ≡ length vs) × (v ≡ x)) → (slice_get vs j ≡ Some w) ⊎ ((j ≡ length vs) × (w ≡ x)) → nat_eq (number v) (number w) ≡ E (more i v) (more j w)
+      go : (slice_get vs i ≡ Some v) ⊎ ((i ≡ length vs) × (v ≡ x)) → (slice_get vs j ≡ Some w) ⊎ ((j ≡ length vs) × (w ≡ x)) →
+          nat_eq (number v) (number w) ≡ E (more i v) (more j w)
       go (inl a) (inl b) = tells i j v w a b e ∙ (ap (λ z. E z (things j w)) (kept i v a) ∙ ap (E (more i v)) (kept j w b))
       go (inl a) (inr (p, q)) = rw (p, q) (with-last i v a (rw q at e))
-      go (inr (p, q)) (inl b) = rw (p, q) (number-turned (number x) (number w) ∙ (with-last j w b (same_sym w.key x.key ∙ (rw q at e)) ∙ turned (more j w) (more (length vs) x)))
+      go (inr (p, q)) (inl b) =
+          rw (p, q) (number-turned (number x) (number w) ∙ (with-last j w b (same_sym w.key x.key ∙ (rw q at e)) ∙ turned (more j w) (more (length vs) x)))
       go (inr (p, q)) (inr (r, t)) = rw (p, q, r, t) (number-itself (number x) ∙ sym (itself (more (length vs) x)))

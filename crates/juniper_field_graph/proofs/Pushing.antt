@@ -40,7 +40,11 @@ put-back {C} old mid new key ks ls n is taken put added = record {
     | inr e ↦ subst (In r) (sym (there k e)) i
   ];
   only = λ k r i. elim (cases_Bool (bytes_eq key k)) [
-    | inl e ↦ elim (less added r (subst (In r) (here k e) i)) [ inl j ↦ inl (subst (In r) (sym (old-here k e)) j) | inr f ↦ inr (sym (same_true key k e), f.0, f.1) ]
+    | inl e ↦ elim (less added r (subst (In r) (here k e) i)) [
+      | inl j ↦ inl (subst (In r) (sym (old-here k e)) j)
+      | inr f ↦
+          inr (sym (same_true key k e), f.0, f.1)
+    ]
     | inr e ↦ inl (subst (In r) (there k e) i)
   ];
 }
@@ -63,7 +67,8 @@ put-back {C} old mid new key ks ls n is taken put added = record {
     less (inr e) r i = inl (subst (In r) e i)
 
 -- a number that was put at the end of a key's kinds stands there
-pub put-last : (mid new : Name → List ℕ) (key : Name) (ks ls : List ℕ) (n : ℕ) → ((k : Name) → new k ≡ cond (bytes_eq key k) ls (mid k)) → ls ≡ ks ++ n ∷ [] → In n (new key)
+pub put-last : (mid new : Name → List ℕ) (key : Name) (ks ls : List ℕ) (n : ℕ) → ((k : Name) → new k ≡ cond (bytes_eq key k) ls (mid k)) → ls ≡ ks ++ n ∷ [] →
+    In n (new key)
 put-last mid new key ks ls n put e = subst (In n) (sym (put key ∙ (rw (same_refl key) e))) (in_second n ks (n ∷ []) (inl refl))
 
 -- whether a vertex has a number of its own
@@ -95,10 +100,13 @@ abbrev pub head_in : List Head → ℕ → Head
 head_in hs i = head_or_none (slice_get hs i)
 
 module _ (s : Schema) (vs : List FieldAt) (ts : List TypeRef) (hs : List Head) (kinds more : Name → List ℕ) (x : FieldAt) (t : TypeRef) (h : Head)
-    (numbered : AreNumbered s vs (head_in hs)) (kept : AreKept s vs ts hs (head_in hs) kinds) (typed : t ≡ declared_type (field_of s x.parent h.name.item)) (once : IsOnce h)
+    (numbered : AreNumbered s vs (head_in hs)) (kept : AreKept s vs ts hs (head_in hs) kinds) (typed : t ≡ declared_type (field_of s x.parent h.name.item))
+    (once : IsOnce h)
     (added : IsAdded (IsOwn (length vs) x) x.key (length vs) kinds more)
-    (shape : x.shape ≡ number_among (λ v. v.shape) vs (λ r. has_type s t (slice_get ts r)) (kinds x.key)) (own-shape : x.shape ≡ length vs → In (length vs) (more x.key))
-    (call : x.call ≡ number_among (λ v. v.call) vs (λ r. has_call h (slice_get hs r)) (kinds x.key)) (own-call : x.call ≡ length vs → In (length vs) (more x.key)) where
+    (shape : x.shape ≡ number_among (λ v. v.shape) vs (λ r. has_type s t (slice_get ts r)) (kinds x.key))
+    (own-shape : x.shape ≡ length vs → In (length vs) (more x.key))
+    (call : x.call ≡ number_among (λ v. v.call) vs (λ r. has_call h (slice_get hs r)) (kinds x.key))
+    (own-call : x.call ≡ length vs → In (length vs) (more x.key)) where
   abbrev type_of : (ℕ → Head) → ℕ → FieldAt → TypeRef
   type_of heads i v = declared_type (field_of s v.parent (heads i).name.item)
 
@@ -119,24 +127,30 @@ module _ (s : Schema) (vs : List FieldAt) (ts : List TypeRef) (hs : List Head) (
   unfolding has_type
   shape-told r w e = ap (has_type s t) (kept.types r w e)
 
-  call-told : (r : ℕ) (w : FieldAt) → slice_get vs r ≡ Some w → has_call h (slice_get hs r) ≡ alike.same_call (call_of (head_in hs) r w) (h.name.item, written_meaning (written h.arguments))
+  call-told : (r : ℕ) (w : FieldAt) → slice_get vs r ≡ Some w → has_call h (slice_get hs r)
+      ≡ alike.same_call (call_of (head_in hs) r w) (h.name.item, written_meaning (written h.arguments))
   unfolding has_call head_or_none
   call-told r w e =
       let q = beside vs hs kept.headed r w e in
       let asked : Name × Members = (h.name.item, written_meaning (written h.arguments)) in
-      ap (has_call h) q.1 ∙ sym (ap (λ (o : Option Head). alike.same_call ((head_or_none o).name.item, written_meaning (written (head_or_none o).arguments)) asked) q.1)
+      ap (has_call h) q.1 ∙ sym (ap (λ (o : Option Head). alike.same_call
+      ((head_or_none o).name.item, written_meaning (written (head_or_none o).arguments)) asked) q.1)
 
   pub still-numbered : AreNumbered s (vs ++ x ∷ []) now
   still-numbered = record {
     shapes = tells-more (types_agree s) (types-same s) (types-turned s) (types-across s) (λ v. v.shape) vs x (type_of (head_in hs)) (type_of now)
         (λ i v e. ap (λ (g : Head). declared_type (field_of s v.parent g.name.item)) (head-kept i v e)) numbered.shapes
-        (λ i v e k. tells-chosen (types_agree s) (types-same s) (types-turned s) (types-across s) (λ v. v.shape) vs (type_of (head_in hs)) (λ r. has_type s t (slice_get ts r)) (kinds x.key) x.key t
-        numbered.shapes (kept.keyed x.key) shape-told x.shape shape i v e k (kept.below i v e).0 (subst (λ z. HasKind (λ v. v.shape) vs (kinds z) v) k (kept.shapes i v e))
+        (λ i v e k. tells-chosen (types_agree s) (types-same s) (types-turned s) (types-across s) (λ v. v.shape) vs (type_of (head_in hs))
+        (λ r. has_type s t (slice_get ts r)) (kinds x.key) x.key t
+        numbered.shapes (kept.keyed x.key) shape-told x.shape shape i v e k (kept.below i v e).0
+        (subst (λ z. HasKind (λ v. v.shape) vs (kinds z) v) k (kept.shapes i v e))
         ∙ ap (types_agree s (type_of (head_in hs) i v)) (typed ∙ ap (λ (g : Head). declared_type (field_of s x.parent g.name.item)) (sym head-last)));
     calls = tells-more alike.same_call calls-itself calls-turned calls-across (λ v. v.call) vs x (call_of (head_in hs)) (call_of now)
         (λ i v e. ap (λ (g : Head). (g.name.item, written_meaning (written g.arguments))) (head-kept i v e)) numbered.calls
-        (λ i v e k. tells-chosen alike.same_call calls-itself calls-turned calls-across (λ v. v.call) vs (call_of (head_in hs)) (λ r. has_call h (slice_get hs r)) (kinds x.key) x.key
-        (h.name.item, written_meaning (written h.arguments)) numbered.calls (kept.keyed x.key) call-told x.call call i v e k (kept.below i v e).1 (subst (λ z. HasKind (λ v. v.call) vs (kinds z) v) k (kept.calls i v e))
+        (λ i v e k. tells-chosen alike.same_call calls-itself calls-turned calls-across (λ v. v.call) vs (call_of (head_in hs))
+        (λ r. has_call h (slice_get hs r)) (kinds x.key) x.key
+        (h.name.item, written_meaning (written h.arguments)) numbered.calls (kept.keyed x.key) call-told x.call call i v e k (kept.below i v e).1
+        (subst (λ z. HasKind (λ v. v.call) vs (kinds z) v) k (kept.calls i v e))
         ∙ ap (λ (g : Head). alike.same_call (call_of (head_in hs) i v) (g.name.item, written_meaning (written g.arguments))) (sym head-last));
   }
 
@@ -147,17 +161,21 @@ module _ (s : Schema) (vs : List FieldAt) (ts : List TypeRef) (hs : List Head) (
   longer ys y e = let a = length-append ys (y ∷ []) in let b = length-append vs (x ∷ []) in omega (arith, a, b, e)
 
   -- each vertex has a kind of its number, also the new one
-  has-kind : (number : FieldAt → ℕ) (test : ℕ → Bool) → number x ≡ number_among number vs test (kinds x.key) → (number x ≡ length vs → In (length vs) (more x.key)) →
-      ((i : ℕ) (v : FieldAt) → slice_get vs i ≡ Some v → HasKind number vs (kinds v.key) v) → (i : ℕ) (v : FieldAt) → slice_get (vs ++ x ∷ []) i ≡ Some v → HasKind number (vs ++ x ∷ []) (more v.key) v
+  has-kind : (number : FieldAt → ℕ) (test : ℕ → Bool) → number x ≡ number_among number vs test (kinds x.key) →
+      (number x ≡ length vs → In (length vs) (more x.key)) →
+      ((i : ℕ) (v : FieldAt) → slice_get vs i ≡ Some v → HasKind number vs (kinds v.key) v) → (i : ℕ) (v : FieldAt) → slice_get (vs ++ x ∷ []) i ≡ Some v →
+      HasKind number (vs ++ x ∷ []) (more v.key) v
   has-kind number test is own had i v e = elim (old-or-last vs x i v e) [
     | inl f ↦ (let (r, w, inside, there, equal) = had i v f in (r, w, added.grown v.key r inside, stays vs x r w there, equal))
-    | inr (p, q) ↦ subst (λ z. HasKind number (vs ++ x ∷ []) (more z.key) z) (sym q) (elim (chosen number vs test (kinds x.key) x.key (kept.keyed x.key) (number x) is) [
-      | inl (r, w, inside, there, k, yes', equal) ↦ (r, w, added.grown x.key r inside, stays vs x r w there, sym equal)
-      | inr (new, none') ↦ (length vs, x, own new, last-there, refl)
-    ])
+    | inr (p, q) ↦ subst (λ z. HasKind number (vs ++ x ∷ []) (more z.key) z) (sym q)
+        (elim (chosen number vs test (kinds x.key) x.key (kept.keyed x.key) (number x) is) [
+          | inl (r, w, inside, there, k, yes', equal) ↦ (r, w, added.grown x.key r inside, stays vs x r w there, sym equal)
+          | inr (new, none') ↦ (length vs, x, own new, last-there, refl)
+        ])
   ]
 
-  stays-below : (number : FieldAt → ℕ) (test : ℕ → Bool) → number x ≡ number_among number vs test (kinds x.key) → ((i : ℕ) (v : FieldAt) → slice_get vs i ≡ Some v → number v < length vs) →
+  stays-below : (number : FieldAt → ℕ) (test : ℕ → Bool) → number x ≡ number_among number vs test (kinds x.key) →
+      ((i : ℕ) (v : FieldAt) → slice_get vs i ≡ Some v → number v < length vs) →
       (i : ℕ) (v : FieldAt) → slice_get (vs ++ x ∷ []) i ≡ Some v → number v < length (vs ++ x ∷ [])
   stays-below number test is had i v e = let l = length-append vs (x ∷ []) in elim (old-or-last vs x i v e) [
     | inl f ↦ (let b = had i v f in omega (arith, b, l))
@@ -173,7 +191,8 @@ module _ (s : Schema) (vs : List FieldAt) (ts : List TypeRef) (hs : List Head) (
     headed = longer hs h kept.headed;
     types = λ i v e. elim (old-or-last vs x i v e) [
       | inl f ↦ stays ts t i _ (kept.types i v f) ∙ ap (λ (g : Head). Some (declared_type (field_of s v.parent g.name.item))) (head-kept i v f)
-      | inr (p, q) ↦ rw (p, q) (last-is ts t (length vs) kept.typed ∙ ap Some (typed ∙ ap (λ (g : Head). declared_type (field_of s x.parent g.name.item)) (sym head-last)))
+      | inr (p, q) ↦ rw (p, q) (last-is ts t (length vs) kept.typed
+          ∙ ap Some (typed ∙ ap (λ (g : Head). declared_type (field_of s x.parent g.name.item)) (sym head-last)))
     ];
     once = λ i g e. elim (old-or-last hs h i g e) [ inl f ↦ kept.once i g f | inr (p, q) ↦ subst IsOnce (sym q) once ];
     keyed = λ k r i. elim (added.only k r i) [

@@ -13,23 +13,29 @@ use Rattle.juniper_merging.proofs.Covering.{covers-more}
 use Rattle.juniper_field_graph.specs.Gathering.{IsKnown, IsReady}
 
 module _ (s : Schema) (fs : List Fragment) where
-  pub known-more : (vs ws : List FieldAt) (words more : ℕ → Head) → Grows vs ws words more → (held : Name → Option (List ℕ)) (k : Name) → IsKnown s fs vs words held k → IsKnown s fs ws more held k
+  pub known-more : (vs ws : List FieldAt) (words more : ℕ → Head) → Grows vs ws words more → (held : Name → Option (List ℕ)) (k : Name) →
+      IsKnown s fs vs words held k → IsKnown s fs ws more held k
   known-more vs ws words more g held k (inl none) = inl none
-  known-more vs ws words more g held k (inr (f, js, at, found, c)) = inr (f, js, at, found, covers-more s vs ws words more fs g f.condition.item f.selections js c)
+  known-more vs ws words more g held k (inr (f, js, at, found, c)) =
+      inr (f, js, at, found, covers-more s vs ws words more fs g f.condition.item f.selections js c)
 
-  pub known-held : (vs : List FieldAt) (words : ℕ → Head) (held : Name → Option (List ℕ)) (k : Name) (js : List ℕ) → IsKnown s fs vs words held k → held k ≡ Some js →
+  pub known-held : (vs : List FieldAt) (words : ℕ → Head) (held : Name → Option (List ℕ)) (k : Name) (js : List ℕ) → IsKnown s fs vs words held k →
+      held k ≡ Some js →
       (f : Fragment) × (fragment_of fs k ≡ Some f) × Covers s vs words fs f.condition.item f.selections js
   known-held vs words held k js (inl none) at = let e : None ≡ Some js = sym none.0 ∙ at in cc
-  known-held vs words held k js (inr (f, ks, there, found, c)) at = (f, found, subst (Covers s vs words fs f.condition.item f.selections) (same (sym there ∙ at)) c)
+  known-held vs words held k js (inr (f, ks, there, found, c)) at =
+      (f, found, subst (Covers s vs words fs f.condition.item f.selections) (same (sym there ∙ at)) c)
     where
       same : {A : Type 0} {a b : A} → Some a ≡ Some b → a ≡ b
       same e = cc
 
-  pub known-none : (vs : List FieldAt) (words : ℕ → Head) (held : Name → Option (List ℕ)) (k : Name) → IsKnown s fs vs words held k → held k ≡ None → fragment_of fs k ≡ None
+  pub known-none : (vs : List FieldAt) (words : ℕ → Head) (held : Name → Option (List ℕ)) (k : Name) → IsKnown s fs vs words held k → held k ≡ None →
+      fragment_of fs k ≡ None
   known-none vs words held k (inl none) at = none.1
   known-none vs words held k (inr (f, ks, there, found, c)) at = let e : None ≡ Some ks = sym at ∙ there in cc
 
-  pub ready-more : (vs ws : List FieldAt) (words more : ℕ → Head) → Grows vs ws words more → (held : Name → Option (List ℕ)) (set : Selections) → IsReady s fs vs words held set → IsReady s fs ws more held set
+  pub ready-more : (vs ws : List FieldAt) (words more : ℕ → Head) → Grows vs ws words more → (held : Name → Option (List ℕ)) (set : Selections) →
+      IsReady s fs vs words held set → IsReady s fs ws more held set
   ready-more vs ws words more g held set r = record { once = r.once; known = λ k i. known-more vs ws words more g held k (r.known k i) }
 
   module _ (vs : List FieldAt) (words : ℕ → Head) (held : Name → Option (List ℕ)) where
@@ -40,12 +46,16 @@ module _ (s : Schema) (fs : List Fragment) where
     unfolding heads spreads
     ready-end = record { once = λ h i. absurd i; known = λ k i. absurd i }
 
-    pub ready-field : (h : Head) (below rest : Selections) → Ready (field h below rest) → (arguments_repeat (written h.arguments) ≡ false) × Ready below × Ready rest
+    pub ready-field : (h : Head) (below rest : Selections) → Ready (field h below rest) →
+        (arguments_repeat (written h.arguments) ≡ false) × Ready below × Ready rest
     unfolding heads spreads
     ready-field h below rest r = (
       r.once h (inl refl),
       record { once = λ x i. r.once x (inr (in_first x (heads below) (heads rest) i)); known = λ k i. r.known k (in_first k (spreads below) (spreads rest) i) },
-      record { once = λ x i. r.once x (inr (in_second x (heads below) (heads rest) i)); known = λ k i. r.known k (in_second k (spreads below) (spreads rest) i) },
+      record {
+        once = λ x i. r.once x (inr (in_second x (heads below) (heads rest) i));
+        known = λ k i. r.known k (in_second k (spreads below) (spreads rest) i);
+      },
     )
 
     pub ready-spread : (x : Spread) (rest : Selections) → Ready (spread x rest) → IsKnown s fs vs words held x.name.item × Ready rest

@@ -12,7 +12,8 @@ module _ {A B : Type 0} (view : A → B) (xs : List A) where
   pub left-more : (i : ℕ) (x : A) → i < length xs → x ≡ get_or xs i x → map view (drop i xs) ≡ view x ∷ map view (drop (i + 1) xs)
   left-more i x below is = ap (map view) (left-is xs i x below is)
 
-  pub all-next : (P : B → Type 0) (i : ℕ) (x : A) → i < length xs → x ≡ get_or xs i x → ((y : B) → In y (map view (take i xs)) → P y) → P (view x) → (y : B) → In y (map view (take (i + 1) xs)) → P y
+  pub all-next : (P : B → Type 0) (i : ℕ) (x : A) → i < length xs → x ≡ get_or xs i x → ((y : B) → In y (map view (take i xs)) → P y) → P (view x) → (y : B) →
+      In y (map view (take (i + 1) xs)) → P y
   all-next P i x below is before now y j = elim (in_append y (map view (take i xs)) (view x ∷ []) (subst (In y) (taken-more i x below is) j)) [
     | inl k ↦ before y k
     | inr (inl e) ↦ subst P (sym e) now
@@ -24,4 +25,5 @@ module _ {A B : Type 0} (view : A → B) (xs : List A) where
 
   pub in-taken : (i : ℕ) (x : A) → i < length xs → x ≡ get_or xs i x → In (view x) (map view xs)
   in-taken i x below is = subst (λ l. In (view x) (map view l)) (take-append-drop i xs)
-      (subst (In (view x)) (sym (map-append view (take i xs) (drop i xs))) (in_second (view x) (map view (take i xs)) (map view (drop i xs)) (subst (In (view x)) (sym (left-more i x below is)) (inl refl))))
+      (subst (In (view x)) (sym (map-append view (take i xs) (drop i xs)))
+      (in_second (view x) (map view (take i xs)) (map view (drop i xs)) (subst (In (view x)) (sym (left-more i x below is)) (inl refl))))

@@ -22,13 +22,16 @@ none-passes test (y ∷ xs) x e (inr i) = none-passes test xs x (or_parts (test 
 
 module _ (s : Schema) (disabled : Bool) (d : Document) (names : HasGoodNames s disabled d) where
   written-once : (x : Definition) → In x d → (h : Head) → In h (heads (selections_of x)) → arguments_repeat (written h.arguments) ≡ false
-  written-once x i h j = let n = names-hold s disabled d names x i in none-passes (λ (h : Head). arguments_repeat (written h.arguments)) (heads (selections_of x)) h (no-head-repeats x n.arguments_differ n.input_fields_differ) j
+  written-once x i h j = let n = names-hold s disabled d names x i in
+      none-passes (λ (h : Head). arguments_repeat (written h.arguments)) (heads (selections_of x)) h
+      (no-head-repeats x n.arguments_differ n.input_fields_differ) j
 
   pub are-written : AreWritten (fragments d)
   unfolding selections_of
   are-written k f e = written-once (fragment f) (found-fragment d k f e).0
 
   -- where all fragments are known, each definition is ready
-  pub definitions-ready : (vs : List FieldAt) (words : ℕ → Head) (held : Name → Option (List ℕ)) → ((k : Name) → IsKnown s (fragments d) vs words held k) → (x : Definition) → In x d →
+  pub definitions-ready : (vs : List FieldAt) (words : ℕ → Head) (held : Name → Option (List ℕ)) → ((k : Name) → IsKnown s (fragments d) vs words held k) →
+      (x : Definition) → In x d →
       IsReady s (fragments d) vs words held (selections_of x)
   definitions-ready vs words held known x i = record { once = written-once x i; known = λ k j. known k }

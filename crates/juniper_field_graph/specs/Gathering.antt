@@ -47,7 +47,8 @@ module _ (s : Schema) (fs : List Fragment) (vs : List FieldAt) (words : ℕ → 
   -- numbers and sets that, before those of what follows, are those of the whole; in each graph that has these vertices
   abbrev pub Leads : Name → Selections → Selections → List ℕ → List (List ℕ) → Type 0
   Leads p rest whole is ms = (ws : List FieldAt) (more : ℕ → Head) → Grows vs ws words more → (js : List ℕ) (ns : List (List ℕ)) →
-      Covers s ws more fs p rest js → AreCovered s fs ws more (sets_below s p rest) ns → Covers s ws more fs p whole (is ++ js) × AreCovered s fs ws more (sets_below s p whole) (ms ++ ns)
+      Covers s ws more fs p rest js → AreCovered s fs ws more (sets_below s p rest) ns →
+      Covers s ws more fs p whole (is ++ js) × AreCovered s fs ws more (sets_below s p whole) (ms ++ ns)
 
 module _ {S : Type 0} (shown : S → Shown) (s : Schema) (fs : List Fragment) where
   abbrev pub IsReadyIn : FieldGraph S → (Name → Option (List ℕ)) → Selections → Type 0
@@ -75,7 +76,8 @@ module _ {S : Type 0} (shown : S → Shown) (s : Schema) (fs : List Fragment) wh
 module _ (s : Schema) (fs : List Fragment) (vs : List FieldAt) (words : ℕ → Head) where
   -- numbers at a name stand for what its fragment holds; and the fragments before have some
   pub record AreHeld (held : Name → Option (List ℕ)) (before : List Fragment) : Type 0 where
-    pub right : (k : Name) (js : List ℕ) → held k ≡ Some js → (f : Fragment) × (fragment_of fs k ≡ Some f) × Covers s vs words fs f.condition.item f.selections js
+    pub right : (k : Name) (js : List ℕ) → held k ≡ Some js → (f : Fragment) × (fragment_of fs k ≡ Some f)
+        × Covers s vs words fs f.condition.item f.selections js
     pub there : (f : Fragment) → In f before → (js : List ℕ) × (held f.name.item ≡ Some js)
 
 -- no field of the fragments that names find has an argument twice

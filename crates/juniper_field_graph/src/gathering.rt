@@ -50,9 +50,12 @@ pub(crate) fn gather_set<'d, 'a, S: ScalarValue>(
     selections: &'d [Selection<'a, S>],
     gathered: &mut Gathered<'d, 'a, S>,
 ) -> Result<Vec<usize>, AllocError>
-    ensures { IfOk result (λ v. (fs : List SpecFragment) → HasNoCycle fs → view_type known.now.undeclared.now ≡ fields.declared_type None → IsGraphOf S.shown (view_schema S.shown known.now.schema.now) gathered.old.graph
-        → IsReadyIn S.shown (view_schema S.shown known.now.schema.now) fs gathered.old.graph (numbers_at known.now.fragments.now) (view_selections S.shown selections.now)
-        → IsSetGathered S.shown (view_schema S.shown known.now.schema.now) fs gathered.old.graph gathered.new.graph (view_sets gathered.old.sets) (view_sets gathered.new.sets) parent.now (view_selections S.shown selections.now) v.items) }
+    ensures { IfOk result (λ v. (fs : List SpecFragment) → HasNoCycle fs → view_type known.now.undeclared.now ≡ fields.declared_type None →
+        IsGraphOf S.shown (view_schema S.shown known.now.schema.now) gathered.old.graph
+        → IsReadyIn S.shown (view_schema S.shown known.now.schema.now) fs gathered.old.graph (numbers_at known.now.fragments.now)
+        (view_selections S.shown selections.now)
+        → IsSetGathered S.shown (view_schema S.shown known.now.schema.now) fs gathered.old.graph gathered.new.graph (view_sets gathered.old.sets)
+        (view_sets gathered.new.sets) parent.now (view_selections S.shown selections.now) v.items) }
 {
     let mut numbers = Numbers::new(alloc);
     for selection in selections {
@@ -72,9 +75,12 @@ fn gather_selection<'d, 'a, S: ScalarValue>(
     numbers: &mut Numbers,
     gathered: &mut Gathered<'d, 'a, S>,
 ) -> Result<(), AllocError>
-    ensures { OnOk result ((fs : List SpecFragment) → HasNoCycle fs → view_type known.now.undeclared.now ≡ fields.declared_type None → IsGraphOf S.shown (view_schema S.shown known.now.schema.now) gathered.old.graph
-        → (rest : Selections) → IsReadyIn S.shown (view_schema S.shown known.now.schema.now) fs gathered.old.graph (numbers_at known.now.fragments.now) (put_selection S.shown selection.now rest)
-        → IsGathered S.shown (view_schema S.shown known.now.schema.now) fs gathered.old.graph gathered.new.graph (view_sets gathered.old.sets) (view_sets gathered.new.sets) numbers.old numbers.new parent.now rest (put_selection S.shown selection.now rest)) }
+    ensures { OnOk result ((fs : List SpecFragment) → HasNoCycle fs → view_type known.now.undeclared.now ≡ fields.declared_type None →
+        IsGraphOf S.shown (view_schema S.shown known.now.schema.now) gathered.old.graph
+        → (rest : Selections) → IsReadyIn S.shown (view_schema S.shown known.now.schema.now) fs gathered.old.graph (numbers_at known.now.fragments.now)
+        (put_selection S.shown selection.now rest)
+        → IsGathered S.shown (view_schema S.shown known.now.schema.now) fs gathered.old.graph gathered.new.graph (view_sets gathered.old.sets)
+        (view_sets gathered.new.sets) numbers.old numbers.new parent.now rest (put_selection S.shown selection.now rest)) }
 {
     match selection {
         Selection::Field(field) => {
@@ -110,9 +116,12 @@ fn gather_field<'d, 'a, S: ScalarValue>(
     numbers: &mut Numbers,
     gathered: &mut Gathered<'d, 'a, S>,
 ) -> Result<(), AllocError>
-    ensures { OnOk result ((fs : List SpecFragment) → HasNoCycle fs → view_type known.now.undeclared.now ≡ fields.declared_type None → IsGraphOf S.shown (view_schema S.shown known.now.schema.now) gathered.old.graph
-        → (rest : Selections) → IsReadyIn S.shown (view_schema S.shown known.now.schema.now) fs gathered.old.graph (numbers_at known.now.fragments.now) (put_selection S.shown (Selection.Field field.now) rest)
-        → IsGathered S.shown (view_schema S.shown known.now.schema.now) fs gathered.old.graph gathered.new.graph (view_sets gathered.old.sets) (view_sets gathered.new.sets) numbers.old numbers.new parent.now rest (put_selection S.shown (Selection.Field field.now) rest)) }
+    ensures { OnOk result ((fs : List SpecFragment) → HasNoCycle fs → view_type known.now.undeclared.now ≡ fields.declared_type None →
+        IsGraphOf S.shown (view_schema S.shown known.now.schema.now) gathered.old.graph
+        → (rest : Selections) → IsReadyIn S.shown (view_schema S.shown known.now.schema.now) fs gathered.old.graph (numbers_at known.now.fragments.now)
+        (put_selection S.shown (Selection.Field field.now) rest)
+        → IsGathered S.shown (view_schema S.shown known.now.schema.now) fs gathered.old.graph gathered.new.graph (view_sets gathered.old.sets)
+        (view_sets gathered.new.sets) numbers.old numbers.new parent.now rest (put_selection S.shown (Selection.Field field.now) rest)) }
 {
     let declared_type = declared_type(known, parent, field.item.name.item);
     let below = match &field.item.selection_set {
@@ -148,7 +157,8 @@ fn put_field<'d, 'a, S: ScalarValue>(
     numbers: &mut Numbers,
 ) -> Result<(), AllocError>
     ensures { OnOk result (IsGraphOf S.shown (view_schema S.shown known.now.schema.now) graph.old
-        → view_type declared_type.now ≡ fields.declared_type (field_of (view_schema S.shown known.now.schema.now) parent.now (view_field S.shown field.now).name.item)
+        → view_type declared_type.now ≡ fields.declared_type (field_of (view_schema S.shown known.now.schema.now) parent.now
+        (view_field S.shown field.now).name.item)
         → arguments_repeat (written (view_field S.shown field.now).arguments) ≡ false
         → (i : ℕ) × IsPushed S.shown (view_schema S.shown known.now.schema.now) graph.old graph.new parent.now (view_field S.shown field.now) below.items i
         × ((all : List ℕ) → IsSetOf numbers.old all → IsSetOf numbers.new (all ++ i ∷ []))) }
@@ -165,7 +175,8 @@ fn declared_type<'d, S: ScalarValue>(
     parent: &str,
     name: &str,
 ) -> &'d Type<String>
-    ensures { view_type known.now.undeclared.now ≡ fields.declared_type None → view_type result.now ≡ fields.declared_type (field_of (view_schema S.shown known.now.schema.now) parent.now name.now) }
+    ensures { view_type known.now.undeclared.now ≡ fields.declared_type None →
+        view_type result.now ≡ fields.declared_type (field_of (view_schema S.shown known.now.schema.now) parent.now name.now) }
 {
     let schema = known.schema;
     match schema.field_of(parent, name) {

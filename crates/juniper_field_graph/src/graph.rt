@@ -157,7 +157,8 @@ fn call_among<S: ScalarValue>(
     field: &Spanning<Field<'_, S>, Span>,
 ) -> usize
     ensures { ((i : ℕ) (h : Head) → slice_get (heads_in S.shown fields.now) i ≡ Some h → IsOnce h) → IsOnce (view_field S.shown field.now)
-        → result ≡ number_among (λ v. v.call) (map view_vertex vertices.now) (λ r. kinds_view.has_call (view_field S.shown field.now) (slice_get (heads_in S.shown fields.now) r)) kinds.now }
+        → result ≡ number_among (λ v. v.call) (map view_vertex vertices.now)
+        (λ r. kinds_view.has_call (view_field S.shown field.now) (slice_get (heads_in S.shown fields.now) r)) kinds.now }
 {
     for kind in kinds {
         if has_call(fields, *kind, field) {

@@ -45,8 +45,10 @@ pub fn cannot_merge<'d, 'a, S: ScalarValue>(
     fragments: &FragmentsByName<'d, 'a, S>,
 ) -> Result<Vec<bool>, AllocError>
     ensures { IfOk result (λ found. (disabled : Bool) → AreFragmentsOf S.shown fragments.now (map (view_definition S.shown) document.now)
-        → at_each (rules.name_errors (view_schema S.shown schema.now) disabled (map (view_definition S.shown) document.now)) [] (map (view_definition S.shown) document.now) ≡ []
-        → found.items ≡ map (rules.cannot_merge (view_schema S.shown schema.now) (map (view_definition S.shown) document.now)) (map (view_definition S.shown) document.now)) }
+        → at_each (rules.name_errors (view_schema S.shown schema.now) disabled (map (view_definition S.shown) document.now)) []
+        (map (view_definition S.shown) document.now) ≡ []
+        → found.items ≡ map (rules.cannot_merge (view_schema S.shown schema.now) (map (view_definition S.shown) document.now))
+        (map (view_definition S.shown) document.now)) }
 {
     let undeclared = undeclared(alloc);
     let found = judge_all(alloc, schema, &undeclared, document, fragments)?;
@@ -61,9 +63,12 @@ fn judge_all<'u, 'd: 'u, 'a: 'u, S: ScalarValue>(
     document: &'u [Definition<'a, S>],
     fragments: &FragmentsByName<'d, 'a, S>,
 ) -> Result<Vec<bool>, AllocError>
-    ensures { IfOk result (λ found. (disabled : Bool) → AreFragmentsOf S.shown fragments.now (map (view_definition S.shown) document.now) → view_type undeclared.now ≡ fields.declared_type None
-        → at_each (rules.name_errors (view_schema S.shown schema.now) disabled (map (view_definition S.shown) document.now)) [] (map (view_definition S.shown) document.now) ≡ []
-        → found.items ≡ map (rules.cannot_merge (view_schema S.shown schema.now) (map (view_definition S.shown) document.now)) (map (view_definition S.shown) document.now)) }
+    ensures { IfOk result (λ found. (disabled : Bool) → AreFragmentsOf S.shown fragments.now (map (view_definition S.shown) document.now) →
+        view_type undeclared.now ≡ fields.declared_type None
+        → at_each (rules.name_errors (view_schema S.shown schema.now) disabled (map (view_definition S.shown) document.now)) []
+        (map (view_definition S.shown) document.now) ≡ []
+        → found.items ≡ map (rules.cannot_merge (view_schema S.shown schema.now) (map (view_definition S.shown) document.now))
+        (map (view_definition S.shown) document.now)) }
 {
     let order = fragments.in_order(alloc)?;
     let mut held: HashMap<&'u str, Vec<usize>> = HashMap::new(alloc);
@@ -106,7 +111,8 @@ fn hold_fragments<'d, 'f: 'd, 'a, S: ScalarValue>(
     gathered: &mut Gathered<'d, 'a, S>,
 ) -> Result<(), AllocError>
     ensures { OnOk result ((fs : List documents.Fragment) → HasNoCycle fs → view_type undeclared.now ≡ fields.declared_type None → AreWritten fs
-        → IsInOrder fs (map (λ f. view_fragment S.shown f.now) order.now.items) → ((k : Name) → numbers_at held.old k ≡ None) → IsGraphOf S.shown (view_schema S.shown schema.now) gathered.old.graph
+        → IsInOrder fs (map (λ f. view_fragment S.shown f.now) order.now.items) → ((k : Name) → numbers_at held.old k ≡ None) →
+        IsGraphOf S.shown (view_schema S.shown schema.now) gathered.old.graph
         → AllKnown S.shown (view_schema S.shown schema.now) fs gathered.old.graph gathered.new.graph (numbers_at held.new)) }
 {
     for index in 0..order.len() {
@@ -125,9 +131,11 @@ fn hold_fragment<'d, 'a, S: ScalarValue>(
     held: &mut HashMap<&'d str, Vec<usize>>,
     gathered: &mut Gathered<'d, 'a, S>,
 ) -> Result<(), AllocError>
-    ensures { OnOk result ((fs : List documents.Fragment) → HasNoCycle fs → view_type undeclared.now ≡ fields.declared_type None → IsGraphOf S.shown (view_schema S.shown schema.now) gathered.old.graph
+    ensures { OnOk result ((fs : List documents.Fragment) → HasNoCycle fs → view_type undeclared.now ≡ fields.declared_type None →
+        IsGraphOf S.shown (view_schema S.shown schema.now) gathered.old.graph
         → IsReadyIn S.shown (view_schema S.shown schema.now) fs gathered.old.graph (numbers_at held.old) (view_fragment S.shown fragment.now).selections
-        → IsHeld S.shown (view_schema S.shown schema.now) fs gathered.old.graph gathered.new.graph (numbers_at held.old) (numbers_at held.new) (view_fragment S.shown fragment.now)) }
+        → IsHeld S.shown (view_schema S.shown schema.now) fs gathered.old.graph gathered.new.graph (numbers_at held.old) (numbers_at held.new)
+        (view_fragment S.shown fragment.now)) }
 {
     let known = Known {
         schema,
@@ -165,8 +173,11 @@ fn judge_each<'d, 'a, S: ScalarValue>(
     document: &'d [Definition<'a, S>],
     gathered: &mut Gathered<'d, 'a, S>,
 ) -> Result<Vec<bool>, AllocError>
-    ensures { IfOk result (λ found. (d : Document) → HasNoCycle (documents.fragments d) → view_type known.now.undeclared.now ≡ fields.declared_type None → IsGraphOf S.shown (view_schema S.shown known.now.schema.now) gathered.old.graph
-        → ((x : documents.Definition) → In x (map (view_definition S.shown) document.now) → IsReadyIn S.shown (view_schema S.shown known.now.schema.now) (documents.fragments d) gathered.old.graph (numbers_at known.now.fragments.now) (selections_of x))
+    ensures { IfOk result (λ found. (d : Document) → HasNoCycle (documents.fragments d) → view_type known.now.undeclared.now ≡ fields.declared_type None →
+        IsGraphOf S.shown (view_schema S.shown known.now.schema.now) gathered.old.graph
+        → ((x : documents.Definition) → In x (map (view_definition S.shown) document.now) →
+        IsReadyIn S.shown (view_schema S.shown known.now.schema.now) (documents.fragments d) gathered.old.graph (numbers_at known.now.fragments.now)
+        (selections_of x))
         → found.items ≡ map (rules.cannot_merge (view_schema S.shown known.now.schema.now) d) (map (view_definition S.shown) document.now)) }
 {
     let mut found = Vec::new(alloc);
@@ -184,9 +195,12 @@ fn definition_merges<'d, 'a, S: ScalarValue>(
     definition: &'d Definition<'a, S>,
     gathered: &mut Gathered<'d, 'a, S>,
 ) -> Result<bool, AllocError>
-    ensures { IfOk result (λ b. (d : Document) → HasNoCycle (documents.fragments d) → view_type known.now.undeclared.now ≡ fields.declared_type None → IsGraphOf S.shown (view_schema S.shown known.now.schema.now) gathered.old.graph
-        → IsReadyIn S.shown (view_schema S.shown known.now.schema.now) (documents.fragments d) gathered.old.graph (numbers_at known.now.fragments.now) (selections_of (view_definition S.shown definition.now))
-        → IsJudged S.shown (view_schema S.shown known.now.schema.now) (documents.fragments d) gathered.old.graph gathered.new.graph (merging.definition_merges (view_schema S.shown known.now.schema.now) d (view_definition S.shown definition.now)) b) }
+    ensures { IfOk result (λ b. (d : Document) → HasNoCycle (documents.fragments d) → view_type known.now.undeclared.now ≡ fields.declared_type None →
+        IsGraphOf S.shown (view_schema S.shown known.now.schema.now) gathered.old.graph
+        → IsReadyIn S.shown (view_schema S.shown known.now.schema.now) (documents.fragments d) gathered.old.graph (numbers_at known.now.fragments.now)
+        (selections_of (view_definition S.shown definition.now))
+        → IsJudged S.shown (view_schema S.shown known.now.schema.now) (documents.fragments d) gathered.old.graph gathered.new.graph
+        (merging.definition_merges (view_schema S.shown known.now.schema.now) d (view_definition S.shown definition.now)) b) }
 {
     match definition {
         Definition::Operation(operation) => {
@@ -216,10 +230,13 @@ fn sets_merge<'d, 'a, S: ScalarValue>(
     selections: &'d [Selection<'a, S>],
     gathered: &mut Gathered<'d, 'a, S>,
 ) -> Result<bool, AllocError>
-    ensures { IfOk result (λ b. (fs : List documents.Fragment) → HasNoCycle fs → view_type known.now.undeclared.now ≡ fields.declared_type None → IsGraphOf S.shown (view_schema S.shown known.now.schema.now) gathered.old.graph
-        → IsReadyIn S.shown (view_schema S.shown known.now.schema.now) fs gathered.old.graph (numbers_at known.now.fragments.now) (view_selections S.shown selections.now)
+    ensures { IfOk result (λ b. (fs : List documents.Fragment) → HasNoCycle fs → view_type known.now.undeclared.now ≡ fields.declared_type None →
+        IsGraphOf S.shown (view_schema S.shown known.now.schema.now) gathered.old.graph
+        → IsReadyIn S.shown (view_schema S.shown known.now.schema.now) fs gathered.old.graph (numbers_at known.now.fragments.now)
+        (view_selections S.shown selections.now)
         → IsJudged S.shown (view_schema S.shown known.now.schema.now) fs gathered.old.graph gathered.new.graph
-        (list_all (λ x. merging.set_merges (view_schema S.shown known.now.schema.now) fs x.parent x.selections) (sets_from (view_schema S.shown known.now.schema.now) parent.now (view_selections S.shown selections.now))) b) }
+        (list_all (λ x. merging.set_merges (view_schema S.shown known.now.schema.now) fs x.parent x.selections)
+        (sets_from (view_schema S.shown known.now.schema.now) parent.now (view_selections S.shown selections.now))) b) }
 {
     gathered.sets.clear();
     drop(gather_set(alloc, known, parent, selections, gathered)?);
@@ -233,8 +250,10 @@ fn all_merge(
     vertices: &[Vertex<'_>],
     sets: &[Vec<usize>],
 ) -> Result<bool, AllocError>
-    ensures merges { IfOk result (λ b. b ≡ true → (set : List ℕ) → In set (map (λ l. l.items) sets.now) → (n : ℕ) → set_merges_at (map view_vertex vertices.now) n set ≡ true) }
-    ensures differs { IfOk result (λ b. b ≡ false → (set : List ℕ) × In set (map (λ l. l.items) sets.now) × ((n : ℕ) × (set_merges_at (map view_vertex vertices.now) n set ≡ false))) }
+    ensures merges { IfOk result (λ b. b ≡ true → (set : List ℕ) → In set (map (λ l. l.items) sets.now) → (n : ℕ) →
+        set_merges_at (map view_vertex vertices.now) n set ≡ true) }
+    ensures differs { IfOk result (λ b. b ≡ false → (set : List ℕ) × In set (map (λ l. l.items) sets.now)
+        × ((n : ℕ) × (set_merges_at (map view_vertex vertices.now) n set ≡ false))) }
 {
     for set in sets {
         if !set_merges(alloc, vertices, set)? {

@@ -16,7 +16,8 @@ use Rattle.juniper_resolvable.specs.ResolvedView.{trees_of, view_resolved}
 use Rattle.juniper_resolvable.specs.declared.resolved.Resolved.{Resolved, List as ListOf}
 
 -- one more behind those that are seen so
-pub seen-more : {X Y : Type 0} (view : X → Y) (old new : List X) (x : X) (before : List Y) (y : Y) → new ≡ old ++ x ∷ [] → map view old ≡ before → view x ≡ y → map view new ≡ before ++ y ∷ []
+pub seen-more : {X Y : Type 0} (view : X → Y) (old new : List X) (x : X) (before : List Y) (y : Y) → new ≡ old ++ x ∷ [] → map view old ≡ before → view x ≡ y →
+    map view new ≡ before ++ y ∷ []
 seen-more view old new x before y e i v = ap (map view) e ∙ (map-append view old (x ∷ []) ∙ ap₂ (λ us w. us ++ w ∷ []) i v)
 
 -- ## A node for each number
@@ -34,11 +35,15 @@ turn-numbers f n (x ∷ xs) = ap (λ ys. f n ∷ ys) (turn-numbers f (n + 1) xs)
 abbrev pub left : {X A Y : Type 0} → (X → A) → (A → Bool) → (ℕ → Y) → List X → ℕ → List Y
 left view passes f xs i = map (λ p. f p.0) (filter (λ p. passes p.1) (enumerate_from i (map view (drop i xs))))
 
-pub left-kept : {X A Y : Type 0} (view : X → A) (passes : A → Bool) (f : ℕ → Y) (xs : List X) (i : ℕ) (x : X) → i < length xs → passes (view (get_or xs i x)) ≡ true → left view passes f xs i ≡ f i ∷ left view passes f xs (i + 1)
-left-kept view passes f xs i x low e = ap (λ ys. map (λ p. f p.0) (filter (λ p. passes p.1) (enumerate_from i (map view ys)))) (drop_more xs i x low) ∙ rw e refl
+pub left-kept : {X A Y : Type 0} (view : X → A) (passes : A → Bool) (f : ℕ → Y) (xs : List X) (i : ℕ) (x : X) → i < length xs →
+    passes (view (get_or xs i x)) ≡ true → left view passes f xs i ≡ f i ∷ left view passes f xs (i + 1)
+left-kept view passes f xs i x low e =
+    ap (λ ys. map (λ p. f p.0) (filter (λ p. passes p.1) (enumerate_from i (map view ys)))) (drop_more xs i x low) ∙ rw e refl
 
-pub left-passed : {X A Y : Type 0} (view : X → A) (passes : A → Bool) (f : ℕ → Y) (xs : List X) (i : ℕ) (x : X) → i < length xs → passes (view (get_or xs i x)) ≡ false → left view passes f xs i ≡ left view passes f xs (i + 1)
-left-passed view passes f xs i x low e = ap (λ ys. map (λ p. f p.0) (filter (λ p. passes p.1) (enumerate_from i (map view ys)))) (drop_more xs i x low) ∙ rw e refl
+pub left-passed : {X A Y : Type 0} (view : X → A) (passes : A → Bool) (f : ℕ → Y) (xs : List X) (i : ℕ) (x : X) → i < length xs →
+    passes (view (get_or xs i x)) ≡ false → left view passes f xs i ≡ left view passes f xs (i + 1)
+left-passed view passes f xs i x low e =
+    ap (λ ys. map (λ p. f p.0) (filter (λ p. passes p.1) (enumerate_from i (map view ys)))) (drop_more xs i x low) ∙ rw e refl
 
 left-end : {X A Y : Type 0} (view : X → A) (passes : A → Bool) (f : ℕ → Y) (xs : List X) (k : ℕ) → length xs ≡ k → left view passes f xs k ≡ []
 left-end view passes f xs k e = ap (λ ys. map (λ p. f p.0) (filter (λ p. passes p.1) (enumerate_from k (map view ys)))) (drop_all k xs (omega (arith, e)))
@@ -52,52 +57,65 @@ module _ {N S : Type 0} (shown : S → Shown) where
   each-trees f (x ∷ xs) = ap (tree (node (of_handle (f x)))) (each-trees f xs)
 
   -- a list of them is the list of these trees
-  pub listed-tree : {A : Type 0} (f : A → spec.Handle) (xs : List A) (nodes : Vec (Resolved (RootedNode N) S) Global) → map (view_resolved shown) nodes.items ≡ a_node_each f xs →
+  pub listed-tree : {A : Type 0} (f : A → spec.Handle) (xs : List A) (nodes : Vec (Resolved (RootedNode N) S) Global) →
+      map (view_resolved shown) nodes.items ≡ a_node_each f xs →
       map_tree of_handle (all_of (λ x. node (f x)) xs) ≡ view_resolved shown (ListOf nodes)
   unfolding all_of map_tree
   listed-tree f xs nodes e = ap items (each-trees f xs ∙ ap trees_of (sym e)) ∙ sym (view-List shown nodes)
 
   -- one more node
-  pub nodes-more : (nodes new : List (Resolved (RootedNode N) S)) (x : Resolved (RootedNode N) S) (before : List (Tree (RootedNode N))) (y : Tree (RootedNode N)) →
+  pub nodes-more : (nodes new : List (Resolved (RootedNode N) S)) (x : Resolved (RootedNode N) S) (before : List (Tree (RootedNode N)))
+      (y : Tree (RootedNode N)) →
       new ≡ nodes ++ x ∷ [] → map (view_resolved shown) nodes ≡ before → view_resolved shown x ≡ y → map (view_resolved shown) new ≡ before ++ y ∷ []
   nodes-more nodes new x before y e i v = seen-more (view_resolved shown) nodes new x before y e i v
 
   -- a node for each number is one for each item
   pub turn-all : {A : Type 0} (f : ℕ → spec.Handle) (xs : List A) (nodes : Vec (Resolved (RootedNode N) S) Global) (k : ℕ) → length xs ≡ k →
-      map (view_resolved shown) nodes.items ≡ map (λ j. node (of_handle (f j))) (range_with_len 0 k) → map_tree of_handle (all_of (λ p. node (f p.0)) (enumerate_from 0 xs)) ≡ view_resolved shown (ListOf nodes)
+      map (view_resolved shown) nodes.items ≡ map (λ j. node (of_handle (f j))) (range_with_len 0 k) →
+      map_tree of_handle (all_of (λ p. node (f p.0)) (enumerate_from 0 xs)) ≡ view_resolved shown (ListOf nodes)
   turn-all f xs nodes k e i =
-      listed-tree (λ p. f p.0) (enumerate_from 0 xs) nodes (i ∙ (ap (λ n. map (λ j. node (of_handle (f j))) (range_with_len 0 n)) (sym e) ∙ sym (turn-numbers (λ j. node (of_handle (f j))) 0 xs)))
+      listed-tree (λ p. f p.0) (enumerate_from 0 xs) nodes (i ∙ (ap (λ n. map (λ j. node (of_handle (f j))) (range_with_len 0 n)) (sym e)
+      ∙ sym (turn-numbers (λ j. node (of_handle (f j))) 0 xs)))
 
   -- a node for each item that passes
-  pub passed-all : {X A : Type 0} (view : X → A) (passes : A → Bool) (f : ℕ → spec.Handle) (xs : List X) (nodes : Vec (Resolved (RootedNode N) S) Global) (k : ℕ) → length xs ≡ k →
+  pub passed-all : {X A : Type 0} (view : X → A) (passes : A → Bool) (f : ℕ → spec.Handle) (xs : List X) (nodes : Vec (Resolved (RootedNode N) S) Global)
+      (k : ℕ) → length xs ≡ k →
       map (view_resolved shown) nodes.items ++ left view passes (λ j. node (of_handle (f j))) xs k ≡ left view passes (λ j. node (of_handle (f j))) xs 0 →
       map_tree of_handle (all_of (λ p. node (f p.0)) (spec.numbered passes (map view xs))) ≡ view_resolved shown (ListOf nodes)
   unfolding spec.numbered
   passed-all view passes f xs nodes k e i =
-      listed-tree (λ p. f p.0) (filter (λ p. passes p.1) (enumerate_from 0 (map view xs))) nodes (sym (ap (λ l. map (view_resolved shown) nodes.items ++ l) (left-end view passes (λ j. node (of_handle (f j))) xs k e) ∙ append-nil (map (view_resolved shown) nodes.items)) ∙ i)
+      listed-tree (λ p. f p.0) (filter (λ p. passes p.1) (enumerate_from 0 (map view xs))) nodes
+      (sym (ap (λ l. map (view_resolved shown) nodes.items ++ l) (left-end view passes (λ j. node (of_handle (f j))) xs k e)
+      ∙ append-nil (map (view_resolved shown) nodes.items)) ∙ i)
 
   -- one more item that passes, and one that does not
-  pub kept-more : {X A : Type 0} (view : X → A) (passes : A → Bool) (f : ℕ → spec.Handle) (xs : List X) (k : ℕ) (x : X) (nodes new : List (Resolved (RootedNode N) S)) (y : Resolved (RootedNode N) S) →
+  pub kept-more : {X A : Type 0} (view : X → A) (passes : A → Bool) (f : ℕ → spec.Handle) (xs : List X) (k : ℕ) (x : X)
+      (nodes new : List (Resolved (RootedNode N) S)) (y : Resolved (RootedNode N) S) →
       k < length xs → x ≡ get_or xs k x → passes (view x) ≡ true → new ≡ nodes ++ y ∷ [] → view_resolved shown y ≡ node (of_handle (f k)) →
       map (view_resolved shown) nodes ++ left view passes (λ j. node (of_handle (f j))) xs k ≡ left view passes (λ j. node (of_handle (f j))) xs 0 →
       map (view_resolved shown) new ++ left view passes (λ j. node (of_handle (f j))) xs (k + 1) ≡ left view passes (λ j. node (of_handle (f j))) xs 0
   kept-more view passes f xs k x nodes new y low is p e v i =
-      ap (λ l. l ++ left view passes (λ j. node (of_handle (f j))) xs (k + 1)) (seen-more (view_resolved shown) nodes new y (map (view_resolved shown) nodes) (node (of_handle (f k))) e refl v)
+      ap (λ l. l ++ left view passes (λ j. node (of_handle (f j))) xs (k + 1))
+      (seen-more (view_resolved shown) nodes new y (map (view_resolved shown) nodes) (node (of_handle (f k))) e refl v)
       ∙ (append_assoc (map (view_resolved shown) nodes) (node (of_handle (f k)) ∷ []) (left view passes (λ j. node (of_handle (f j))) xs (k + 1))
-      ∙ (ap (λ l. map (view_resolved shown) nodes ++ l) (sym (left-kept view passes (λ j. node (of_handle (f j))) xs k x low (ap (λ z. passes (view z)) (sym is) ∙ p))) ∙ i))
+      ∙ (ap (λ l. map (view_resolved shown) nodes ++ l) (sym (left-kept view passes (λ j. node (of_handle (f j))) xs k x low
+      (ap (λ z. passes (view z)) (sym is) ∙ p))) ∙ i))
 
-  pub passed-more : {X A : Type 0} (view : X → A) (passes : A → Bool) (f : ℕ → spec.Handle) (xs : List X) (k : ℕ) (x : X) (nodes new : List (Resolved (RootedNode N) S)) →
+  pub passed-more : {X A : Type 0} (view : X → A) (passes : A → Bool) (f : ℕ → spec.Handle) (xs : List X) (k : ℕ) (x : X)
+      (nodes new : List (Resolved (RootedNode N) S)) →
       k < length xs → x ≡ get_or xs k x → passes (view x) ≡ false → new ≡ nodes →
       map (view_resolved shown) nodes ++ left view passes (λ j. node (of_handle (f j))) xs k ≡ left view passes (λ j. node (of_handle (f j))) xs 0 →
       map (view_resolved shown) new ++ left view passes (λ j. node (of_handle (f j))) xs (k + 1) ≡ left view passes (λ j. node (of_handle (f j))) xs 0
   passed-more view passes f xs k x nodes new low is p e i =
       ap (λ l. map (view_resolved shown) l ++ left view passes (λ j. node (of_handle (f j))) xs (k + 1)) e
-      ∙ (ap (λ l. map (view_resolved shown) nodes ++ l) (sym (left-passed view passes (λ j. node (of_handle (f j))) xs k x low (ap (λ z. passes (view z)) (sym is) ∙ p))) ∙ i)
+      ∙ (ap (λ l. map (view_resolved shown) nodes ++ l) (sym (left-passed view passes (λ j. node (of_handle (f j))) xs k x low
+      (ap (λ z. passes (view z)) (sym is) ∙ p))) ∙ i)
 
 -- ## Names, one by one
 
 -- one more of the items that are seen so
-pub taken-more : {X A Y Z : Type 0} (view : X → Y) (seen : A → Z) (f : Z → Y) (xs : List A) (k : ℕ) (d : A) (old new : List X) (x : X) → k < length xs → new ≡ old ++ x ∷ [] →
+pub taken-more : {X A Y Z : Type 0} (view : X → Y) (seen : A → Z) (f : Z → Y) (xs : List A) (k : ℕ) (d : A) (old new : List X) (x : X) → k < length xs →
+    new ≡ old ++ x ∷ [] →
     view x ≡ f (seen (get_or xs k d)) → map view old ≡ map f (map seen (take k xs)) → map view new ≡ map f (map seen (take (k + 1) xs))
 taken-more view seen f xs k d old new x low e v i =
     seen-more view old new x (map f (map seen (take k xs))) (f (seen (get_or xs k d))) e i v
@@ -111,12 +129,14 @@ module _ {N S : Type 0} (shown : S → Shown) where
   says-trees (x ∷ xs) = ap (tree (leaf (text x))) (says-trees xs)
 
   -- a list of texts
-  pub says-listed : (xs : List Text) (names : Vec (Resolved (RootedNode N) S) Global) → map (view_resolved shown) names.items ≡ map (λ n. says n) xs → map_tree of_handle (all_of says xs) ≡ view_resolved shown (ListOf names)
+  pub says-listed : (xs : List Text) (names : Vec (Resolved (RootedNode N) S) Global) → map (view_resolved shown) names.items ≡ map (λ n. says n) xs →
+      map_tree of_handle (all_of says xs) ≡ view_resolved shown (ListOf names)
   unfolding all_of map_tree
   says-listed xs names e = ap items (says-trees xs ∙ ap trees_of (sym e)) ∙ sym (view-List shown names)
 
   -- a list of types by their names
-  pub called-listed : (number : Name → ℕ) (xs : List Name) (nodes : Vec (Resolved (RootedNode N) S) Global) → map (view_resolved shown) nodes.items ≡ map (λ n. node (of_handle (spec.type_handle (spec.by_name (number n)) 0))) xs →
+  pub called-listed : (number : Name → ℕ) (xs : List Name) (nodes : Vec (Resolved (RootedNode N) S) Global) →
+      map (view_resolved shown) nodes.items ≡ map (λ n. node (of_handle (spec.type_handle (spec.by_name (number n)) 0))) xs →
       map_tree of_handle (all_of (spec.called number) xs) ≡ view_resolved shown (ListOf nodes)
   unfolding spec.called
   called-listed number xs nodes e = listed-tree shown (λ n. spec.type_handle (spec.by_name (number n)) 0) xs nodes e

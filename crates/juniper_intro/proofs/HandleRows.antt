@@ -24,7 +24,8 @@ number_of [] n = 0
 number_of (m ∷ ns) n = cond (bytes_eq n m) 0 (suc (number_of ns n))
 
 unfoldable held_of : Handle → Text → Members → Tree Handle
-unfolding ask_of names number_of numbered taken_off called inputs_at field_held input_held value_held directive_held directive_at shape_at field_at value_at input_at reference_at schema_held type_held held_answers held_answer
+unfolding ask_of names number_of numbered taken_off called inputs_at field_held input_held value_held directive_held directive_at shape_at field_at value_at
+    input_at reference_at schema_held type_held held_answers held_answer
 held_of h f args = held_answer demo names (number_of names) h f args
 
 unfoldable meaning : Handle → Introspected
@@ -40,7 +41,8 @@ two a b = items (tree (node a) (tree (node b) no_trees))
 
 -- `Item` is the seventh of the listed names; its third field is deprecated and its last one is `__typename`
 fields_held : (held_of (type_handle (by_name 6) 0) (codes "fields") no_members ≡ three (field_handle 6 0) (field_handle 6 1) (field_handle 6 3))
-    × (held_of (type_handle (by_name 6) 0) (codes "fields") (member (codes "includeDeprecated") (c.scalar (boolean true)) no_members) ≡ items (tree (node (field_handle 6 0)) (tree (node (field_handle 6 1)) (tree (node (field_handle 6 2)) (tree (node (field_handle 6 3)) no_trees)))))
+    × (held_of (type_handle (by_name 6) 0) (codes "fields") (member (codes "includeDeprecated") (c.scalar (boolean true)) no_members)
+    ≡ items (tree (node (field_handle 6 0)) (tree (node (field_handle 6 1)) (tree (node (field_handle 6 2)) (tree (node (field_handle 6 3)) no_trees)))))
     × (held_of (type_handle (by_name 6) 0) (codes "interfaces") no_members ≡ two (type_handle (by_name 8) 0) (type_handle (by_name 7) 0))
     × (held_of (type_handle (by_name 2) 0) (codes "enumValues") no_members ≡ two (value_handle 2 0) (value_handle 2 2))
     × (held_of schema_handle (codes "queryType") no_members ≡ node (type_handle (by_name 9) 0))

@@ -49,7 +49,8 @@ module _ (m : Handle → Introspected) where
   Same (a ∷ as') [] = ⊥
   Same (a ∷ as') (b ∷ bs) = (a.0 ≡ b.0) × (map_tree m a.1 ≡ b.1) × Same as' bs
 
-  same-answer : (as' : List (Name × Tree Handle)) (bs : List (Name × Tree Introspected)) → Same as' bs → (f : Name) → map_tree m (answer_at f as') ≡ answer_at f bs
+  same-answer : (as' : List (Name × Tree Handle)) (bs : List (Name × Tree Introspected)) → Same as' bs → (f : Name) →
+      map_tree m (answer_at f as') ≡ answer_at f bs
   unfolding answer_at map_tree
   same-answer [] [] e f = refl
   same-answer [] (b ∷ bs) e f = absurd e
@@ -70,16 +71,19 @@ module _ (m : Handle → Introspected) where
   same-default (Some v) = refl
 
   -- a list of one tree each, and of those that pass a test, by their numbers
-  same-each : {A : Type 0} (f : A → Tree Handle) (g : A → Tree Introspected) (xs : List A) → ((x : A) → In x xs → map_tree m (f x) ≡ g x) → map_trees m (each f xs) ≡ each g xs
+  same-each : {A : Type 0} (f : A → Tree Handle) (g : A → Tree Introspected) (xs : List A) → ((x : A) → In x xs → map_tree m (f x) ≡ g x) →
+      map_trees m (each f xs) ≡ each g xs
   unfolding each map_tree
   same-each f g [] e = refl
   same-each f g (x ∷ xs) e = ap₂ tree (e x (inl refl)) (same-each f g xs (λ y i. e y (inr i)))
 
-  same-all : {A : Type 0} (f : A → Tree Handle) (g : A → Tree Introspected) (xs : List A) → ((x : A) → In x xs → map_tree m (f x) ≡ g x) → map_tree m (all_of f xs) ≡ all_of g xs
+  same-all : {A : Type 0} (f : A → Tree Handle) (g : A → Tree Introspected) (xs : List A) → ((x : A) → In x xs → map_tree m (f x) ≡ g x) →
+      map_tree m (all_of f xs) ≡ all_of g xs
   unfolding all_of map_tree
   same-all f g xs e = ap items (same-each f g xs e)
 
-  same-passed : {A : Type 0} (passes : A → Bool) (f : ℕ → Handle) (g : A → Introspected) (n : ℕ) (xs : List A) → ((p : ℕ × A) → In p (enumerate_from n xs) → m (f p.0) ≡ g p.1) →
+  same-passed : {A : Type 0} (passes : A → Bool) (f : ℕ → Handle) (g : A → Introspected) (n : ℕ) (xs : List A) →
+      ((p : ℕ × A) → In p (enumerate_from n xs) → m (f p.0) ≡ g p.1) →
       map_trees m (each (λ (p : ℕ × A). node (f p.0)) (filter (λ (p : ℕ × A). passes p.1) (enumerate_from n xs))) ≡ each (λ x. node (g x)) (filter passes xs)
   unfolding each map_tree
   same-passed passes f g n [] e = refl
@@ -88,7 +92,8 @@ module _ (m : Handle → Introspected) where
     | inr q ↦ rw q (same-passed passes f g (n + 1) xs (λ p i. e p (inr i)))
   ]
 
-  same-enumerated : {A : Type 0} (f : ℕ → Handle) (g : A → Introspected) (n : ℕ) (xs : List A) → ((p : ℕ × A) → In p (enumerate_from n xs) → m (f p.0) ≡ g p.1) →
+  same-enumerated : {A : Type 0} (f : ℕ → Handle) (g : A → Introspected) (n : ℕ) (xs : List A) →
+      ((p : ℕ × A) → In p (enumerate_from n xs) → m (f p.0) ≡ g p.1) →
       map_trees m (each (λ (p : ℕ × A). node (f p.0)) (enumerate_from n xs)) ≡ each (λ x. node (g x)) xs
   unfolding each map_tree
   same-enumerated f g n [] e = refl
@@ -116,9 +121,11 @@ module _ (s : Schema) (x : Executable s) (names : List Name) (number : Name → 
   same-names : (ns : List Name) → list_all (knows s) ns ≡ true → map_tree M (all_of (called number) ns) ≡ all_of type_called ns
   same-names ns e = same-all M (called number) type_called ns (λ n i. same-called n (all-in (knows s) ns n e i))
 
-  same-inputs : (place : ℕ → InputPlace) (ds : List InputDeclaration) → ((k : ℕ) → input_at s names (place k) ≡ get_or ds k no_input) → map_tree M (inputs_at place ds) ≡ all_of an_input ds
+  same-inputs : (place : ℕ → InputPlace) (ds : List InputDeclaration) → ((k : ℕ) → input_at s names (place k) ≡ get_or ds k no_input) →
+      map_tree M (inputs_at place ds) ≡ all_of an_input ds
   unfolding map_tree inputs_at all_of an_input meant
-  same-inputs place ds e = ap items (same-enumerated M (λ k. input_handle (place k)) input_node 0 ds (λ p i. ap input_node (e p.0 ∙ at-number [] ds 0 no_input p refl i)))
+  same-inputs place ds e =
+      ap items (same-enumerated M (λ k. input_handle (place k)) input_node 0 ds (λ p i. ap input_node (e p.0 ∙ at-number [] ds 0 no_input p refl i)))
 
   same-mutation : (o : Option Name) → s.mutation ≡ o → map_tree M (if_any (called number) o) ≡ if_any type_called o
   unfolding if_any map_tree
@@ -142,7 +149,12 @@ module _ (s : Schema) (x : Executable s) (names : List Name) (number : Name → 
           (
             refl,
             refl,
-            (refl, ap items (same-enumerated M (λ k. directive_handle k) (λ (d : DirectiveDeclaration). directive_node d) 0 directives (λ p i. ap directive_node (at-number [] directives 0 no_directive p refl i))), tt),
+            (
+              refl,
+              ap items (same-enumerated M (λ k. directive_handle k) (λ (d : DirectiveDeclaration). directive_node d) 0 directives
+                  (λ p i. ap directive_node (at-number [] directives 0 no_directive p refl i))),
+              tt,
+            ),
           ),
         ),
       ),
@@ -165,7 +177,8 @@ module _ (s : Schema) (x : Executable s) (names : List Name) (number : Name → 
   ]
 
   same-fields : (b : Bool) (o : Option Shape) (i : ℕ) → Stands o i →
-      map_tree M (if_any (all_of (λ (p : ℕ × FieldDeclaration). node (field_handle i p.0))) (option_map (numbered (lists_field b)) (own_fields o))) ≡ if_any (all_of (λ (f : FieldDeclaration). node (field_node f))) (listed_fields b o)
+      map_tree M (if_any (all_of (λ (p : ℕ × FieldDeclaration). node (field_handle i p.0))) (option_map (numbered (lists_field b)) (own_fields o)))
+      ≡ if_any (all_of (λ (f : FieldDeclaration). node (field_node f))) (listed_fields b o)
   unfolding map_tree if_any all_of numbered listed_fields own_fields meant field_at
   same-fields b o i (inl e) = rw e refl
   same-fields b o i (inr e) = elim (options (own_fields o)) [
@@ -175,7 +188,8 @@ module _ (s : Schema) (x : Executable s) (names : List Name) (number : Name → 
   ]
 
   same-values : (b : Bool) (o : Option Shape) (i : ℕ) → Stands o i →
-      map_tree M (if_any (all_of (λ (p : ℕ × EnumValue). node (value_handle i p.0))) (option_map (numbered (lists_value b)) (own_values o))) ≡ if_any (all_of (λ (v : EnumValue). node (value_node v))) (listed_values b o)
+      map_tree M (if_any (all_of (λ (p : ℕ × EnumValue). node (value_handle i p.0))) (option_map (numbered (lists_value b)) (own_values o)))
+      ≡ if_any (all_of (λ (v : EnumValue). node (value_node v))) (listed_values b o)
   unfolding map_tree if_any all_of numbered listed_values own_values meant value_at
   same-values b o i (inl e) = rw e refl
   same-values b o i (inr e) = elim (options (own_values o)) [
@@ -184,7 +198,8 @@ module _ (s : Schema) (x : Executable s) (names : List Name) (number : Name → 
         (λ p k. ap value_node (ap (λ y. get_or (unwrap_or y []) p.0 (value_named [])) (ap own_values e ∙ q) ∙ at-number [] vs 0 (value_named []) p refl k))))
   ]
 
-  same-input_fields : (o : Option Shape) (i : ℕ) → Stands o i → map_tree M (if_any (inputs_at (of_input_object i)) (listed_inputs o)) ≡ if_any (all_of an_input) (listed_inputs o)
+  same-input_fields : (o : Option Shape) (i : ℕ) → Stands o i → map_tree M (if_any (inputs_at (of_input_object i)) (listed_inputs o))
+      ≡ if_any (all_of an_input) (listed_inputs o)
   unfolding map_tree if_any listed_inputs input_at
   same-input_fields o i (inl e) = rw e refl
   same-input_fields o i (inr e) = elim (options (listed_inputs o)) [
@@ -192,7 +207,8 @@ module _ (s : Schema) (x : Executable s) (names : List Name) (number : Name → 
     | inr (ds, q) ↦ rw q (same-inputs (of_input_object i) ds (λ k. ap (λ y. get_or (unwrap_or y []) k no_input) (ap listed_inputs e ∙ q)))
   ]
 
-  same-interfaces : (o : Option Shape) → list_all (knows s) (interfaces_of o) ≡ true → map_tree M (if_any (all_of (called number)) (listed_interfaces o)) ≡ if_any (all_of type_called) (listed_interfaces o)
+  same-interfaces : (o : Option Shape) → list_all (knows s) (interfaces_of o) ≡ true →
+      map_tree M (if_any (all_of (called number)) (listed_interfaces o)) ≡ if_any (all_of type_called) (listed_interfaces o)
   unfolding map_tree if_any listed_interfaces interfaces_of
   same-interfaces (Some (scalar_type k u)) e = refl
   same-interfaces (Some (enum_type vs)) e = refl
@@ -205,7 +221,8 @@ module _ (s : Schema) (x : Executable s) (names : List Name) (number : Name → 
   same-interfaces (Some placeholder) e = refl
   same-interfaces None e = refl
 
-  same-possible : (n : Name) (o : Option Shape) → list_all (knows s) (members_of o) ≡ true → map_tree M (if_any (all_of (called number)) (possible_types s n o)) ≡ if_any (all_of type_called) (possible_types s n o)
+  same-possible : (n : Name) (o : Option Shape) → list_all (knows s) (members_of o) ≡ true →
+      map_tree M (if_any (all_of (called number)) (possible_types s n o)) ≡ if_any (all_of type_called) (possible_types s n o)
   unfolding map_tree if_any possible_types members_of
   same-possible n (Some (scalar_type k u)) e = refl
   same-possible n (Some (enum_type vs)) e = refl
@@ -219,20 +236,23 @@ module _ (s : Schema) (x : Executable s) (names : List Name) (number : Name → 
   same-possible n None e = refl
 
   same-possible_of : (t : TypeRef) (o : Option Shape) → list_all (knows s) (members_of o) ≡ true →
-      map_tree M (if_any (all_of (called number)) (option_and_then (λ n. possible_types s n o) (own_name t))) ≡ if_any (all_of type_called) (option_and_then (λ n. possible_types s n o) (own_name t))
+      map_tree M (if_any (all_of (called number)) (option_and_then (λ n. possible_types s n o) (own_name t)))
+      ≡ if_any (all_of type_called) (option_and_then (λ n. possible_types s n o) (own_name t))
   unfolding map_tree if_any own_name
   same-possible_of (named false n) o e = same-possible n o e
   same-possible_of (named true n) o e = refl
   same-possible_of (list_of r size t) o e = refl
 
-  same-inside : (place : TypePlace) (d : ℕ) → map_tree M (if_any (λ u. node (type_handle place (suc d))) (of_type (taken_off d (reference_at s names place)))) ≡ if_any a_type (of_type (taken_off d (reference_at s names place)))
+  same-inside : (place : TypePlace) (d : ℕ) → map_tree M (if_any (λ u. node (type_handle place (suc d))) (of_type (taken_off d (reference_at s names place))))
+      ≡ if_any a_type (of_type (taken_off d (reference_at s names place)))
   unfolding map_tree if_any a_type meant taken_off
   same-inside place d = elim (options (of_type (taken_off d (reference_at s names place)))) [
     | inl q ↦ rw q refl
     | inr (u, q) ↦ rw q (ap (λ y. node (type_node (unwrap_or y (taken_off d (reference_at s names place))))) q)
   ]
 
-  same-type : (place : TypePlace) (d : ℕ) (args : Members) → Same M (held_answers s names number (type_handle place d) args) (type_answers s (taken_off d (reference_at s names place)) args)
+  same-type : (place : TypePlace) (d : ℕ) (args : Members) → Same M (held_answers s names number (type_handle place d) args)
+      (type_answers s (taken_off d (reference_at s names place)) args)
   unfolding held_answers type_held type_answers
   same-type place d args =
       let t : TypeRef = taken_off d (reference_at s names place) in
@@ -285,12 +305,24 @@ module _ (s : Schema) (x : Executable s) (names : List Name) (number : Name → 
 
   same-field : (i j : ℕ) → Same M (field_held i j (field_at s names i j)) (field_answers (field_at s names i j))
   unfolding field_held field_answers map_tree says tells meant reference_at taken_off input_at a_type
-  same-field i j = let f : FieldDeclaration = field_at s names i j in
-      (refl, refl, (refl, same-texts M f.description, (refl, same-inputs (of_field i j) f.arguments (λ k. refl), (refl, refl, (refl, refl, (refl, same-texts M (reason_of f.deprecation), tt))))))
+  same-field i j = let f : FieldDeclaration = field_at s names i j in (
+    refl,
+    refl,
+    (
+      refl,
+      same-texts M f.description,
+      (
+        refl,
+        same-inputs (of_field i j) f.arguments (λ k. refl),
+        (refl, refl, (refl, refl, (refl, same-texts M (reason_of f.deprecation), tt))),
+      ),
+    ),
+  )
 
   same-input : (place : InputPlace) → Same M (input_held place (input_at s names place)) (input_answers (input_at s names place))
   unfolding input_held input_answers map_tree says meant reference_at taken_off a_type
-  same-input place = let d : InputDeclaration = input_at s names place in (refl, refl, (refl, same-texts M d.description, (refl, refl, (refl, same-default M d.default, tt))))
+  same-input place =
+      let d : InputDeclaration = input_at s names place in (refl, refl, (refl, same-texts M d.description, (refl, refl, (refl, same-default M d.default, tt))))
 
   same-value : (v : EnumValue) → Same M (value_held v) (value_answers v)
   unfolding value_held value_answers map_tree says tells
@@ -298,8 +330,19 @@ module _ (s : Schema) (x : Executable s) (names : List Name) (number : Name → 
 
   same-directive : (i : ℕ) → Same M (directive_held i (directive_at i)) (directive_answers (directive_at i))
   unfolding directive_held directive_answers map_tree says tells input_at
-  same-directive i = let d : DirectiveDeclaration = directive_at i in
-      (refl, refl, (refl, refl, (refl, same-all M says says d.locations (λ k j. refl), (refl, same-inputs (of_directive i) d.arguments (λ k. refl), (refl, refl, (refl, refl, (refl, refl, (refl, refl, tt))))))))
+  same-directive i = let d : DirectiveDeclaration = directive_at i in (
+    refl,
+    refl,
+    (
+      refl,
+      refl,
+      (
+        refl,
+        same-all M says says d.locations (λ k j. refl),
+        (refl, same-inputs (of_directive i) d.arguments (λ k. refl), (refl, refl, (refl, refl, (refl, refl, (refl, refl, tt))))),
+      ),
+    ),
+  )
 
   same-answers : (h : Handle) (args : Members) → Same M (held_answers s names number h args) (answers_of s (M h) args)
   unfolding held_answers answers_of meant
@@ -359,14 +402,21 @@ module _ {A B C : Type 0} (f : A → B) (g : B → C) where
 
 pub held_nodes_serve : {N R : Type 0} → HeldNodesServe N R
 unfolding held_user_reply held_reply user_reply map_reply
-held_nodes_serve {N} {R} s e names number all of_user of_handle sees sees_user sees_handle = (users, λ h f args. handles (held_answer s names number h f args) ∙ ap (λ t. answered (map_tree introspected t)) (same-held s (executable s e) names number all h f args))
+held_nodes_serve {N} {R} s e names number all of_user of_handle sees sees_user sees_handle = (
+  users,
+  λ h f args. handles (held_answer s names number h f args)
+      ∙ ap (λ t. answered (map_tree introspected t)) (same-held s (executable s e) names number all h f args),
+)
   where
     handles : (a : Tree Handle) → map_reply sees (answered (map_tree of_handle a)) ≡ answered (map_tree introspected (map_tree (meant s names) a))
-    handles a = ap answered (map-twice of_handle sees a ∙ (ap (λ (f : Handle → RootedNode N). map_tree f a) (λ i h. sees_handle h i) ∙ sym (map-twice (meant s names) introspected a)))
+    handles a = ap answered (map-twice of_handle sees a ∙ (ap (λ (f : Handle → RootedNode N). map_tree f a) (λ i h. sees_handle h i)
+        ∙ sym (map-twice (meant s names) introspected a)))
 
-    users : (top : N) (answer : N → Name → Members → Reply N) (n : N) (f : Name) (args : Members) → map_reply sees (held_user_reply of_user of_handle s names number answer n f args) ≡ user_reply top s answer n f args
+    users : (top : N) (answer : N → Name → Members → Reply N) (n : N) (f : Name) (args : Members) →
+        map_reply sees (held_user_reply of_user of_handle s names number answer n f args) ≡ user_reply top s answer n f args
     users top answer n f args = elim (cases_Bool (is_introspection f)) [
-      | inl q ↦ rw q (handles (answer_at f (root_held s names number args)) ∙ ap (λ t. answered (map_tree introspected t)) (root-held s (executable s e) names number all f args))
+      | inl q ↦ rw q (handles (answer_at f (root_held s names number args))
+          ∙ ap (λ t. answered (map_tree introspected t)) (root-held s (executable s e) names number all f args))
       | inr q ↦ rw q (map-reply_twice of_user sees (answer n f args) ∙ ap (λ (g : N → RootedNode N). map_reply g (answer n f args)) (λ i m. sees_user m i))
     ]
 
@@ -381,5 +431,6 @@ handle-type s names (directive_handle i) = refl
 
 pub numbers_serve : NumbersServe
 unfolding held_world introspection_world map_reply
-numbers_serve s e names number all vars T h selected = seen_alike s vars (meant s names) (λ f. true) handle_type (λ h f args. answered (held_answer s names number h f args)) introspection_type (λ x f args. answered (introspect s x f args))
+numbers_serve s e names number all vars T h selected = seen_alike s vars (meant s names) (λ f. true) handle_type
+    (λ h f args. answered (held_answer s names number h f args)) introspection_type (λ x f args. answered (introspect s x f args))
     (handle-type s names) (λ m f args p. ap answered (same-held s (executable s e) names number all m f args)) T h selected (selects-any selected)

@@ -17,7 +17,8 @@ use Rattle.juniper_meta.specs.MetaView.{Meta}
 use Rattle.juniper_schema.specs.SchemaView.{meta_of}
 
 -- the item of a number is seen as that of the list that is seen
-pub looked : {X A : Type 0} (view : X → A) (xs : List X) (d r : X) (j : ℕ) (none : A) (ys : List A) → r ≡ get_or xs j d → map view xs ≡ ys → view d ≡ none → view r ≡ get_or ys j none
+pub looked : {X A : Type 0} (view : X → A) (xs : List X) (d r : X) (j : ℕ) (none : A) (ys : List A) → r ≡ get_or xs j d → map view xs ≡ ys → view d ≡ none →
+    view r ≡ get_or ys j none
 looked view xs d r j none ys e m n = ap view e ∙ (sym (lists.get_or-map view xs j d) ∙ (ap (λ l. get_or l j (view d)) m ∙ ap (λ z. get_or ys j z) n))
 
 pub fields-own : (x : Shape) → fields_of (Some x) ≡ unwrap_or (own_fields (Some x)) []
@@ -70,7 +71,8 @@ module _ {M : Type 0} (view : M → Meta) where
       theirs None = refl
       theirs (Some x) = refl
 
-  pub description-looked : (o : Option M) (d : Option Entry) → option_map view o ≡ option_map meta_of d → option_and_then (λ m. (view m).description) o ≡ description_of d
+  pub description-looked : (o : Option M) (d : Option Entry) → option_map view o ≡ option_map meta_of d →
+      option_and_then (λ m. (view m).description) o ≡ description_of d
   unfolding description_of
   description-looked o d e = ours o ∙ (ap (λ z. option_and_then (λ (m : Meta). m.description) z) e ∙ theirs d)
     where

@@ -51,7 +51,8 @@ keyed-listed : (n : Name) (es : List Entry) → is_listed n ≡ true → keyed n
 keyed-listed n [] l e = e
 keyed-listed n (x ∷ xs) l e = elim (cases_Bool (bytes_eq n x.key)) [
   | inl q ↦ let k : is_listed x.key ≡ true = subst (λ z. is_listed z ≡ true) (same_true n x.key q) l in rw (k, q) refl
-  | inr q ↦ let m : keyed n xs ≡ true = rw q at e in elim (cases_Bool (is_listed x.key)) [ inl k ↦ rw (k, q) (keyed-listed n xs l m) | inr k ↦ rw k (keyed-listed n xs l m) ]
+  | inr q ↦ let m : keyed n xs ≡ true = rw q at e in elim (cases_Bool (is_listed x.key))
+      [ inl k ↦ rw (k, q) (keyed-listed n xs l m) | inr k ↦ rw k (keyed-listed n xs l m) ]
 ]
 
 -- what is found at a name has its key
@@ -70,7 +71,8 @@ keyed-declared : (s : Schema) (n : Name) → is_some (declaration_of s n) ≡ tr
 unfolding declaration_of
 keyed-declared s n e =
     let both : keyed n (s.entries ++ introspection_types) ≡ (keyed n s.entries || keyed n introspection_types) =
-    ap (list_any (bytes_eq n)) (map-append (λ (x : Entry). x.key) s.entries introspection_types) ∙ list_any-append (bytes_eq n) (map (λ (x : Entry). x.key) s.entries) (map (λ (x : Entry). x.key) introspection_types) in
+    ap (list_any (bytes_eq n)) (map-append (λ (x : Entry). x.key) s.entries introspection_types)
+    ∙ list_any-append (bytes_eq n) (map (λ (x : Entry). x.key) s.entries) (map (λ (x : Entry). x.key) introspection_types) in
     elim (some-of (entry_in s.entries n) (entry_in introspection_types n) e) [
       | inl q ↦ both ∙ rw (keyed-found n s.entries q) refl
       | inr q ↦ both ∙ or-true (keyed n s.entries) (keyed n introspection_types) (keyed-found n introspection_types q)
@@ -80,7 +82,8 @@ keyed-declared s n e =
 hidden-name : (n : Name) → is_listed n ≡ false → list_any (bytes_eq n) (codes "_EmptyMutation" ∷ codes "_EmptySubscription" ∷ []) ≡ true
 hidden-name n e = elim (cases_Bool (bytes_eq n (codes "_EmptyMutation"))) [
   | inl q ↦ rw q refl
-  | inr q ↦ elim (cases_Bool (bytes_eq n (codes "_EmptySubscription"))) [ inl r ↦ rw (q, r) refl | inr r ↦ let z : true ≡ false = rw (q, r) at e in absurd (cc) ]
+  | inr q ↦ elim (cases_Bool (bytes_eq n (codes "_EmptySubscription")))
+      [ inl r ↦ rw (q, r) refl | inr r ↦ let z : true ≡ false = rw (q, r) at e in absurd (cc) ]
 ]
 
 known-named : (s : Schema) (n : Name) → is_some (declaration_of s n) ≡ true → list_any (bytes_eq n) (all_names s) ≡ true
@@ -95,7 +98,8 @@ known-named s n e =
     ]
 
 -- where the names are all of a schema's, each known name stands at its number
-pub all-named : {H : Type 0} (s : Schema) (names : List Name) (numbers : HashMap (String Global) ℕ H) → names ≡ all_names s → StandAt names names numbers → AllAreNamed s names (number_in numbers)
+pub all-named : {H : Type 0} (s : Schema) (names : List Name) (numbers : HashMap (String Global) ℕ H) → names ≡ all_names s → StandAt names names numbers →
+    AllAreNamed s names (number_in numbers)
 all-named s names numbers e stand n k = stand n (subst (λ z. list_any (bytes_eq n) z ≡ true) (sym e) (known-named s n k))
 
 -- ## Numbers are put in
@@ -103,7 +107,8 @@ all-named s names numbers e stand n k = stand n (subst (λ z. list_any (bytes_eq
 module _ {H : Type 0} (names : List Name) where
   -- one more name stands at its number
   pub stand-more : (old new : HashMap (String Global) ℕ H) (k : ℕ) (name : Name) → k < length names → name ≡ get_or names k [] →
-      ((n : Name) → get_by_text new n ≡ cond (bytes_eq name n) (Some k) (get_by_text old n)) → StandAt (take k names) names old → StandAt (take (k + 1) names) names new
+      ((n : Name) → get_by_text new n ≡ cond (bytes_eq name n) (Some k) (get_by_text old n)) → StandAt (take k names) names old →
+      StandAt (take (k + 1) names) names new
   stand-more old new k name low is put stand n e =
       elim (cases_Bool (bytes_eq name n)) [
         | inl q ↦ let p : get_by_text new n ≡ Some k = rw q at (put n) in ap (λ o. get_or names (unwrap_or o 0) []) p ∙ (sym is ∙ same_true name n q)

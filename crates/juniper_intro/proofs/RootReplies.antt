@@ -45,13 +45,16 @@ module _ {N : Type 0} (s : Schema) (executable : IsTrue (is_executable s)) (name
   -- of the nodes that code holds, as they are seen
   abbrev Serve : Type 0
   Serve =
-      ((n : N) (f : Name) (args : Members) → map_reply (view_node s names) (held_user_reply of_user of_handle s names number answer n f args) ≡ user_reply top s answer n f args)
+      ((n : N) (f : Name) (args : Members) → map_reply (view_node s names) (held_user_reply of_user of_handle s names number answer n f args)
+      ≡ user_reply top s answer n f args)
       × ((h : spec.Handle) (f : Name) (args : Members) →
-      map_reply (view_node {N = N} s names) (held_reply (of_user {N = N}) of_handle s names number h f args) ≡ answered (map_tree introspected (introspect s (meant s names h) f args)))
+      map_reply (view_node {N = N} s names) (held_reply (of_user {N = N}) of_handle s names number h f args)
+      ≡ answered (map_tree introspected (introspect s (meant s names h) f args)))
 
   serve : Serve
   serve =
-      let both = held_nodes_serve s executable names number all of_user of_handle (view_node s names) (λ m. refl) (λ h. ap (λ k. introspected (meant s names k)) (handle-coded h)) in
+      let both = held_nodes_serve s executable names number all of_user of_handle (view_node s names) (λ m. refl)
+      (λ h. ap (λ k. introspected (meant s names k)) (handle-coded h)) in
       (λ n f args. both.0 top answer n f args, both.1)
 
   pub replies-rooted : (n : RootedNode N) (f : Name) (args : Members) →

@@ -114,7 +114,11 @@ directive_held i d = (codes "name", says d.name)
     ∷ (codes "args", inputs_at (of_directive i) d.arguments)
     ∷ (codes "isRepeatable", tells false)
     ∷ (codes "onOperation", tells (stands_on d (codes "QUERY")))
-    ∷ (codes "onFragment", tells (stands_on d (codes "FRAGMENT_DEFINITION") || (stands_on d (codes "INLINE_FRAGMENT") || stands_on d (codes "FRAGMENT_SPREAD"))))
+    ∷ (
+      codes "onFragment",
+      tells (stands_on d (codes "FRAGMENT_DEFINITION")
+          || (stands_on d (codes "INLINE_FRAGMENT") || stands_on d (codes "FRAGMENT_SPREAD"))),
+    )
     ∷ (codes "onField", tells (stands_on d (codes "FIELD"))) ∷ []
 
 -- the names of types are listed in some order
@@ -193,7 +197,10 @@ module _ (s : Schema) (names : List Name) (number : Name → ℕ) where
 
   -- `__schema` and `__type(name:)`
   unfoldable pub root_held : Members → List (Name × Tree Handle)
-  root_held args = (codes "__schema", node schema_handle) ∷ (codes "__type", if_any (λ n. cond (is_some (declaration_of s n)) (called number n) nothing) (given_text (find (codes "name") args))) ∷ []
+  root_held args = (codes "__schema", node schema_handle) ∷ (
+    codes "__type",
+    if_any (λ n. cond (is_some (declaration_of s n)) (called number n) nothing) (given_text (find (codes "name") args)),
+  ) ∷ []
 
   -- each known name stands at its number
   abbrev pub AllAreNamed : Type 0
@@ -227,7 +234,8 @@ module _ {N R : Type 0} (of_user : N → R) (of_handle : Handle → R) (s : Sche
   RepliesServe = (sees : R → RootedNode N) → ((n : N) → sees (of_user n) ≡ user n) → ((h : Handle) → sees (of_handle h) ≡ introspected (meant s names h)) →
       ((top : N) (answer : N → Name → Members → Reply N) (n : N) (f : Name) (args : Members) →
       map_reply sees (held_user_reply answer n f args) ≡ user_reply top s answer n f args)
-      × ((h : Handle) (f : Name) (args : Members) → map_reply sees (held_reply h f args) ≡ answered (map_tree introspected (introspect s (meant s names h) f args)))
+      × ((h : Handle) (f : Name) (args : Members) → map_reply sees (held_reply h f args)
+      ≡ answered (map_tree introspected (introspect s (meant s names h) f args)))
 
 -- in a schema that can be executed, where each known name stands at its number
 abbrev pub HeldNodesServe : Type 0 → Type 0 → Type 0

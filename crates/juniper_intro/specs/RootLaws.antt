@@ -14,9 +14,12 @@ use Rattle.juniper_intro.specs.declared.node.RootedNode.{RootedNode}
 
 -- a node has the object type of the node that it means
 abbrev pub TypesAreRooted : Type 0 → Type 0
-TypesAreRooted N = (s : Schema) (names : List Name) (concrete : N → Name) (top : N) (n : RootedNode N) → held_concrete concrete top n ≡ rooted_concrete top concrete (view_node s names n)
+TypesAreRooted N = (s : Schema) (names : List Name) (concrete : N → Name) (top : N) (n : RootedNode N) →
+    held_concrete concrete top n ≡ rooted_concrete top concrete (view_node s names n)
 
 -- and replies what that one is defined to reply
 abbrev pub RepliesAreRooted : Type 0 → Type 0
-RepliesAreRooted N = (s : Schema) → IsTrue (is_executable s) → (names : List Name) (number : Name → ℕ) → AllAreNamed s names number → (answer : N → Name → Members → Reply N) (top : N)
-    (n : RootedNode N) (f : Name) (args : Members) → map_reply (view_node s names) (held_answer s names number answer top n f args) ≡ rooted_answer top s answer (view_node s names n) f args
+RepliesAreRooted N = (s : Schema) → IsTrue (is_executable s) → (names : List Name) (number : Name → ℕ) → AllAreNamed s names number →
+    (answer : N → Name → Members → Reply N) (top : N)
+    (n : RootedNode N) (f : Name) (args : Members) → map_reply (view_node s names) (held_answer s names number answer top n f args)
+    ≡ rooted_answer top s answer (view_node s names n) f args

@@ -14,7 +14,8 @@ module _ {Q M Sub S C N I J K : Type 0} {values : Values Q S C N I} {query : Typ
     {mutation_ref : References M S J} {subscription : Types Sub S K} {subscription_ref : References Sub S K}
     {scalar : Scalars S} {equality : Equality S} {shows : Shows S} where
   -- the schema
-  abbrev pub schema_of : RootNode Q M Sub S C N I J K values query query_ref mutation mutation_ref subscription subscription_ref scalar equality shows → SchemaType S scalar equality shows
+  abbrev pub schema_of : RootNode Q M Sub S C N I J K values query query_ref mutation mutation_ref subscription subscription_ref scalar equality shows →
+      SchemaType S scalar equality shows
   schema_of r = introspectors.schema_of r.introspector
 
   -- the query's resolver, and what it is told about its type
@@ -28,7 +29,8 @@ module _ {Q M Sub S C N I J K : Type 0} {values : Values Q S C N I} {query : Typ
   abbrev pub mutation_of : RootNode Q M Sub S C N I J K values query query_ref mutation mutation_ref subscription subscription_ref scalar equality shows → M
   mutation_of r = r.mutation
 
-  abbrev pub mutation_info_of : RootNode Q M Sub S C N I J K values query query_ref mutation mutation_ref subscription subscription_ref scalar equality shows → J
+  abbrev pub mutation_info_of : RootNode Q M Sub S C N I J K values query query_ref mutation mutation_ref subscription subscription_ref scalar equality shows →
+      J
   mutation_info_of r = r.mutation_info
 
   -- whether introspection is disabled

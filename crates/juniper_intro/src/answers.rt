@@ -126,7 +126,8 @@ pub(crate) fn of_directive<N: Drop, S: ScalarValue>(
 /// Whether a directive may stand on the definition or the spread of a fragment, or on an inline one.
 fn stands_on_fragment<S: ScalarValue>(directive: &DirectiveType<S>) -> bool
     ensures { result ≡ (stands_on (view_directive S.shown directive.now) (codes "FRAGMENT_DEFINITION")
-        || (stands_on (view_directive S.shown directive.now) (codes "INLINE_FRAGMENT") || stands_on (view_directive S.shown directive.now) (codes "FRAGMENT_SPREAD"))) }
+        || (stands_on (view_directive S.shown directive.now) (codes "INLINE_FRAGMENT")
+        || stands_on (view_directive S.shown directive.now) (codes "FRAGMENT_SPREAD"))) }
 {
     stands_on(directive, "FRAGMENT_DEFINITION")
         || stands_on(directive, "INLINE_FRAGMENT")

@@ -127,7 +127,8 @@ impl<S: ScalarValue> Introspector<S> {
 
     /// The field of this number of the input object of that.
     fn input_field(&self, of_type: usize, number: usize) -> &Argument<S>
-        ensures { view_argument S.shown result.now ≡ spec.input_at (view_schema S.shown (schema_of self.now)) (names_of self.now) (spec.of_input_object of_type number) }
+        ensures { view_argument S.shown result.now ≡ spec.input_at (view_schema S.shown (schema_of self.now)) (names_of self.now)
+            (spec.of_input_object of_type number) }
     {
         match self.declared_at(of_type) {
             Some(meta) => nth_or(meta.input_fields(), number, &self.absent.input),

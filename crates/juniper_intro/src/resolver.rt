@@ -105,7 +105,8 @@ impl<Q: GraphQLValue<S>, M: GraphQLType<S>, Sub: GraphQLType<S>, S: ScalarValue>
 
     ghost concrete = { λ r i c. held_concrete (Q.concrete r.query i c) (Q.root r.query) };
 
-    ghost answer = { λ r i c. held_answer (view_schema S.shown (schema_of r.introspector)) (names_of r.introspector) (number_of r.introspector) (Q.answer r.query i c) (Q.root r.query) };
+    ghost answer = { λ r i c. held_answer (view_schema S.shown (schema_of r.introspector)) (names_of r.introspector) (number_of r.introspector)
+        (Q.answer r.query i c) (Q.root r.query) };
 
     ghost root = { λ r. r.top };
 
@@ -176,8 +177,10 @@ impl<Q: GraphQLValue<S>, M: GraphQLType<S>, Sub: GraphQLType<S>, S: ScalarValue>
         executor: &Executor<Q::Context, S>,
     ) -> Result<Resolved<RootedNode<Q::Node>, S>, ResolveError<S>>
         requires { IsAskedFor S.shown executor.now field_name.now (view_arguments S.shown arguments.now) }
-        ensures { Answers S.shown result (held_user_reply of_user of_handle (view_schema S.shown (schema_of self.now.introspector)) (names_of self.now.introspector)
-            (number_of self.now.introspector) (Q.answer self.now.query info.now (context_of executor.now)) node.now field_name.now (view_arguments S.shown arguments.now)) }
+        ensures { Answers S.shown result (held_user_reply of_user of_handle (view_schema S.shown (schema_of self.now.introspector))
+            (names_of self.now.introspector)
+            (number_of self.now.introspector) (Q.answer self.now.query info.now (context_of executor.now)) node.now field_name.now
+            (view_arguments S.shown arguments.now)) }
     {
         if is_introspection(field_name) {
             return self.introspector.of_root(field_name, arguments);

@@ -20,7 +20,8 @@ pub(crate) fn executable_schema<S: ScalarValue>(
     query_name: Option<&str>,
     mutation_name: Option<&str>,
 ) -> Result<SchemaType<S>, RootError>
-    ensures { Makes (view_schema S.shown) (view_registry S.shown registry) (option_map (λ n. n.now) query_name.entry) (option_map (λ n. n.now) mutation_name.entry) result }
+    ensures { Makes (view_schema S.shown) (view_registry S.shown registry) (option_map (λ n. n.now) query_name.entry)
+        (option_map (λ n. n.now) mutation_name.entry) result }
 {
     let Some(query_name) = query_name else {
         return Err(RootError::NotExecutable);

@@ -48,7 +48,8 @@ impl<S: ScalarValue> Introspector<S> {
     /// What the schema answers (4.2.1).
     #[tactic(auto, unfolding(graphql_spec::specs::Introspection::answer_at, crate::specs::Handles::schema_held, graphql_spec::specs::SeenNodes::map_tree))]
     pub(crate) fn of_schema<N: Drop>(&self, alloc: Global, field_name: &str) -> Answer<N, S>
-        ensures { Answers S.shown result (answered (map_tree of_handle (answer_at field_name.now (schema_held (view_schema S.shown (schema_of self.now)) (names_of self.now) (number_in self.now))))) }
+        ensures { Answers S.shown result (answered (map_tree of_handle
+            (answer_at field_name.now (schema_held (view_schema S.shown (schema_of self.now)) (names_of self.now) (number_in self.now))))) }
     {
         match field_name {
             "types" => types(alloc, &self.names, self.names.listed()),
@@ -79,7 +80,8 @@ impl<S: ScalarValue> Introspector<S> {
     /// The type of a name that is given and known.
     #[tactic(auto, unfolding(graphql_spec::specs::Introspection::if_any))]
     fn known_type<N: Drop>(&self, name: Option<&str>) -> Answer<N, S>
-        ensures { Answers S.shown result (answered (map_tree of_handle (if_any (λ n. cond (is_some (declaration_of (view_schema S.shown (schema_of self.now)) n))
+        ensures { Answers S.shown result (answered (map_tree of_handle
+            (if_any (λ n. cond (is_some (declaration_of (view_schema S.shown (schema_of self.now)) n))
             (called (number_in self.now) n) nothing) (option_map (λ n. n.now) name.entry)))) }
     {
         match name {
@@ -171,7 +173,8 @@ impl<S: ScalarValue> Introspector<S> {
         declared: Option<&MetaType<S>>,
     ) -> Answer<N, S>
         ensures { Answers S.shown result (answered (map_tree of_handle (if_any (all_of (called (number_in self.now)))
-            (option_and_then (λ n. possible_types (view_schema S.shown (schema_of self.now)) n (shape_in S.shown declared.entry)) (own_name (view_reference reference.entry)))))) }
+            (option_and_then (λ n. possible_types (view_schema S.shown (schema_of self.now)) n (shape_in S.shown declared.entry))
+            (own_name (view_reference reference.entry)))))) }
     {
         match reference.own_name() {
             Some(name) => self.possible_at(alloc, name, declared),
@@ -322,7 +325,8 @@ fn interfaces_of<N: Drop, S: ScalarValue>(
     names: &TypeNames,
     declared: Option<&MetaType<S>>,
 ) -> Answer<N, S>
-    ensures { Answers S.shown result (answered (map_tree of_handle (if_any (all_of (called (number_of names.now))) (listed_interfaces (shape_in S.shown declared.entry))))) }
+    ensures { Answers S.shown result (answered (map_tree of_handle
+        (if_any (all_of (called (number_of names.now))) (listed_interfaces (shape_in S.shown declared.entry))))) }
 {
     match declared {
         Some(MetaType::Object(meta)) => types(alloc, names, meta.interface_names.as_slice()),
@@ -370,7 +374,8 @@ fn inputs_of<N: Drop, S: ScalarValue>(
     number: usize,
     declared: Option<&MetaType<S>>,
 ) -> Answer<N, S>
-    ensures { Answers S.shown result (answered (map_tree of_handle (if_any (inputs_at (of_input_object number)) (listed_inputs (shape_in S.shown declared.entry))))) }
+    ensures { Answers S.shown result (answered (map_tree of_handle
+        (if_any (inputs_at (of_input_object number)) (listed_inputs (shape_in S.shown declared.entry))))) }
 {
     match declared {
         Some(MetaType::InputObject(meta)) => inputs(

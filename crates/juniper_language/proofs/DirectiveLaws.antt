@@ -33,7 +33,8 @@ module _ {A : Type 0} (p : ℕ → Reader A) (R : ℕ → A → At → At → Ty
             closed n xs s q.0.1 all.0 t (expect_sound 40 s q.0.1 q.0.0 q.1) some.0 all.1 all.2
       ]
 
-  pub brackets_sound : ((n : ℕ) → IsSound (p n) (R n)) → (n : ℕ) (s t : At) (xs : Spanned (List A)) → in_brackets p n s ≡ Some (xs, t) → Between 40 41 R xs.item n s t × (xs.span ≡ span_of s t)
+  pub brackets_sound : ((n : ℕ) → IsSound (p n) (R n)) → (n : ℕ) (s t : At) (xs : Spanned (List A)) → in_brackets p n s ≡ Some (xs, t) →
+      Between 40 41 R xs.item n s t × (xs.span ≡ span_of s t)
   brackets_sound sound zero s t xs e = absurd (none-some (xs, t) e)
   brackets_sound sound (suc n) s t xs e = let placed = spanned_is s (inner n s) (xs, t) e in (inner_sound sound n s t xs.item placed.0, placed.1)
 
@@ -52,9 +53,11 @@ module _ {A : Type 0} (p : ℕ → Reader A) (R : ℕ → A → At → At → Ty
   no_brackets [] s t h = h
   no_brackets (x ∷ xs) s t h = h
 
-  pub brackets_read : Parts → (n : ℕ) (xs : Spanned (List A)) (s t : At) → Between 40 41 R xs.item n s t → xs.span ≡ span_of s t → in_brackets p n s ≡ Some (xs, t)
+  pub brackets_read : Parts → (n : ℕ) (xs : Spanned (List A)) (s t : At) → Between 40 41 R xs.item n s t → xs.span ≡ span_of s t →
+      in_brackets p n s ≡ Some (xs, t)
   brackets_read parts zero xs s t h place = absurd (no_brackets xs.item s t h)
-  brackets_read parts (suc n) xs s t h place = ap (with_span s) (inner_read parts n xs.item s t h) ∙ ap (λ at. Some (record { item = xs.item; span = at }, t)) (sym place)
+  brackets_read parts (suc n) xs s t h place =
+      ap (with_span s) (inner_read parts n xs.item s t h) ∙ ap (λ at. Some (record { item = xs.item; span = at }, t)) (sym place)
 
   -- the bracket in front
   pub opening : (xs : List A) (n : ℕ) (s t : At) → Between 40 41 R xs n s t → (a : At) × Mark 40 s a
@@ -66,7 +69,12 @@ module _ {A : Type 0} (p : ℕ → Reader A) (R : ℕ → A → At → At → Ty
   brackets_fewer parts [] n s t h = absurd h
   brackets_fewer parts (x ∷ xs) zero s t h = absurd h
   brackets_fewer parts (x ∷ xs) (suc n) s t (a, b, opens, inside, closes) =
-      omega (arith, fewer (mark 40) opens.0 s a opens.1, many_fewer 41 false (p n) (x ∷ xs) a b (parts n (x ∷ xs) a b t inside closes), fewer (mark 41) closes.0 b t closes.1)
+      omega (
+        arith,
+        fewer (mark 40) opens.0 s a opens.1,
+        many_fewer 41 false (p n) (x ∷ xs) a b (parts n (x ∷ xs) a b t inside closes),
+        fewer (mark 41) closes.0 b t closes.1,
+      )
 
 -- ## Arguments
 
@@ -120,19 +128,22 @@ directive_sound c n s t d e =
 directive_read : (c : Bool) (n : ℕ) (d : Directive) (s t : At) → IsDirective c n d s t → sees 40 t ≡ false → directive c n s ≡ Some (d, t)
 unfolding directive
 directive_read c n d s t (a, b, at, word, argued, place) other =
-    rw (expect_read 64 s a at, name_read d.name a b word, given_read c n d.arguments b t argued other) (ap (λ p. Some (record { name = d.name; arguments = d.arguments; span = p }, t)) (sym place))
+    rw (expect_read 64 s a at, name_read d.name a b word, given_read c n d.arguments b t argued other)
+    (ap (λ p. Some (record { name = d.name; arguments = d.arguments; span = p }, t)) (sym place))
 
 pub directives_sound : (c : Bool) (n : ℕ) (s t : At) (ds : List Directive) → directives c n s ≡ Some (ds, t) → AreDirectives c n ds s t
 unfolding directives
 directives_sound c n s t ds e = while_sound 64 (directive c n) (IsDirective c n) (directive_sound c n) (length s.ahead) s t ds e
 
 -- before directives stands the mark of one, or what stands after them
-pub directives_first : (m : ℕ) (c : Bool) (n : ℕ) (ds : List Directive) (s t : At) → 64 == m ≡ false → AreDirectives c n ds s t → sees m t ≡ false → sees m s ≡ false
+pub directives_first : (m : ℕ) (c : Bool) (n : ℕ) (ds : List Directive) (s t : At) → 64 == m ≡ false → AreDirectives c n ds s t → sees m t ≡ false →
+    sees m s ≡ false
 directives_first m c n [] s t e h ends = ap (sees m) h ∙ ends
 directives_first m c n (d ∷ ds) s t e h ends = other_seen 64 m s h.1.0 e h.1.2
 
 -- each is read, and takes tokens
-directives_parts : (c : Bool) (n : ℕ) (ds : List Directive) (s t : At) → AreDirectives c n ds s t → sees 40 t ≡ false → Many (IsPart 64 true (directive c n)) ds s t
+directives_parts : (c : Bool) (n : ℕ) (ds : List Directive) (s t : At) → AreDirectives c n ds s t → sees 40 t ≡ false →
+    Many (IsPart 64 true (directive c n)) ds s t
 directives_parts c n [] s t h other = h
 directives_parts c n (d ∷ ds) s t (e, (a, b, at, word, argued, place), more) other = (
   e,
@@ -144,11 +155,18 @@ directives_parts c n (d ∷ ds) s t (e, (a, b, at, word, argued, place), more) o
   directives_parts c n ds e t more other,
 )
 
-pub directives_read : (c : Bool) (n : ℕ) (ds : List Directive) (s t : At) → AreDirectives c n ds s t → sees 40 t ≡ false → sees 64 t ≡ false → directives c n s ≡ Some (ds, t)
+pub directives_read : (c : Bool) (n : ℕ) (ds : List Directive) (s t : At) → AreDirectives c n ds s t → sees 40 t ≡ false → sees 64 t ≡ false →
+    directives c n s ≡ Some (ds, t)
 unfolding directives
 directives_read c n ds s t h other ends = while_read 64 (directive c n) ds (length s.ahead) s t (directives_parts c n ds s t h other) ends (omega arith)
 
 pub directives_fewer : (c : Bool) (n : ℕ) (ds : List Directive) (s t : At) → AreDirectives c n ds s t → length t.ahead ≤ length s.ahead
 directives_fewer c n [] s t h = omega (arith, ap (λ (u : At). length u.ahead) h)
 directives_fewer c n (d ∷ ds) s t (e, (a, b, at, word, argued, place), more) =
-    omega (arith, fewer (mark 64) at.0 s a at.1, fewer (name d.name.item) d.name.span a b word, given_fewer c n d.arguments b e argued, directives_fewer c n ds e t more)
+    omega (
+      arith,
+      fewer (mark 64) at.0 s a at.1,
+      fewer (name d.name.item) d.name.span a b word,
+      given_fewer c n d.arguments b e argued,
+      directives_fewer c n ds e t more,
+    )

@@ -19,11 +19,13 @@ derived_read : (ts : List Token) (d : Document) (h : IsDerived ts d) → read.do
 derived_read ts d (some, t, all, last) = document_read d (before_all ts) t some all last
 
 -- what is read is spelled
-read_spelled : (bytes : List ℕ) (p : Position) (d : Document) (t : At) → (lexed bytes).ending ≡ whole p → read.document (before_all (lexed bytes).tokens) ≡ Some (d, t) → Spells bytes d
+read_spelled : (bytes : List ℕ) (p : Position) (d : Document) (t : At) → (lexed bytes).ending ≡ whole p →
+    read.document (before_all (lexed bytes).tokens) ≡ Some (d, t) → Spells bytes d
 read_spelled bytes p d t ends given = ((lexed bytes).tokens, lexed_sound bytes p ends, read_derived (lexed bytes).tokens d t given)
 
 -- what is spelled is read, as itself
-spelled_read : (bytes : List ℕ) (d : Document) → Spells bytes d → (t : At) × (p : Position) × ((lexed bytes).ending ≡ whole p) × (read.document (before_all (lexed bytes).tokens) ≡ Some (d, t))
+spelled_read : (bytes : List ℕ) (d : Document) → Spells bytes d →
+    (t : At) × (p : Position) × ((lexed bytes).ending ≡ whole p) × (read.document (before_all (lexed bytes).tokens) ≡ Some (d, t))
 spelled_read bytes d (ts, text, derived) =
     let all : Complete ts (lexed bytes) = lexed_complete bytes ts text in (
       derived.1,
@@ -36,7 +38,8 @@ whole_at : (e : Ending) → is_whole e ≡ true → (p : Position) × (e ≡ who
 whole_at (whole p) e = (p, refl)
 whole_at (fault p) e = absurd (false≢true e)
 
-pub spells_alone : (bytes : List ℕ) (l : Lexed) (d : Document) (t : At) → l ≡ lexed bytes → is_whole l.ending ≡ true → read.document (before_all l.tokens) ≡ Some (d, t)
+pub spells_alone : (bytes : List ℕ) (l : Lexed) (d : Document) (t : At) → l ≡ lexed bytes → is_whole l.ending ≡ true →
+    read.document (before_all l.tokens) ≡ Some (d, t)
     → Spells bytes d × ((e : Document) → Spells bytes e → e ≡ d)
 spells_alone bytes l d t is ends given =
     let end = whole_at l.ending ends in

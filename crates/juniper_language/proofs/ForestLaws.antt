@@ -54,15 +54,25 @@ Lessens x = (n : ℕ) (s t : At) → AreSelections x n s t → length t.ahead �
 
 set_fewer : (below : Selections) → Lessens below → (n : ℕ) (s t : At) → Set below (AreSelections below) n s t → length t.ahead < length s.ahead
 set_fewer below less zero s t h = absurd h
-set_fewer below less (suc n) s t (some, a, b, opens, inside, closes) = omega (arith, fewer (mark 123) opens.0 s a opens.1, less n a b inside, fewer (mark 125) closes.0 b t closes.1)
+set_fewer below less (suc n) s t (some, a, b, opens, inside, closes) =
+    omega (arith, fewer (mark 123) opens.0 s a opens.1, less n a b inside, fewer (mark 125) closes.0 b t closes.1)
 
-set_if_fewer : (c : Bool) (below : Selections) → Lessens below → (n : ℕ) (s t : At) → OptSet c below (AreSelections below) n s t → length t.ahead ≤ length s.ahead
+set_if_fewer : (c : Bool) (below : Selections) → Lessens below → (n : ℕ) (s t : At) → OptSet c below (AreSelections below) n s t →
+    length t.ahead ≤ length s.ahead
 set_if_fewer true below less n s t h = omega (arith, set_fewer below less n s t h)
 set_if_fewer false below less n s t h = omega (arith, ap (λ (u : At). length u.ahead) h.1)
 
-field_fewer : (h : Head) (below : Selections) → Lessens below → (n : ℕ) (s t : At) → IsField h below (AreSelections below) n s t → length t.ahead < length s.ahead
+field_fewer : (h : Head) (below : Selections) → Lessens below → (n : ℕ) (s t : At) → IsField h below (AreSelections below) n s t →
+    length t.ahead < length s.ahead
 field_fewer h below less n s t (a, b, d, e, aliased, word, argued, directed, set, place) =
-    omega (arith, alias_fewer h.alias s a aliased, fewer (name h.name.item) h.name.span a b word, given_fewer false n h.arguments b d argued, directives_fewer false n h.directives d e directed, set_if_fewer h.has_set below less n e t set)
+    omega (
+      arith,
+      alias_fewer h.alias s a aliased,
+      fewer (name h.name.item) h.name.span a b word,
+      given_fewer false n h.arguments b d argued,
+      directives_fewer false n h.directives d e directed,
+      set_if_fewer h.has_set below less n e t set,
+    )
 
 spread_fewer : (x : Spread) (n : ℕ) (s t : At) → IsSpread x n s t → length t.ahead < length s.ahead
 spread_fewer x n s t (a, b, dots, word, other, directed, place) =
@@ -72,15 +82,23 @@ condition_fewer : (o : Option Word) (s t : At) → Opt TypeCondition o s t → l
 condition_fewer None s t h = omega (arith, ap (λ (u : At). length u.ahead) h)
 condition_fewer (Some w) s t (a, on, word) = omega (arith, fewer (name on_word) on.0 s a on.1, fewer (name w.item) w.span a t word)
 
-inline_fewer : (x : Inline) (below : Selections) → Lessens below → (n : ℕ) (s t : At) → IsInline x below (AreSelections below) n s t → length t.ahead < length s.ahead
+inline_fewer : (x : Inline) (below : Selections) → Lessens below → (n : ℕ) (s t : At) → IsInline x below (AreSelections below) n s t →
+    length t.ahead < length s.ahead
 inline_fewer x below less n s t (a, b, d, dots, condition, directed, set, place) =
-    omega (arith, fewer (mark 46) dots.0 s a dots.1, condition_fewer x.condition a b condition, directives_fewer false n x.directives b d directed, set_fewer below less n d t set)
+    omega (
+      arith,
+      fewer (mark 46) dots.0 s a dots.1,
+      condition_fewer x.condition a b condition,
+      directives_fewer false n x.directives b d directed,
+      set_fewer below less n d t set,
+    )
 
 selections_fewer : (x : Selections) → Lessens x
 selections_fewer end n s t h = omega (arith, ap (λ (u : At). length u.ahead) h)
 selections_fewer (field h below rest) n s t (a, f, more) = omega (arith, field_fewer h below (selections_fewer below) n s a f, selections_fewer rest n a t more)
 selections_fewer (spread x rest) n s t (a, f, more) = omega (arith, spread_fewer x n s a f, selections_fewer rest n a t more)
-selections_fewer (inline x below rest) n s t (a, f, more) = omega (arith, inline_fewer x below (selections_fewer below) n s a f, selections_fewer rest n a t more)
+selections_fewer (inline x below rest) n s t (a, f, more) =
+    omega (arith, inline_fewer x below (selections_fewer below) n s a f, selections_fewer rest n a t more)
 
 -- ## A selection is read
 
@@ -88,7 +106,8 @@ selections_fewer (inline x below rest) n s t (a, f, more) = omega (arith, inline
 abbrev ReadsSet : Selections → Type 0
 ReadsSet below = (n : ℕ) (s t : At) → Set below (AreSelections below) n s t → set_by (inside_of n) s ≡ Some (below, t)
 
-field_read : (n : ℕ) (alias : Option Word) (x : Word) (as' : Arguments) (ds : List Directive) (c : Bool) (place : Span) (below : Selections) (s t : At) → ReadsSet below → Ends t
+field_read : (n : ℕ) (alias : Option Word) (x : Word) (as' : Arguments) (ds : List Directive) (c : Bool) (place : Span) (below : Selections) (s t : At) →
+    ReadsSet below → Ends t
     → IsField (record { alias = alias; name = x; arguments = as'; directives = ds; has_set = c; span = place }) below (AreSelections below) n s t
     → selection n (inside_of n) s ≡ Some (field_node (record { alias = alias; name = x; arguments = as'; directives = ds; has_set = c; span = place }) below, t)
 unfolding selection
@@ -96,28 +115,57 @@ field_read n alias x as' ds true place below s t reads ends (a, b, d, e, aliased
     let no_bracket = set_first 40 below n e t refl set in
     let colon = given_first 58 false n as' b d refl argued (directives_first 58 false n ds d e refl directed (set_first 58 below n e t refl set)) in
     let given_is = given_read false n as' b d argued (directives_first 40 false n ds d e refl directed no_bracket) in
-    rw (alias_first 46 alias x s a b aliased word, label_read alias x s a b aliased word colon, given_is, directives_read false n ds d e directed no_bracket (set_first 64 below n e t refl set), set_opens below n e t set, reads n e t set)
+    rw (
+      alias_first 46 alias x s a b aliased word,
+      label_read alias x s a b aliased word colon,
+      given_is,
+      directives_read false n ds d e directed no_bracket (set_first 64 below n e t refl set),
+      set_opens below n e t set,
+      reads n e t set,
+    )
     (ap (λ p. Some (field_node (record { alias = alias; name = x; arguments = as'; directives = ds; has_set = true; span = p }) below, t)) (sym at))
 field_read n alias x as' ds false place below s t reads ends (a, b, d, e, aliased, word, argued, directed, none, at) =
     let after : AreDirectives false n ds d t = subst (λ u. AreDirectives false n ds d u) none.1 directed in
     let colon = given_first 58 false n as' b d refl argued (directives_first 58 false n ds d t refl after ends.no_colon) in
     let given_is = given_read false n as' b d argued (directives_first 40 false n ds d t refl after ends.no_bracket) in
-    rw (alias_first 46 alias x s a b aliased word, label_read alias x s a b aliased word colon, given_is, directives_read false n ds d t after ends.no_bracket ends.no_directive, ends.no_brace)
-    (ap₂ (λ p y. Some (field_node (record { alias = alias; name = x; arguments = as'; directives = ds; has_set = false; span = p }) y, t)) (sym at) (sym none.0))
+    rw (
+      alias_first 46 alias x s a b aliased word,
+      label_read alias x s a b aliased word colon,
+      given_is,
+      directives_read false n ds d t after ends.no_bracket ends.no_directive,
+      ends.no_brace,
+    )
+    (ap₂ (λ p y. Some (field_node (record { alias = alias; name = x; arguments = as'; directives = ds; has_set = false; span = p }) y, t)) (sym at)
+    (sym none.0))
 
 spread_read : (n : ℕ) (x : Spread) (s t : At) → Ends t → IsSpread x n s t → selection n (inside_of n) s ≡ Some (spread_node x, t)
 unfolding selection span_of
 spread_read n x s t ends (a, b, dots, word, other, directed, place) =
-    rw (mark_seen 46 s a dots, expect_read 46 s a dots, word_first x.name a b word, differs x.name.item on_word other, name_read x.name a b word, directives_read false n x.directives b t directed ends.no_bracket ends.no_directive)
+    rw (
+      mark_seen 46 s a dots,
+      expect_read 46 s a dots,
+      word_first x.name a b word,
+      differs x.name.item on_word other,
+      name_read x.name a b word,
+      directives_read false n x.directives b t directed ends.no_bracket ends.no_directive,
+    )
     (ap (λ p. Some (spread_node (record { name = x.name; directives = x.directives; span = p }), t)) (sym place))
 
-inline_read : (n : ℕ) (o : Option Word) (ds : List Directive) (place : Span) (below : Selections) (s t : At) → ReadsSet below → IsInline (record { condition = o; directives = ds; span = place }) below (AreSelections below) n s t
+inline_read : (n : ℕ) (o : Option Word) (ds : List Directive) (place : Span) (below : Selections) (s t : At) → ReadsSet below →
+    IsInline (record { condition = o; directives = ds; span = place }) below (AreSelections below) n s t
     → selection n (inside_of n) s ≡ Some (inline_node (record { condition = o; directives = ds; span = place }) below, t)
 unfolding selection span_of
 inline_read n None ds place below s t reads (a, b, d, dots, same, directed, set, at) =
     let here : AreDirectives false n ds a d = subst (λ u. AreDirectives false n ds u d) (sym same) directed in
     let no_word = directives_no_word n ds a d here (set_no_word below n d t set) in
-    rw (mark_seen 46 s a dots, expect_read 46 s a dots, no_word, directives_read false n ds a d here (set_first 40 below n d t refl set) (set_first 64 below n d t refl set), reads n d t set)
+    rw (
+      mark_seen 46 s a dots,
+      expect_read 46 s a dots,
+      no_word,
+      directives_read false n ds a d here (set_first 40 below n d t refl set)
+          (set_first 64 below n d t refl set),
+      reads n d t set,
+    )
     (ap (λ p. Some (inline_node (record { condition = None; directives = ds; span = p }) below, t)) (sym at))
 inline_read n (Some w) ds place below s t reads (a, b, d, dots, (z, on, word), directed, set, at) =
     rw (
@@ -147,7 +195,12 @@ of_nodes (spread x rest) = ap (spread x) (of_nodes rest)
 of_nodes (inline x below rest) = ap (inline x below) (of_nodes rest)
 
 node_ends : (n : ℕ) (x : Node) (s t : At) → IsNode n x s t → Ends s
-node_ends n x s t h = record { no_bracket = node_first 40 n x s t refl h; no_colon = node_first 58 n x s t refl h; no_directive = node_first 64 n x s t refl h; no_brace = node_first 123 n x s t refl h }
+node_ends n x s t h = record {
+  no_bracket = node_first 40 n x s t refl h;
+  no_colon = node_first 58 n x s t refl h;
+  no_directive = node_first 64 n x s t refl h;
+  no_brace = node_first 123 n x s t refl h;
+}
 
 -- what follows a selection: another, or what follows them all
 next_ends : (n : ℕ) (x : Selections) (s b : At) → AreSelections x n s b → Ends b → Ends s
@@ -157,7 +210,12 @@ next_ends n (spread x rest) s b h ends = node_ends n (spread_node x) s h.0 h.1
 next_ends n (inline x below rest) s b h ends = node_ends n (inline_node x below) s h.0 h.1
 
 brace_ends : (b t : At) → Mark 125 b t → Ends b
-brace_ends b t h = record { no_bracket = other_seen 125 40 b t refl h; no_colon = other_seen 125 58 b t refl h; no_directive = other_seen 125 64 b t refl h; no_brace = other_seen 125 123 b t refl h }
+brace_ends b t h = record {
+  no_bracket = other_seen 125 40 b t refl h;
+  no_colon = other_seen 125 58 b t refl h;
+  no_directive = other_seen 125 64 b t refl h;
+  no_brace = other_seen 125 123 b t refl h;
+}
 
 begins : (n : ℕ) (x : Selections) (s b : At) → AreSelections x n s b → is_end x ≡ false → sees 125 s ≡ false
 unfolding is_end
@@ -172,7 +230,8 @@ Parts x = (n : ℕ) (s b : At) → AreSelections x n s b → Ends b → Many (Is
 braced_read : (x : Selections) → Parts x → (n : ℕ) (s t : At) → Braced x n s t → selections n s ≡ Some (x, t)
 unfolding some_until
 braced_read x parts n s t h =
-    let all = until_read 125 (selection n (inside_of n)) (nodes x) (length s.ahead) s h.before_brace t (parts n s h.before_brace h.inside (brace_ends h.before_brace t h.closes)) h.closes (omega arith) in
+    let all = until_read 125 (selection n (inside_of n)) (nodes x) (length s.ahead) s h.before_brace t
+    (parts n s h.before_brace h.inside (brace_ends h.before_brace t h.closes)) h.closes (omega arith) in
     selections_is n s ∙ rw (begins n x s h.before_brace h.inside h.some, all) (ap (λ y. Some (y, t)) (of_nodes x))
 
 set_read : (below : Selections) → Parts below → ReadsSet below
@@ -186,7 +245,8 @@ all_parts end n s b h ends = h
 all_parts (field h below rest) n s b (a, f, more) ends = (
   a,
   record {
-    reads = field_read n h.alias h.name h.arguments h.directives h.has_set h.span below s a (set_read below (all_parts below)) (next_ends n rest a b more ends) f;
+    reads =
+        field_read n h.alias h.name h.arguments h.directives h.has_set h.span below s a (set_read below (all_parts below)) (next_ends n rest a b more ends) f;
     less = field_fewer h below (selections_fewer below) n s a f;
     first = node_first 125 n (field_node h below) s a refl f;
   },

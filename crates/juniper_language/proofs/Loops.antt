@@ -32,7 +32,8 @@ abbrev pub behind : {A : Type 0} → Reader (List A) → List A → Outcome A �
 behind r front (Some q) = prepend (front ++ q.0 ∷ []) (r q.1)
 behind r front None = None
 
-behind_from : {A : Type 0} (r : Reader (List A)) (front : List A) (o : Outcome A) → prepend front (and_then o (λ x. r >>= (λ xs. pure (x ∷ xs)))) ≡ behind r front o
+behind_from : {A : Type 0} (r : Reader (List A)) (front : List A) (o : Outcome A) →
+    prepend front (and_then o (λ x. r >>= (λ xs. pure (x ∷ xs)))) ≡ behind r front o
 behind_from r front None = refl
 behind_from r front (Some q) = prepend_cons front q.0 (r q.1)
 
@@ -58,10 +59,12 @@ while_none m p zero s other = refl
 while_none m p (suc k) s other = rw other refl
 
 -- one more part that begins with the mark
-pub part_after : {A : Type 0} (m : ℕ) (p : Reader A) (e i : ℕ) (front more : List A) (x : A) (s t : At) (o : Outcome (List A)) → i < e → true ≡ sees m s → p s ≡ Some (x, t)
+pub part_after : {A : Type 0} (m : ℕ) (p : Reader A) (e i : ℕ) (front more : List A) (x : A) (s t : At) (o : Outcome (List A)) → i < e → true ≡ sees m s →
+    p s ≡ Some (x, t)
     → more ≡ front ++ x ∷ [] → prepend front (while_sees m p (e - i) s) ≡ o → prepend more (while_sees m p (e - (i + 1)) t) ≡ o
 part_after m p e i front more x s t o below seen one is kept =
-    ap (λ xs. prepend xs (while_sees m p (e - (i + 1)) t)) is ∙ sym (while_more m p e i front s below (sym seen) ∙ ap (behind (while_sees m p (e - (i + 1))) front) one) ∙ kept
+    ap (λ xs. prepend xs (while_sees m p (e - (i + 1)) t)) is ∙ sym
+    (while_more m p e i front s below (sym seen) ∙ ap (behind (while_sees m p (e - (i + 1))) front) one) ∙ kept
 
 -- ---- parts up to a closing mark
 
@@ -78,7 +81,8 @@ pub parts_more : {A : Type 0} (m : ℕ) (p : Reader A) (e i : ℕ) (front : List
 unfolding until
 parts_more m p e i front s below other = rw (left_suc e i below, other) (behind_from (until m p (e - (i + 1))) front (p s))
 
-pub parts_end : {A : Type 0} (m : ℕ) (p : Reader A) (e i : ℕ) (front : List A) (s : At) → i < e → sees m s ≡ true → prepend front (until m p (e - i) s) ≡ at_close front (next s)
+pub parts_end : {A : Type 0} (m : ℕ) (p : Reader A) (e i : ℕ) (front : List A) (s : At) → i < e → sees m s ≡ true →
+    prepend front (until m p (e - i) s) ≡ at_close front (next s)
 unfolding until
 parts_end m p e i front s below close = rw (left_suc e i below, close) (close_from front (next s))
 
@@ -87,10 +91,12 @@ unfolding until
 parts_none m p e i front s past = let z : e - i ≡ 0 = omega arith in rw z refl
 
 -- one more part, behind those that are found
-pub part_on : {A : Type 0} (m : ℕ) (p : Reader A) (e i : ℕ) (front more : List A) (x : A) (s t : At) (o : Outcome (List A)) → i < e → false ≡ sees m s → p s ≡ Some (x, t)
+pub part_on : {A : Type 0} (m : ℕ) (p : Reader A) (e i : ℕ) (front more : List A) (x : A) (s t : At) (o : Outcome (List A)) → i < e → false ≡ sees m s →
+    p s ≡ Some (x, t)
     → more ≡ front ++ x ∷ [] → prepend front (until m p (e - i) s) ≡ o → prepend more (until m p (e - (i + 1)) t) ≡ o
 part_on m p e i front more x s t o below other one is kept =
-    ap (λ xs. prepend xs (until m p (e - (i + 1)) t)) is ∙ sym (parts_more m p e i front s below (sym other) ∙ ap (behind (until m p (e - (i + 1))) front) one) ∙ kept
+    ap (λ xs. prepend xs (until m p (e - (i + 1)) t)) is ∙ sym (parts_more m p e i front s below (sym other) ∙ ap (behind (until m p (e - (i + 1))) front) one)
+    ∙ kept
 
 -- ---- definitions up to the last token
 
@@ -106,23 +112,32 @@ pub definitions_more : (e i : ℕ) (front : List Definition) (s : At) → i < e 
     → prepend front (definitions (e - i) s) ≡ behind (definitions (e - (i + 1))) front (definition most_brackets s)
 unfolding definitions
 definitions_more e i front s below some =
-    rw (left_suc e i below, some_ahead {A = List Definition} s.ahead (pure [] s) ((definition most_brackets >>= (λ x. definitions (e - (i + 1)) >>= (λ xs. pure (x ∷ xs)))) s) some)
+    rw (
+      left_suc e i below,
+      some_ahead {A = List Definition} s.ahead (pure [] s)
+          ((definition most_brackets >>= (λ x. definitions (e - (i + 1)) >>= (λ xs. pure (x ∷ xs)))) s) some,
+    )
     (behind_from (definitions (e - (i + 1))) front (definition most_brackets s))
 
 pub definitions_done : (k : ℕ) (front : List Definition) (s : At) → length s.ahead ≡ 0 → prepend front (definitions k s) ≡ Some (front, s)
 unfolding definitions
-definitions_done zero front s none = ap (prepend front) (none_ahead {A = List Definition} s.ahead (pure [] s) None none) ∙ ap (λ v. Some (v, s)) (append-nil front)
-definitions_done (suc k) front s none = ap (prepend front) (none_ahead {A = List Definition} s.ahead (pure [] s) _ none) ∙ ap (λ v. Some (v, s)) (append-nil front)
+definitions_done zero front s none =
+    ap (prepend front) (none_ahead {A = List Definition} s.ahead (pure [] s) None none) ∙ ap (λ v. Some (v, s)) (append-nil front)
+definitions_done (suc k) front s none =
+    ap (prepend front) (none_ahead {A = List Definition} s.ahead (pure [] s) _ none) ∙ ap (λ v. Some (v, s)) (append-nil front)
 
 pub definitions_none : (e i : ℕ) (front : List Definition) (s : At) → e ≤ i → length s.ahead ≢ 0 → prepend front (definitions (e - i) s) ≡ None
 unfolding definitions
-definitions_none e i front s past some = let z : e - i ≡ 0 = omega arith in rw z (ap (prepend front) (some_ahead {A = List Definition} s.ahead (pure [] s) None some))
+definitions_none e i front s past some =
+    let z : e - i ≡ 0 = omega arith in rw z (ap (prepend front) (some_ahead {A = List Definition} s.ahead (pure [] s) None some))
 
 -- one more definition, behind those that are found
-pub definition_on : (e i : ℕ) (front more : List Definition) (x : Definition) (s t : At) (o : Outcome (List Definition)) → i < e → length s.ahead ≢ 0 → definition most_brackets s ≡ Some (x, t)
+pub definition_on : (e i : ℕ) (front more : List Definition) (x : Definition) (s t : At) (o : Outcome (List Definition)) → i < e → length s.ahead ≢ 0 →
+    definition most_brackets s ≡ Some (x, t)
     → more ≡ front ++ x ∷ [] → prepend front (definitions (e - i) s) ≡ o → prepend more (definitions (e - (i + 1)) t) ≡ o
 definition_on e i front more x s t o below some one is kept =
-    ap (λ xs. prepend xs (definitions (e - (i + 1)) t)) is ∙ sym (definitions_more e i front s below some ∙ ap (behind (definitions (e - (i + 1))) front) one) ∙ kept
+    ap (λ xs. prepend xs (definitions (e - (i + 1)) t)) is ∙ sym (definitions_more e i front s below some ∙ ap (behind (definitions (e - (i + 1))) front) one)
+    ∙ kept
 
 -- ---- selections up to the closing brace
 
@@ -155,7 +170,8 @@ pub until_more : (m : ℕ) (p : Reader Node) (e i : ℕ) (front : Putting) (s : 
 unfolding until
 until_more m p e i front s below other = rw (left_suc e i below, other) (node_from m p (e - (i + 1)) front (p s))
 
-pub until_end : (m : ℕ) (p : Reader Node) (e i : ℕ) (front : Putting) (s : At) → i < e → sees m s ≡ true → put_first front (until m p (e - i) s) ≡ at_mark front (next s)
+pub until_end : (m : ℕ) (p : Reader Node) (e i : ℕ) (front : Putting) (s : At) → i < e → sees m s ≡ true →
+    put_first front (until m p (e - i) s) ≡ at_mark front (next s)
 unfolding until
 until_end m p e i front s below close = rw (left_suc e i below, close) (mark_from front (next s))
 
@@ -172,11 +188,13 @@ chain_push [] f = refl
 chain_push (g ∷ fs) f = ap {B = Putting} (λ (h : Putting). λ r. g (h r)) (chain_push fs f)
 
 -- one more selection, put behind those that are found
-pub turn_on : (m : ℕ) (p : Reader Node) (e i : ℕ) (fs gs : List Putting) (f : Putting) (s t : At) (o : Outcome Selections) → i < e → false ≡ sees m s → placed p s ≡ Some (f, t) → gs ≡ fs ++ f ∷ []
+pub turn_on : (m : ℕ) (p : Reader Node) (e i : ℕ) (fs gs : List Putting) (f : Putting) (s t : At) (o : Outcome Selections) → i < e → false ≡ sees m s →
+    placed p s ≡ Some (f, t) → gs ≡ fs ++ f ∷ []
     → put_first (chain fs) (until m p (e - i) s) ≡ o → put_first (chain gs) (until m p (e - (i + 1)) t) ≡ o
 turn_on m p e i fs gs f s t o below other one is kept =
     let more : chain gs ≡ (λ r. chain fs (f r)) = ap chain is ∙ chain_push fs f in
-    ap (λ (g : Putting). put_first g (until m p (e - (i + 1)) t)) more ∙ sym (until_more m p e i (chain fs) s below (sym other) ∙ ap (behind_node m p (e - (i + 1)) (chain fs)) one) ∙ kept
+    ap (λ (g : Putting). put_first g (until m p (e - (i + 1)) t)) more
+    ∙ sym (until_more m p e i (chain fs) s below (sym other) ∙ ap (behind_node m p (e - (i + 1)) (chain fs)) one) ∙ kept
 
 -- ---- one or more parts up to a closing mark: before the loop, and where it ends
 
@@ -193,17 +211,20 @@ pub until_begun : {A B : Type 0} (m : ℕ) (p : Reader A) (view : B → A) (xs :
 until_begun m p view xs e s none all = let same : e - 0 ≡ length s.ahead = omega (arith, all) in rw (none, same) (prepend_nil (until m p (length s.ahead) s))
 
 -- the closing mark, behind the parts that are found
-pub until_closed : {A : Type 0} (m : ℕ) (p : Reader A) (e i : ℕ) (front : List A) (s t : At) (x : Token) (o : Outcome (List A)) → i < e → true ≡ sees m s → next s ≡ Some (x, t)
+pub until_closed : {A : Type 0} (m : ℕ) (p : Reader A) (e i : ℕ) (front : List A) (s t : At) (x : Token) (o : Outcome (List A)) → i < e → true ≡ sees m s →
+    next s ≡ Some (x, t)
     → prepend front (until m p (e - i) s) ≡ o → o ≡ Some (front, t)
 until_closed m p e i front s t x o below close one kept = sym kept ∙ (parts_end m p e i front s below (sym close) ∙ ap (at_close front) one)
 
 -- no part, where one should stand
 pub until_refused : {A : Type 0} (m : ℕ) (p : Reader A) (e i : ℕ) (front : List A) (s : At) (o : Outcome (List A)) → i < e → false ≡ sees m s → p s ≡ None
     → prepend front (until m p (e - i) s) ≡ o → o ≡ None
-until_refused m p e i front s o below other none kept = sym kept ∙ (parts_more m p e i front s below (sym other) ∙ ap (behind (until m p (e - (i + 1))) front) none)
+until_refused m p e i front s o below other none kept =
+    sym kept ∙ (parts_more m p e i front s below (sym other) ∙ ap (behind (until m p (e - (i + 1))) front) none)
 
 -- no closing mark
-pub until_open : {A : Type 0} (m : ℕ) (p : Reader A) (e i : ℕ) (front : List A) (s : At) (o : Outcome (List A)) → e ≤ i → prepend front (until m p (e - i) s) ≡ o → o ≡ None
+pub until_open : {A : Type 0} (m : ℕ) (p : Reader A) (e i : ℕ) (front : List A) (s : At) (o : Outcome (List A)) → e ≤ i →
+    prepend front (until m p (e - i) s) ≡ o → o ≡ None
 until_open m p e i front s o past kept = sym kept ∙ parts_none m p e i front s past
 
 -- ---- selections up to the closing brace: before the loop, and where it ends
@@ -219,9 +240,11 @@ pub put_begun : {B : Type 0} (m : ℕ) (p : Reader Node) (view : B → Putting) 
     → put_first (chain (map view xs)) (until m p (e - 0) s) ≡ and_then (until m p (length s.ahead) s) (λ xs. pure (selections_of xs))
 put_begun m p view xs e s none all = let same : e - 0 ≡ length s.ahead = omega (arith, all) in rw (none, same) (put_none (until m p (length s.ahead) s))
 
-pub put_closed : (m : ℕ) (p : Reader Node) (e i : ℕ) (front : Putting) (s t : At) (x : Token) (o : Outcome Selections) → i < e → true ≡ sees m s → next s ≡ Some (x, t)
+pub put_closed : (m : ℕ) (p : Reader Node) (e i : ℕ) (front : Putting) (s t : At) (x : Token) (o : Outcome Selections) → i < e → true ≡ sees m s →
+    next s ≡ Some (x, t)
     → put_first front (until m p (e - i) s) ≡ o → o ≡ Some (front end, t)
 put_closed m p e i front s t x o below close one kept = sym kept ∙ (until_end m p e i front s below (sym close) ∙ ap (at_mark front) one)
 
-pub put_open : (m : ℕ) (p : Reader Node) (e i : ℕ) (front : Putting) (s : At) (o : Outcome Selections) → e ≤ i → put_first front (until m p (e - i) s) ≡ o → o ≡ None
+pub put_open : (m : ℕ) (p : Reader Node) (e i : ℕ) (front : Putting) (s : At) (o : Outcome Selections) → e ≤ i → put_first front (until m p (e - i) s) ≡ o →
+    o ≡ None
 put_open m p e i front s o past kept = sym kept ∙ until_none m p e i front s past

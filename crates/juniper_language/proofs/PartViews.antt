@@ -39,10 +39,12 @@ module _ {S : Type 0} (shown : S → Shown) where
   fields_seen [] = refl
   fields_seen (m ∷ ms) = ap (spec.input_field (string_bytes m.0.item) (view_span m.0.span) (view_input shown m.1.item) (view_span m.1.span)) (fields_seen ms)
 
-  pub view_list : (v : Vec (Spanning (InputValue S) Span) Global) → view_input shown (ListOf v) ≡ spec.list (items_of (map (view_spanning (view_input shown)) v.items))
+  pub view_list : (v : Vec (Spanning (InputValue S) Span) Global) →
+      view_input shown (ListOf v) ≡ spec.list (items_of (map (view_spanning (view_input shown)) v.items))
   view_list v = view-List shown v ∙ ap spec.list (items_seen v.items)
 
-  pub view_object : (v : Vec (Spanning (String Global) Span × Spanning (InputValue S) Span) Global) → view_input shown (Object v) ≡ spec.object (fields_of (map (view_member shown) v.items))
+  pub view_object : (v : Vec (Spanning (String Global) Span × Spanning (InputValue S) Span) Global) →
+      view_input shown (Object v) ≡ spec.object (fields_of (map (view_member shown) v.items))
   view_object v = view-Object shown v ∙ ap spec.object (fields_seen v.items)
 
 -- ## Selections
@@ -57,17 +59,28 @@ module _ {S : Type 0} (shown : S → Shown) where
 
   pub view_of_field : (alias : Option (Spanning (Bor (List ℕ)) Span)) (name : Spanning (Bor (List ℕ)) Span) (as' : Option (Spanning (Arguments S) Span))
       (ds : Option (Vec (Spanning (Directive S) Span) Global)) (set : Option (Vec (Selection S) Global)) (sp : Span)
-      → ◌≡◌ {A = Putting} (put_selection shown (Field (record { item = roll-Field S (record { alias = alias; name = name; arguments = as'; directives = ds; selection_set = set }); span = sp })))
-      (put (field_node (head_of (option_map view_word alias, view_word name) (view_arguments shown as') (view_directives shown ds) (is_some (set_read set)) (view_span sp)) (below_of (set_read set))))
-  view_of_field alias name as' ds None sp = λ i r. put-Field shown (record { item = roll-Field S (record { alias = alias; name = name; arguments = as'; directives = ds; selection_set = None }); span = sp }) r i
-  view_of_field alias name as' ds (Some v) sp = λ i r. put-Field shown (record { item = roll-Field S (record { alias = alias; name = name; arguments = as'; directives = ds; selection_set = Some v }); span = sp }) r i
+      → ◌≡◌ {A = Putting} (put_selection shown (Field (record {
+        item = roll-Field S
+            (record { alias = alias; name = name; arguments = as'; directives = ds; selection_set = set });
+        span = sp;
+      })))
+      (put (field_node (head_of (option_map view_word alias, view_word name) (view_arguments shown as') (view_directives shown ds) (is_some (set_read set))
+      (view_span sp)) (below_of (set_read set))))
+  view_of_field alias name as' ds None sp = λ i r. put-Field shown
+      (record { item = roll-Field S (record { alias = alias; name = name; arguments = as'; directives = ds; selection_set = None }); span = sp }) r i
+  view_of_field alias name as' ds (Some v) sp = λ i r. put-Field shown
+      (record { item = roll-Field S (record { alias = alias; name = name; arguments = as'; directives = ds; selection_set = Some v }); span = sp }) r i
 
   pub view_of_spread : (name : Spanning (Bor (List ℕ)) Span) (ds : Option (Vec (Spanning (Directive S) Span) Global)) (sp : Span)
       → ◌≡◌ {A = Putting} (put_selection shown (FragmentSpread (record { item = record { name = name; directives = ds }; span = sp })))
       (put (spread_node (record { name = view_word name; directives = view_directives shown ds; span = view_span sp })))
   view_of_spread name ds sp = λ i r. put-FragmentSpread shown (record { item = record { name = name; directives = ds }; span = sp }) r i
 
-  pub view_of_inline : (condition : Option (Spanning (Bor (List ℕ)) Span)) (ds : Option (Vec (Spanning (Directive S) Span) Global)) (set : Vec (Selection S) Global) (sp : Span)
-      → ◌≡◌ {A = Putting} (put_selection shown (InlineFragment (record { item = roll-InlineFragment S (record { type_condition = condition; directives = ds; selection_set = set }); span = sp })))
-      (put (inline_node (record { condition = option_map view_word condition; directives = view_directives shown ds; span = view_span sp }) (view_selections shown set.items)))
-  view_of_inline condition ds set sp = λ i r. put-InlineFragment shown (record { item = roll-InlineFragment S (record { type_condition = condition; directives = ds; selection_set = set }); span = sp }) r i
+  pub view_of_inline : (condition : Option (Spanning (Bor (List ℕ)) Span)) (ds : Option (Vec (Spanning (Directive S) Span) Global))
+      (set : Vec (Selection S) Global) (sp : Span)
+      → ◌≡◌ {A = Putting} (put_selection shown (InlineFragment (record
+      { item = roll-InlineFragment S (record { type_condition = condition; directives = ds; selection_set = set }); span = sp })))
+      (put (inline_node (record { condition = option_map view_word condition; directives = view_directives shown ds; span = view_span sp })
+      (view_selections shown set.items)))
+  view_of_inline condition ds set sp = λ i r. put-InlineFragment shown
+      (record { item = roll-InlineFragment S (record { type_condition = condition; directives = ds; selection_set = set }); span = sp }) r i

@@ -16,17 +16,20 @@ unfolding value
 value_is c zero s = refl
 value_is c (suc n) s = refl
 
-pub list_at : (c : Bool) (n : ℕ) (s : At) → n ≢ 0 → list_within c n s ≡ and_then (until 93 (spanned (value c (n - 1))) (length s.ahead) s) (λ vs. pure (spec.list (items_of vs)))
+pub list_at : (c : Bool) (n : ℕ) (s : At) → n ≢ 0 → list_within c n s
+    ≡ and_then (until 93 (spanned (value c (n - 1))) (length s.ahead) s) (λ vs. pure (spec.list (items_of vs)))
 list_at c zero s some = absurd (some refl)
 list_at c (suc n) s some = let less : suc n - 1 ≡ n = omega arith in rw less refl
 
-pub object_at : (c : Bool) (n : ℕ) (s : At) → n ≢ 0 → object_within c n s ≡ and_then (until 125 (argument c (n - 1)) (length s.ahead) s) (λ xs. pure (spec.object (fields_of xs)))
+pub object_at : (c : Bool) (n : ℕ) (s : At) → n ≢ 0 → object_within c n s
+    ≡ and_then (until 125 (argument c (n - 1)) (length s.ahead) s) (λ xs. pure (spec.object (fields_of xs)))
 unfolding argument
 object_at c zero s some = absurd (some refl)
 object_at c (suc n) s some = let less : suc n - 1 ≡ n = omega arith in rw less refl
 
 -- a list whose values are read
-pub list_found : (c : Bool) (n m : ℕ) (s t : At) (vs : List (Spanned Input)) (v : Input) → m ≡ 91 → n ≢ 0 → until 93 (spanned (value c (n - 1))) (length s.ahead) s ≡ Some (vs, t) → v ≡ spec.list (items_of vs)
+pub list_found : (c : Bool) (n m : ℕ) (s t : At) (vs : List (Spanned Input)) (v : Input) → m ≡ 91 → n ≢ 0 →
+    until 93 (spanned (value c (n - 1))) (length s.ahead) s ≡ Some (vs, t) → v ≡ spec.list (items_of vs)
     → bracketed c (list_within c n) (object_within c n) m s ≡ Some (v, t)
 list_found c n m s t vs v opens some found is = rw (opens, list_at c n s some, found, is) refl
 
@@ -75,8 +78,10 @@ selections_is (suc n) s = refl
 
 -- ## Definitions
 
-word_from : (n : ℕ) (last : Position) (l : Lexeme) (place : Span) (ts : List Token) (start : Position) → by_word n (first_word (record { lexeme = l; span = place } ∷ ts)) (record { last = last; ahead = record { lexeme = l; span = place } ∷ ts })
-    ≡ and_then (a_name (record { last = last; ahead = record { lexeme = l; span = place } ∷ ts })) (λ x. behind_word n (start_of (record { last = last; ahead = record { lexeme = l; span = place } ∷ ts })) x.item (kind_of x.item))
+word_from : (n : ℕ) (last : Position) (l : Lexeme) (place : Span) (ts : List Token) (start : Position) →
+    by_word n (first_word (record { lexeme = l; span = place } ∷ ts)) (record { last = last; ahead = record { lexeme = l; span = place } ∷ ts })
+    ≡ and_then (a_name (record { last = last; ahead = record { lexeme = l; span = place } ∷ ts }))
+    (λ x. behind_word n (start_of (record { last = last; ahead = record { lexeme = l; span = place } ∷ ts })) x.item (kind_of x.item))
 unfolding a_name
 word_from n last (mark m) place ts start = refl
 word_from n last (name w) place ts start = refl
@@ -87,16 +92,19 @@ pub word_at : (n : ℕ) (s : At) → by_word n (first_word s.ahead) s ≡ and_th
 unfolding a_name
 word_at n s = go s.last s.ahead
   where
-    go : (last : Position) (ts : List Token) → by_word n (first_word ts) (record { last = last; ahead = ts }) ≡ and_then (a_name (record { last = last; ahead = ts })) (λ x. behind_word n (start_of (record { last = last; ahead = ts })) x.item (kind_of x.item))
+    go : (last : Position) (ts : List Token) → by_word n (first_word ts) (record { last = last; ahead = ts })
+        ≡ and_then (a_name (record { last = last; ahead = ts })) (λ x. behind_word n (start_of (record { last = last; ahead = ts })) x.item (kind_of x.item))
     go last [] = refl
     go last (t ∷ ts) = word_from n last t.lexeme t.span ts last
 
 -- parts in brackets that are read
-pub brackets_found : {A : Type 0} (p : ℕ → Reader A) (n : ℕ) (s a t : At) (u : Unit {0}) (xs : List A) (v : Spanned (List A)) (start : Position) → n ≢ 0 → expect 40 s ≡ Some (u, a) → some_until 41 (p (n - 1)) a ≡ Some (xs, t)
+pub brackets_found : {A : Type 0} (p : ℕ → Reader A) (n : ℕ) (s a t : At) (u : Unit {0}) (xs : List A) (v : Spanned (List A)) (start : Position) → n ≢ 0 →
+    expect 40 s ≡ Some (u, a) → some_until 41 (p (n - 1)) a ≡ Some (xs, t)
     → v.item ≡ xs → v.span ≡ record { start = start; end = t.last } → start ≡ begin_of s.last s.ahead → in_brackets p n s ≡ Some (v, t)
 unfolding span_of
 brackets_found p n s a t u xs v start some begun read items place first =
-    brackets_at p n s some ∙ rw (begun, read) (ap₂ (λ is sp. Some (record { item = is; span = sp }, t)) (sym items) (sym (place ∙ ap (λ b. record { start = b; end = t.last }) first)))
+    brackets_at p n s some ∙ rw (begun, read) (ap₂ (λ is sp. Some (record { item = is; span = sp }, t)) (sym items)
+    (sym (place ∙ ap (λ b. record { start = b; end = t.last }) first)))
 
 -- no bracket may be opened
 pub brackets_deep : {A : Type 0} (p : ℕ → Reader A) (n : ℕ) (s : At) → n ≡ 0 → in_brackets p n s ≡ None

@@ -30,7 +30,8 @@ abbrev SetsAre : ℕ → Reader Selections → Type 0
 SetsAre n inside = (s t : At) (x : Selections) → set_by inside s ≡ Some (x, t) → Set x (AreSelections x) n s t
 
 module _ (n : ℕ) (inside : Reader Selections) (sets : SetsAre n inside) where
-  set_there : (s t : At) (o : Option Selections) → optional 123 (set_by inside) s ≡ Some (o, t) → OptSet (is_some o) (below_of o) (AreSelections (below_of o)) n s t
+  set_there : (s t : At) (o : Option Selections) → optional 123 (set_by inside) s ≡ Some (o, t) →
+      OptSet (is_some o) (below_of o) (AreSelections (below_of o)) n s t
   set_there s t o e = elim (chosen (sees 123 s) _ _ (o, t) e) [
     | inl there ↦
         let q = bind_some (set_by inside s) _ (o, t) there.1 in
@@ -45,10 +46,21 @@ module _ (n : ℕ) (inside : Reader Selections) (sets : SetsAre n inside) where
       let d = bind_some (directives false n g.0.1) _ (x, t) g.2 in
       let o = bind_some (optional 123 (set_by inside) d.0.1) _ (x, t) d.2 in
       let labelled = label_sound s l.0.1 l.0.0 l.1 in
-      from_pure (λ y u. IsNode n y s u) (field_node (head_of l.0.0 g.0.0 d.0.0 (is_some o.0.0) (span_of s o.0.1)) (below_of o.0.0)) x o.0.1 t o.2
-      (labelled.0, l.0.1, g.0.1, d.0.1, labelled.1, labelled.2, given_sound false n l.0.1 g.0.1 g.0.0 g.1, directives_sound false n g.0.1 d.0.1 d.0.0 d.1, set_there d.0.1 o.0.1 o.0.0 o.1, refl)
+      from_pure (λ y u. IsNode n y s u) (field_node (head_of l.0.0 g.0.0 d.0.0 (is_some o.0.0) (span_of s o.0.1)) (below_of o.0.0)) x o.0.1 t o.2 (
+        labelled.0,
+        l.0.1,
+        g.0.1,
+        d.0.1,
+        labelled.1,
+        labelled.2,
+        given_sound false n l.0.1 g.0.1 g.0.0 g.1,
+        directives_sound false n g.0.1 d.0.1 d.0.0 d.1,
+        set_there d.0.1 o.0.1 o.0.0 o.1,
+        refl,
+      )
 
-  inline_sound : (o : Option Word) (s a b t : At) (x : Node) → Mark 46 s a → Opt TypeCondition o a b → inline_by n inside (start_of s) o b ≡ Some (x, t) → IsNode n x s t
+  inline_sound : (o : Option Word) (s a b t : At) (x : Node) → Mark 46 s a → Opt TypeCondition o a b → inline_by n inside (start_of s) o b ≡ Some (x, t) →
+      IsNode n x s t
   unfolding span_of
   inline_sound o s a b t x dots condition e =
       let d = bind_some (directives false n b) _ (x, t) e in
@@ -56,14 +68,16 @@ module _ (n : ℕ) (inside : Reader Selections) (sets : SetsAre n inside) where
       from_pure (λ y u. IsNode n y s u) (inline_node (record { condition = o; directives = d.0.0; span = span_of s i.0.1 }) i.0.0) x i.0.1 t i.2
       (a, b, d.0.1, dots, condition, directives_sound false n b d.0.1 d.0.0 d.1, sets d.0.1 i.0.1 i.0.0 i.1, refl)
 
-  spread_sound : (w : Word) (s a b t : At) (x : Node) → Mark 46 s a → IsWord w a b → w.item ≢ on_word → spread_by n (start_of s) w b ≡ Some (x, t) → IsNode n x s t
+  spread_sound : (w : Word) (s a b t : At) (x : Node) → Mark 46 s a → IsWord w a b → w.item ≢ on_word → spread_by n (start_of s) w b ≡ Some (x, t) →
+      IsNode n x s t
   unfolding span_of
   spread_sound w s a b t x dots word other e =
       let d = bind_some (directives false n b) _ (x, t) e in
       from_pure (λ y u. IsNode n y s u) (spread_node (record { name = w; directives = d.0.0; span = span_of s d.0.1 })) x d.0.1 t d.2
       (a, b, dots, word, other, directives_sound false n b d.0.1 d.0.0 d.1, refl)
 
-  dotted_sound : (o : Option Name) (s a t : At) (x : Node) → o ≡ first_word a.ahead → Mark 46 s a → dotted n inside (start_of s) o a ≡ Some (x, t) → IsNode n x s t
+  dotted_sound : (o : Option Name) (s a t : At) (x : Node) → o ≡ first_word a.ahead → Mark 46 s a → dotted n inside (start_of s) o a ≡ Some (x, t) →
+      IsNode n x s t
   dotted_sound None s a t x is dots e = inline_sound None s a a t x dots refl e
   dotted_sound (Some w) s a t x is dots e = elim (chosen (bytes_eq w on_word) _ _ (x, t) e) [
     | inl on ↦
@@ -71,7 +85,11 @@ module _ (n : ℕ) (inside : Reader Selections) (sets : SetsAre n inside) where
         let r = bind_some (a_name q.0.1) _ (x, t) q.2 in
         let word = name_sound a q.0.1 q.0.0 q.1 in
         let same : q.0.0.item ≡ on_word = same_Some q.0.0.item w (sym (word_first q.0.0 a q.0.1 word) ∙ sym is) ∙ (bytes_eq-Decides w on_word).0 on.0 in
-        inline_sound (Some r.0.0) s a r.0.1 t x dots (q.0.1, (q.0.0.span, subst (λ y. IsWord (record { item = y; span = q.0.0.span }) a q.0.1) same word), name_sound q.0.1 r.0.1 r.0.0 r.1) r.2
+        inline_sound (Some r.0.0) s a r.0.1 t x dots (
+          q.0.1,
+          (q.0.0.span, subst (λ y. IsWord (record { item = y; span = q.0.0.span }) a q.0.1) same word),
+          name_sound q.0.1 r.0.1 r.0.0 r.1,
+        ) r.2
     | inr off ↦
         let q = bind_some (a_name a) _ (x, t) off.1 in
         let word = name_sound a q.0.1 q.0.0 q.1 in
@@ -82,7 +100,8 @@ module _ (n : ℕ) (inside : Reader Selections) (sets : SetsAre n inside) where
   selection_sound : IsSound (selection n inside) (IsNode n)
   unfolding selection
   selection_sound s t x e = elim (chosen (sees 46 s) _ _ (x, t) e) [
-    | inl there ↦ let q = bind_some (expect 46 s) _ (x, t) there.1 in dotted_sound (first_word q.0.1.ahead) s q.0.1 t x refl (expect_sound 46 s q.0.1 q.0.0 q.1) q.2
+    | inl there ↦ let q = bind_some (expect 46 s) _ (x, t) there.1 in
+        dotted_sound (first_word q.0.1.ahead) s q.0.1 t x refl (expect_sound 46 s q.0.1 q.0.0 q.1) q.2
     | inr none ↦ field_sound s t x none.1
   ]
 
@@ -106,7 +125,8 @@ pub record Braced (x : Selections) (n : ℕ) (s t : At) : Type 0 where
   pub closes : Mark 125 before_brace t
   pub some : is_end x ≡ false
 
-braced : (n : ℕ) (inside : Reader Selections) → SetsAre n inside → (s t : At) (x : Selections) → and_then (some_until 125 (selection n inside) s) (λ xs. pure (selections_of xs)) ≡ Some (x, t) → Braced x n s t
+braced : (n : ℕ) (inside : Reader Selections) → SetsAre n inside → (s t : At) (x : Selections) →
+    and_then (some_until 125 (selection n inside) s) (λ xs. pure (selections_of xs)) ≡ Some (x, t) → Braced x n s t
 unfolding some_until
 braced n inside sets s t x e =
     let q = bind_some (some_until 125 (selection n inside) s) _ (x, t) e in

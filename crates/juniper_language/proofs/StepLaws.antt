@@ -25,7 +25,8 @@ pub chosen : {A : Type 0} (b : Bool) (x y : Outcome A) (z : A × At) → cond b 
 chosen true x y z e = inl (refl, e)
 chosen false x y z e = inr (refl, e)
 
-pub picked : {A : Type 0} (b : Bool) (p q : Reader A) (s : At) (z : A × At) → cond b p q s ≡ Some z → ((b ≡ true) × (p s ≡ Some z)) ⊎ ((b ≡ false) × (q s ≡ Some z))
+pub picked : {A : Type 0} (b : Bool) (p q : Reader A) (s : At) (z : A × At) → cond b p q s ≡ Some z →
+    ((b ≡ true) × (p s ≡ Some z)) ⊎ ((b ≡ false) × (q s ≡ Some z))
 picked true p q s z e = inl (refl, e)
 picked false p q s z e = inr (refl, e)
 
@@ -155,7 +156,8 @@ pub record IsPart {A : Type 0} (m : ℕ) (b : Bool) (p : Reader A) (x : A) (s t 
   pub less : length t.ahead < length s.ahead
   pub first : sees m s ≡ b
 
-pub while_read : {A : Type 0} (m : ℕ) (p : Reader A) (xs : List A) (k : ℕ) (s t : At) → Many (IsPart m true p) xs s t → sees m t ≡ false → length s.ahead ≤ k → while_sees m p k s ≡ Some (xs, t)
+pub while_read : {A : Type 0} (m : ℕ) (p : Reader A) (xs : List A) (k : ℕ) (s t : At) → Many (IsPart m true p) xs s t → sees m t ≡ false → length s.ahead ≤ k →
+    while_sees m p k s ≡ Some (xs, t)
 unfolding while_sees
 while_read m p [] zero s t h ends enough = ap (λ u. Some ([], u)) h
 while_read m p [] (suc k) s t h ends enough = let other : sees m s ≡ false = subst (λ u. sees m u ≡ false) (sym h) ends in rw other (ap (λ u. Some ([], u)) h)
@@ -164,7 +166,8 @@ while_read m p (x ∷ xs) (suc k) s t h ends enough =
     let rest = while_read m p xs k h.0 t h.2 ends (omega (arith, h.1.less)) in
     rw (h.1.first, h.1.reads) (ap (λ o. and_then o (λ ys. pure (x ∷ ys))) rest)
 
-pub until_read : {A : Type 0} (m : ℕ) (p : Reader A) (xs : List A) (k : ℕ) (s b t : At) → Many (IsPart m false p) xs s b → Mark m b t → length s.ahead ≤ k → until m p k s ≡ Some (xs, t)
+pub until_read : {A : Type 0} (m : ℕ) (p : Reader A) (xs : List A) (k : ℕ) (s b t : At) → Many (IsPart m false p) xs s b → Mark m b t → length s.ahead ≤ k →
+    until m p k s ≡ Some (xs, t)
 unfolding until
 until_read m p [] zero s b t h last enough = absurd (omega (arith, fewer (mark m) last.0 b t last.1, ap (λ (u : At). length u.ahead) h))
 until_read m p [] (suc k) s b t h last enough =

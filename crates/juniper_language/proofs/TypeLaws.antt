@@ -26,7 +26,8 @@ name_type_sound : (n : ℕ) (s t : At) (u : TypeRef) → named_type s ≡ Some (
 name_type_sound n s t u e =
     let q = bind_some (a_name s) _ (u, t) e in
     let r = bind_some (bang q.0.1) _ (u, t) q.2 in
-    from_pure (λ y z. IsType y n s z) (named r.0.0 q.0.0.item) u r.0.1 t r.2 (q.0.1, (q.0.0.span, name_sound s q.0.1 q.0.0 q.1), bang_sound q.0.1 r.0.1 r.0.0 r.1)
+    from_pure (λ y z. IsType y n s z) (named r.0.0 q.0.0.item) u r.0.1 t r.2
+    (q.0.1, (q.0.0.span, name_sound s q.0.1 q.0.0 q.1), bang_sound q.0.1 r.0.1 r.0.0 r.1)
 
 pub type_sound : (n : ℕ) (s t : At) (u : TypeRef) → type_ref n s ≡ Some (u, t) → IsType u n s t
 unfolding type_ref
@@ -37,8 +38,16 @@ type_sound (suc n) s t u e = elim (chosen (sees 91 s) _ _ (u, t) e) [
       let i = bind_some (type_ref n q.0.1) _ (u, t) q.2 in
       let c = bind_some (expect 93 i.0.1) _ (u, t) i.2 in
       let r = bind_some (bang c.0.1) _ (u, t) c.2 in
-      from_pure (λ y z. IsType y (suc n) s z) (list_of r.0.0 None i.0.0) u r.0.1 t r.2
-      (refl, q.0.1, i.0.1, c.0.1, seen_mark 91 s q.0 there.0 q.1, type_sound n q.0.1 i.0.1 i.0.0 i.1, expect_sound 93 i.0.1 c.0.1 c.0.0 c.1, bang_sound c.0.1 r.0.1 r.0.0 r.1)
+      from_pure (λ y z. IsType y (suc n) s z) (list_of r.0.0 None i.0.0) u r.0.1 t r.2 (
+        refl,
+        q.0.1,
+        i.0.1,
+        c.0.1,
+        seen_mark 91 s q.0 there.0 q.1,
+        type_sound n q.0.1 i.0.1 i.0.0 i.1,
+        expect_sound 93 i.0.1 c.0.1 c.0.0 c.1,
+        bang_sound c.0.1 r.0.1 r.0.0 r.1,
+      )
   | inr none ↦ name_type_sound (suc n) s t u none.1
 ]
 
@@ -52,7 +61,13 @@ type_read (named r x) (suc n) s t (a, word, banged) other =
     let no_list : sees 91 s ≡ false = name_first 91 (record { item = x; span = word.0 }) s a word.1 in rw no_list (name_type_read r x s a t word banged other)
 type_read (list_of r size u) zero s t h other = absurd h
 type_read (list_of r size u) (suc n) s t (free, a, b, d, opens, inside, closes, banged) other =
-    rw (mark_seen 91 s a opens, takes_next (mark 91) opens.0 s a opens.1, type_read u n a b inside (other_seen 93 33 b d refl closes), expect_read 93 b d closes, bang_read r d t banged other)
+    rw (
+      mark_seen 91 s a opens,
+      takes_next (mark 91) opens.0 s a opens.1,
+      type_read u n a b inside (other_seen 93 33 b d refl closes),
+      expect_read 93 b d closes,
+      bang_read r d t banged other,
+    )
     (ap (λ z. Some (list_of r z u, t)) (sym free))
 
 pub type_fewer : (u : TypeRef) (n : ℕ) (s t : At) → IsType u n s t → length t.ahead < length s.ahead

@@ -28,7 +28,8 @@ differs w u other = go (bytes_eq w u) (bytes_eq-Decides w u).0
     go false same = refl
 
 -- the first of three tests that is passed decides
-pub picked_of : {A : Type 0} (P : A → Type 0) (x y z u : A) (a b c : Bool) → (a ≡ true → P x) → (b ≡ true → P y) → (c ≡ true → P z) → (a ≡ false → b ≡ false → c ≡ false → P u) → P (cond a x (cond b y (cond c z u)))
+pub picked_of : {A : Type 0} (P : A → Type 0) (x y z u : A) (a b c : Bool) → (a ≡ true → P x) → (b ≡ true → P y) → (c ≡ true → P z) →
+    (a ≡ false → b ≡ false → c ≡ false → P u) → P (cond a x (cond b y (cond c z u)))
 picked_of P x y z u true b c f g h k = f refl
 picked_of P x y z u false true c f g h k = g refl
 picked_of P x y z u false false true f g h k = h refl
@@ -37,7 +38,8 @@ picked_of P x y z u false false false f g h k = k refl refl refl
 word_sound : (c : Bool) (n : ℕ) (w : Name) (s t : At) → Keyword w s t → IsValue c (word_value w) n s t
 unfolding boolean_word
 word_sound c n w s t h =
-    picked_of (λ v. IsValue c v n s t) (scalar (boolean true)) (scalar (boolean false)) null (enumerated w) (bytes_eq w true_word) (bytes_eq w false_word) (bytes_eq w null_word)
+    picked_of (λ v. IsValue c v n s t) (scalar (boolean true)) (scalar (boolean false)) null (enumerated w) (bytes_eq w true_word) (bytes_eq w false_word)
+    (bytes_eq w null_word)
     (λ e. subst (λ x. Keyword x s t) ((bytes_eq-Decides w true_word).0 e) h)
     (λ e. subst (λ x. Keyword x s t) ((bytes_eq-Decides w false_word).0 e) h)
     (λ e. subst (λ x. Keyword x s t) ((bytes_eq-Decides w null_word).0 e) h)
@@ -100,11 +102,13 @@ variable_sound false n s a t v opens e =
     let q = bind_some (a_name a) _ (v, t) e in
     from_pure (λ y u. IsValue false y n s u) (variable q.0.0.item) v q.0.1 t q.2 (refl, a, opens, (q.0.0.span, name_sound a q.0.1 q.0.0 q.1))
 
-number_sound : (c : Bool) (n : ℕ) (w : Text) (place : Span) (o : Option ℤ) (s a t : At) (v : Input) → Takes (int w) place s a → decoded_int w ≡ o → known (option_map (λ i. scalar (int_shown i)) o) a ≡ Some (v, t) → IsValue c v n s t
+number_sound : (c : Bool) (n : ℕ) (w : Text) (place : Span) (o : Option ℤ) (s a t : At) (v : Input) → Takes (int w) place s a → decoded_int w ≡ o →
+    known (option_map (λ i. scalar (int_shown i)) o) a ≡ Some (v, t) → IsValue c v n s t
 number_sound c n w place None s a t v h is e = absurd (none-some (v, t) e)
 number_sound c n w place (Some i) s a t v h is e = from_pure (λ y u. IsValue c y n s u) (scalar (int_shown i)) v a t e (w, place, h, is)
 
-string_sound : (c : Bool) (n : ℕ) (w : Text) (place : Span) (o : Option Text) (s a t : At) (v : Input) → Takes (string w) place s a → decoded_string w ≡ o → known (option_map (λ x. scalar (text x)) o) a ≡ Some (v, t) → IsValue c v n s t
+string_sound : (c : Bool) (n : ℕ) (w : Text) (place : Span) (o : Option Text) (s a t : At) (v : Input) → Takes (string w) place s a → decoded_string w ≡ o →
+    known (option_map (λ x. scalar (text x)) o) a ≡ Some (v, t) → IsValue c v n s t
 string_sound c n w place None s a t v h is e = absurd (none-some (v, t) e)
 string_sound c n w place (Some x) s a t v h is e = from_pure (λ y u. IsValue c y n s u) (scalar (text x)) v a t e (w, place, h, is)
 
@@ -132,10 +136,12 @@ value_sound : (c : Bool) (n : ℕ) → Sound c n
 unfolding value
 value_sound c zero s t v e =
     let q = bind_some (next s) _ (v, t) e in
-    by_sound c zero refuse refuse (λ b a d y h none. absurd (none-some (y, d) none)) (λ b a d y h none. absurd (none-some (y, d) none)) q.0.0.lexeme q.0.0.span s q.0.1 t v (next_takes s q.0 q.1) q.2
+    by_sound c zero refuse refuse (λ b a d y h none. absurd (none-some (y, d) none))
+    (λ b a d y h none. absurd (none-some (y, d) none)) q.0.0.lexeme q.0.0.span s q.0.1 t v (next_takes s q.0 q.1) q.2
 value_sound c (suc n) s t v e =
     let q = bind_some (next s) _ (v, t) e in
-    by_sound c (suc n) (list_by (value c n)) (object_by (value c n)) (list_sound c n (value_sound c n)) (object_sound c n (value_sound c n)) q.0.0.lexeme q.0.0.span s q.0.1 t v (next_takes s q.0 q.1) q.2
+    by_sound c (suc n) (list_by (value c n)) (object_by (value c n)) (list_sound c n (value_sound c n))
+    (object_sound c n (value_sound c n)) q.0.0.lexeme q.0.0.span s q.0.1 t v (next_takes s q.0 q.1) q.2
 
 pub value_spelled : (c : Bool) (n : ℕ) (s t : At) (v : Input) → value c n s ≡ Some (v, t) → IsValue c v n s t
 value_spelled c n = value_sound c n
@@ -167,9 +173,11 @@ mutual
   value_fewer c (enumerated w) n s t h = fewer (name w) h.0.0 s t h.0.1
   value_fewer c (variable x) n s t (free, a, dollar, word) = omega (arith, fewer (mark 36) dollar.0 s a dollar.1, fewer (name x) word.0 a t word.1)
   value_fewer c (list is) zero s t h = absurd h
-  value_fewer c (list is) (suc n) s t (a, b, opens, inside, closes) = omega (arith, fewer (mark 91) opens.0 s a opens.1, items_fewer c is n a b inside, fewer (mark 93) closes.0 b t closes.1)
+  value_fewer c (list is) (suc n) s t (a, b, opens, inside, closes) =
+      omega (arith, fewer (mark 91) opens.0 s a opens.1, items_fewer c is n a b inside, fewer (mark 93) closes.0 b t closes.1)
   value_fewer c (object fs) zero s t h = absurd h
-  value_fewer c (object fs) (suc n) s t (a, b, opens, inside, closes) = omega (arith, fewer (mark 123) opens.0 s a opens.1, fields_fewer c fs n a b inside, fewer (mark 125) closes.0 b t closes.1)
+  value_fewer c (object fs) (suc n) s t (a, b, opens, inside, closes) =
+      omega (arith, fewer (mark 123) opens.0 s a opens.1, fields_fewer c fs n a b inside, fewer (mark 125) closes.0 b t closes.1)
 
   items_fewer : (c : Bool) (is : InputItems) (n : ℕ) (s t : At) → AreItems c is n s t → length t.ahead ≤ length s.ahead
   items_fewer c no_items n s t h = omega (arith, ap (λ (u : At). length u.ahead) h)
@@ -201,26 +209,32 @@ variable_read : (c : Bool) (x : Name) (a t : At) → c ≡ false → Keyword x a
 variable_read true x a t free word = cc
 variable_read false x a t free word = rw (name_read (record { item = x; span = word.0 }) a t word.1) refl
 
-named_read : (c : Bool) (n : ℕ) (x : Argument) (s a b t : At) → IsWord x.name s a → Mark 58 a b → value c n b ≡ Some (x.value.item, t) → x.value.span ≡ span_of b t → named (value c n) s ≡ Some (x, t)
+named_read : (c : Bool) (n : ℕ) (x : Argument) (s a b t : At) → IsWord x.name s a → Mark 58 a b → value c n b ≡ Some (x.value.item, t) →
+    x.value.span ≡ span_of b t → named (value c n) s ≡ Some (x, t)
 named_read c n x s a b t word colon is place =
-    rw (name_read x.name s a word, expect_read 58 a b colon, is) (ap (λ p. Some (record { name = x.name; value = record { item = x.value.item; span = p } }, t)) (sym place))
+    rw (name_read x.name s a word, expect_read 58 a b colon, is) (ap (λ p. Some (record { name = x.name; value = record { item = x.value.item; span = p } }, t))
+    (sym place))
 
 mutual
   pub value_read : (c : Bool) (v : Input) (n : ℕ) (s t : At) → IsValue c v n s t → value c n s ≡ Some (v, t)
   value_read c null n s t h = rw (value_is c n s, takes_next (name null_word) h.0 s t h.1) refl
-  value_read c (scalar (int_shown i)) n s t h = rw (value_is c n s, takes_next (int h.0) h.1 s t h.2) (ap (λ o. known (option_map (λ j. scalar (int_shown j)) o) t) h.3)
-  value_read c (scalar (text x)) n s t h = rw (value_is c n s, takes_next (string h.0) h.1 s t h.2) (ap (λ o. known (option_map (λ y. scalar (text y)) o) t) h.3)
+  value_read c (scalar (int_shown i)) n s t h =
+      rw (value_is c n s, takes_next (int h.0) h.1 s t h.2) (ap (λ o. known (option_map (λ j. scalar (int_shown j)) o) t) h.3)
+  value_read c (scalar (text x)) n s t h =
+      rw (value_is c n s, takes_next (string h.0) h.1 s t h.2) (ap (λ o. known (option_map (λ y. scalar (text y)) o) t) h.3)
   value_read c (scalar (boolean b)) n s t h = rw (value_is c n s, takes_next (name (boolean_word b)) h.0 s t h.1) (ap (λ v. Some (v, t)) (boolean_stands b))
   value_read c (enumerated w) n s t h = rw (value_is c n s, takes_next (name w) h.0.0 s t h.0.1) (ap (λ v. Some (v, t)) (enum_stands w h.1))
   value_read c (variable x) n s t (free, a, dollar, word) = rw (value_is c n s, takes_next (mark 36) dollar.0 s a dollar.1) (variable_read c x a t free word)
   value_read c (list is) zero s t h = absurd h
   value_read c (list is) (suc n) s t (a, b, opens, inside, closes) =
       rw (value_is c (suc n) s, takes_next (mark 91) opens.0 s a opens.1)
-      (ap (λ o. and_then o (λ vs. pure (list (items_of vs)))) (until_read 93 (spanned (value c n)) (parts_of is) (length a.ahead) a b t (items_parts c is n a b inside) closes (omega arith)) ∙ ap (λ js. Some (list js, t)) (items_back is))
+      (ap (λ o. and_then o (λ vs. pure (list (items_of vs)))) (until_read 93 (spanned (value c n)) (parts_of is) (length a.ahead) a b t
+      (items_parts c is n a b inside) closes (omega arith)) ∙ ap (λ js. Some (list js, t)) (items_back is))
   value_read c (object fs) zero s t h = absurd h
   value_read c (object fs) (suc n) s t (a, b, opens, inside, closes) =
       rw (value_is c (suc n) s, takes_next (mark 123) opens.0 s a opens.1)
-      (ap (λ o. and_then o (λ xs. pure (object (fields_of xs)))) (until_read 125 (named (value c n)) (members_of fs) (length a.ahead) a b t (fields_parts c fs n a b inside) closes (omega arith)) ∙ ap (λ gs. Some (object gs, t)) (fields_back fs))
+      (ap (λ o. and_then o (λ xs. pure (object (fields_of xs)))) (until_read 125 (named (value c n)) (members_of fs) (length a.ahead) a b t
+      (fields_parts c fs n a b inside) closes (omega arith)) ∙ ap (λ gs. Some (object gs, t)) (fields_back fs))
 
   items_parts : (c : Bool) (is : InputItems) (n : ℕ) (s t : At) → AreItems c is n s t → Many (IsPart 93 false (spanned (value c n))) (parts_of is) s t
   items_parts c no_items n s t h = h
@@ -239,7 +253,8 @@ mutual
   fields_parts c (input_field k k_at v v_at rest) n s t (a, b, d, word, colon, is, place, more) = (
     d,
     record {
-      reads = named_read c n (record { name = record { item = k; span = k_at }; value = record { item = v; span = v_at } }) s a b d word colon (value_read c v n b d is) place;
+      reads = named_read c n (record { name = record { item = k; span = k_at }; value = record { item = v; span = v_at } }) s a b d word colon
+          (value_read c v n b d is) place;
       less = omega (arith, fewer (name k) k_at s a word, fewer (mark 58) colon.0 a b colon.1, value_fewer c v n b d is);
       first = name_first 125 (record { item = k; span = k_at }) s a word;
     },

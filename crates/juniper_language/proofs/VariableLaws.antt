@@ -21,15 +21,18 @@ module _ {A : Type 0} (m : ℕ) (p : Reader A) (R : A → At → At → Type 0) 
     | inr none ↦ from_pure (λ y u. Opt R y s u) None o s t none.1 refl
   ]
 
-  pub may_read : (o : Option A) (s t : At) → ((x : A) → R x s t → p s ≡ Some (x, t)) → ((x : A) → R x s t → sees m s ≡ true) → sees m t ≡ false → Opt R o s t → optional m p s ≡ Some (o, t)
+  pub may_read : (o : Option A) (s t : At) → ((x : A) → R x s t → p s ≡ Some (x, t)) → ((x : A) → R x s t → sees m s ≡ true) → sees m t ≡ false → Opt R o s t →
+      optional m p s ≡ Some (o, t)
   may_read None s t reads first other h = let none : sees m s ≡ false = ap (sees m) h ∙ other in rw none (ap (λ u. Some (None, u)) h)
   may_read (Some x) s t reads first other h = rw (first x h, reads x h) refl
 
-pub may_first : {A : Type 0} (m : ℕ) (R : A → At → At → Type 0) (o : Option A) (s t : At) → ((x : A) → R x s t → sees m s ≡ false) → sees m t ≡ false → Opt R o s t → sees m s ≡ false
+pub may_first : {A : Type 0} (m : ℕ) (R : A → At → At → Type 0) (o : Option A) (s t : At) → ((x : A) → R x s t → sees m s ≡ false) → sees m t ≡ false →
+    Opt R o s t → sees m s ≡ false
 may_first m R None s t first other h = ap (sees m) h ∙ other
 may_first m R (Some x) s t first other h = first x h
 
-pub may_fewer : {A : Type 0} (R : A → At → At → Type 0) (o : Option A) (s t : At) → ((x : A) → R x s t → length t.ahead < length s.ahead) → Opt R o s t → length t.ahead ≤ length s.ahead
+pub may_fewer : {A : Type 0} (R : A → At → At → Type 0) (o : Option A) (s t : At) → ((x : A) → R x s t → length t.ahead < length s.ahead) → Opt R o s t →
+    length t.ahead ≤ length s.ahead
 may_fewer R None s t less h = omega (arith, ap (λ (u : At). length u.ahead) h)
 may_fewer R (Some x) s t less h = omega (arith, less x h)
 
@@ -44,7 +47,8 @@ default_sound n s t x e =
 
 default_read : (n : ℕ) (v : Spanned Input) (s t : At) → Default n v s t → default_value n s ≡ Some (v, t)
 unfolding default_value
-default_read n v s t (a, equals, is, place) = rw (expect_read 61 s a equals, value_read true v.item n a t is) (ap (λ p. Some (record { item = v.item; span = p }, t)) (sym place))
+default_read n v s t (a, equals, is, place) =
+    rw (expect_read 61 s a equals, value_read true v.item n a t is) (ap (λ p. Some (record { item = v.item; span = p }, t)) (sym place))
 
 default_first : (n k : ℕ) (v : Spanned Input) (s t : At) → 61 == k ≡ false → Default n v s t → sees k s ≡ false
 default_first n k v s t e h = other_seen 61 k s h.0 e h.1
@@ -64,7 +68,12 @@ variable_sound n s t y e =
     let v = bind_some (optional 61 (default_value n) u.0.1) _ (y, t) u.2 in
     let d = bind_some (directives true n v.0.1) _ (y, t) v.2 in
     let typed = spanned_is c.0.1 (type_ref n c.0.1) u.0 u.1 in
-    from_pure (λ z w. IsVariable n z s w) (record { name = record { item = x.0.0.item; span = span_of s x.0.1 }; of_type = u.0.0; default = v.0.0; directives = d.0.0 }) y d.0.1 t d.2 (
+    from_pure (λ z w. IsVariable n z s w) (record {
+      name = record { item = x.0.0.item; span = span_of s x.0.1 };
+      of_type = u.0.0;
+      default = v.0.0;
+      directives = d.0.0;
+    }) y d.0.1 t d.2 (
       q.0.1,
       x.0.1,
       c.0.1,
@@ -90,7 +99,8 @@ record Ends (t : At) : Type 0 where
 variable_read : (n : ℕ) (v : VariableDefinition) (s t : At) → Ends t → IsVariable n v s t → variable_definition n s ≡ Some (v, t)
 unfolding variable_definition
 variable_read n v s t ends (a, b, d, e, f, dollar, word, place, colon, typed, at, default, directed) =
-    let no_bang = may_first 33 (Default n) v.default e f (λ x h. default_first n 33 x e f refl h) (directives_first 33 true n v.directives f t refl directed ends.no_bang) default in
+    let no_bang = may_first 33 (Default n) v.default e f (λ x h. default_first n 33 x e f refl h)
+    (directives_first 33 true n v.directives f t refl directed ends.no_bang) default in
     let no_equals = directives_first 61 true n v.directives f t refl directed ends.no_equals in
     rw (
       expect_read 36 s a dollar,
@@ -100,7 +110,15 @@ variable_read n v s t ends (a, b, d, e, f, dollar, word, place, colon, typed, at
       may_read 61 (default_value n) (Default n) v.default e f (λ x h. default_read n x e f h) (λ x h. mark_seen 61 e h.0 h.1) no_equals default,
       directives_read true n v.directives f t directed ends.no_bracket ends.no_directive,
     )
-    (ap₂ (λ p q. Some (record { name = record { item = v.name.item; span = p }; of_type = record { item = v.of_type.item; span = q }; default = v.default; directives = v.directives }, t)) (sym place) (sym at))
+    (ap₂ (λ p q. Some (
+      record {
+        name = record { item = v.name.item; span = p };
+        of_type = record { item = v.of_type.item; span = q };
+        default = v.default;
+        directives = v.directives;
+      },
+      t,
+    )) (sym place) (sym at))
 
 pub variable_fewer : (n : ℕ) (v : VariableDefinition) (s t : At) → IsVariable n v s t → length t.ahead < length s.ahead
 variable_fewer n v s t (a, b, d, e, f, dollar, word, place, colon, typed, at, default, directed) =
@@ -118,10 +136,20 @@ variable_fewer n v s t (a, b, d, e, f, dollar, word, place, colon, typed, at, de
 after : (n : ℕ) (vs : List VariableDefinition) (s b t : At) → Many (IsVariable n) vs s b → Mark 41 b t → Ends s
 after n [] s b t h closes =
     let here : Mark 41 s t = subst (λ u. Mark 41 u t) (sym h) closes in
-    record { no_bang = other_seen 41 33 s t refl here; no_equals = other_seen 41 61 s t refl here; no_bracket = other_seen 41 40 s t refl here; no_directive = other_seen 41 64 s t refl here }
+    record {
+      no_bang = other_seen 41 33 s t refl here;
+      no_equals = other_seen 41 61 s t refl here;
+      no_bracket = other_seen 41 40 s t refl here;
+      no_directive = other_seen 41 64 s t refl here;
+    }
 after n (v ∷ vs) s b t (e, is, more) closes =
     let here : Mark 36 s is.0 = is.5 in
-    record { no_bang = other_seen 36 33 s is.0 refl here; no_equals = other_seen 36 61 s is.0 refl here; no_bracket = other_seen 36 40 s is.0 refl here; no_directive = other_seen 36 64 s is.0 refl here }
+    record {
+      no_bang = other_seen 36 33 s is.0 refl here;
+      no_equals = other_seen 36 61 s is.0 refl here;
+      no_bracket = other_seen 36 40 s is.0 refl here;
+      no_directive = other_seen 36 64 s is.0 refl here;
+    }
 
 pub variables_parts : Parts variable_definition IsVariable
 variables_parts n [] a b t h closes = h

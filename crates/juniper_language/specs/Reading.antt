@@ -16,7 +16,8 @@ use Rattle.juniper_language.specs.Readers.{Reader, Outcome, ◌>>=◌, pure, ref
 
 -- `true`, `false`, `null`, or a value of an enum
 abbrev pub word_value : Name → Input
-word_value w = cond (bytes_eq w true_word) (scalar (boolean true)) (cond (bytes_eq w false_word) (scalar (boolean false)) (cond (bytes_eq w null_word) null (enumerated w)))
+word_value w = cond (bytes_eq w true_word) (scalar (boolean true))
+    (cond (bytes_eq w false_word) (scalar (boolean false)) (cond (bytes_eq w null_word) null (enumerated w)))
 
 -- an Int
 abbrev pub number_value : Text → Option Input
@@ -167,7 +168,8 @@ abbrev pub head_of : Option Word × Word → Arguments → List Directive → Bo
 head_of l as' ds b place = record { alias = l.0; name = l.1; arguments = as'; directives = ds; has_set = b; span = place }
 
 abbrev pub field_by : ℕ → Reader Selections → Reader Node
-field_by n inside s = (label >>= (λ l. given false n >>= (λ as'. directives false n >>= (λ ds. optional 123 (set_by inside) >>= (λ o t. pure (field_node (head_of l as' ds (is_some o) (span_of s t)) (below_of o)) t))))) s
+field_by n inside s = (label >>= (λ l. given false n >>= (λ as'. directives false n
+    >>= (λ ds. optional 123 (set_by inside) >>= (λ o t. pure (field_node (head_of l as' ds (is_some o) (span_of s t)) (below_of o)) t))))) s
 
 -- the name that comes next, if one does
 abbrev pub word_of : Lexeme → Option Name
@@ -189,7 +191,8 @@ since start t = record { start = start; end = t.last }
 
 -- an inline fragment behind its condition, and a spread behind its name, each with where it began
 abbrev pub inline_by : ℕ → Reader Selections → Position → Option Word → Reader Node
-inline_by n inside start condition = directives false n >>= (λ ds. set_by inside >>= (λ below t. pure (inline_node (record { condition = condition; directives = ds; span = since start t }) below) t))
+inline_by n inside start condition = directives false n >>= (λ ds. set_by inside
+    >>= (λ below t. pure (inline_node (record { condition = condition; directives = ds; span = since start t }) below) t))
 
 abbrev pub spread_by : ℕ → Position → Word → Reader Node
 spread_by n start x = directives false n >>= (λ ds t. pure (spread_node (record { name = x; directives = ds; span = since start t })) t)
@@ -227,7 +230,9 @@ default_value n = expect 61 >>= (λ u. spanned (value true n))
 
 -- what is said of a variable behind its name, which stands at the place
 abbrev pub variable_by : ℕ → Name → Span → Reader VariableDefinition
-variable_by n x place = expect 58 >>= (λ u. spanned (type_ref n) >>= (λ y. optional 61 (default_value n) >>= (λ v. directives true n >>= (λ ds. pure (record { name = record { item = x; span = place }; of_type = y; default = v; directives = ds })))))
+variable_by n x place = expect 58 >>= (λ u. spanned (type_ref n)
+    >>= (λ y. optional 61 (default_value n) >>= (λ v. directives true n
+    >>= (λ ds. pure (record { name = record { item = x; span = place }; of_type = y; default = v; directives = ds })))))
 
 unfoldable pub variable_definition : ℕ → Reader VariableDefinition
 variable_definition n s = (expect 36 >>= (λ u. a_name >>= (λ x b. variable_by n x.item (span_of s b) b))) s
@@ -244,12 +249,14 @@ name_if s = name_by_word (first_word s.ahead) s
 
 -- an operation behind its kind, with where it began
 abbrev pub longhand : ℕ → Position → OperationType → Reader Operation
-longhand n start kind = name_if >>= (λ x. optional 40 (in_brackets variable_definition n) >>= (λ vs. directives false n >>= (λ ds. set_by (inside_of n) >>= (λ y t.
+longhand n start kind =
+    name_if >>= (λ x. optional 40 (in_brackets variable_definition n) >>= (λ vs. directives false n >>= (λ ds. set_by (inside_of n) >>= (λ y t.
     pure (record { kind = kind; name = x; variables = vs; directives = ds; selections = y; span = since start t }) t))))
 
 -- a query that is its selection set alone
 abbrev pub shorthand : ℕ → Reader Operation
-shorthand n s = (set_by (inside_of n) >>= (λ y t. pure (record { kind = query; name = None; variables = None; directives = []; selections = y; span = span_of s t }) t)) s
+shorthand n s =
+    (set_by (inside_of n) >>= (λ y t. pure (record { kind = query; name = None; variables = None; directives = []; selections = y; span = span_of s t }) t)) s
 
 -- a name other than `on`; and `on`, and a name
 abbrev pub fragment_name : Reader Word
@@ -276,7 +283,8 @@ fragment_word = codes "fragment"
 
 -- the kind that a word names
 abbrev pub kind_of : Name → Option OperationType
-kind_of w = cond (bytes_eq w (kind_word query)) (Some query) (cond (bytes_eq w (kind_word mutation)) (Some mutation) (cond (bytes_eq w (kind_word subscription)) (Some subscription) None))
+kind_of w = cond (bytes_eq w (kind_word query)) (Some query) (cond (bytes_eq w (kind_word mutation)) (Some mutation)
+    (cond (bytes_eq w (kind_word subscription)) (Some subscription) None))
 
 -- behind the first word: an operation of a kind, or a fragment
 abbrev pub behind_word : ℕ → Position → Name → Option OperationType → Reader Definition

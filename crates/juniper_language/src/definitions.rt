@@ -128,7 +128,8 @@ fn optional_variables<'a, S: ScalarValue>(
     alloc: Global,
     parser: &mut Parser<'_, 'a>,
 ) -> ParseResult<Option<Spanning<VariableDefinitions<'a, S>, Span>>>
-    ensures { Gives (option_map (view_variables S.shown)) result parser.new (read.optional 40 (rule.in_brackets rule.variable_definition most_brackets) parser.old) }
+    ensures { Gives (option_map (view_variables S.shown)) result parser.new
+        (read.optional 40 (rule.in_brackets rule.variable_definition most_brackets) parser.old) }
 {
     if !parser.sees(b'(') {
         return Ok(None);
@@ -174,7 +175,8 @@ fn longhand<'a, S: ScalarValue>(
     start: SourcePosition,
     operation_type: OperationType,
 ) -> ParseResult<Definition<'a, S>>
-    ensures { Gives (view_definition S.shown) result parser.new (rule.as_operation (rule.longhand most_brackets (view_position start) (view_kind operation_type)) parser.old) }
+    ensures { Gives (view_definition S.shown) result parser.new (rule.as_operation
+        (rule.longhand most_brackets (view_position start) (view_kind operation_type)) parser.old) }
 {
     let name = optional_name(parser)?;
     let variable_definitions = optional_variables(alloc, parser)?;
@@ -260,7 +262,8 @@ fn behind_word<'a, S: ScalarValue>(
     start: SourcePosition,
     word: Word<'a>,
 ) -> ParseResult<Definition<'a, S>>
-    ensures { Gives (view_definition S.shown) result parser.new (rule.behind_word most_brackets (view_position start) word.entry.item.now (rule.kind_of word.entry.item.now) parser.old) }
+    ensures { Gives (view_definition S.shown) result parser.new (rule.behind_word most_brackets (view_position start) word.entry.item.now
+        (rule.kind_of word.entry.item.now) parser.old) }
 {
     match operation_type(word.item) {
         Some(kind) => longhand(alloc, parser, start, kind),

@@ -168,7 +168,8 @@ fn fragment<'a, S: ScalarValue>(
     depth: usize,
     start: SourcePosition,
 ) -> ParseResult<Selection<'a, S>>
-    ensures { Gives (put_selection S.shown) result parser.new (rule.placed (rule.dotted depth (rule.inside_of depth) (view_position start) (rule.first_word parser.old.ahead)) parser.old) }
+    ensures { Gives (put_selection S.shown) result parser.new (rule.placed
+        (rule.dotted depth (rule.inside_of depth) (view_position start) (rule.first_word parser.old.ahead)) parser.old) }
 {
     match parser.word() {
         None => inline_fragment(alloc, parser, depth, start, None),
@@ -193,7 +194,8 @@ fn inline_fragment<'a, S: ScalarValue>(
     start: SourcePosition,
     type_condition: Option<Word<'a>>,
 ) -> ParseResult<Selection<'a, S>>
-    ensures { Gives (put_selection S.shown) result parser.new (rule.placed (rule.inline_by depth (rule.inside_of depth) (view_position start) (option_map view_word type_condition.entry)) parser.old) }
+    ensures { Gives (put_selection S.shown) result parser.new (rule.placed
+        (rule.inline_by depth (rule.inside_of depth) (view_position start) (option_map view_word type_condition.entry)) parser.old) }
 {
     let directives = directives(alloc, parser, false, depth)?;
     let selection_set = selection_set(alloc, parser, depth)?;

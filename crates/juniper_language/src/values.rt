@@ -125,7 +125,8 @@ fn bracketed<S: ScalarValue>(
     mark: u8,
     place: Span,
 ) -> ParseResult<InputValue<S>>
-    ensures value { Gives (view_input S.shown) result parser.new (rule.bracketed constant (rule.list_within constant depth) (rule.object_within constant depth) mark parser.old) }
+    ensures value { Gives (view_input S.shown) result parser.new (rule.bracketed constant (rule.list_within constant depth)
+        (rule.object_within constant depth) mark parser.old) }
     ensures place { IsFalse (rule.may_begin constant depth mark) → IfErr result (λ e. e.span ≡ place) }
 {
     if mark == b'$' {
@@ -189,7 +190,8 @@ fn items<S: ScalarValue>(
     constant: bool,
     depth: usize,
 ) -> ParseResult<Vec<PlacedValue<S>>>
-    ensures { Gives (λ v. map (view_spanning (view_input S.shown)) v.items) result parser.new (read.until 93 (read.spanned (rule.value constant depth)) (length parser.old.ahead) parser.old) }
+    ensures { Gives (λ v. map (view_spanning (view_input S.shown)) v.items) result parser.new
+        (read.until 93 (read.spanned (rule.value constant depth)) (length parser.old.ahead) parser.old) }
 {
     let mut found = Vec::with_capacity(alloc, 1)?;
     for _turn in 0..parser.left() {
@@ -211,7 +213,8 @@ fn fields<S: ScalarValue>(
     constant: bool,
     depth: usize,
 ) -> ParseResult<Vec<Member<S>>>
-    ensures { Gives (λ v. map (view_member S.shown) v.items) result parser.new (read.until 125 (rule.argument constant depth) (length parser.old.ahead) parser.old) }
+    ensures { Gives (λ v. map (view_member S.shown) v.items) result parser.new
+        (read.until 125 (rule.argument constant depth) (length parser.old.ahead) parser.old) }
 {
     let mut found = Vec::with_capacity(alloc, 1)?;
     for _turn in 0..parser.left() {

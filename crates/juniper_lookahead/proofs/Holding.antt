@@ -93,7 +93,8 @@ module _ {S : Type 0} (shown : S → Shown) (vars : VariableMap S) (m : Fragment
   pub field-left-out : (h : Head) (below : Selections) (n size : ℕ) → taken h.directives ≡ false
       → IsPart shown vars m on (spec.field h below) n size part.Nothing
   field-left-out h below n size t = nothing-is (spec.field h below) n size
-      (λ rest w. E-field h below rest ∙ ap (λ b. cond b (unplaced (record { head = h; below = E below; applies_for = on }) ∷ []) [] ++ seen on (E rest)) t) (field-others n h below)
+      (λ rest w. E-field h below rest ∙ ap (λ b. cond b (unplaced (record { head = h; below = E below; applies_for = on }) ∷ []) [] ++ seen on (E rest)) t)
+      (field-others n h below)
 
   pub field-taken : (f : Spanning (FieldType S) Span) (lent : Bor (FieldType S)) (n size : ℕ) → lent.now ≡ f.item
       → (let h : Head = view_head shown (out-Field S f.item) (view_span f.span) in
@@ -187,7 +188,8 @@ module _ {S : Type 0} (shown : S → Shown) (vars : VariableMap S) (m : Fragment
   pub spread-unknown : IsAcyclic shown m → (x : Spread) (n size : ℕ) → fragment_of fs x.name.item ≡ None
       → IsPart shown vars m on (spec.spread x) n size part.Nothing
   spread-unknown none x n size e = nothing-is (spec.spread x) n size
-      (λ rest w. E-spread none x rest ∙ cond-none (taken x.directives) (filled E (fragment_of fs x.name.item)) (E rest) (none-of (fragment_of fs x.name.item) e)) (spread-others n x)
+      (λ rest w. E-spread none x rest ∙ cond-none (taken x.directives) (filled E (fragment_of fs x.name.item)) (E rest)
+      (none-of (fragment_of fs x.name.item) e)) (spread-others n x)
 
   none-is : (o : Option Fragment) → is_some o ≡ false → o ≡ None
   none-is None e = refl
@@ -239,7 +241,8 @@ module _ {S : Type 0} (shown : S → Shown) (vars : VariableMap S) (m : Fragment
   }
 
   pub selected-field : (x : Selection S) (s : Spanning (FieldType S) Span) (n : ℕ) (p : Part S) → x ≡ FieldCase s →
-      ((i size : ℕ) → IsPart shown vars m on (spec.field (view_head shown (out-Field S s.item) (view_span s.span)) (view_set shown (out-Field S s.item).selection_set)) i size p) →
+      ((i size : ℕ) → IsPart shown vars m on (spec.field (view_head shown (out-Field S s.item) (view_span s.span))
+      (view_set shown (out-Field S s.item).selection_set)) i size p) →
       IsPart shown vars m on (put_selection shown x) n (size-Selection S x) p
   selected-field x s n p is has = subst (λ y. IsPart shown vars m on (put_selection shown y) n (size-Selection S y) p) (sym is)
       (part-moved (put_selection shown (FieldCase s)) _ n (size-Selection S (FieldCase s)) p (put-Field shown s) (has n (size-Selection S (FieldCase s))))
@@ -248,11 +251,14 @@ module _ {S : Type 0} (shown : S → Shown) (vars : VariableMap S) (m : Fragment
       ((size : ℕ) → IsPart shown vars m on (spec.spread (view_spread shown s.item (view_span s.span))) n size p)
       → IsPart shown vars m on (put_selection shown x) n (size-Selection S x) p
   selected-spread x s n p is has = subst (λ y. IsPart shown vars m on (put_selection shown y) n (size-Selection S y) p) (sym is)
-      (part-moved (put_selection shown (SpreadCase s)) _ n (size-Selection S (SpreadCase s)) p (put-FragmentSpread shown s) (has (size-Selection S (SpreadCase s))))
+      (part-moved (put_selection shown (SpreadCase s)) _ n (size-Selection S (SpreadCase s)) p (put-FragmentSpread shown s)
+      (has (size-Selection S (SpreadCase s))))
 
   pub selected-inline : (x : Selection S) (s : Spanning (InlineType S) Span) (n : ℕ) (p : Part S) → x ≡ InlineCase s →
       ((size : ℕ) → nesting (out-InlineFragment S s.item).selection_set.items < size →
-      IsPart shown vars m on (spec.inline (inline_head shown (out-InlineFragment S s.item) (view_span s.span)) (view_selections shown (out-InlineFragment S s.item).selection_set.items)) n size p) →
+      IsPart shown vars m on (spec.inline (inline_head shown (out-InlineFragment S s.item) (view_span s.span))
+      (view_selections shown (out-InlineFragment S s.item).selection_set.items)) n size p) →
       IsPart shown vars m on (put_selection shown x) n (size-Selection S x) p
   selected-inline x s n p is has = subst (λ y. IsPart shown vars m on (put_selection shown y) n (size-Selection S y) p) (sym is)
-      (part-moved (put_selection shown (InlineCase s)) _ n (size-Selection S (InlineCase s)) p (put-InlineFragment shown s) (has (size-Selection S (InlineCase s)) (inline_deeper s)))
+      (part-moved (put_selection shown (InlineCase s)) _ n (size-Selection S (InlineCase s)) p (put-InlineFragment shown s)
+      (has (size-Selection S (InlineCase s)) (inline_deeper s)))

@@ -32,7 +32,8 @@ module _ {S : Type 0} (shown : S → Shown) where
       → spreads_in (fragment_of (map (named_fragment shown) es) k) ≡ []
   unfolding spreads_in fragment_of named_fragment
   none-among [] all k = refl
-  none-among (e ∷ es) all k = elim (cases_Bool (bytes_eq k e.0.now)) [ inl q ↦ rw q (all 0 e.1 (omega arith)) | inr q ↦ rw q (none-among es (λ i d p. all (suc i) d (omega (arith, p))) k) ]
+  none-among (e ∷ es) all k = elim (cases_Bool (bytes_eq k e.0.now))
+      [ inl q ↦ rw q (all 0 e.1 (omega arith)) | inr q ↦ rw q (none-among es (λ i d p. all (suc i) d (omega (arith, p))) k) ]
 
   -- where a fragment that spreads nothing is put into an empty map
   pub alone-acyclic : (eq : Bor (List ℕ) → Bor (List ℕ) → Bool) (m n : FragmentsByName S) (name : Bor (List ℕ)) (f : Bor (Fragment S))

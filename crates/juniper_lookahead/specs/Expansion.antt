@@ -58,11 +58,13 @@ module _ {S : Type 0} (shown : S → Shown) where
 
   -- a field where it is written, with what it selects
   unfoldable pub occurrence_at : VariableMap S → FragmentsByName S → Spanning (Field S) Span → Occurrence
-  occurrence_at vars m f = record { head = view_head shown (out-Field S f.item) (view_span f.span); below = expanded vars m (view_set shown (out-Field S f.item).selection_set) }
+  occurrence_at vars m f =
+      record { head = view_head shown (out-Field S f.item) (view_span f.span); below = expanded vars m (view_set shown (out-Field S f.item).selection_set) }
 
   -- a field with what it selects, and the type that it is selected for; where it is written is left out
   unfoldable pub child_at : VariableMap S → FragmentsByName S → Field S → Option Name → Child
-  child_at vars m f on = record { head = view_head shown (out-Field S f) nowhere; below = expanded vars m (view_set shown (out-Field S f).selection_set); applies_for = on }
+  child_at vars m f on =
+      record { head = view_head shown (out-Field S f) nowhere; below = expanded vars m (view_set shown (out-Field S f).selection_set); applies_for = on }
 
 -- the words of a field, but for where they are written
 unfoldable pub unplaced_head : Head → Head

@@ -34,11 +34,13 @@ module _ (s : Schema) (vs : List FieldAt) (heads : ℕ → Head) (fs : List Frag
   -- a field, and then others
   pub covers-field : (p : Name) (h : Head) (below rest : Selections) (i : ℕ) (v : FieldAt) (is : List ℕ) →
       IsAt s vs heads (record { parent = p; occurrence = record { head = h; below = expand (λ y. true) fs below } }) i v →
-      Covers s vs heads fs (innermost (declared_type (field_of s p h.name.item))) below v.below → Covers s vs heads fs p rest is → Covers s vs heads fs p (field h below rest) (i ∷ is)
+      Covers s vs heads fs (innermost (declared_type (field_of s p h.name.item))) below v.below → Covers s vs heads fs p rest is →
+      Covers s vs heads fs p (field h below rest) (i ∷ is)
   unfolding fields fields_at type_at
   covers-field p h below rest i v is here inside others n =
       subst (λ t. AreAlike (StandsFor s vs heads n) (fields p t) (i ∷ is)) (sym (whole-field fs h below rest))
-      (alike-both (StandsFor s vs heads n) _ (fields p (expand (λ y. true) fs rest)) (i ∷ []) is (alone-alike (StandsFor s vs heads n) _ i (stands n)) (others n))
+      (alike-both (StandsFor s vs heads n) _ (fields p (expand (λ y. true) fs rest)) (i ∷ []) is (alone-alike (StandsFor s vs heads n) _ i (stands n))
+      (others n))
     where
       stands : (n : ℕ) → StandsFor s vs heads n (record { parent = p; occurrence = record { head = h; below = expand (λ y. true) fs below } }) i
       stands zero = (v, here)
@@ -49,17 +51,22 @@ module _ (s : Schema) (vs : List FieldAt) (heads : ℕ → Head) (fs : List Frag
       Covers s vs heads fs f.condition.item f.selections js → Covers s vs heads fs p rest is → Covers s vs heads fs p (spread x rest) (js ++ is)
   unfolding fields put_under filled condition_or
   covers-spread c p x rest f js is found inside others n =
-      subst (λ t. AreAlike (StandsFor s vs heads n) (fields p t) (js ++ is)) (sym (whole-spread fs c x rest ∙ ap (λ o. put_under (filled (expand (λ y. true) fs) o) (expand (λ y. true) fs rest)) found))
-      (alike-both (StandsFor s vs heads n) (fields f.condition.item (expand (λ y. true) fs f.selections)) (fields p (expand (λ y. true) fs rest)) js is (inside n) (others n))
+      subst (λ t. AreAlike (StandsFor s vs heads n) (fields p t) (js ++ is))
+      (sym (whole-spread fs c x rest ∙ ap (λ o. put_under (filled (expand (λ y. true) fs) o) (expand (λ y. true) fs rest)) found))
+      (alike-both (StandsFor s vs heads n) (fields f.condition.item (expand (λ y. true) fs f.selections)) (fields p (expand (λ y. true) fs rest)) js is
+      (inside n) (others n))
 
   -- a spread of no fragment holds nothing
-  pub covers-nothing : HasNoCycle fs → (p : Name) (x : Spread) (rest : Selections) (is : List ℕ) → fragment_of fs x.name.item ≡ None → Covers s vs heads fs p rest is → Covers s vs heads fs p (spread x rest) is
+  pub covers-nothing : HasNoCycle fs → (p : Name) (x : Spread) (rest : Selections) (is : List ℕ) → fragment_of fs x.name.item ≡ None →
+      Covers s vs heads fs p rest is → Covers s vs heads fs p (spread x rest) is
   unfolding put_under filled
   covers-nothing c p x rest is found others n =
-      subst (λ t. AreAlike (StandsFor s vs heads n) (fields p t) is) (sym (whole-spread fs c x rest ∙ ap (λ o. put_under (filled (expand (λ y. true) fs) o) (expand (λ y. true) fs rest)) found)) (others n)
+      subst (λ t. AreAlike (StandsFor s vs heads n) (fields p t) is)
+      (sym (whole-spread fs c x rest ∙ ap (λ o. put_under (filled (expand (λ y. true) fs) o) (expand (λ y. true) fs rest)) found)) (others n)
 
   -- what an inline fragment holds, and then others
-  pub covers-inline : (p : Name) (x : Inline) (below rest : Selections) (js is : List ℕ) → Covers s vs heads fs (name_or x.condition p) below js → Covers s vs heads fs p rest is → Covers s vs heads fs p (inline x below rest) (js ++ is)
+  pub covers-inline : (p : Name) (x : Inline) (below rest : Selections) (js is : List ℕ) → Covers s vs heads fs (name_or x.condition p) below js →
+      Covers s vs heads fs p rest is → Covers s vs heads fs p (inline x below rest) (js ++ is)
   unfolding fields
   covers-inline p x below rest js is inside others n =
       subst (λ t. AreAlike (StandsFor s vs heads n) (fields p t) (js ++ is)) (sym (whole-inline fs x below rest))
@@ -67,9 +74,12 @@ module _ (s : Schema) (vs : List FieldAt) (heads : ℕ → Head) (fs : List Frag
       (subst (λ q. AreAlike (StandsFor s vs heads n) (fields q (expand (λ y. true) fs below)) js) (sym (asked-is x.condition p)) (inside n)) (others n))
 
   -- each at most twice
-  pub covers-kept : (p : Name) (set : Selections) (all kept : List ℕ) → Covers s vs heads fs p set all → AreAlike (λ x i. x ≡ i) all kept → Covers s vs heads fs p set kept
+  pub covers-kept : (p : Name) (set : Selections) (all kept : List ℕ) → Covers s vs heads fs p set all → AreAlike (λ x i. x ≡ i) all kept →
+      Covers s vs heads fs p set kept
   covers-kept p set all kept a k n = alike-kept (StandsFor s vs heads n) (fields p (expand (λ y. true) fs set)) all kept (a n) k
 
 -- so they do in each graph that has these vertices
-pub covers-more : (s : Schema) (vs ws : List FieldAt) (heads more : ℕ → Head) (fs : List Fragment) → Grows vs ws heads more → (p : Name) (set : Selections) (is : List ℕ) → Covers s vs heads fs p set is → Covers s ws more fs p set is
-covers-more s vs ws heads more fs g p set is a n = alike-more (StandsFor s vs heads n) (StandsFor s ws more n) (stands-more s vs ws heads more g n) (fields p (expand (λ y. true) fs set)) is (a n)
+pub covers-more : (s : Schema) (vs ws : List FieldAt) (heads more : ℕ → Head) (fs : List Fragment) → Grows vs ws heads more →
+    (p : Name) (set : Selections) (is : List ℕ) → Covers s vs heads fs p set is → Covers s ws more fs p set is
+covers-more s vs ws heads more fs g p set is a n =
+    alike-more (StandsFor s vs heads n) (StandsFor s ws more n) (stands-more s vs ws heads more g n) (fields p (expand (λ y. true) fs set)) is (a n)

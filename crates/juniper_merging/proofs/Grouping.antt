@@ -12,11 +12,13 @@ use Rattle.std.proofs.Common.{refl, ap, ◌∙◌, inl, inr}
 use Rattle.graphql_spec.specs.Shown.{Name}
 use Rattle.juniper_merging.specs.Groups.{group_in, numbers_of}
 
-pub group-found : {H : Type 0} (m : HashMap (Bor (List ℕ)) (Vec ℕ Global) H) (k : Name) (o : Option (Vec ℕ Global)) → o ≡ get_by (λ n. bytes_eq k n.now) m → numbers_of o ≡ group_in m k
+pub group-found : {H : Type 0} (m : HashMap (Bor (List ℕ)) (Vec ℕ Global) H) (k : Name) (o : Option (Vec ℕ Global)) → o ≡ get_by (λ n. bytes_eq k n.now) m →
+    numbers_of o ≡ group_in m k
 unfolding group_in
 group-found m k o e = ap numbers_of e
 
-pub group-put : {H : Type 0} (m n : HashMap (Bor (List ℕ)) (Vec ℕ Global) H) (key : Name) (w : Option (Vec ℕ Global)) → hash.UpdatesBy (λ x y. bytes_eq x.now y.now) (λ k. bytes_eq key k.now) m n w →
+pub group-put : {H : Type 0} (m n : HashMap (Bor (List ℕ)) (Vec ℕ Global) H) (key : Name) (w : Option (Vec ℕ Global)) →
+    hash.UpdatesBy (λ x y. bytes_eq x.now y.now) (λ k. bytes_eq key k.now) m n w →
     (k : Name) → group_in n k ≡ cond (bytes_eq key k) (numbers_of w) (group_in m k)
 unfolding group_in
 group-put m n key w u k =

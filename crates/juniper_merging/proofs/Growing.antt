@@ -43,7 +43,8 @@ module _ (s : Schema) (vs ws : List FieldAt) (heads more : ℕ → Head) (g : Gr
   stands-more (suc n) x i r = (r.0, at-more x i r.0 r.1, alike-more (StandsFor s vs heads n) (StandsFor s ws more n) (λ y j. stands-more n y j) _ _ r.2)
 
 -- and at each vertex that is the same
-pub at-same : (s : Schema) (vs : List FieldAt) (heads : ℕ → Head) (x : Field) (i j : ℕ) (v : FieldAt) → slice_get vs j ≡ slice_get vs i → IsAt s vs heads x i v → IsAt s vs heads x j v
+pub at-same : (s : Schema) (vs : List FieldAt) (heads : ℕ → Head) (x : Field) (i j : ℕ) (v : FieldAt) → slice_get vs j ≡ slice_get vs i →
+    IsAt s vs heads x i v → IsAt s vs heads x j v
 at-same s vs heads x i j v same a = record {
   there = same ∙ a.there;
   like = a.like;

@@ -84,29 +84,35 @@ count-last i k [] = go (nat_eq k i)
     go false = refl
 count-last i k (j ∷ ks) = go (nat_eq j i) (count-last i k ks)
   where
-    go : (b : Bool) → count_of i (ks ++ k ∷ []) ≡ count_of i ks + cond (nat_eq k i) 1 0 → cond b (suc (count_of i (ks ++ k ∷ []))) (count_of i (ks ++ k ∷ [])) ≡ cond b (suc (count_of i ks)) (count_of i ks) + cond (nat_eq k i) 1 0
+    go : (b : Bool) → count_of i (ks ++ k ∷ []) ≡ count_of i ks + cond (nat_eq k i) 1 0 →
+        cond b (suc (count_of i (ks ++ k ∷ []))) (count_of i (ks ++ k ∷ [])) ≡ cond b (suc (count_of i ks)) (count_of i ks) + cond (nat_eq k i) 1 0
     go true e = omega (arith, e)
     go false e = e
 
 -- a mark that is set anew counts one more
-marked-first : (k i : ℕ) (once twice : ℕ → Bool) → once k ≡ false → marks (cond (nat_eq k i) true (once i)) (twice i) ≡ marks (once i) (twice i) + cond (nat_eq k i) 1 0
+marked-first : (k i : ℕ) (once twice : ℕ → Bool) → once k ≡ false →
+    marks (cond (nat_eq k i) true (once i)) (twice i) ≡ marks (once i) (twice i) + cond (nat_eq k i) 1 0
 unfolding marks
 marked-first k i once twice fresh = elim (cases_Bool (nat_eq k i)) [
   | inl q ↦ (let o : once i ≡ false = subst (λ j. once j ≡ false) (same-number k i q) fresh in rw (q, o) (omega arith))
   | inr q ↦ rw (q) (omega arith)
 ]
 
-marked-again : (k i : ℕ) (once twice : ℕ → Bool) → once k ≡ true → twice k ≡ false → marks (cond (nat_eq k i) true (once i)) (cond (nat_eq k i) true (twice i)) ≡ marks (once i) (twice i) + cond (nat_eq k i) 1 0
+marked-again : (k i : ℕ) (once twice : ℕ → Bool) → once k ≡ true → twice k ≡ false →
+    marks (cond (nat_eq k i) true (once i)) (cond (nat_eq k i) true (twice i)) ≡ marks (once i) (twice i) + cond (nat_eq k i) 1 0
 unfolding marks
 marked-again k i once twice there fresh = elim (cases_Bool (nat_eq k i)) [
-  | inl q ↦ (let o : once i ≡ true = subst (λ j. once j ≡ true) (same-number k i q) there in let t : twice i ≡ false = subst (λ j. twice j ≡ false) (same-number k i q) fresh in rw (q, o, t) (omega arith))
+  | inl q ↦ (let o : once i ≡ true = subst (λ j. once j ≡ true) (same-number k i q) there in
+      let t : twice i ≡ false = subst (λ j. twice j ≡ false) (same-number k i q) fresh in rw (q, o, t) (omega arith))
   | inr q ↦ rw (q) (omega arith)
 ]
 
-marked-more : (k i : ℕ) (once twice : ℕ → Bool) → once k ≡ true → twice k ≡ true → marks (cond (nat_eq k i) true (once i)) (cond (nat_eq k i) true (twice i)) ≡ marks (once i) (twice i)
+marked-more : (k i : ℕ) (once twice : ℕ → Bool) → once k ≡ true → twice k ≡ true →
+    marks (cond (nat_eq k i) true (once i)) (cond (nat_eq k i) true (twice i)) ≡ marks (once i) (twice i)
 unfolding marks
 marked-more k i once twice there both = elim (cases_Bool (nat_eq k i)) [
-  | inl q ↦ (let o : once i ≡ true = subst (λ j. once j ≡ true) (same-number k i q) there in let t : twice i ≡ true = subst (λ j. twice j ≡ true) (same-number k i q) both in rw (q, o, t) refl)
+  | inl q ↦ (let o : once i ≡ true = subst (λ j. once j ≡ true) (same-number k i q) there in
+      let t : twice i ≡ true = subst (λ j. twice j ≡ true) (same-number k i q) both in rw (q, o, t) refl)
   | inr q ↦ rw (q) refl
 ]
 
@@ -123,11 +129,13 @@ module _ (k : ℕ) (once twice : ℕ → Bool) (kept all : List ℕ) (is : IsKep
       | inr h ↦ in_first i kept (k ∷ []) (is.first i h)
     ];
     second = λ i e. both-first i i kept (k ∷ []) (is.second i e);
-    few = λ i. count-last i k kept ∙ (ap (λ n. n + cond (nat_eq k i) 1 0) (is.few i) ∙ (sym (marked-first k i once twice fresh) ∙ ap (λ b. marks b (twice i)) (sym (added i))));
+    few = λ i. count-last i k kept ∙ (ap (λ n. n + cond (nat_eq k i) 1 0) (is.few i)
+        ∙ (sym (marked-first k i once twice fresh) ∙ ap (λ b. marks b (twice i)) (sym (added i))));
   }
 
   -- it comes for the second time
-  pub comes-again : once k ≡ true → twice k ≡ false → (now then : ℕ → Bool) → ((i : ℕ) → now i ≡ cond (nat_eq k i) true (once i)) → ((i : ℕ) → then i ≡ cond (nat_eq k i) true (twice i)) → IsKept now then (kept ++ k ∷ []) (all ++ k ∷ [])
+  pub comes-again : once k ≡ true → twice k ≡ false → (now then : ℕ → Bool) → ((i : ℕ) → now i ≡ cond (nat_eq k i) true (once i)) →
+      ((i : ℕ) → then i ≡ cond (nat_eq k i) true (twice i)) → IsKept now then (kept ++ k ∷ []) (all ++ k ∷ [])
   comes-again there fresh now then added again = record {
     alike = alike-both (λ x i. x ≡ i) all (k ∷ []) kept (k ∷ []) is.alike (one-alike k);
     first = λ i e. elim (now-only k once now added i e) [
@@ -138,11 +146,13 @@ module _ (k : ℕ) (once twice : ℕ → Bool) (kept all : List ℕ) (is : IsKep
       | inl q ↦ subst (λ j. Both j j (kept ++ k ∷ [])) (sym q) (both-across k k kept (k ∷ []) (is.first k there) (inl refl))
       | inr h ↦ both-first i i kept (k ∷ []) (is.second i h)
     ];
-    few = λ i. count-last i k kept ∙ (ap (λ n. n + cond (nat_eq k i) 1 0) (is.few i) ∙ (sym (marked-again k i once twice there fresh) ∙ sym (λ t. marks (added i t) (again i t))));
+    few = λ i. count-last i k kept ∙ (ap (λ n. n + cond (nat_eq k i) 1 0) (is.few i)
+        ∙ (sym (marked-again k i once twice there fresh) ∙ sym (λ t. marks (added i t) (again i t))));
   }
 
   -- it stands there twice
-  pub comes-more : once k ≡ true → twice k ≡ true → (now then : ℕ → Bool) → ((i : ℕ) → now i ≡ cond (nat_eq k i) true (once i)) → ((i : ℕ) → then i ≡ cond (nat_eq k i) true (twice i)) → IsKept now then kept (all ++ k ∷ [])
+  pub comes-more : once k ≡ true → twice k ≡ true → (now then : ℕ → Bool) → ((i : ℕ) → now i ≡ cond (nat_eq k i) true (once i)) →
+      ((i : ℕ) → then i ≡ cond (nat_eq k i) true (twice i)) → IsKept now then kept (all ++ k ∷ [])
   comes-more there both now then added again = record {
     alike = left-out k all kept is.alike (is.second k both);
     first = λ i e. elim (now-only k once now added i e) [

@@ -26,7 +26,8 @@ module _ (vs : List FieldAt) (whole : List Pair) where
 
   pub looked-fails : (rest qs more : List Pair) (a b c : Search) → IsLooked rest a b → rest ≡ qs ++ more → Looks vs qs b c false → Looks vs whole a c false
   looked-fails rest qs more a b c (ps, e, v) is w =
-      subst (λ l. Looks vs l a c false) (append_assoc ps qs more ∙ (ap (λ l. ps ++ l) (sym is) ∙ e)) (looks-fail vs (ps ++ qs) more a c c (looks-both vs ps qs a b c false v w))
+      subst (λ l. Looks vs l a c false) (append_assoc ps qs more ∙ (ap (λ l. ps ++ l) (sym is) ∙ e))
+      (looks-fail vs (ps ++ qs) more a c c (looks-both vs ps qs a b c false v w))
 
   pub looked-all : (rest : List Pair) (a b : Search) → IsLooked rest a b → rest ≡ [] → Looks vs whole a b true
   looked-all rest a b (ps, e, v) none = subst (λ l. Looks vs l a b true) (sym (append-nil ps) ∙ (ap (λ l. ps ++ l) (sym none) ∙ e)) v
@@ -35,7 +36,8 @@ pub left-is : {A : Type 0} (i : ℕ) (xs : List A) (x : A) → i < length xs →
 left-is i xs x below is = drop_more xs i x below ∙ ap (λ y. y ∷ drop (i + 1) xs) (sym is)
 
 module _ (vs : List FieldAt) (m : Bool) where
-  pub one-left : (j : ℕ) (is : List ℕ) (n i : ℕ) → n < length is → i ≡ get_or is n i → pairs_with vs m j (drop n is) ≡ record { first = i; second = j; must_merge = m } ∷ [] ++ pairs_with vs m j (drop (n + 1) is)
+  pub one-left : (j : ℕ) (is : List ℕ) (n i : ℕ) → n < length is → i ≡ get_or is n i →
+      pairs_with vs m j (drop n is) ≡ record { first = i; second = j; must_merge = m } ∷ [] ++ pairs_with vs m j (drop (n + 1) is)
   unfolding pairs_with
   one-left j is n i l e = ap (map (λ i. record { first = i; second = j; must_merge = m })) (left-is n is i l e)
 
@@ -58,16 +60,20 @@ module _ (vs : List FieldAt) where
   with-key-more : (k : Name) (is : List ℕ) (j : ℕ) → with_key_at vs k (is ++ j ∷ []) ≡ with_key_at vs k is ++ cond (has_key k (slice_get vs j)) (j ∷ []) []
   unfolding with_key_at
   with-key-more k [] j = refl
-  with-key-more k (i ∷ is) j = elim (cases_Bool (has_key k (slice_get vs i))) [ inl q ↦ rw q (ap (λ l. i ∷ l) (with-key-more k is j)) | inr q ↦ rw q (with-key-more k is j) ]
+  with-key-more k (i ∷ is) j =
+      elim (cases_Bool (has_key k (slice_get vs i))) [ inl q ↦ rw q (ap (λ l. i ∷ l) (with-key-more k is j)) | inr q ↦ rw q (with-key-more k is j) ]
 
   -- a number that has no field is in no group
-  pub groups-skip : (j : ℕ) (before : List ℕ) (f : Name → List ℕ) → slice_get vs j ≡ None → ((k : Name) → f k ≡ with_key_at vs k before) → (k : Name) → f k ≡ with_key_at vs k (before ++ j ∷ [])
+  pub groups-skip : (j : ℕ) (before : List ℕ) (f : Name → List ℕ) → slice_get vs j ≡ None → ((k : Name) → f k ≡ with_key_at vs k before) → (k : Name) →
+      f k ≡ with_key_at vs k (before ++ j ∷ [])
   unfolding has_key
   groups-skip j before f none is k = is k ∙ sym (with-key-more k before j ∙ rw none (append-nil (with_key_at vs k before)))
 
   -- a number is put into the group of its key
-  pub groups-put : (j : ℕ) (x : FieldAt) (before group : List ℕ) (f g h : Name → List ℕ) → slice_get vs j ≡ Some x → ((k : Name) → f k ≡ with_key_at vs k before) → group ≡ f x.key ++ j ∷ [] →
-      ((k : Name) → g k ≡ cond (bytes_eq x.key k) [] (f k)) → ((k : Name) → h k ≡ cond (bytes_eq x.key k) group (g k)) → (k : Name) → h k ≡ with_key_at vs k (before ++ j ∷ [])
+  pub groups-put : (j : ℕ) (x : FieldAt) (before group : List ℕ) (f g h : Name → List ℕ) → slice_get vs j ≡ Some x →
+      ((k : Name) → f k ≡ with_key_at vs k before) → group ≡ f x.key ++ j ∷ [] →
+      ((k : Name) → g k ≡ cond (bytes_eq x.key k) [] (f k)) → ((k : Name) → h k ≡ cond (bytes_eq x.key k) group (g k)) → (k : Name) →
+      h k ≡ with_key_at vs k (before ++ j ∷ [])
   unfolding has_key
   groups-put j x before group f g h some is grown taken put k = elim (cases_Bool (bytes_eq x.key k)) [
     | inl q ↦
@@ -84,11 +90,13 @@ module _ (vs : List FieldAt) where
   unfolding with_key_at
   no-groups f e k = e k
 
-  pub partners-are : (x : FieldAt) (j : ℕ) (before : List ℕ) (f : Name → List ℕ) (group : List ℕ) → slice_get vs j ≡ Some x → ((k : Name) → f k ≡ with_key_at vs k before) → group ≡ f x.key → group ≡ partners vs (slice_get vs j) before
+  pub partners-are : (x : FieldAt) (j : ℕ) (before : List ℕ) (f : Name → List ℕ) (group : List ℕ) → slice_get vs j ≡ Some x →
+      ((k : Name) → f k ≡ with_key_at vs k before) → group ≡ f x.key → group ≡ partners vs (slice_get vs j) before
   unfolding partners
   partners-are x j before f group some is e = rw some (e ∙ is x.key)
 
 -- a number that has no field stands in no pair
-pub no-partners : (vs : List FieldAt) (m : Bool) (j : ℕ) (before : List ℕ) (more : List Pair) → slice_get vs j ≡ None → pairs_with vs m j (partners vs (slice_get vs j) before) ++ more ≡ more
+pub no-partners : (vs : List FieldAt) (m : Bool) (j : ℕ) (before : List ℕ) (more : List Pair) → slice_get vs j ≡ None →
+    pairs_with vs m j (partners vs (slice_get vs j) before) ++ more ≡ more
 unfolding pairs_with partners
 no-partners vs m j before more none = rw none refl

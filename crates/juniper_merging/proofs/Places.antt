@@ -30,7 +30,8 @@ module _ {A : Type 0} where
   pub two-from : (R : A → A → Bool) (xs : List A) → ((x y : A) → Both x y xs → R x y ≡ true) → each_two R xs ≡ true
   unfolding each_two
   two-from R [] f = refl
-  two-from R (z ∷ zs) f = and_from (list_all (R z) zs) (each_two R zs) (all-from (R z) zs (λ y i. f z y (inl (refl, i)))) (two-from R zs (λ x y b. f x y (inr (inr b))))
+  two-from R (z ∷ zs) f =
+      and_from (list_all (R z) zs) (each_two R zs) (all-from (R z) zs (λ y i. f z y (inl (refl, i)))) (two-from R zs (λ x y b. f x y (inr (inr b))))
 
   pub both-first : (x y : A) (xs ys : List A) → Both x y xs → Both x y (xs ++ ys)
   both-first x y [] ys b = absurd b
@@ -81,7 +82,8 @@ module _ {A : Type 0} where
 
 module _ {A B : Type 0} (S : A → B → Type 0) where
   -- lists that are alike pass the same tests
-  pub alike-two : (R : A → A → Bool) (Q : B → B → Bool) → ((x y : A) → R x y ≡ R y x) → ((i j : B) → Q i j ≡ Q j i) → ((x y : A) (i j : B) → S x i → S y j → R x y ≡ Q i j) →
+  pub alike-two : (R : A → A → Bool) (Q : B → B → Bool) → ((x y : A) → R x y ≡ R y x) → ((i j : B) → Q i j ≡ Q j i) →
+      ((x y : A) (i j : B) → S x i → S y j → R x y ≡ Q i j) →
       (xs : List A) (is : List B) → AreAlike S xs is → each_two R xs ≡ each_two Q is
   alike-two R Q turn turn' same xs is a = same-truth (each_two R xs) (each_two Q is)
       (λ e. two-from Q is (λ i j b. let r = a.two_back i j b in sym (same r.0 r.1 i j r.2 r.3) ∙ two-true R turn xs e r.0 r.1 r.4))
@@ -101,12 +103,14 @@ module _ {A B : Type 0} (S : A → B → Type 0) where
       | inl k ↦ let r = a.two x y k in (r.0, r.1, r.2, r.3, both-first r.0 r.1 is js r.4)
       | inr (inl k) ↦ let r = b.two x y k in (r.0, r.1, r.2, r.3, both-second r.0 r.1 is js r.4)
       | inr (inr (inl (k, l))) ↦ let r = a.one x k in let t = b.one y l in (r.0, t.0, r.1, t.1, both-across r.0 t.0 is js r.2 t.2)
-      | inr (inr (inr (k, l))) ↦ let r = a.one y k in let t = b.one x l in (t.0, r.0, t.1, r.1, both-turned r.0 t.0 (is ++ js) (both-across r.0 t.0 is js r.2 t.2))
+      | inr (inr (inr (k, l))) ↦ let r = a.one y k in let t = b.one x l in
+          (t.0, r.0, t.1, r.1, both-turned r.0 t.0 (is ++ js) (both-across r.0 t.0 is js r.2 t.2))
     ];
     two_back = λ m n c. elim (both-parts m n is js c) [
       | inl k ↦ let r = a.two_back m n k in (r.0, r.1, r.2, r.3, both-first r.0 r.1 xs ys r.4)
       | inr (inl k) ↦ let r = b.two_back m n k in (r.0, r.1, r.2, r.3, both-second r.0 r.1 xs ys r.4)
       | inr (inr (inl (k, l))) ↦ let r = a.one_back m k in let t = b.one_back n l in (r.0, t.0, r.1, t.1, both-across r.0 t.0 xs ys r.2 t.2)
-      | inr (inr (inr (k, l))) ↦ let r = a.one_back n k in let t = b.one_back m l in (t.0, r.0, t.1, r.1, both-turned r.0 t.0 (xs ++ ys) (both-across r.0 t.0 xs ys r.2 t.2))
+      | inr (inr (inr (k, l))) ↦ let r = a.one_back n k in let t = b.one_back m l in
+          (t.0, r.0, t.1, r.1, both-turned r.0 t.0 (xs ++ ys) (both-across r.0 t.0 xs ys r.2 t.2))
     ];
   }

@@ -31,7 +31,8 @@ module _ {P : Type 0} (fits : P → Bool) (next : P → List P) where
   passed-on seen now f p (e, inl s) = (e, inl (f p s))
   passed-on seen now f p (e, inr s) = (e, inr s)
 
-  pub visited-both : (ps qs : List P) (a b c : P → Bool) (l m n : List P) → IsVisited fits next ps a b l m → IsVisited fits next qs b c m n → IsVisited fits next (ps ++ qs) a c l n
+  pub visited-both : (ps qs : List P) (a b c : P → Bool) (l m n : List P) → IsVisited fits next ps a b l m → IsVisited fits next qs b c m n →
+      IsVisited fits next (ps ++ qs) a c l n
   visited-both ps qs a b c l m n v w = record {
     kept = λ p e. w.kept p (v.kept p e);
     passed = λ p i. elim (in_append p ps qs i) [ inl j ↦ passed-on b c w.kept p (v.passed p j) | inr j ↦ w.passed p j ];
@@ -47,7 +48,8 @@ module _ {P : Type 0} (fits : P → Bool) (next : P → List P) where
   }
 
   -- one that fits and was seen, or leads to nothing
-  pub visited-old : (p : P) (seen now : P → Bool) (left : List P) → fits p ≡ true → ((seen p ≡ true) ⊎ (next p ≡ [])) → ((q : P) → seen q ≡ true → now q ≡ true) → ((q : P) → now q ≡ true → seen q ≡ true) →
+  pub visited-old : (p : P) (seen now : P → Bool) (left : List P) → fits p ≡ true → ((seen p ≡ true) ⊎ (next p ≡ [])) →
+      ((q : P) → seen q ≡ true → now q ≡ true) → ((q : P) → now q ≡ true → seen q ≡ true) →
       IsVisited fits next (p ∷ []) seen now left left
   visited-old p seen now left e s forth back = record {
     kept = forth;
@@ -58,14 +60,16 @@ module _ {P : Type 0} (fits : P → Bool) (next : P → List P) where
   }
 
   -- one that fits, is now seen, and left to be followed
-  pub visited-new : (p : P) (seen now : P → Bool) (left more : List P) → fits p ≡ true → now p ≡ true → ((q : P) → seen q ≡ true → now q ≡ true) → ((q : P) → now q ≡ true → (q ≡ p) ⊎ (seen q ≡ true)) →
+  pub visited-new : (p : P) (seen now : P → Bool) (left more : List P) → fits p ≡ true → now p ≡ true → ((q : P) → seen q ≡ true → now q ≡ true) →
+      ((q : P) → now q ≡ true → (q ≡ p) ⊎ (seen q ≡ true)) →
       more ≡ left ++ p ∷ [] → IsVisited fits next (p ∷ []) seen now left more
   visited-new p seen now left more e s forth back is = record {
     kept = forth;
     passed = λ q i. elim i [ inl z ↦ subst (λ y. IsPassed fits next now y) (sym z) (e, inl s) | inr j ↦ absurd j ];
     only = λ q f. elim (back q f) [ inl z ↦ inr (inl z, subst (λ l. In q l) (sym is) (in_second q left (p ∷ []) (inl z))) | inr t ↦ inl t ];
     stays = λ q i. subst (λ l. In q l) (sym is) (in_first q left (p ∷ []) i);
-    waits = λ q i. elim (in_append q left (p ∷ []) (subst (λ l. In q l) is i)) [ inl j ↦ inl j | inr j ↦ elim j [ inl z ↦ inr (subst (λ y. now y ≡ true) (sym z) s) | inr k ↦ absurd k ] ];
+    waits = λ q i. elim (in_append q left (p ∷ []) (subst (λ l. In q l) is i))
+        [ inl j ↦ inl j | inr j ↦ elim j [ inl z ↦ inr (subst (λ y. now y ≡ true) (sym z) s) | inr k ↦ absurd k ] ];
   }
 
   -- ## The search
@@ -97,7 +101,8 @@ module _ {P : Type 0} (fits : P → Bool) (next : P → List P) where
       sound = λ p e. elim (v.only p e) [ inl s ↦ absurd (both_ways (seen p) (none p) s) | inr t ↦ asked-start p t.0 ];
     }
 
-    pub search-next : (p : P) (seen now : P → Bool) (left rest more : List P) → left ≡ rest ++ p ∷ [] → IsSearched seen left → IsVisited fits next (next p) seen now rest more → IsSearched now more
+    pub search-next : (p : P) (seen now : P → Bool) (left rest more : List P) → left ≡ rest ++ p ∷ [] → IsSearched seen left →
+        IsVisited fits next (next p) seen now rest more → IsSearched now more
     search-next p seen now left rest more is old v =
         let last : In p left = subst (λ l. In p l) (sym is) (in_second p rest (p ∷ []) (inl refl)) in
         let asked : Asked p = old.sound p (old.waiting p last) in
@@ -119,7 +124,8 @@ module _ {P : Type 0} (fits : P → Bool) (next : P → List P) where
         }
 
     -- one that does not fit, of what the last one leads to
-    pub search-fails : (p : P) (seen : P → Bool) (left rest : List P) → left ≡ rest ++ p ∷ [] → IsSearched seen left → Fails fits next (next p) → (m : ℕ) × (list_all (holds m) start ≡ false)
+    pub search-fails : (p : P) (seen : P → Bool) (left rest : List P) → left ≡ rest ++ p ∷ [] → IsSearched seen left → Fails fits next (next p) →
+        (m : ℕ) × (list_all (holds m) start ≡ false)
     unfolding holds
     search-fails p seen left rest is old f =
         let last : In p left = subst (λ l. In p l) (sym is) (in_second p rest (p ∷ []) (inl refl)) in
@@ -133,7 +139,8 @@ module _ {P : Type 0} (fits : P → Bool) (next : P → List P) where
     unfolding holds
     deep seen end zero p (e, s) = e
     deep seen end (suc n) p (e, inr s) = rw e (rw s refl)
-    deep seen end (suc n) p (e, inl s) = rw e (all-from (holds n) (next p) (λ q i. elim (end.followed p s) [ inl j ↦ absurd j | inr f ↦ deep seen end n q (f q i) ]))
+    deep seen end (suc n) p (e, inl s) =
+        rw e (all-from (holds n) (next p) (λ q i. elim (end.followed p s) [ inl j ↦ absurd j | inr f ↦ deep seen end n q (f q i) ]))
 
     pub search-ends : (seen : P → Bool) → IsSearched seen [] → (n : ℕ) → list_all (holds n) start ≡ true
     search-ends seen end n = all-from (holds n) start (λ p i. deep seen end n p (end.first p i))

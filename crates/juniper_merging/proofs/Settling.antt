@@ -23,21 +23,25 @@ all-from f g (x ∷ xs) h e =
     let p = and_parts (f x) (list_all f xs) e in
     and-both (g x) (list_all g xs) (h x (inl refl) p.0) (all-from f g xs (λ y i. h y (inr i)) p.1)
 
-two-from-two : {A : Type 0} (R Q : A → A → Bool) (xs : List A) → ((x y : A) → In x xs → In y xs → R x y ≡ true → Q x y ≡ true) → each_two R xs ≡ true → each_two Q xs ≡ true
+two-from-two : {A : Type 0} (R Q : A → A → Bool) (xs : List A) → ((x y : A) → In x xs → In y xs → R x y ≡ true → Q x y ≡ true) → each_two R xs ≡ true →
+    each_two Q xs ≡ true
 unfolding each_two
 two-from-two R Q [] h e = refl
 two-from-two R Q (x ∷ xs) h e =
     let p = and_parts (list_all (R x) xs) (each_two R xs) e in
-    and-both (list_all (Q x) xs) (each_two Q xs) (all-from (R x) (Q x) xs (λ y i. h x y (inl refl) (inr i)) p.0) (two-from-two R Q xs (λ y z i j. h y z (inr i) (inr j)) p.1)
+    and-both (list_all (Q x) xs) (each_two Q xs) (all-from (R x) (Q x) xs (λ y i. h x y (inl refl) (inr i)) p.0)
+    (two-from-two R Q xs (λ y z i j. h y z (inr i) (inr j)) p.1)
 
 keyed-from : (k a b : Bool) → (a ≡ true → b ≡ true) → (not k || a) ≡ true → (not k || b) ≡ true
 keyed-from true a b h e = h e
 keyed-from false a b h e = refl
 
 -- what holds of pairs, where it follows from what held of them
-pairs-from : (R Q : Field → Field → Bool) (xs : List Field) → ((x y : Field) → In x xs → In y xs → R x y ≡ true → Q x y ≡ true) → each_pair R xs ≡ true → each_pair Q xs ≡ true
+pairs-from : (R Q : Field → Field → Bool) (xs : List Field) → ((x y : Field) → In x xs → In y xs → R x y ≡ true → Q x y ≡ true) → each_pair R xs ≡ true →
+    each_pair Q xs ≡ true
 unfolding each_pair
-pairs-from R Q xs h = two-from-two (λ x y. not (same_key x y) || R x y) (λ x y. not (same_key x y) || Q x y) xs (λ x y i j. keyed-from (same_key x y) (R x y) (Q x y) (h x y i j))
+pairs-from R Q xs h =
+    two-from-two (λ x y. not (same_key x y) || R x y) (λ x y. not (same_key x y) || Q x y) xs (λ x y i j. keyed-from (same_key x y) (R x y) (Q x y) (h x y i j))
 
 -- ## Depths
 
@@ -66,7 +70,8 @@ module _ (s : Schema) where
     | inr j ↦ let q = shallow-fields (innermost (type_at s y)) y.occurrence.below z j in omega (arith, l, q)
   ]
 
-  none-below : (x y : Field) → depth x.occurrence.below ≤ 0 → depth y.occurrence.below ≤ 0 → (R : Field → Field → Bool) → each_pair R (fields_at s x ++ fields_at s y) ≡ true
+  none-below : (x y : Field) → depth x.occurrence.below ≤ 0 → depth y.occurrence.below ≤ 0 → (R : Field → Field → Bool) →
+      each_pair R (fields_at s x ++ fields_at s y) ≡ true
   unfolding each_pair each_two
   none-below x y k l R = rw (shallow-none (fields_at s x ++ fields_at s y) (shallow-both 0 x y k l)) refl
 
@@ -80,7 +85,8 @@ module _ (s : Schema) where
   shapes-less (suc n) (suc m) l x y e =
       let F = fields_at s x ++ fields_at s y in
       let p = and_parts (types_agree s (type_at s x) (type_at s y)) (each_pair (shapes_agree s m) F) e in
-      and-both (types_agree s (type_at s x) (type_at s y)) (each_pair (shapes_agree s n) F) p.0 (pairs-from (shapes_agree s m) (shapes_agree s n) F (λ z w i j. shapes-less n m (omega (arith, l)) z w) p.1)
+      and-both (types_agree s (type_at s x) (type_at s y)) (each_pair (shapes_agree s n) F) p.0
+      (pairs-from (shapes_agree s m) (shapes_agree s n) F (λ z w i j. shapes-less n m (omega (arith, l)) z w) p.1)
 
   inside-less : (m c a b : Bool) → (a ≡ true → b ≡ true) → (not m || (c && a)) ≡ true → (not m || (c && b)) ≡ true
   inside-less true true a b h e = h e
@@ -99,28 +105,34 @@ module _ (s : Schema) where
       let F = fields_at s x ++ fields_at s y in
       let C = same_name x y && same_arguments x y in
       let p = and_parts (shapes_agree s (suc m) x y) (not (may_meet s x y) || (C && each_pair (merge s m) F)) e in
-      and-both (shapes_agree s zero x y) (not (may_meet s x y) || C) (shapes-less zero (suc m) l x y p.0) (inside-none (may_meet s x y) C (each_pair (merge s m) F) p.1)
+      and-both (shapes_agree s zero x y) (not (may_meet s x y) || C) (shapes-less zero (suc m) l x y p.0)
+      (inside-none (may_meet s x y) C (each_pair (merge s m) F) p.1)
   merge-less (suc n) zero l x y e = absurd (omega (arith, l))
   merge-less (suc n) (suc m) l x y e =
       let F = fields_at s x ++ fields_at s y in
       let C = same_name x y && same_arguments x y in
       let p = and_parts (shapes_agree s (suc m) x y) (not (may_meet s x y) || (C && each_pair (merge s m) F)) e in
       and-both (shapes_agree s (suc n) x y) (not (may_meet s x y) || (C && each_pair (merge s n) F)) (shapes-less (suc n) (suc m) l x y p.0)
-      (inside-less (may_meet s x y) C (each_pair (merge s m) F) (each_pair (merge s n) F) (pairs-from (merge s m) (merge s n) F (λ z w i j. merge-less n m (omega (arith, l)) z w)) p.1)
+      (inside-less (may_meet s x y) C (each_pair (merge s m) F) (each_pair (merge s n) F)
+      (pairs-from (merge s m) (merge s n) F (λ z w i j. merge-less n m (omega (arith, l)) z w)) p.1)
 
   -- ## From the depth of what lies below on nothing changes
 
-  shapes-more : (n m : ℕ) (x y : Field) → depth x.occurrence.below ≤ n → depth y.occurrence.below ≤ n → shapes_agree s n x y ≡ true → shapes_agree s m x y ≡ true
+  shapes-more : (n m : ℕ) (x y : Field) → depth x.occurrence.below ≤ n → depth y.occurrence.below ≤ n → shapes_agree s n x y ≡ true →
+      shapes_agree s m x y ≡ true
   unfolding shapes_agree
   shapes-more zero zero x y k l e = e
-  shapes-more zero (suc m) x y k l e = and-both (types_agree s (type_at s x) (type_at s y)) (each_pair (shapes_agree s m) (fields_at s x ++ fields_at s y)) e (none-below x y k l (shapes_agree s m))
-  shapes-more (suc n) zero x y k l e = (and_parts (types_agree s (type_at s x) (type_at s y)) (each_pair (shapes_agree s n) (fields_at s x ++ fields_at s y)) e).0
+  shapes-more zero (suc m) x y k l e = and-both (types_agree s (type_at s x) (type_at s y)) (each_pair (shapes_agree s m) (fields_at s x ++ fields_at s y)) e
+      (none-below x y k l (shapes_agree s m))
+  shapes-more (suc n) zero x y k l e =
+      (and_parts (types_agree s (type_at s x) (type_at s y)) (each_pair (shapes_agree s n) (fields_at s x ++ fields_at s y)) e).0
   shapes-more (suc n) (suc m) x y k l e =
       let F = fields_at s x ++ fields_at s y in
       let p = and_parts (types_agree s (type_at s x) (type_at s y)) (each_pair (shapes_agree s n) F) e in
       let f = shallow-both (suc n) x y k l in
       and-both (types_agree s (type_at s x) (type_at s y)) (each_pair (shapes_agree s m) F) p.0
-      (pairs-from (shapes_agree s n) (shapes_agree s m) F (λ z w i j. let a = f z i in let b = f w j in shapes-more n m z w (omega (arith, a)) (omega (arith, b))) p.1)
+      (pairs-from (shapes_agree s n) (shapes_agree s m) F (λ z w i j. let a = f z i in let b = f w j in
+      shapes-more n m z w (omega (arith, a)) (omega (arith, b))) p.1)
 
   inside-full : (m c a : Bool) → a ≡ true → (not m || c) ≡ true → (not m || (c && a)) ≡ true
   inside-full true true a h e = h
@@ -150,4 +162,5 @@ module _ (s : Schema) where
   pub settled : (p : Name) (t : Forest) → each_pair (merge s (depth t)) (fields p t) ≡ true → (n : ℕ) → each_pair (merge s n) (fields p t) ≡ true
   settled p t e n =
       let f = shallow-fields p t in
-      pairs-from (merge s (depth t)) (merge s n) (fields p t) (λ z w i j. let a = f z i in let b = f w j in merge-more (depth t) n z w (omega (arith, a)) (omega (arith, b))) e
+      pairs-from (merge s (depth t)) (merge s n) (fields p t) (λ z w i j. let a = f z i in let b = f w j in
+      merge-more (depth t) n z w (omega (arith, a)) (omega (arith, b))) e

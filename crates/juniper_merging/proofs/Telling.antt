@@ -36,7 +36,8 @@ bool-turn false true = refl
 bool-turn false false = refl
 
 number-turn : (m n : ℕ) → nat_eq m n ≡ nat_eq n m
-number-turn m n = same-truth (nat_eq m n) (nat_eq n m) (λ e. subst (λ k. nat_eq k m ≡ true) (same-number m n e) (itself m)) (λ e. subst (λ k. nat_eq k n ≡ true) (same-number n m e) (itself n))
+number-turn m n = same-truth (nat_eq m n) (nat_eq n m) (λ e. subst (λ k. nat_eq k m ≡ true) (same-number m n e) (itself m))
+    (λ e. subst (λ k. nat_eq k n ≡ true) (same-number n m e) (itself n))
 
 members-turn : (us vs : Members) → same_members us vs ≡ same_members vs us
 members-turn us vs = same-truth (same_members us vs) (same_members vs us) (turn us vs) (turn vs us)
@@ -61,7 +62,8 @@ module _ (s : Schema) where
 
   call-turn : (x y : Field) → (same_name x y && same_arguments x y) ≡ (same_name y x && same_arguments y x)
   unfolding same_name same_arguments
-  call-turn x y = λ t. same_sym x.occurrence.head.name.item y.occurrence.head.name.item t && members-turn (written_meaning (written x.occurrence.head.arguments)) (written_meaning (written y.occurrence.head.arguments)) t
+  call-turn x y = λ t. same_sym x.occurrence.head.name.item y.occurrence.head.name.item t
+      && members-turn (written_meaning (written x.occurrence.head.arguments)) (written_meaning (written y.occurrence.head.arguments)) t
 
   abbrev keyed : (Field → Field → Bool) → Field → Field → Bool
   keyed R x y = not (same_key x y) || R x y
@@ -82,7 +84,8 @@ module _ (s : Schema) where
   pub merge-turn : (n : ℕ) (x y : Field) → merge s n x y ≡ merge s n y x
   unfolding merge
   merge-turn zero x y = λ t. shapes-turn zero x y t && (not (meet-turn x y t) || call-turn x y t)
-  merge-turn (suc n) x y = λ t. shapes-turn (suc n) x y t && (not (meet-turn x y t) || (call-turn x y t && pairs-swapped (merge s n) (merge-turn n) (fields_at s x) (fields_at s y) t))
+  merge-turn (suc n) x y = λ t. shapes-turn (suc n) x y t && (not (meet-turn x y t)
+      || (call-turn x y t && pairs-swapped (merge s n) (merge-turn n) (fields_at s x) (fields_at s y) t))
 
   merge-shapes : (n : ℕ) (x y : Field) → merge s n x y ≡ true → shapes_agree s n x y ≡ true
   unfolding merge
@@ -92,7 +95,8 @@ module _ (s : Schema) where
   -- what can be merged agrees in shape
   pairs-shapes : (n : ℕ) (xs : List Field) → each_pair (merge s n) xs ≡ true → each_pair (shapes_agree s n) xs ≡ true
   unfolding each_pair
-  pairs-shapes n xs e = two-from (keyed (shapes_agree s n)) xs (λ x y b. weaker n x y (two-true (keyed (merge s n)) (keyed-turn (merge s n) (merge-turn n)) xs e x y b))
+  pairs-shapes n xs e =
+      two-from (keyed (shapes_agree s n)) xs (λ x y b. weaker n x y (two-true (keyed (merge s n)) (keyed-turn (merge s n) (merge-turn n)) xs e x y b))
     where
       weaker : (n : ℕ) (x y : Field) → keyed (merge s n) x y ≡ true → keyed (shapes_agree s n) x y ≡ true
       weaker n x y e = elim (or_cases (not (same_key x y)) (merge s n x y) e) [
@@ -104,7 +108,8 @@ module _ (s : Schema) where
 
 agree-turn : (m : Bool) (v w : FieldAt) → agree m v w ≡ agree m w v
 unfolding agree can_meet
-agree-turn m v w = λ t. number-turn v.shape w.shape t && (not (m && (same_sym v.parent w.parent t || or-turn (not v.on_object) (not w.on_object) t)) || number-turn v.call w.call t)
+agree-turn m v w = λ t. number-turn v.shape w.shape t && (not (m && (same_sym v.parent w.parent t || or-turn (not v.on_object) (not w.on_object) t))
+    || number-turn v.call w.call t)
 
 agree-at-turn : (m : Bool) (o p : Option FieldAt) → agree_at m o p ≡ agree_at m p o
 unfolding agree_at
@@ -134,7 +139,8 @@ module _ (vs : List FieldAt) where
   keyed-at-turn : (R : ℕ → ℕ → Bool) → ((i j : ℕ) → R i j ≡ R j i) → (i j : ℕ) → keyed-at R i j ≡ keyed-at R j i
   keyed-at-turn R turn i j = λ t. not (key-at-turn (slice_get vs i) (slice_get vs j) t) || turn i j t
 
-  below-turn : (R : ℕ → ℕ → Bool) → ((i j : ℕ) → R i j ≡ R j i) → (o p : Option FieldAt) → each_pair_at vs R (below_both o p) ≡ each_pair_at vs R (below_both p o)
+  below-turn : (R : ℕ → ℕ → Bool) → ((i j : ℕ) → R i j ≡ R j i) → (o p : Option FieldAt) →
+      each_pair_at vs R (below_both o p) ≡ each_pair_at vs R (below_both p o)
   unfolding below_both each_pair_at
   below-turn R turn None None = refl
   below-turn R turn None (Some w) = refl
@@ -145,8 +151,11 @@ module _ (vs : List FieldAt) where
   unfolding merge_at
   merge-at-turn zero m i j = agree-at-turn m (slice_get vs i) (slice_get vs j)
   merge-at-turn (suc n) m i j =
-      (λ t. agree-at-turn m (slice_get vs i) (slice_get vs j) t && each_pair_at vs (merge_at vs n (m && meet-at-turn (slice_get vs i) (slice_get vs j) t)) (below_both (slice_get vs i) (slice_get vs j)))
-      ∙ ap (λ b. agree_at m (slice_get vs j) (slice_get vs i) && b) (below-turn (merge_at vs n (m && meet_at (slice_get vs j) (slice_get vs i))) (merge-at-turn n (m && meet_at (slice_get vs j) (slice_get vs i))) (slice_get vs i) (slice_get vs j))
+      (λ t. agree-at-turn m (slice_get vs i) (slice_get vs j) t && each_pair_at vs (merge_at vs n (m && meet-at-turn (slice_get vs i) (slice_get vs j) t))
+      (below_both (slice_get vs i) (slice_get vs j)))
+      ∙ ap (λ b. agree_at m (slice_get vs j) (slice_get vs i) && b)
+      (below-turn (merge_at vs n (m && meet_at (slice_get vs j) (slice_get vs i))) (merge-at-turn n (m && meet_at (slice_get vs j) (slice_get vs i)))
+      (slice_get vs i) (slice_get vs j))
 
   found-pair : (n : ℕ) (m : Bool) (i j : ℕ) (v w : FieldAt) → slice_get vs i ≡ Some v → slice_get vs j ≡ Some w →
       merge_at vs (suc n) m i j ≡ (agree m v w && each_pair_at vs (merge_at vs n (m && can_meet v w)) (v.below ++ w.below))
@@ -200,7 +209,8 @@ module _ (s : Schema) (vs : List FieldAt) (heads : ℕ → Head) (numbered : Are
     calls-same : same_key x y ≡ true → (same_name x y && same_arguments x y) ≡ nat_eq v.call w.call
     unfolding same_name same_arguments
     calls-same k = sym (numbered.calls a.like b.like v w a.like_there b.like_there (one-key k)
-        ∙ (λ t. bytes_eq (a.head t).name.item (b.head t).name.item && same_members (written_meaning (written (a.head t).arguments)) (written_meaning (written (b.head t).arguments))))
+        ∙ (λ t. bytes_eq (a.head t).name.item (b.head t).name.item && same_members (written_meaning (written (a.head t).arguments))
+        (written_meaning (written (b.head t).arguments))))
 
     meets-same : may_meet s x y ≡ can_meet v w
     unfolding may_meet can_meet
@@ -210,19 +220,25 @@ module _ (s : Schema) (vs : List FieldAt) (heads : ℕ → Head) (numbered : Are
     unfolding same_key same_key_at
     keys-same = sym ((λ t. same_key_at (a.there t) (b.there t)) ∙ (λ t. bytes_eq (a.key t) (b.key t)))
 
-  pairs-same : (n : ℕ) (m : Bool) (R : Field → Field → Bool) → ((x y : Field) → R x y ≡ R y x) → ((x y : Field) (i j : ℕ) → same_key x y ≡ true → Stands n x i → Stands n y j → R x y ≡ merge_at vs n m i j) →
+  pairs-same : (n : ℕ) (m : Bool) (R : Field → Field → Bool) → ((x y : Field) → R x y ≡ R y x) →
+      ((x y : Field) (i j : ℕ) → same_key x y ≡ true → Stands n x i → Stands n y j → R x y ≡ merge_at vs n m i j) →
       (xs : List Field) (is : List ℕ) → AreAlike (Stands n) xs is → each_pair R xs ≡ each_pair_at vs (merge_at vs n m) is
   unfolding each_pair each_pair_at
-  pairs-same n m R turn same xs is alike = alike-two (Stands n) (λ x y. not (same_key x y) || R x y) (λ i j. not (same_key_at (slice_get vs i) (slice_get vs j)) || merge_at vs n m i j)
+  pairs-same n m R turn same xs is alike =
+      alike-two (Stands n) (λ x y. not (same_key x y) || R x y) (λ i j. not (same_key_at (slice_get vs i) (slice_get vs j)) || merge_at vs n m i j)
       (keyed-turn s R turn) (keyed-at-turn vs (merge_at vs n m) (merge-at-turn vs n m))
-      (λ x y i j p q. let a = stands-at n x i p in let b = stands-at n y j q in when-keyed (same_key x y) (same_key_at (slice_get vs i) (slice_get vs j)) (R x y) (merge_at vs n m i j) (keys-same x y i j a.0 b.0 a.1 b.1) (λ k. same x y i j k p q))
+      (λ x y i j p q. let a = stands-at n x i p in let b = stands-at n y j q in
+      when-keyed (same_key x y) (same_key_at (slice_get vs i) (slice_get vs j)) (R x y) (merge_at vs n m i j) (keys-same x y i j a.0 b.0 a.1 b.1)
+      (λ k. same x y i j k p q))
       xs is alike
 
   pub shapes-tell : (n : ℕ) (x y : Field) (i j : ℕ) → same_key x y ≡ true → Stands n x i → Stands n y j → shapes_agree s n x y ≡ merge_at vs n false i j
   unfolding shapes_agree agree
-  shapes-tell zero x y i j k a b = types-same x y i j a.0 b.0 a.1 b.1 k ∙ (sym (and-true (nat_eq a.0.shape b.0.shape)) ∙ sym (found-alone vs false i j a.0 b.0 a.1.there b.1.there))
+  shapes-tell zero x y i j k a b =
+      types-same x y i j a.0 b.0 a.1 b.1 k ∙ (sym (and-true (nat_eq a.0.shape b.0.shape)) ∙ sym (found-alone vs false i j a.0 b.0 a.1.there b.1.there))
   shapes-tell (suc n) x y i j k a b =
-      let below = pairs-same n false (shapes_agree s n) (shapes-turn s n) (shapes-tell n) (fields_at s x ++ fields_at s y) (a.0.below ++ b.0.below) (alike-both (Stands n) (fields_at s x) (fields_at s y) a.0.below b.0.below a.2 b.2) in
+      let below = pairs-same n false (shapes_agree s n) (shapes-turn s n) (shapes-tell n) (fields_at s x ++ fields_at s y) (a.0.below ++ b.0.below)
+      (alike-both (Stands n) (fields_at s x) (fields_at s y) a.0.below b.0.below a.2 b.2) in
       (λ t. types-same x y i j a.0 b.0 a.1 b.1 k t && below t)
       ∙ (ap (λ c. c && each_pair_at vs (merge_at vs n false) (a.0.below ++ b.0.below)) (sym (and-true (nat_eq a.0.shape b.0.shape)))
       ∙ sym (found-pair vs n false i j a.0 b.0 a.1.there b.1.there))
@@ -239,11 +255,14 @@ module _ (s : Schema) (vs : List FieldAt) (heads : ℕ → Head) (numbered : Are
       let F = fields_at s x ++ fields_at s y in
       let K = nat_eq a.0.shape b.0.shape in
       let C = nat_eq a.0.call b.0.call in
-      (λ t. (types-same x y i j a.0 b.0 a.1 b.1 k t && each_pair (shapes_agree s n) F) && (not (meets-same x y i j a.0 b.0 a.1 b.1 t) || (calls-same x y i j a.0 b.0 a.1 b.1 k t && each_pair (merge s n) F)))
-      ∙ (choose (can_meet a.0 b.0) K C (each_pair (shapes_agree s n) F) (each_pair (merge s n) F) (λ m. each_pair_at vs (merge_at vs n m) (a.0.below ++ b.0.below)) (pairs-shapes s n F) shapes merges
+      (λ t. (types-same x y i j a.0 b.0 a.1 b.1 k t && each_pair (shapes_agree s n) F)
+      && (not (meets-same x y i j a.0 b.0 a.1 b.1 t) || (calls-same x y i j a.0 b.0 a.1 b.1 k t && each_pair (merge s n) F)))
+      ∙ (choose (can_meet a.0 b.0) K C (each_pair (shapes_agree s n) F) (each_pair (merge s n) F)
+      (λ m. each_pair_at vs (merge_at vs n m) (a.0.below ++ b.0.below)) (pairs-shapes s n F) shapes merges
       ∙ sym (found-pair vs n true i j a.0 b.0 a.1.there b.1.there))
     where
-      choose : (m k c p q : Bool) (f : Bool → Bool) → (q ≡ true → p ≡ true) → p ≡ f false → q ≡ f true → ((k && p) && (not m || (c && q))) ≡ ((k && (not (true && m) || c)) && f (true && m))
+      choose : (m k c p q : Bool) (f : Bool → Bool) → (q ≡ true → p ≡ true) → p ≡ f false → q ≡ f true →
+          ((k && p) && (not m || (c && q))) ≡ ((k && (not (true && m) || c)) && f (true && m))
       choose true k c p q f g e h = and-left k p c q g ∙ ap (λ b. (k && c) && b) h
       choose false k c p q f g e h = and-right k p ∙ ap (λ b. (k && true) && b) e
 

@@ -5,4 +5,5 @@ use Rattle.juniper_merging.specs.MergingGraph.{FieldAt}
 
 -- the fields agree in everything but what they select
 unfoldable pub are_alike : FieldAt → FieldAt → Bool
-are_alike v w = bytes_eq v.key w.key && (bytes_eq v.parent w.parent && (cond v.on_object w.on_object (not w.on_object) && (nat_eq v.shape w.shape && nat_eq v.call w.call)))
+are_alike v w =
+    bytes_eq v.key w.key && (bytes_eq v.parent w.parent && (cond v.on_object w.on_object (not w.on_object) && (nat_eq v.shape w.shape && nat_eq v.call w.call)))

@@ -43,7 +43,8 @@ pub record Takes (p : Pair) (old new : Search) (b : Bool) : Type 0 where
 
 -- how many of the two pairs of i and j were not seen
 unfoldable pub unseen_at : (Pair → Bool) → ℕ → ℕ → ℕ
-unseen_at seen i j = cond (seen (record { first = i; second = j; must_merge = true })) zero (suc zero) + cond (seen (record { first = i; second = j; must_merge = false })) zero (suc zero)
+unseen_at seen i j = cond (seen (record { first = i; second = j; must_merge = true })) zero (suc zero)
+    + cond (seen (record { first = i; second = j; must_merge = false })) zero (suc zero)
 
 -- how many pairs of i and a number below n were not seen
 unfoldable pub unseen_beside : (Pair → Bool) → ℕ → ℕ → ℕ

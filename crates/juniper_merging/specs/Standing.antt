@@ -30,9 +30,11 @@ module _ (s : Schema) (vs : List FieldAt) (heads : ℕ → Head) where
   -- of fields with one response key equal shapes say that types agree, and equal calls that names and arguments are the same
   pub record AreNumbered : Type 0 where
     pub shapes : (i j : ℕ) (v w : FieldAt) → slice_get vs i ≡ Some v → slice_get vs j ≡ Some w → bytes_eq v.key w.key ≡ true →
-        nat_eq v.shape w.shape ≡ types_agree s (declared_type (field_of s v.parent (heads i).name.item)) (declared_type (field_of s w.parent (heads j).name.item))
+        nat_eq v.shape w.shape ≡ types_agree s (declared_type (field_of s v.parent (heads i).name.item))
+        (declared_type (field_of s w.parent (heads j).name.item))
     pub calls : (i j : ℕ) (v w : FieldAt) → slice_get vs i ≡ Some v → slice_get vs j ≡ Some w → bytes_eq v.key w.key ≡ true →
-        nat_eq v.call w.call ≡ (bytes_eq (heads i).name.item (heads j).name.item && same_members (written_meaning (written (heads i).arguments)) (written_meaning (written (heads j).arguments)))
+        nat_eq v.call w.call ≡ (bytes_eq (heads i).name.item (heads j).name.item
+        && same_members (written_meaning (written (heads i).arguments)) (written_meaning (written (heads j).arguments)))
 
   -- the vertex at i has the field's parent type, and is like one that has its words
   pub record IsAt (x : Field) (i : ℕ) (v : FieldAt) : Type 0 where
@@ -60,10 +62,12 @@ pub record Grows (vs ws : List FieldAt) (heads more : ℕ → Head) : Type 0 whe
 
 -- numbers that stand for the fields of a set tell whether these can be merged, to each depth
 abbrev pub NumbersTell : Type 0
-NumbersTell = (s : Schema) (vs : List FieldAt) (heads : ℕ → Head) → AreNumbered s vs heads → (n : ℕ) (xs : List Field) (is : List ℕ) → AreAlike (StandsFor s vs heads n) xs is →
+NumbersTell = (s : Schema) (vs : List FieldAt) (heads : ℕ → Head) → AreNumbered s vs heads → (n : ℕ) (xs : List Field) (is : List ℕ) →
+    AreAlike (StandsFor s vs heads n) xs is →
     each_pair (merge s n) xs ≡ set_merges_at vs n is
 
 -- so an answer that holds for every depth, or fails for some, is whether a set merges, its fragments put in
 abbrev pub SetsTell : Type 0
 SetsTell = (s : Schema) (vs : List FieldAt) (heads : ℕ → Head) → AreNumbered s vs heads → (fs : List Fragment) (p : Name) (set : Selections) (is : List ℕ) →
-    Covers s vs heads fs p set is → (b : Bool) → (b ≡ true → (n : ℕ) → set_merges_at vs n is ≡ true) → (b ≡ false → (n : ℕ) × (set_merges_at vs n is ≡ false)) → b ≡ set_merges s fs p set
+    Covers s vs heads fs p set is → (b : Bool) → (b ≡ true → (n : ℕ) → set_merges_at vs n is ≡ true) → (b ≡ false → (n : ℕ) × (set_merges_at vs n is ≡ false)) →
+    b ≡ set_merges s fs p set

@@ -103,7 +103,8 @@ fn look_at_each(
     must_merge: bool,
     search: &mut Search,
 ) -> Result<bool, AllocError>
-    ensures { IfOk result (λ b. Looks (map view_vertex vertices.now) (pairs_with (map view_vertex vertices.now) must_merge second group.now) search.old search.new b) }
+    ensures { IfOk result (λ b. Looks (map view_vertex vertices.now)
+        (pairs_with (map view_vertex vertices.now) must_merge second group.now) search.old search.new b) }
 {
     for first in group {
         let pair = Pair {

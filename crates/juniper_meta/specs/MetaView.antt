@@ -74,7 +74,12 @@ view_deprecation (status.Deprecated reason) = deprecated (view_text reason)
 
 -- an argument, or a field of an input object (3.6.1, 3.10)
 abbrev pub view_argument : {S : Type 0} → (S → Shown) → Argument S → InputDeclaration
-view_argument shown a = record { name = string_bytes a.name; description = view_text a.description; of_type = view_type a.arg_type; default = option_map (view_input shown) a.default_value }
+view_argument shown a = record {
+  name = string_bytes a.name;
+  description = view_text a.description;
+  of_type = view_type a.arg_type;
+  default = option_map (view_input shown) a.default_value;
+}
 
 -- a field (3.6)
 abbrev pub view_field : {S : Type 0} → (S → Shown) → Field S → FieldDeclaration
@@ -98,7 +103,8 @@ view_names = map (λ n. string_bytes n)
 
 -- a scalar (3.5)
 abbrev pub view_scalar : ScalarMeta → Meta
-view_scalar m = record { name = Some (string_bytes m.name); description = view_text m.description; shape = scalar_type (view_kinds m.kinds) (view_text m.specified_by_url) }
+view_scalar m =
+    record { name = Some (string_bytes m.name); description = view_text m.description; shape = scalar_type (view_kinds m.kinds) (view_text m.specified_by_url) }
 
 -- an enum (3.9)
 abbrev pub view_enum : EnumMeta → Meta
@@ -106,11 +112,19 @@ view_enum m = record { name = Some (string_bytes m.name); description = view_tex
 
 -- an object (3.6)
 abbrev pub view_object : {S : Type 0} → (S → Shown) → ObjectMeta S → Meta
-view_object shown m = record { name = Some (string_bytes m.name); description = view_text m.description; shape = object_type (map (view_field shown) m.fields.items) (view_names m.interface_names.items) }
+view_object shown m = record {
+  name = Some (string_bytes m.name);
+  description = view_text m.description;
+  shape = object_type (map (view_field shown) m.fields.items) (view_names m.interface_names.items);
+}
 
 -- an interface (3.7)
 abbrev pub view_interface : {S : Type 0} → (S → Shown) → InterfaceMeta S → Meta
-view_interface shown m = record { name = Some (string_bytes m.name); description = view_text m.description; shape = interface_type (map (view_field shown) m.fields.items) (view_names m.interface_names.items) }
+view_interface shown m = record {
+  name = Some (string_bytes m.name);
+  description = view_text m.description;
+  shape = interface_type (map (view_field shown) m.fields.items) (view_names m.interface_names.items);
+}
 
 -- a union (3.8)
 abbrev pub view_union : UnionMeta → Meta
@@ -118,7 +132,11 @@ view_union m = record { name = Some (string_bytes m.name); description = view_te
 
 -- an input object (3.10)
 abbrev pub view_input_object : {S : Type 0} → (S → Shown) → InputObjectMeta S → Meta
-view_input_object shown m = record { name = Some (string_bytes m.name); description = view_text m.description; shape = input_object_type (map (view_argument shown) m.input_fields.items) }
+view_input_object shown m = record {
+  name = Some (string_bytes m.name);
+  description = view_text m.description;
+  shape = input_object_type (map (view_argument shown) m.input_fields.items);
+}
 
 -- a list (3.11)
 abbrev pub view_list : ListMeta → Meta
@@ -178,7 +196,8 @@ view_location place.InputFieldDefinition = codes "INPUT_FIELD_DEFINITION"
 
 -- a directive
 abbrev pub view_directive : {S : Type 0} → (S → Shown) → DirectiveType S → DirectiveDeclaration
-view_directive shown d = record { name = string_bytes d.name; locations = map view_location d.locations.items; arguments = map (view_argument shown) d.arguments.items }
+view_directive shown d =
+    record { name = string_bytes d.name; locations = map view_location d.locations.items; arguments = map (view_argument shown) d.arguments.items }
 
 -- ## What the calls that change a declaration give
 

@@ -201,7 +201,8 @@ fn appended<S: ScalarValue>(
     arguments: Option<Vec<Argument<S>>>,
     argument: Argument<S>,
 ) -> Result<Vec<Argument<S>>, AllocError>
-    ensures { IfOk result (λ made. map (view_argument S.shown) made.items ≡ items_or_none (view_argument S.shown) arguments ++ view_argument S.shown argument ∷ []) }
+    ensures { IfOk result (λ made. map (view_argument S.shown) made.items
+        ≡ items_or_none (view_argument S.shown) arguments ++ view_argument S.shown argument ∷ []) }
 {
     match arguments {
         Some(mut items) => {

@@ -101,7 +101,11 @@ pub struct DirectiveType<S> {
 impl<S: ScalarValue> DirectiveType<S> {
     /// The directive of this name that may stand at these places, with these arguments.
     pub fn new(name: String, locations: Vec<DirectiveLocation>, arguments: Vec<Argument<S>>) -> Self
-        ensures { view_directive S.shown result ≡ record { name = string_bytes name; locations = map view_location locations.items; arguments = map (view_argument S.shown) arguments.items } }
+        ensures { view_directive S.shown result ≡ record {
+          name = string_bytes name;
+          locations = map view_location locations.items;
+          arguments = map (view_argument S.shown) arguments.items;
+        } }
     {
         DirectiveType {
             name,

@@ -19,20 +19,24 @@ module _ {S : Type 0} (shown : S → Shown) (xs : List (Definition S)) where
   abbrev pub IsCount : ℕ → ℕ → Type 0
   IsCount i n = (n ≤ i) × (n + length (operations (map (view_definition shown) (drop i xs))) ≡ length (operations (map (view_definition shown) xs)))
 
-  pub counts-operation : (i : ℕ) (x : Definition S) (n made : ℕ) → i < length xs → x ≡ get_or xs i x → (o : Spanning (OperationType S) Span) → x ≡ Operation o → made ≡ n + 1 → IsCount i n → IsCount (i + 1) made
+  pub counts-operation : (i : ℕ) (x : Definition S) (n made : ℕ) → i < length xs → x ≡ get_or xs i x → (o : Spanning (OperationType S) Span) → x ≡ Operation o →
+      made ≡ n + 1 → IsCount i n → IsCount (i + 1) made
   unfolding operations
   counts-operation i x n made below is o e more so_far =
       let rest : List spec.Definition = map (view_definition shown) (drop (i + 1) xs) in
       let left : length (operations (map (view_definition shown) (drop i xs))) ≡ suc (length (operations rest)) =
-      ap (λ l. length (operations l)) (seen-left-is (view_definition shown) xs i x below is) ∙ ap (λ y. length (operations (view_definition shown y ∷ rest))) e in
+      ap (λ l. length (operations l)) (seen-left-is (view_definition shown) xs i x below is)
+      ∙ ap (λ y. length (operations (view_definition shown y ∷ rest))) e in
       (omega (arith, so_far.0, more), omega (arith, so_far.1, left, more))
 
-  pub counts-fragment : (i : ℕ) (x : Definition S) (n made : ℕ) → i < length xs → x ≡ get_or xs i x → (f : Spanning (FragmentType S) Span) → x ≡ Fragment f → made ≡ n → IsCount i n → IsCount (i + 1) made
+  pub counts-fragment : (i : ℕ) (x : Definition S) (n made : ℕ) → i < length xs → x ≡ get_or xs i x → (f : Spanning (FragmentType S) Span) → x ≡ Fragment f →
+      made ≡ n → IsCount i n → IsCount (i + 1) made
   unfolding operations
   counts-fragment i x n made below is f e same so_far =
       let rest : List spec.Definition = map (view_definition shown) (drop (i + 1) xs) in
       let left : length (operations (map (view_definition shown) (drop i xs))) ≡ length (operations rest) =
-      ap (λ l. length (operations l)) (seen-left-is (view_definition shown) xs i x below is) ∙ ap (λ y. length (operations (view_definition shown y ∷ rest))) e in
+      ap (λ l. length (operations l)) (seen-left-is (view_definition shown) xs i x below is)
+      ∙ ap (λ y. length (operations (view_definition shown y ∷ rest))) e in
       (omega (arith, so_far.0, same), omega (arith, so_far.1, left, same))
 
   pub counts-all : (i n : ℕ) → length xs ≤ i → IsCount i n → n ≡ length (operations (map (view_definition shown) xs))

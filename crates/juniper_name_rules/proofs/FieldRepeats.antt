@@ -78,13 +78,16 @@ module _ {S : Type 0} (shown : S → Shown) where
 
   -- names that are listed, before those that are left
   pub names_next : (xs : List Field) (i : ℕ) (x : Field) (ns made : List Name) → i < length xs → x ≡ get_or xs i x → made ≡ ns ++ string_bytes x.0.item ∷ []
-      → ns ++ names_of (view_fields shown (drop i xs)) ≡ names_of (view_fields shown xs) → made ++ names_of (view_fields shown (drop (i + 1) xs)) ≡ names_of (view_fields shown xs)
+      → ns ++ names_of (view_fields shown (drop i xs)) ≡ names_of (view_fields shown xs) →
+      made ++ names_of (view_fields shown (drop (i + 1) xs)) ≡ names_of (view_fields shown xs)
   unfolding names_of
   names_next xs i x ns made below at_i e so_far =
-      ap (λ l. l ++ names_of (view_fields shown (drop (i + 1) xs))) e ∙ (append_assoc ns (string_bytes x.0.item ∷ []) (names_of (view_fields shown (drop (i + 1) xs)))
+      ap (λ l. l ++ names_of (view_fields shown (drop (i + 1) xs))) e
+      ∙ (append_assoc ns (string_bytes x.0.item ∷ []) (names_of (view_fields shown (drop (i + 1) xs)))
       ∙ (ap (λ l. ns ++ names_of (view_fields shown l)) (sym (left-is xs i x below at_i)) ∙ so_far))
 
-  pub names_done : (xs : List Field) (i : ℕ) (ns : List Name) → length xs ≤ i → ns ++ names_of (view_fields shown (drop i xs)) ≡ names_of (view_fields shown xs) → ns ≡ names_of (view_fields shown xs)
+  pub names_done : (xs : List Field) (i : ℕ) (ns : List Name) → length xs ≤ i →
+      ns ++ names_of (view_fields shown (drop i xs)) ≡ names_of (view_fields shown xs) → ns ≡ names_of (view_fields shown xs)
   unfolding names_of
   names_done xs i ns past so_far =
       let none : ns ++ names_of (view_fields shown (drop i xs)) ≡ ns = rw (drop_all i xs past) (append-nil ns) in

@@ -34,7 +34,8 @@ module _ (n : Name) where
   pub known-second : bytes_eq n (codes "deprecated") ≡ false → bytes_eq n (codes "include") ≡ true → true ≡ is_some (directive_named n)
   known-second d e = sym (known-is n ∙ rw d (rw e refl))
 
-  pub known-third : bytes_eq n (codes "deprecated") ≡ false → bytes_eq n (codes "include") ≡ false → bytes_eq n (codes "skip") ≡ true → true ≡ is_some (directive_named n)
+  pub known-third : bytes_eq n (codes "deprecated") ≡ false → bytes_eq n (codes "include") ≡ false → bytes_eq n (codes "skip") ≡ true →
+      true ≡ is_some (directive_named n)
   known-third d i e = sym (known-is n ∙ rw d (rw i (rw e refl)))
 
   pub known-last : bytes_eq n (codes "deprecated") ≡ false → bytes_eq n (codes "include") ≡ false → bytes_eq n (codes "skip") ≡ false →

@@ -55,7 +55,8 @@ with-name has now k more n = more n ∙ (or-flips (bytes_eq k n) (has n) ∙ ap 
 module _ (ds : List Definition) (n : Name) where
   pub names-more : (x : Definition) → names_operation (ds ++ x ∷ []) n ≡ (names_operation ds n || names_operation (x ∷ []) n)
   unfolding names_operation
-  names-more x = ap (list_any (λ o. has_name n (word_name o.name))) (operations-append ds (x ∷ [])) ∙ list_any-append (λ o. has_name n (word_name o.name)) (operations ds) (operations (x ∷ []))
+  names-more x = ap (list_any (λ o. has_name n (word_name o.name))) (operations-append ds (x ∷ []))
+      ∙ list_any-append (λ o. has_name n (word_name o.name)) (operations ds) (operations (x ∷ []))
 
   pub names-named : (o : Operation) (k : Name) → word_name o.name ≡ Some k → names_operation (ds ++ operation o ∷ []) n ≡ (names_operation ds n || bytes_eq n k)
   unfolding names_operation operations has_name
@@ -63,7 +64,8 @@ module _ (ds : List Definition) (n : Name) where
 
   pub names-nameless : (o : Operation) → word_name o.name ≡ None → names_operation (ds ++ operation o ∷ []) n ≡ names_operation ds n
   unfolding names_operation operations has_name
-  names-nameless o is = names-more (operation o) ∙ (ap (λ b. names_operation ds n || b) (or-false (has_name n (word_name o.name)) ∙ ap (has_name n) is) ∙ or-false (names_operation ds n))
+  names-nameless o is = names-more (operation o) ∙ (ap (λ b. names_operation ds n || b) (or-false (has_name n (word_name o.name)) ∙ ap (has_name n) is)
+      ∙ or-false (names_operation ds n))
 
   pub names-fragment : (f : Fragment) → names_operation (ds ++ fragment f ∷ []) n ≡ names_operation ds n
   unfolding names_operation operations
@@ -71,9 +73,11 @@ module _ (ds : List Definition) (n : Name) where
 
   pub found-operation : (o : Operation) → is_some (fragment_of (fragments (ds ++ operation o ∷ [])) n) ≡ is_some (fragment_of (fragments ds) n)
   unfolding fragments fragment_of
-  found-operation o = ap (λ fs. is_some (fragment_of fs n)) (fragments-append ds (operation o ∷ [])) ∙ (found-append (fragments ds) [] n ∙ or-false (is_some (fragment_of (fragments ds) n)))
+  found-operation o = ap (λ fs. is_some (fragment_of fs n)) (fragments-append ds (operation o ∷ []))
+      ∙ (found-append (fragments ds) [] n ∙ or-false (is_some (fragment_of (fragments ds) n)))
 
-  pub found-fragment : (f : Fragment) → is_some (fragment_of (fragments (ds ++ fragment f ∷ [])) n) ≡ (is_some (fragment_of (fragments ds) n) || bytes_eq n f.name.item)
+  pub found-fragment : (f : Fragment) → is_some (fragment_of (fragments (ds ++ fragment f ∷ [])) n)
+      ≡ (is_some (fragment_of (fragments ds) n) || bytes_eq n f.name.item)
   unfolding fragments fragment_of
   found-fragment f =
       ap (λ fs. is_some (fragment_of fs n)) (fragments-append ds (fragment f ∷ [])) ∙ (found-append (fragments ds) (f ∷ []) n

@@ -32,7 +32,8 @@ impl<'a> Earlier<'a> {
 
     /// Adds the name of a definition; an error where memory is refused.
     pub fn add<S: ScalarValue>(&mut self, definition: &Definition<'a, S>) -> Result<(), AllocError>
-        ensures { OnOk result ((ds : List documents.Definition) → IsEarlier self.old ds → IsEarlier self.new (ds ++ view_definition S.shown definition.now ∷ [])) }
+        ensures { OnOk result ((ds : List documents.Definition) → IsEarlier self.old ds →
+            IsEarlier self.new (ds ++ view_definition S.shown definition.now ∷ [])) }
     {
         match definition {
             Definition::Operation(operation) => match operation.item.name {

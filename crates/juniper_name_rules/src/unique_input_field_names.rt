@@ -109,7 +109,8 @@ pub fn repeats_input_field<S: ScalarValue>(
     definition: &Definition<'_, S>,
     arguments: &ArgumentLists<'_, '_, S>,
 ) -> Result<bool, AllocError>
-    ensures { IfOk result (λ b. view_lists S.shown arguments.now ≡ argument_lists (view_definition S.shown definition.now) → b ≡ rules.repeats_input_field (view_definition S.shown definition.now)) }
+    ensures { IfOk result (λ b. view_lists S.shown arguments.now ≡ argument_lists (view_definition S.shown definition.now) →
+        b ≡ rules.repeats_input_field (view_definition S.shown definition.now)) }
 {
     if lists_repeat(alloc, arguments)? {
         return Ok(true);

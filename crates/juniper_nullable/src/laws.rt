@@ -16,7 +16,8 @@ pub fn nulls_stand_before_values<T: Ord>(x: &T, y: &T)
 
 /// The order calls equal just what `==` does, where that of the type inside does.
 pub fn order_agrees_with_equality<T: Ord>()
-    ensures { ((x y : T) → (T.cmp x y ≡ Equal) ↔ IsTrue (T.eq x y)) → (a b : Nullable T) → (⟦<Nullable<T> as Ord>⟧.cmp a b ≡ Equal) ↔ IsTrue (⟦<Nullable<T> as PartialEq>⟧.eq a b) }
+    ensures { ((x y : T) → (T.cmp x y ≡ Equal) ↔ IsTrue (T.eq x y)) → (a b : Nullable T) →
+        (⟦<Nullable<T> as Ord>⟧.cmp a b ≡ Equal) ↔ IsTrue (⟦<Nullable<T> as PartialEq>⟧.eq a b) }
 {}
 
 /// What is equal is hashed alike.

@@ -44,7 +44,8 @@ unfolding Above Sorted insert
 insert-sorted k v no_members s = (tt, tt)
 insert-sorted k v (member l w ms) s = go (order k l) refl (insert-sorted k v ms s.1)
   where
-    go : (o : Ordering) → order k l ≡ o → Sorted (insert k v ms) → Sorted (match_ordering o (member k v (member l w ms)) (member l v ms) (member l w (insert k v ms)))
+    go : (o : Ordering) → order k l ≡ o → Sorted (insert k v ms) →
+        Sorted (match_ordering o (member k v (member l w ms)) (member l v ms) (member l w (insert k v ms)))
     go Less e again = ((e, above-lower k l ms e s.0), s)
     go Equal e again = s
     go Greater e again = (insert-above l k v ms (flipped k l Greater e) s.0, again)
@@ -77,7 +78,8 @@ unfolding insert find
 find-insert-other q k v no_members apart = find-past q k v no_members apart
 find-insert-other q k v (member l w ms) apart = go (order k l) refl (find-insert-other q k v ms apart)
   where
-    go : (o : Ordering) → order k l ≡ o → find q (insert k v ms) ≡ find q ms → find q (match_ordering o (member k v (member l w ms)) (member l v ms) (member l w (insert k v ms))) ≡ find q (member l w ms)
+    go : (o : Ordering) → order k l ≡ o → find q (insert k v ms) ≡ find q ms →
+        find q (match_ordering o (member k v (member l w ms)) (member l v ms) (member l w (insert k v ms))) ≡ find q (member l w ms)
     go Less e again = find-past q k v (member l w ms) apart
     go Equal e again =
         let other : order q l ≡ Equal → ⊥ = subst (λ z. order q z ≡ Equal → ⊥) (one_text k l e) apart in
@@ -101,7 +103,8 @@ same-find (member k u us) (member l v vs) e q =
     let b = and_parts (same_constant u v) (same_members us vs) a.1 in
     subst (λ z. same_maybe (find q (member k u us)) (find q (member z v vs)) ≡ true) (same_true k l a.0) (go (order q k) b.0 (same-find us vs b.1 q))
   where
-    go : (o : Ordering) → same_constant u v ≡ true → same_maybe (find q us) (find q vs) ≡ true → same_maybe (match_ordering o (find q us) (Some u) (find q us)) (match_ordering o (find q vs) (Some v) (find q vs)) ≡ true
+    go : (o : Ordering) → same_constant u v ≡ true → same_maybe (find q us) (find q vs) ≡ true →
+        same_maybe (match_ordering o (find q us) (Some u) (find q us)) (match_ordering o (find q vs) (Some v) (find q vs)) ≡ true
     go Less c d = d
     go Equal c d = c
     go Greater c d = d
@@ -130,22 +133,28 @@ rest-same k u v us vs a b same q = go (order q k) refl
     go Equal e =
         let g : q ≡ k = one_text q k e in
         rw (ap (λ z. find z us) g ∙ find-above k us a, ap (λ z. find z vs) g ∙ find-above k vs b) refl
-    go Greater e = let other : order q k ≡ Equal → ⊥ = λ f. (let g : Greater ≡ Equal = sym e ∙ f in cc) in rw (find-past q k u us other, find-past q k v vs other) at (same q)
+    go Greater e = let other : order q k ≡ Equal → ⊥ = λ f. (let g : Greater ≡ Equal = sym e ∙ f in cc) in
+        rw (find-past q k u us other, find-past q k v vs other) at (same q)
 
 pub all-same : (us vs : Members) → Sorted us → Sorted vs → AllSame us vs → same_members us vs ≡ true
 unfolding Sorted Above same_constant
 all-same no_members no_members s t same = refl
-all-same no_members (member l v vs) s t same = absurd (one-missing (find l no_members) (find l (member l v vs)) v (same l) (find-above l no_members tt) (find-head l v vs))
-all-same (member k u us) no_members s t same = absurd (other-missing (find k (member k u us)) (find k no_members) u (same k) (find-head k u us) (find-above k no_members tt))
+all-same no_members (member l v vs) s t same =
+    absurd (one-missing (find l no_members) (find l (member l v vs)) v (same l) (find-above l no_members tt) (find-head l v vs))
+all-same (member k u us) no_members s t same =
+    absurd (other-missing (find k (member k u us)) (find k no_members) u (same k) (find-head k u us) (find-above k no_members tt))
 all-same (member k u us) (member l v vs) s t same = go (order k l) refl (all-same us vs s.1 t.1)
   where
     go : (o : Ordering) → order k l ≡ o → (AllSame us vs → same_members us vs ≡ true) → (bytes_eq k l && (same_constant u v && same_members us vs)) ≡ true
-    go Less e again = absurd (other-missing (find k (member k u us)) (find k (member l v vs)) u (same k) (find-head k u us) (find-above k (member l v vs) (e, above-lower k l vs e t.0)))
-    go Greater e again = let f = flipped k l Greater e in absurd (one-missing (find l (member k u us)) (find l (member l v vs)) v (same l) (find-above l (member k u us) (f, above-lower l k us f s.0)) (find-head l v vs))
+    go Less e again = absurd (other-missing (find k (member k u us)) (find k (member l v vs)) u (same k) (find-head k u us)
+        (find-above k (member l v vs) (e, above-lower k l vs e t.0)))
+    go Greater e again = let f = flipped k l Greater e in absurd (one-missing (find l (member k u us)) (find l (member l v vs)) v (same l)
+        (find-above l (member k u us) (f, above-lower l k us f s.0)) (find-head l v vs))
     go Equal e again =
         let key : k ≡ l = one_text k l e in
         let same' : AllSame (member k u us) (member k v vs) = subst (λ z. AllSame (member k u us) (member z v vs)) (sym key) same in
         let above : Above k vs = subst (λ z. Above z vs) (sym key) t.0 in
         and_from (bytes_eq k l) (same_constant u v && same_members us vs) (subst (λ z. bytes_eq k z ≡ true) key (same_refl k))
-        (and_from (same_constant u v) (same_members us vs) (both-there (find k (member k u us)) (find k (member k v vs)) u v (same' k) (find-head k u us) (find-head k v vs))
+        (and_from (same_constant u v) (same_members us vs) (both-there (find k (member k u us)) (find k (member k v vs)) u v (same' k) (find-head k u us)
+        (find-head k v vs))
         (again (rest-same k u v us vs s.0 above same')))

@@ -34,13 +34,15 @@ found-by f o p r b e t g = ap is_some (sym e) ∙ (kept o ∙ (t ∙ ap not g))
 
 module _ {S : Type 0} (shown : S → Shown) where
   -- an object's fields
-  pub named-fields : (fs : List (Spanning (String Global) Span × Spanning (InputValue S) Span)) → view_named (λ n. string_bytes n) shown fs ≡ view_fields shown fs
+  pub named-fields : (fs : List (Spanning (String Global) Span × Spanning (InputValue S) Span)) →
+      view_named (λ n. string_bytes n) shown fs ≡ view_fields shown fs
   unfolding view_named
   named-fields [] = refl
   named-fields (f ∷ fs) = rw (named-fields fs) refl
 
   -- arguments
-  pub named-arguments : (as' : List (Spanning (Bor (List ℕ)) Span × Spanning (InputValue S) Span)) → view_named (λ n. n.now) shown as' ≡ as_fields (map (view_argument shown) as')
+  pub named-arguments : (as' : List (Spanning (Bor (List ℕ)) Span × Spanning (InputValue S) Span)) →
+      view_named (λ n. n.now) shown as' ≡ as_fields (map (view_argument shown) as')
   unfolding view_named as_fields
   named-arguments [] = refl
   named-arguments (a ∷ as') = rw (named-arguments as') refl

@@ -33,12 +33,15 @@ module _ {S : Type 0} (shown : S → Shown) where
       go true again = again
       go false again = refl
 
-  pub items-pass : (xs ys : List Item) (i : ℕ) (x y : Item) → i < length xs → i < length ys → x ≡ get_or xs i x → y ≡ get_or ys i y → same_value (view_input shown x.item) (view_input shown y.item) ≡ true
-      → same_items (view_items shown (drop (i + 1) xs)) (view_items shown (drop (i + 1) ys)) ≡ same_items (view_items shown (drop i xs)) (view_items shown (drop i ys))
+  pub items-pass : (xs ys : List Item) (i : ℕ) (x y : Item) → i < length xs → i < length ys → x ≡ get_or xs i x → y ≡ get_or ys i y →
+      same_value (view_input shown x.item) (view_input shown y.item) ≡ true
+      → same_items (view_items shown (drop (i + 1) xs)) (view_items shown (drop (i + 1) ys))
+      ≡ same_items (view_items shown (drop i xs)) (view_items shown (drop i ys))
   unfolding same_value
   items-pass xs ys i x y below below' at_i at_i' same = rw (left-is xs i x below at_i, left-is ys i y below' at_i', same) refl
 
-  pub items-stop : (xs ys : List Item) (i : ℕ) (x y : Item) → i < length xs → i < length ys → x ≡ get_or xs i x → y ≡ get_or ys i y → same_value (view_input shown x.item) (view_input shown y.item) ≡ false
+  pub items-stop : (xs ys : List Item) (i : ℕ) (x y : Item) → i < length xs → i < length ys → x ≡ get_or xs i x → y ≡ get_or ys i y →
+      same_value (view_input shown x.item) (view_input shown y.item) ≡ false
       → false ≡ same_items (view_items shown (drop i xs)) (view_items shown (drop i ys))
   unfolding same_value
   items-stop xs ys i x y below below' at_i at_i' differ = rw (left-is xs i x below at_i, left-is ys i y below' at_i', differ) refl
@@ -53,12 +56,14 @@ module _ {N S : Type 0} (text : N → Name) (shown : S → Shown) where
   abbrev Named : Type 0
   Named = Spanning N Span × Spanning (InputValue S) Span
 
-  pub values-pass : (xs : List Named) (gs : InputFields) (i : ℕ) (x : Named) → i < length xs → x ≡ get_or xs i x → passes (λ w. same_value (view_input shown x.1.item) w) (field_at gs (text x.0.item)) ≡ true
+  pub values-pass : (xs : List Named) (gs : InputFields) (i : ℕ) (x : Named) → i < length xs → x ≡ get_or xs i x →
+      passes (λ w. same_value (view_input shown x.1.item) w) (field_at gs (text x.0.item)) ≡ true
       → same_fields (view_named text shown (drop (i + 1) xs)) gs ≡ same_fields (view_named text shown (drop i xs)) gs
   unfolding same_value view_named
   values-pass xs gs i x below at_i same = rw (left-is xs i x below at_i, same) refl
 
-  pub values-stop : (xs : List Named) (gs : InputFields) (i : ℕ) (x : Named) → i < length xs → x ≡ get_or xs i x → passes (λ w. same_value (view_input shown x.1.item) w) (field_at gs (text x.0.item)) ≡ false
+  pub values-stop : (xs : List Named) (gs : InputFields) (i : ℕ) (x : Named) → i < length xs → x ≡ get_or xs i x →
+      passes (λ w. same_value (view_input shown x.1.item) w) (field_at gs (text x.0.item)) ≡ false
       → false ≡ same_fields (view_named text shown (drop i xs)) gs
   unfolding same_value view_named
   values-stop xs gs i x below at_i differ = rw (left-is xs i x below at_i, differ) refl
@@ -68,7 +73,8 @@ module _ {N S : Type 0} (text : N → Name) (shown : S → Shown) where
   values-done xs gs i past = rw (drop_all i xs past) refl
 
   -- the value, and what the others have at its name
-  pub value-found : (gs : InputFields) (x : Named) (name : Name) (found : Option (Bor (InputValue S))) → name ≡ text x.0.item → option_map (λ v. view_input shown v.now) found ≡ field_at gs name
+  pub value-found : (gs : InputFields) (x : Named) (name : Name) (found : Option (Bor (InputValue S))) → name ≡ text x.0.item →
+      option_map (λ v. view_input shown v.now) found ≡ field_at gs name
       → (r : Bool) → r ≡ passes (λ w. same_value (view_input shown x.1.item) w) (option_map (λ v. view_input shown v.now) found)
       → passes (λ w. same_value (view_input shown x.1.item) w) (field_at gs (text x.0.item)) ≡ r
   value-found gs x name found named at_name r is = sym (is ∙ ap (passes (λ w. same_value (view_input shown x.1.item) w)) (at_name ∙ ap (field_at gs) named))
@@ -83,7 +89,8 @@ module _ {S : Type 0} (shown : S → Shown) where
   view_own = view_named (λ n. string_bytes n) shown
 
   object-tested : (v : InputValue S) (others : Vec Field Global) (xs : List Field) → v ≡ Object others
-      → same_value (inputs.object (view_fields shown xs)) (view_input shown v) ≡ (same_fields (view_own xs) (view_own others.items) && all_keyed (view_own others.items) (view_own xs))
+      → same_value (inputs.object (view_fields shown xs)) (view_input shown v)
+      ≡ (same_fields (view_own xs) (view_own others.items) && all_keyed (view_own others.items) (view_own xs))
   unfolding same_value
   object-tested v others xs is =
       ap (λ w. same_value (inputs.object (view_fields shown xs)) w) (ap (view_input shown) is ∙ view-Object shown others)
@@ -95,7 +102,8 @@ module _ {S : Type 0} (shown : S → Shown) where
       → b ≡ same_value (inputs.object (view_fields shown xs)) (view_input shown v)
   both-keyed v others xs ys zs is one two a b first whole second =
       let matched : true ≡ same_fields (view_own xs) (view_own others.items) = sym whole ∙ (first ∙ ap (λ l. same_fields (view_own xs) (view_own l)) one) in
-      second ∙ (ap (λ l. all_keyed (view_own l) (view_own xs)) two ∙ (ap (λ t. t && all_keyed (view_own others.items) (view_own xs)) matched ∙ sym (object-tested v others xs is)))
+      second ∙ (ap (λ l. all_keyed (view_own l) (view_own xs)) two ∙ (ap (λ t. t && all_keyed (view_own others.items) (view_own xs)) matched
+      ∙ sym (object-tested v others xs is)))
 
   -- one is not matched
   pub one-differs : (v : InputValue S) (others : Vec Field Global) (xs ys : List Field) → v ≡ Object others → ys ≡ others.items

@@ -27,7 +27,8 @@ members-find : (q : Name) (fs : InputFields) → find q (members fs) ≡ option_
 unfolding members find field_at
 members-find q no_fields = refl
 members-find q (input_field k k_at v v_at rest) = elim (cases_Bool (bytes_eq q k)) [
-  | inl e ↦ rw (e) (subst (λ z. find z (insert k (meaning v) (members rest)) ≡ Some (meaning v)) (sym (same_true q k e)) (find-insert k (meaning v) (members rest)))
+  | inl e ↦ rw (e) (subst (λ z. find z (insert k (meaning v) (members rest)) ≡ Some (meaning v)) (sym (same_true q k e))
+      (find-insert k (meaning v) (members rest)))
   | inr e ↦ rw (e) (find-insert-other q k (meaning v) (members rest) (apart q k e) ∙ members-find q rest)
 ]
 
@@ -57,7 +58,8 @@ keyed-has (input_field k k_at v v_at rest) fs e q w f =
       | inr y ↦ keyed-has rest fs p.1 q w (rw y at f)
     ]
 
-has-keyed : (gs fs : InputFields) → fields_repeat gs ≡ false → ((q : Name) (w : Input) → field_at gs q ≡ Some w → has_field q fs ≡ true) → all_keyed gs fs ≡ true
+has-keyed : (gs fs : InputFields) → fields_repeat gs ≡ false → ((q : Name) (w : Input) → field_at gs q ≡ Some w → has_field q fs ≡ true) →
+    all_keyed gs fs ≡ true
 unfolding all_keyed field_at fields_repeat
 has-keyed no_fields fs n h = refl
 has-keyed (input_field k k_at v v_at rest) fs n h =
@@ -68,7 +70,8 @@ has-keyed (input_field k k_at v v_at rest) fs n h =
   where
     past : (q : Name) (w : Input) → has_field k rest ≡ false → field_at rest q ≡ Some w → cond (bytes_eq q k) (Some v) (field_at rest q) ≡ Some w
     past q w free f = elim (cases_Bool (bytes_eq q k)) [
-      | inl y ↦ (let g : has_field k rest ≡ true = subst (λ z. has_field z rest ≡ true) (same_true q k y) (found-has q rest w f) in let z : true ≡ false = sym g ∙ free in cc)
+      | inl y ↦ (let g : has_field k rest ≡ true = subst (λ z. has_field z rest ≡ true) (same_true q k y) (found-has q rest w f) in
+          let z : true ≡ false = sym g ∙ free in cc)
       | inr y ↦ rw (y) f
     ]
 
@@ -110,21 +113,24 @@ EachTold : InputFields → InputFields → Type 0
 EachTold no_fields gs = Unit {0}
 EachTold (input_field k k_at v v_at rest) gs = ((w : Input) → field_at gs k ≡ Some w → IsTold v w) × EachTold rest gs
 
-fields-forth : (fs gs : InputFields) → EachTold fs gs → same_fields fs gs ≡ true → (q : Name) (v : Input) → field_at fs q ≡ Some v → alike (Some v) (field_at gs q) ≡ true
+fields-forth : (fs gs : InputFields) → EachTold fs gs → same_fields fs gs ≡ true → (q : Name) (v : Input) → field_at fs q ≡ Some v →
+    alike (Some v) (field_at gs q) ≡ true
 unfolding EachTold same_fields field_at
 fields-forth no_fields gs h e q v f = cc
 fields-forth (input_field k k_at u u_at rest) gs h e q v f =
     let p = and_parts (passes (λ w. same_value u w) (field_at gs k)) (same_fields rest gs) e in
     elim (cases_Bool (bytes_eq q k)) [
       | inl y ↦ (let g : Some u ≡ Some v = rw y at f in
-          subst (λ z. alike (Some z) (field_at gs q) ≡ true) (inside u v g) (subst (λ z. alike (Some u) (field_at gs z) ≡ true) (sym (same_true q k y)) (sym (there-alike u (field_at gs k) h.0) ∙ p.0)))
+          subst (λ z. alike (Some z) (field_at gs q) ≡ true) (inside u v g)
+          (subst (λ z. alike (Some u) (field_at gs z) ≡ true) (sym (same_true q k y)) (sym (there-alike u (field_at gs k) h.0) ∙ p.0)))
       | inr y ↦ fields-forth rest gs h.1 p.1 q v (rw y at f)
     ]
   where
     inside : (v w : Input) → Some v ≡ Some w → v ≡ w
     inside v w f = cc
 
-fields-back : (fs gs : InputFields) → EachTold fs gs → fields_repeat fs ≡ false → ((q : Name) (v : Input) → field_at fs q ≡ Some v → alike (Some v) (field_at gs q) ≡ true) → same_fields fs gs ≡ true
+fields-back : (fs gs : InputFields) → EachTold fs gs → fields_repeat fs ≡ false →
+    ((q : Name) (v : Input) → field_at fs q ≡ Some v → alike (Some v) (field_at gs q) ≡ true) → same_fields fs gs ≡ true
 unfolding EachTold same_fields field_at fields_repeat
 fields-back no_fields gs h n e = refl
 fields-back (input_field k k_at u u_at rest) gs h n e =
@@ -135,7 +141,8 @@ fields-back (input_field k k_at u u_at rest) gs h n e =
   where
     past : (q : Name) (w : Input) → has_field k rest ≡ false → field_at rest q ≡ Some w → cond (bytes_eq q k) (Some u) (field_at rest q) ≡ Some w
     past q w free f = elim (cases_Bool (bytes_eq q k)) [
-      | inl y ↦ (let g : has_field k rest ≡ true = subst (λ z. has_field z rest ≡ true) (same_true q k y) (found-has q rest w f) in let z : true ≡ false = sym g ∙ free in cc)
+      | inl y ↦ (let g : has_field k rest ≡ true = subst (λ z. has_field z rest ≡ true) (same_true q k y) (found-has q rest w f) in
+          let z : true ≡ false = sym g ∙ free in cc)
       | inr y ↦ rw (y) f
     ]
 
@@ -143,9 +150,11 @@ fields-back (input_field k k_at u u_at rest) gs h n e =
 module _ (fs gs : InputFields) (once : fields_repeat fs ≡ false) (once' : fields_repeat gs ≡ false) (told : EachTold fs gs) where
   forth : (same_fields fs gs && all_keyed gs fs) ≡ true → AllSame (members fs) (members gs)
   unfolding same_maybe alike
-  forth e q = let p = and_parts (same_fields fs gs) (all_keyed gs fs) e in rw (members-find q fs, members-find q gs) (go (field_at fs q) (field_at gs q) refl refl p.0 p.1)
+  forth e q = let p = and_parts (same_fields fs gs) (all_keyed gs fs) e in
+      rw (members-find q fs, members-find q gs) (go (field_at fs q) (field_at gs q) refl refl p.0 p.1)
     where
-      go : (o p : Option Input) → field_at fs q ≡ o → field_at gs q ≡ p → same_fields fs gs ≡ true → all_keyed gs fs ≡ true → same_maybe (option_map meaning o) (option_map meaning p) ≡ true
+      go : (o p : Option Input) → field_at fs q ≡ o → field_at gs q ≡ p → same_fields fs gs ≡ true → all_keyed gs fs ≡ true →
+          same_maybe (option_map meaning o) (option_map meaning p) ≡ true
       go None None f g a b = refl
       go None (Some w) f g a b = let r = has-found q fs (keyed-has gs fs b q w g) in let z : None ≡ Some r.0 = sym f ∙ r.1 in cc
       go (Some v) p f g a b = subst (λ z. alike (Some v) z ≡ true) g (fields-forth fs gs told a q v f)
@@ -153,11 +162,15 @@ module _ (fs gs : InputFields) (once : fields_repeat fs ≡ false) (once' : fiel
   back : AllSame (members fs) (members gs) → (same_fields fs gs && all_keyed gs fs) ≡ true
   unfolding same_maybe alike
   back h = and_from (same_fields fs gs) (all_keyed gs fs)
-      (fields-back fs gs told once (λ q v f. subst (λ z. same_maybe (option_map meaning z) (option_map meaning (field_at gs q)) ≡ true) f (rw (members-find q fs, members-find q gs) at (h q))))
+      (fields-back fs gs told once (λ q v f. subst (λ z. same_maybe (option_map meaning z) (option_map meaning (field_at gs q)) ≡ true) f
+      (rw (members-find q fs, members-find q gs) at (h q))))
       (has-keyed gs fs once' (λ q w g. keyed q w g (field_at fs q) refl))
     where
       keyed : (q : Name) (w : Input) → field_at gs q ≡ Some w → (o : Option Input) → field_at fs q ≡ o → has_field q fs ≡ true
-      keyed q w g None f = let z : same_maybe None (Some (meaning w)) ≡ true = subst (λ p. same_maybe None (option_map meaning p) ≡ true) g (subst (λ o. same_maybe (option_map meaning o) (option_map meaning (field_at gs q)) ≡ true) f (rw (members-find q fs, members-find q gs) at (h q))) in cc
+      keyed q w g None f = let z : same_maybe None (Some (meaning w))
+          ≡ true = subst (λ p. same_maybe None (option_map meaning p) ≡ true) g
+          (subst (λ o. same_maybe (option_map meaning o) (option_map meaning (field_at gs q)) ≡ true) f (rw (members-find q fs, members-find q gs) at (h q))) in
+          cc
       keyed q w g (Some v) f = found-has q fs v f
 
   fields-told : (same_fields fs gs && all_keyed gs fs) ≡ same_members (members fs) (members gs)
@@ -194,5 +207,6 @@ mutual
       ((λ w f. value-told v w t.0 (found-once k gs w m f)), each-told rest gs t.1 m)
 
 -- the fields of two objects
-pub object-told : (fs gs : InputFields) → fields_repeat fs ≡ false → fields_repeat gs ≡ false → (same_fields fs gs && all_keyed gs fs) ≡ same_members (members fs) (members gs)
+pub object-told : (fs gs : InputFields) → fields_repeat fs ≡ false → fields_repeat gs ≡ false →
+    (same_fields fs gs && all_keyed gs fs) ≡ same_members (members fs) (members gs)
 object-told fs gs n m = fields-told fs gs n m (each-told fs gs n m)

@@ -42,7 +42,8 @@ pub fn types_agree<S: ScalarValue>(
 
 /// Whether neither name is that of a scalar or enum, or the names are the same.
 fn names_agree<S: ScalarValue>(schema: &SchemaType<S>, name: &str, other: &str) -> bool
-    ensures { result ≡ (not (is_leaf (type_named (view_schema S.shown schema.now) name.now) || is_leaf (type_named (view_schema S.shown schema.now) other.now)) || bytes_eq name.now other.now) }
+    ensures { result ≡ (not (is_leaf (type_named (view_schema S.shown schema.now) name.now) || is_leaf (type_named (view_schema S.shown schema.now) other.now))
+        || bytes_eq name.now other.now) }
 {
     !(is_leaf(schema, name) || is_leaf(schema, other)) || name == other
 }

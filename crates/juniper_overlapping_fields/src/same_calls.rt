@@ -23,7 +23,11 @@ pub fn same_call<S: ScalarValue>(
     first: &Spanning<Field<'_, S>, Span>,
     second: &Spanning<Field<'_, S>, Span>,
 ) -> bool
-    ensures { arguments_repeat (written (view_field S.shown first.now).arguments) ≡ false → arguments_repeat (written (view_field S.shown second.now).arguments) ≡ false → result ≡ (bytes_eq (view_field S.shown first.now).name.item (view_field S.shown second.now).name.item && same_members (written_meaning (written (view_field S.shown first.now).arguments)) (written_meaning (written (view_field S.shown second.now).arguments))) }
+    ensures { arguments_repeat (written (view_field S.shown first.now).arguments) ≡ false →
+        arguments_repeat (written (view_field S.shown second.now).arguments) ≡ false →
+        result ≡ (bytes_eq (view_field S.shown first.now).name.item (view_field S.shown second.now).name.item
+        && same_members (written_meaning (written (view_field S.shown first.now).arguments))
+        (written_meaning (written (view_field S.shown second.now).arguments))) }
 {
     first.item.name.item == second.item.name.item
         && same_arguments(&first.item.arguments, &second.item.arguments)
@@ -34,7 +38,8 @@ fn same_arguments<S: ScalarValue>(
     first: &Option<Spanning<Arguments<'_, S>, Span>>,
     second: &Option<Spanning<Arguments<'_, S>, Span>>,
 ) -> bool
-    ensures { result ≡ (same_fields (as_fields (written (view_arguments S.shown first.now))) (as_fields (written (view_arguments S.shown second.now))) && all_keyed (as_fields (written (view_arguments S.shown second.now))) (as_fields (written (view_arguments S.shown first.now)))) }
+    ensures { result ≡ (same_fields (as_fields (written (view_arguments S.shown first.now))) (as_fields (written (view_arguments S.shown second.now)))
+        && all_keyed (as_fields (written (view_arguments S.shown second.now))) (as_fields (written (view_arguments S.shown first.now)))) }
 {
     let arguments = arguments_in(first);
     let others = arguments_in(second);

@@ -9,7 +9,8 @@ taken-is : {A : Type 0} (xs : List A) (i : ℕ) (x : A) → i < length xs → x 
 taken-is xs i x below is = take_more xs i x below ∙ ap (λ y. take i xs ++ y ∷ []) (sym is)
 
 -- the definitions before the next place
-pub earlier-is : {A : Type 0} (view : A → Definition) (xs : List A) (i : ℕ) (x : A) → i < length xs → x ≡ get_or xs i x → map view (take (i + 1) xs) ≡ map view (take i xs) ++ view x ∷ []
+pub earlier-is : {A : Type 0} (view : A → Definition) (xs : List A) (i : ℕ) (x : A) → i < length xs → x ≡ get_or xs i x →
+    map view (take (i + 1) xs) ≡ map view (take i xs) ++ view x ∷ []
 earlier-is view xs i x below is = ap (map view) (taken-is xs i x below is) ∙ map-append view (take i xs) (x ∷ [])
 
 module _ {A : Type 0} (view : A → Definition) (f : List Definition → Definition → List RuleError) (xs : List A) where
@@ -20,7 +21,8 @@ module _ {A : Type 0} (view : A → Definition) (f : List Definition → Definit
   pub found-first : (es : List RuleError) → es ≡ [] → IsFoundBefore 0 es
   found-first es none = rw (none) refl
 
-  pub found-next : (i : ℕ) (x : A) → i < length xs → x ≡ get_or xs i x → (es fs : List RuleError) → fs ≡ es ++ f (map view (take i xs)) (view x) → IsFoundBefore i es → IsFoundBefore (i + 1) fs
+  pub found-next : (i : ℕ) (x : A) → i < length xs → x ≡ get_or xs i x → (es fs : List RuleError) → fs ≡ es ++ f (map view (take i xs)) (view x) →
+      IsFoundBefore i es → IsFoundBefore (i + 1) fs
   unfolding at_each
   found-next i x below is es fs more so_far =
       ap (λ l. l ++ at_each f (map view (take (i + 1) xs)) (map view (drop (i + 1) xs))) more

@@ -26,7 +26,8 @@ module _ {A B C : Type 0} (view : A → B) (f : B → C) (xs : List A) (i : ℕ)
       sym (seen-at g us i u (g u) within at) ∙ (ap (λ l. get_or l i (g u)) same ∙ twice-at (g u))
 
 -- the mark beside a definition
-pub mark-is : {A B : Type 0} (view : A → B) (f : B → Bool) (xs : List A) (i : ℕ) (x : A) → i < length xs → x ≡ get_or xs i x → (marks : List Bool) → marks ≡ map f (map view xs) → get_or marks i false ≡ f (view x)
+pub mark-is : {A B : Type 0} (view : A → B) (f : B → Bool) (xs : List A) (i : ℕ) (x : A) → i < length xs → x ≡ get_or xs i x → (marks : List Bool) →
+    marks ≡ map f (map view xs) → get_or marks i false ≡ f (view x)
 mark-is view f xs i x below is marks same = ap (λ l. get_or l i false) same ∙ twice-at view f xs i x below is false
 
 -- there are as many
@@ -34,6 +35,7 @@ pub as-many : {A B C D : Type 0} (view : A → B) (f : B → C) (g : D → C) (x
 as-many view f g xs us same = sym (length-map us g) ∙ (ap length same ∙ (length-map (map view xs) f ∙ length-map xs view))
 
 -- the names that a definition's spreads reach are those that an operation reaches
-pub reach-is : {H : Type 0} (r : HashSet (Bor (List ℕ)) H) (d : Document) (x : Definition) (names : List Name) → names ≡ spreads (selections_of x) → ((n : Name) → has_name r n ≡ is_reached (fragments d) names n) → IsReachOf r d x
+pub reach-is : {H : Type 0} (r : HashSet (Bor (List ℕ)) H) (d : Document) (x : Definition) (names : List Name) → names ≡ spreads (selections_of x) →
+    ((n : Name) → has_name r n ≡ is_reached (fragments d) names n) → IsReachOf r d x
 unfolding selections_of
 reach-is r d x names same reaches = λ o is n. reaches n ∙ ap (λ ns. is_reached (fragments d) ns n) (same ∙ ap (λ y. spreads (selections_of y)) is)

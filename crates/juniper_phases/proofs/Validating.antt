@@ -18,10 +18,12 @@ module _ (s : Schema) (disabled : Bool) (d : Document) where
   unfolding rule_errors
   names-listed es e some = first-some es _ _ e some
 
-  pub types-listed : (es : List RuleError) → [] ≡ at_each (name_errors s disabled d) [] d → es ≡ at_each (type_errors s disabled d) [] d → (es ≡ [] → ⊥) → es ≡ rule_errors s disabled d
+  pub types-listed : (es : List RuleError) → [] ≡ at_each (name_errors s disabled d) [] d → es ≡ at_each (type_errors s disabled d) [] d → (es ≡ [] → ⊥) →
+      es ≡ rule_errors s disabled d
   unfolding rule_errors
   types-listed es names e some = first-none es _ _ names (first-some es _ _ e some)
 
-  pub uses-listed : (es : List RuleError) → [] ≡ at_each (name_errors s disabled d) [] d → [] ≡ at_each (type_errors s disabled d) [] d → es ≡ at_each (use_errors s disabled d) [] d → es ≡ rule_errors s disabled d
+  pub uses-listed : (es : List RuleError) → [] ≡ at_each (name_errors s disabled d) [] d → [] ≡ at_each (type_errors s disabled d) [] d →
+      es ≡ at_each (use_errors s disabled d) [] d → es ≡ rule_errors s disabled d
   unfolding rule_errors
   uses-listed es names types e = first-none es _ _ names (first-none es _ _ types e)

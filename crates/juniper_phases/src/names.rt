@@ -33,7 +33,9 @@ pub fn name_errors<'d, 'a, S: ScalarValue>(
     document: &'d [Definition<'a, S>],
     fragments: &FragmentsByName<'d, 'a, S>,
 ) -> Result<Vec<RuleError>, AllocError>
-    ensures { IfOk result (λ es. (disabled : Bool) → AreFragmentsOf S.shown fragments.now (map (view_definition S.shown) document.now) → map view_rule_error es.items ≡ at_each (rules.name_errors (view_schema S.shown schema.now) disabled (map (view_definition S.shown) document.now)) [] (map (view_definition S.shown) document.now)) }
+    ensures { IfOk result (λ es. (disabled : Bool) → AreFragmentsOf S.shown fragments.now (map (view_definition S.shown) document.now) →
+        map view_rule_error es.items ≡ at_each (rules.name_errors (view_schema S.shown schema.now) disabled (map (view_definition S.shown) document.now)) []
+        (map (view_definition S.shown) document.now)) }
 {
     let operation_count = count_operations(document);
     let mut errors = Vec::new(alloc);
@@ -63,7 +65,9 @@ fn find_names<'d, 'a, S: ScalarValue>(
     definition: &'d Definition<'a, S>,
     errors: &mut Vec<RuleError>,
 ) -> Result<(), AllocError>
-    ensures { OnOk result ((disabled : Bool) (d : documents.Document) (ds : List documents.Definition) → AreFragmentsOf S.shown fragments.now d → OperationsOf operation_count d → IsEarlier earlier.now ds → map view_rule_error errors.new.items ≡ map view_rule_error errors.old.items ++ rules.name_errors (view_schema S.shown schema.now) disabled d ds (view_definition S.shown definition.now)) }
+    ensures { OnOk result ((disabled : Bool) (d : documents.Document) (ds : List documents.Definition) → AreFragmentsOf S.shown fragments.now d →
+        OperationsOf operation_count d → IsEarlier earlier.now ds → map view_rule_error errors.new.items
+        ≡ map view_rule_error errors.old.items ++ rules.name_errors (view_schema S.shown schema.now) disabled d ds (view_definition S.shown definition.now)) }
 {
     let inside = names_inside(alloc, schema, fragments, definition)?;
     let findings = [
@@ -109,8 +113,10 @@ fn names_inside<'d, 'a, S: ScalarValue>(
     fragments: &FragmentsByName<'d, 'a, S>,
     definition: &'d Definition<'a, S>,
 ) -> Result<NamesInside, AllocError>
-    ensures unknown { IfOk result (λ n. (d : documents.Document) → AreFragmentsOf S.shown fragments.now d → n.spreads_unknown ≡ rules.spreads_unknown d (view_definition S.shown definition.now)) }
-    ensures cycle { IfOk result (λ n. (d : documents.Document) → AreFragmentsOf S.shown fragments.now d → n.spreads_itself ≡ rules.spreads_itself d (view_definition S.shown definition.now)) }
+    ensures unknown { IfOk result (λ n. (d : documents.Document) → AreFragmentsOf S.shown fragments.now d →
+        n.spreads_unknown ≡ rules.spreads_unknown d (view_definition S.shown definition.now)) }
+    ensures cycle { IfOk result (λ n. (d : documents.Document) → AreFragmentsOf S.shown fragments.now d →
+        n.spreads_itself ≡ rules.spreads_itself d (view_definition S.shown definition.now)) }
     ensures variable { IfOk result (λ n. n.repeats_variable ≡ rules.repeats_variable (view_definition S.shown definition.now)) }
     ensures argument { IfOk result (λ n. n.repeats_argument ≡ rules.repeats_argument (view_definition S.shown definition.now)) }
     ensures field { IfOk result (λ n. n.repeats_input_field ≡ rules.repeats_input_field (view_definition S.shown definition.now)) }
@@ -138,8 +144,10 @@ fn repeats_given<'d, 'a, S: ScalarValue>(
     definition: &'d Definition<'a, S>,
     written: &Written<'d, 'a, S>,
 ) -> Result<(bool, bool), AllocError>
-    ensures argument { IfOk result (λ r. view_written S.shown written.now ≡ parts_of (view_definition S.shown definition.now) → r.0 ≡ rules.repeats_argument (view_definition S.shown definition.now)) }
-    ensures field { IfOk result (λ r. view_written S.shown written.now ≡ parts_of (view_definition S.shown definition.now) → r.1 ≡ rules.repeats_input_field (view_definition S.shown definition.now)) }
+    ensures argument { IfOk result (λ r. view_written S.shown written.now ≡ parts_of (view_definition S.shown definition.now) →
+        r.0 ≡ rules.repeats_argument (view_definition S.shown definition.now)) }
+    ensures field { IfOk result (λ r. view_written S.shown written.now ≡ parts_of (view_definition S.shown definition.now) →
+        r.1 ≡ rules.repeats_input_field (view_definition S.shown definition.now)) }
 {
     let arguments = argument_lists(alloc, written)?;
     let repeats_argument = repeats_argument(alloc, &arguments)?;

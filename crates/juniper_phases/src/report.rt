@@ -19,7 +19,8 @@ pub(crate) fn report<S: ScalarValue>(
     definition: &Definition<'_, S>,
     findings: &[(bool, &str)],
 ) -> Result<(), AllocError>
-    ensures { OnOk result (map view_rule_error errors.new.items ≡ map view_rule_error errors.old.items ++ flat_map (λ f. reported f.0 f.1.now (view_definition S.shown definition.now)) findings.now) }
+    ensures { OnOk result (map view_rule_error errors.new.items ≡ map view_rule_error errors.old.items
+        ++ flat_map (λ f. reported f.0 f.1.now (view_definition S.shown definition.now)) findings.now) }
 {
     let start = start_of(definition);
     for (is_violated, message) in findings {
@@ -37,7 +38,8 @@ fn report_one(
     is_violated: bool,
     message: &str,
 ) -> Result<(), AllocError>
-    ensures { OnOk result ((x : documents.Definition) → view_position start ≡ (span_of_definition x).start → map view_rule_error errors.new.items ≡ map view_rule_error errors.old.items ++ reported is_violated message.now x) }
+    ensures { OnOk result ((x : documents.Definition) → view_position start ≡ (span_of_definition x).start →
+        map view_rule_error errors.new.items ≡ map view_rule_error errors.old.items ++ reported is_violated message.now x) }
 {
     if is_violated {
         errors.push(RuleError::new(alloc, message, start)?)?;

@@ -26,7 +26,9 @@ pub fn type_errors<'d, 'a, S: ScalarValue>(
     schema: &'d SchemaType<S>,
     document: &'d [Definition<'a, S>],
 ) -> Result<Vec<RuleError>, AllocError>
-    ensures { IfOk result (λ es. (disabled : Bool) → map view_rule_error es.items ≡ at_each (rules.type_errors (view_schema S.shown schema.now) disabled (map (view_definition S.shown) document.now)) [] (map (view_definition S.shown) document.now)) }
+    ensures { IfOk result (λ es. (disabled : Bool) → map view_rule_error es.items
+        ≡ at_each (rules.type_errors (view_schema S.shown schema.now) disabled (map (view_definition S.shown) document.now)) []
+        (map (view_definition S.shown) document.now)) }
 {
     let mut errors = Vec::new(alloc);
     for definition in document {
@@ -42,7 +44,9 @@ fn find_types<'d, 'a, S: ScalarValue>(
     definition: &'d Definition<'a, S>,
     errors: &mut Vec<RuleError>,
 ) -> Result<(), AllocError>
-    ensures { OnOk result ((disabled : Bool) (d : documents.Document) (ds : List documents.Definition) → map view_rule_error errors.new.items ≡ map view_rule_error errors.old.items ++ rules.type_errors (view_schema S.shown schema.now) disabled d ds (view_definition S.shown definition.now)) }
+    ensures { OnOk result ((disabled : Bool) (d : documents.Document) (ds : List documents.Definition) →
+        map view_rule_error errors.new.items ≡ map view_rule_error errors.old.items
+        ++ rules.type_errors (view_schema S.shown schema.now) disabled d ds (view_definition S.shown definition.now)) }
 {
     let has_other_condition = has_condition(alloc, schema, definition)?;
     let placed = types_inside(alloc, schema, definition)?;
@@ -93,9 +97,11 @@ fn types_inside<'d, 'a, S: ScalarValue>(
 ) -> Result<TypesInside, AllocError>
     ensures field { IfOk result (λ t. t.has_unknown_field ≡ rules.has_unknown_field (view_schema S.shown schema.now) (view_definition S.shown definition.now)) }
     ensures set { IfOk result (λ t. t.has_wrong_set ≡ rules.has_wrong_set (view_schema S.shown schema.now) (view_definition S.shown definition.now)) }
-    ensures unknown { IfOk result (λ t. t.has_unknown_argument ≡ rules.has_unknown_argument (view_schema S.shown schema.now) (view_definition S.shown definition.now)) }
+    ensures unknown { IfOk result (λ t. t.has_unknown_argument ≡ rules.has_unknown_argument (view_schema S.shown schema.now)
+        (view_definition S.shown definition.now)) }
     ensures lacking { IfOk result (λ t. t.lacks_argument ≡ rules.lacks_argument (view_schema S.shown schema.now) (view_definition S.shown definition.now)) }
-    ensures wrong { IfOk result (λ t. t.has_wrong_argument ≡ rules.has_wrong_argument (view_schema S.shown schema.now) (view_definition S.shown definition.now)) }
+    ensures wrong { IfOk result (λ t. t.has_wrong_argument ≡ rules.has_wrong_argument (view_schema S.shown schema.now)
+        (view_definition S.shown definition.now)) }
 {
     let parts = placed_in(alloc, schema, definition)?;
     let calls = calls(alloc, schema, &parts)?;

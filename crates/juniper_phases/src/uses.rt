@@ -37,7 +37,11 @@ pub fn use_errors<'d, 'a, S: ScalarValue>(
     cannot_merge: &[bool],
     introspection_disabled: bool,
 ) -> Result<Vec<RuleError>, AllocError>
-    ensures { IfOk result (λ es. AreFragmentsOf S.shown fragments.now (map (view_definition S.shown) document.now) → cannot_merge.now ≡ map (rules.cannot_merge (view_schema S.shown schema.now) (map (view_definition S.shown) document.now)) (map (view_definition S.shown) document.now) → map view_rule_error es.items ≡ at_each (rules.use_errors (view_schema S.shown schema.now) introspection_disabled (map (view_definition S.shown) document.now)) [] (map (view_definition S.shown) document.now)) }
+    ensures { IfOk result (λ es. AreFragmentsOf S.shown fragments.now (map (view_definition S.shown) document.now) →
+        cannot_merge.now ≡ map (rules.cannot_merge (view_schema S.shown schema.now) (map (view_definition S.shown) document.now))
+        (map (view_definition S.shown) document.now) → map view_rule_error es.items
+        ≡ at_each (rules.use_errors (view_schema S.shown schema.now) introspection_disabled (map (view_definition S.shown) document.now)) []
+        (map (view_definition S.shown) document.now)) }
 {
     let used = used_by_each(alloc, schema, document)?;
     let used_by_fragments = uses_of_fragments(alloc, &used)?;
@@ -79,7 +83,12 @@ fn find_uses<'d, 'a, 'u, S: ScalarValue>(
     cannot_merge: bool,
     errors: &mut Vec<RuleError>,
 ) -> Result<(), AllocError>
-    ensures { OnOk result ((d : documents.Document) (ds : List documents.Definition) → AreFragmentsOf S.shown given.now.fragments.now d → AreUsesOfFragments (view_schema S.shown given.now.schema.now) given.now.used_by_fragments.now.items d → view_used own.now ≡ usage_of (view_schema S.shown given.now.schema.now) (view_definition S.shown definition.now) → cannot_merge ≡ rules.cannot_merge (view_schema S.shown given.now.schema.now) d (view_definition S.shown definition.now) → map view_rule_error errors.new.items ≡ map view_rule_error errors.old.items ++ rules.use_errors (view_schema S.shown given.now.schema.now) given.now.introspection_disabled d ds (view_definition S.shown definition.now)) }
+    ensures { OnOk result ((d : documents.Document) (ds : List documents.Definition) → AreFragmentsOf S.shown given.now.fragments.now d →
+        AreUsesOfFragments (view_schema S.shown given.now.schema.now) given.now.used_by_fragments.now.items d →
+        view_used own.now ≡ usage_of (view_schema S.shown given.now.schema.now) (view_definition S.shown definition.now) →
+        cannot_merge ≡ rules.cannot_merge (view_schema S.shown given.now.schema.now) d (view_definition S.shown definition.now) →
+        map view_rule_error errors.new.items ≡ map view_rule_error errors.old.items
+        ++ rules.use_errors (view_schema S.shown given.now.schema.now) given.now.introspection_disabled d ds (view_definition S.shown definition.now)) }
 {
     let inside = uses_inside(alloc, given, definition, own)?;
     let findings = [
@@ -106,9 +115,16 @@ fn uses_inside<'d, 'a, 'u, S: ScalarValue>(
     definition: &'d Definition<'a, S>,
     own: &Used<'u>,
 ) -> Result<UsesInside, AllocError>
-    ensures undefined { IfOk result (λ u. (d : documents.Document) → AreFragmentsOf S.shown given.now.fragments.now d → AreUsesOfFragments (view_schema S.shown given.now.schema.now) given.now.used_by_fragments.now.items d → view_used own.now ≡ usage_of (view_schema S.shown given.now.schema.now) (view_definition S.shown definition.now) → u.undefined ≡ rules.uses_undefined (view_schema S.shown given.now.schema.now) d (view_definition S.shown definition.now)) }
-    ensures misused { IfOk result (λ u. (d : documents.Document) → AreFragmentsOf S.shown given.now.fragments.now d → AreUsesOfFragments (view_schema S.shown given.now.schema.now) given.now.used_by_fragments.now.items d → view_used own.now ≡ usage_of (view_schema S.shown given.now.schema.now) (view_definition S.shown definition.now) → u.misused ≡ rules.misuses_variable (view_schema S.shown given.now.schema.now) d (view_definition S.shown definition.now)) }
-    ensures schema { IfOk result (λ u. u.looks_at_schema ≡ rules.looks_at_schema (view_schema S.shown given.now.schema.now) given.now.introspection_disabled (view_definition S.shown definition.now)) }
+    ensures undefined { IfOk result (λ u. (d : documents.Document) → AreFragmentsOf S.shown given.now.fragments.now d →
+        AreUsesOfFragments (view_schema S.shown given.now.schema.now) given.now.used_by_fragments.now.items d →
+        view_used own.now ≡ usage_of (view_schema S.shown given.now.schema.now) (view_definition S.shown definition.now) →
+        u.undefined ≡ rules.uses_undefined (view_schema S.shown given.now.schema.now) d (view_definition S.shown definition.now)) }
+    ensures misused { IfOk result (λ u. (d : documents.Document) → AreFragmentsOf S.shown given.now.fragments.now d →
+        AreUsesOfFragments (view_schema S.shown given.now.schema.now) given.now.used_by_fragments.now.items d →
+        view_used own.now ≡ usage_of (view_schema S.shown given.now.schema.now) (view_definition S.shown definition.now) →
+        u.misused ≡ rules.misuses_variable (view_schema S.shown given.now.schema.now) d (view_definition S.shown definition.now)) }
+    ensures schema { IfOk result (λ u. u.looks_at_schema ≡ rules.looks_at_schema (view_schema S.shown given.now.schema.now) given.now.introspection_disabled
+        (view_definition S.shown definition.now)) }
 {
     let schema = given.schema;
     let fragments = given.used_by_fragments;
@@ -136,7 +152,8 @@ fn reach_of<'d, 'a, S: ScalarValue>(
     definition: &Definition<'a, S>,
     written: &Written<'d, 'a, S>,
 ) -> Result<HashSet<&'a str>, AllocError>
-    ensures { IfOk result (λ r. (d : documents.Document) → AreFragmentsOf S.shown fragments.now d → view_written S.shown written.now ≡ parts_of (view_definition S.shown definition.now) → IsReachOf r d (view_definition S.shown definition.now)) }
+    ensures { IfOk result (λ r. (d : documents.Document) → AreFragmentsOf S.shown fragments.now d →
+        view_written S.shown written.now ≡ parts_of (view_definition S.shown definition.now) → IsReachOf r d (view_definition S.shown definition.now)) }
 {
     match definition {
         Definition::Operation(_) => fragments.reached(alloc, &written.spreads),
@@ -190,7 +207,8 @@ fn calls_in<'d, 'a, S: ScalarValue>(
     schema: &'d SchemaType<S>,
     definition: &'d Definition<'a, S>,
 ) -> Result<Vec<Call<'d, 'a, 'd, S>>, AllocError>
-    ensures { IfOk result (λ cs. view_calls S.shown cs.items ≡ placing.calls_of (view_schema S.shown schema.now) (placing.parts_of (view_schema S.shown schema.now) (view_definition S.shown definition.now))) }
+    ensures { IfOk result (λ cs. view_calls S.shown cs.items ≡ placing.calls_of (view_schema S.shown schema.now)
+        (placing.parts_of (view_schema S.shown schema.now) (view_definition S.shown definition.now))) }
 {
     let parts = placed_in(alloc, schema, definition)?;
     calls(alloc, schema, &parts)

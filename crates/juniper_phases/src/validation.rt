@@ -27,7 +27,8 @@ pub fn validate<'d, 'a, S: ScalarValue>(
     schema: &'d SchemaType<S>,
     introspection_disabled: bool,
 ) -> Result<Vec<RuleError>, AllocError>
-    ensures { IfOk result (λ es. map view_rule_error es.items ≡ rule_errors (view_schema S.shown schema.now) introspection_disabled (view_document S.shown document.now)) }
+    ensures { IfOk result (λ es. map view_rule_error es.items ≡ rule_errors (view_schema S.shown schema.now) introspection_disabled
+        (view_document S.shown document.now)) }
 {
     let definitions = document.as_slice();
     let fragments = fragments_by_name(alloc, definitions)?;
@@ -53,7 +54,10 @@ fn later_errors<'d, 'a, S: ScalarValue>(
     fragments: &FragmentsByName<'d, 'a, S>,
     introspection_disabled: bool,
 ) -> Result<Vec<RuleError>, AllocError>
-    ensures { IfOk result (λ es. AreFragmentsOf S.shown fragments.now (map (view_definition S.shown) document.now) → at_each (rules.name_errors (view_schema S.shown schema.now) introspection_disabled (map (view_definition S.shown) document.now)) [] (map (view_definition S.shown) document.now) ≡ [] → map view_rule_error es.items ≡ rule_errors (view_schema S.shown schema.now) introspection_disabled (map (view_definition S.shown) document.now)) }
+    ensures { IfOk result (λ es. AreFragmentsOf S.shown fragments.now (map (view_definition S.shown) document.now) →
+        at_each (rules.name_errors (view_schema S.shown schema.now) introspection_disabled (map (view_definition S.shown) document.now)) []
+        (map (view_definition S.shown) document.now) ≡ [] → map view_rule_error es.items
+        ≡ rule_errors (view_schema S.shown schema.now) introspection_disabled (map (view_definition S.shown) document.now)) }
 {
     let errors = type_errors(alloc, schema, document)?;
     if !errors.is_empty() {

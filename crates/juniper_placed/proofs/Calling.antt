@@ -20,10 +20,12 @@ fields-flat s (x ∷ xs) = maybe-first (field_call x.head) (field_calls s xs) x.
 directives-flat : (xs : List Directive) → directive_calls xs ≡ flat_map call_of_directive xs
 unfolding directive_calls call_of_directive
 directives-flat [] = refl
-directives-flat (x ∷ xs) = maybe-first (directive_call x) (directive_calls xs) (directive_named x.name.item) ∙ ap (λ l. call_of_directive x ++ l) (directives-flat xs)
+directives-flat (x ∷ xs) =
+    maybe-first (directive_call x) (directive_calls xs) (directive_named x.name.item) ∙ ap (λ l. call_of_directive x ++ l) (directives-flat xs)
 
 -- those of the fields, then those of the directives
-pub all-calls : (s : Schema) (p : Parts) (none first all : List Call) → none ≡ [] → first ≡ none ++ flat_map call_of_field p.fields → all ≡ first ++ flat_map call_of_directive p.directives → all ≡ calls_of s p
+pub all-calls : (s : Schema) (p : Parts) (none first all : List Call) → none ≡ [] → first ≡ none ++ flat_map call_of_field p.fields →
+    all ≡ first ++ flat_map call_of_directive p.directives → all ≡ calls_of s p
 unfolding calls_of
 all-calls s p none first all is one two =
     two ∙ ap₂ (λ a b. a ++ b) (one ∙ (ap (λ l. l ++ flat_map call_of_field p.fields) is ∙ sym (fields-flat s p.fields))) (sym (directives-flat p.directives))

@@ -34,7 +34,10 @@ module _ (s : Schema) where
 
   -- a field without what stands below it
   unfoldable pub field_parts : Name → Head → Parts
-  field_parts p h = record { fields = record { parent = p; head = h; declared = field_of s p h.name.item } ∷ []; directives = if_declared s (field_of s p h.name.item) (λ q. h.directives) }
+  field_parts p h = record {
+    fields = record { parent = p; head = h; declared = field_of s p h.name.item } ∷ [];
+    directives = if_declared s (field_of s p h.name.item) (λ q. h.directives);
+  }
 
 -- the one behind the other
 unfoldable pub joined : Parts → Parts → Parts

@@ -35,7 +35,8 @@ fn push_of_fields<'d, 'a, S: ScalarValue>(
     fields: &Vec<Placed<'d, 'a, S>>,
     calls: &mut Vec<Call<'d, 'a, 'd, S>>,
 ) -> Result<(), AllocError>
-    ensures { OnOk result (view_calls S.shown calls.new.items ≡ view_calls S.shown calls.old.items ++ flat_map call_of_field (map (view_placed S.shown) fields.now.items)) }
+    ensures { OnOk result (view_calls S.shown calls.new.items ≡ view_calls S.shown calls.old.items
+        ++ flat_map call_of_field (map (view_placed S.shown) fields.now.items)) }
 {
     for placed in fields {
         push_of_field(placed, calls)?;
@@ -69,7 +70,8 @@ fn push_of_directives<'d, 'a, S: ScalarValue>(
     directives: &Vec<&'d Spanning<Directive<'a, S>, Span>>,
     calls: &mut Vec<Call<'d, 'a, 'd, S>>,
 ) -> Result<(), AllocError>
-    ensures { OnOk result (view_calls S.shown calls.new.items ≡ view_calls S.shown calls.old.items ++ flat_map call_of_directive (view_directives_at S.shown directives.now.items)) }
+    ensures { OnOk result (view_calls S.shown calls.new.items ≡ view_calls S.shown calls.old.items
+        ++ flat_map call_of_directive (view_directives_at S.shown directives.now.items)) }
 {
     for index in 0..directives.len() {
         let directive = directives[index];
@@ -84,7 +86,8 @@ fn push_of_directive<'d, 'a, S: ScalarValue>(
     directive: &'d Spanning<Directive<'a, S>, Span>,
     calls: &mut Vec<Call<'d, 'a, 'd, S>>,
 ) -> Result<(), AllocError>
-    ensures { OnOk result (view_calls S.shown calls.new.items ≡ view_calls S.shown calls.old.items ++ call_of_directive (view_directive S.shown directive.now)) }
+    ensures { OnOk result (view_calls S.shown calls.new.items ≡ view_calls S.shown calls.old.items
+        ++ call_of_directive (view_directive S.shown directive.now)) }
 {
     match schema.directive_by_name(directive.item.name.item) {
         Some(found) => {

@@ -138,7 +138,8 @@ fn place_selections<'d, 'a, S: ScalarValue>(
     selections: &'d [Selection<'a, S>],
     placed: &mut PlacedParts<'d, 'a, S>,
 ) -> Result<(), AllocError>
-    ensures { OnOk result (view_parts S.shown placed.new ≡ joined (view_parts S.shown placed.old) (parts_in (view_schema S.shown schema.now) parent.now (view_selections S.shown selections.now))) }
+    ensures { OnOk result (view_parts S.shown placed.new ≡ joined (view_parts S.shown placed.old)
+        (parts_in (view_schema S.shown schema.now) parent.now (view_selections S.shown selections.now))) }
 {
     for selection in selections {
         place_selection(schema, parent, selection, placed)?;
@@ -154,7 +155,8 @@ fn place_selection<'d, 'a, S: ScalarValue>(
     selection: &'d Selection<'a, S>,
     placed: &mut PlacedParts<'d, 'a, S>,
 ) -> Result<(), AllocError>
-    ensures { OnOk result ((rest : Selections) → joined (view_parts S.shown placed.new) (parts_in (view_schema S.shown schema.now) parent.now rest) ≡ joined (view_parts S.shown placed.old) (parts_in (view_schema S.shown schema.now) parent.now (put_selection S.shown selection.now rest))) }
+    ensures { OnOk result ((rest : Selections) → joined (view_parts S.shown placed.new) (parts_in (view_schema S.shown schema.now) parent.now rest)
+        ≡ joined (view_parts S.shown placed.old) (parts_in (view_schema S.shown schema.now) parent.now (put_selection S.shown selection.now rest))) }
 {
     match selection {
         Selection::Field(field) => {
@@ -194,8 +196,10 @@ fn place_field<'d, 'a, S: ScalarValue>(
     field: &'d Spanning<Field<'a, S>, Span>,
     placed: &mut PlacedParts<'d, 'a, S>,
 ) -> Result<Option<&'d str>, AllocError>
-    ensures below { IfOk result (λ q. option_map (λ n. n.now) q ≡ type_below (field_of (view_schema S.shown schema.now) parent.now (view_field S.shown field.now).name.item)) }
-    ensures added { OnOk result (view_parts S.shown placed.new ≡ joined (view_parts S.shown placed.old) (field_parts (view_schema S.shown schema.now) parent.now (view_field S.shown field.now))) }
+    ensures below { IfOk result (λ q. option_map (λ n. n.now) q ≡ type_below
+        (field_of (view_schema S.shown schema.now) parent.now (view_field S.shown field.now).name.item)) }
+    ensures added { OnOk result (view_parts S.shown placed.new ≡ joined (view_parts S.shown placed.old)
+        (field_parts (view_schema S.shown schema.now) parent.now (view_field S.shown field.now))) }
 {
     let found = schema.field_of(parent, field.item.name.item);
     placed.fields.push(Placed {

@@ -15,14 +15,16 @@ unfolding plain_input
 plain_again n t = refl
 
 -- a plain argument that gets a default value
-pub defaulted : (a b : InputDeclaration) (n : Name) (t : TypeRef) (v : Input) (m : Constant) → a ≡ with_default b v → b ≡ plain_input n t → meaning v ≡ m → IsDefaulted a n t m
+pub defaulted : (a b : InputDeclaration) (n : Name) (t : TypeRef) (v : Input) (m : Constant) → a ≡ with_default b v → b ≡ plain_input n t → meaning v ≡ m →
+    IsDefaulted a n t m
 defaulted a b n t v m e p q = record {
   rest = ap (λ (x : InputDeclaration). record x { default = None }) (e ∙ ap (λ (x : InputDeclaration). with_default x v) p) ∙ plain_again n t;
   default = ap (λ (x : InputDeclaration). option_map meaning x.default) e ∙ ap (λ (x : Constant). Some x) q;
 }
 
 -- a default value that is known by its meaning is known exactly, but for lists and objects
-exact_at : (v : Input) (a : InputDeclaration) (n : Name) (t : TypeRef) → a ≡ input_with_default n t v → IfSome (input_of (meaning v)) (λ w. a ≡ input_with_default n t w)
+exact_at : (v : Input) (a : InputDeclaration) (n : Name) (t : TypeRef) → a ≡ input_with_default n t v →
+    IfSome (input_of (meaning v)) (λ w. a ≡ input_with_default n t w)
 unfolding meaning
 exact_at inputs.null a n t e = e
 exact_at (inputs.scalar s) a n t e = e

@@ -49,7 +49,8 @@ awaiting_there k old e n = elim (cases_Bool (bytes_eq n k)) [
 ]
 
 -- a placeholder that is put where nothing stands is added
-pub awaiting_put : (k : Name) (old new : Table) → is_some (old k) ≡ false → ((n : Name) → new n ≡ declaring k (unnamed_meta placeholder) old n) → (n : Name) → new n ≡ awaiting k old n
+pub awaiting_put : (k : Name) (old new : Table) → is_some (old k) ≡ false → ((n : Name) → new n ≡ declaring k (unnamed_meta placeholder) old n) → (n : Name) →
+    new n ≡ awaiting k old n
 awaiting_put k old new e h n = h n ∙ elim (cases_Bool (bytes_eq n k)) [
   | inl y ↦ rw y (none_first (old n) (Some (awaited n)) (subst (λ m. is_some (old m) ≡ false) (sym (same_true n k y)) e))
   | inr f ↦ rw f (or_none (old n))
@@ -65,7 +66,8 @@ pub adds_then : (old mid new : Table) → AddsPlaceholders old mid → AddsPlace
 adds_then old mid new g h = record { at = λ n. add_twice (old n) (mid n) (new n) n (g.at n) (h.at n) }
 
 -- a declaration that is put once placeholders are added
-pub registers : (k : Name) (m : Meta) (old mid new : Table) → is_declared (old k) ≡ false → ((n : Name) → mid n ≡ awaiting_each (referred m.shape) old n) → ((n : Name) → new n ≡ declaring k m mid n) → IsRegistered k m old new
+pub registers : (k : Name) (m : Meta) (old mid new : Table) → is_declared (old k) ≡ false → ((n : Name) → mid n ≡ awaiting_each (referred m.shape) old n) →
+    ((n : Name) → new n ≡ declaring k m mid n) → IsRegistered k m old new
 registers k m old mid new d g h = record { free = d; held = λ n. h n ∙ ap (λ o. cond (bytes_eq n k) (Some (entry_at n m)) o) (g n) }
 
 -- ## Each declaration stays at its own name
@@ -81,7 +83,8 @@ own_placeholder n m e = rw e refl
 -- ## Where memory may be refused
 
 -- what is put where nothing stands is awaited
-pub put_awaits : {A E : Type 0} (r : Result A E) (k : Name) (m : Meta) (old new : Table) → is_some (old k) ≡ false → m ≡ unnamed_meta placeholder → OnOk r ((n : Name) → new n ≡ declaring k m old n) → Awaits r k old new
+pub put_awaits : {A E : Type 0} (r : Result A E) (k : Name) (m : Meta) (old new : Table) → is_some (old k) ≡ false → m ≡ unnamed_meta placeholder →
+    OnOk r ((n : Name) → new n ≡ declaring k m old n) → Awaits r k old new
 put_awaits (Ok x) k m old new e p h = awaiting_put k old new e (λ n. subst (λ z. new n ≡ declaring k z old n) p (h n))
 put_awaits (Err x) k m old new e p h = tt
 
@@ -95,7 +98,9 @@ put_keeps (Ok x) k old new h g = keeps_adding old new (adds_awaiting k old new h
 put_keeps (Err x) k old new h g = keeps_adding old new (adds_same old new g)
 
 -- what is put stands at its own name, as all else did
-pub own_put : {A E : Type 0} (r : Result A E) (k : Name) (m : Meta) (old new : Table) → ((n : Name) → is_own (old n) ≡ true) → ((n : Name) → bytes_eq n k ≡ true → is_own (Some (entry_at n m)) ≡ true) → OnOk r ((n : Name) → new n ≡ declaring k m old n) → OnErr r ((n : Name) → new n ≡ old n) → (n : Name) → is_own (new n) ≡ true
+pub own_put : {A E : Type 0} (r : Result A E) (k : Name) (m : Meta) (old new : Table) → ((n : Name) → is_own (old n) ≡ true) →
+    ((n : Name) → bytes_eq n k ≡ true → is_own (Some (entry_at n m)) ≡ true) → OnOk r ((n : Name) → new n ≡ declaring k m old n) →
+    OnErr r ((n : Name) → new n ≡ old n) → (n : Name) → is_own (new n) ≡ true
 own_put (Ok x) k m old new o s h g n = ap is_own (h n) ∙ elim (cases_Bool (bytes_eq n k)) [ inl y ↦ rw y (s n y) | inr f ↦ rw f (o n) ]
 own_put (Err x) k m old new o s h g n = ap is_own (g n) ∙ o n
 
@@ -108,10 +113,12 @@ innermost_nullable (named r n) = refl
 innermost_nullable (list_of r size t) = refl
 
 -- what awaits the name inside a type awaits that inside the nullable type
-pub awaiting_nullable : (t : TypeRef) (old new : Table) → ((n : Name) → new n ≡ awaiting (innermost t) old n) → (n : Name) → new n ≡ awaiting (innermost (nullable t)) old n
+pub awaiting_nullable : (t : TypeRef) (old new : Table) → ((n : Name) → new n ≡ awaiting (innermost t) old n) → (n : Name) →
+    new n ≡ awaiting (innermost (nullable t)) old n
 awaiting_nullable t old new h n = h n ∙ ap (λ k. awaiting k old n) (innermost_nullable t)
 
 -- what awaits the name inside a type awaits that inside a list of it
-pub awaiting_list : (r : Bool) (size : Option ℕ) (t : TypeRef) (old new : Table) → ((n : Name) → new n ≡ awaiting (innermost t) old n) → (n : Name) → new n ≡ awaiting (innermost (list_of r size t)) old n
+pub awaiting_list : (r : Bool) (size : Option ℕ) (t : TypeRef) (old new : Table) → ((n : Name) → new n ≡ awaiting (innermost t) old n) → (n : Name) →
+    new n ≡ awaiting (innermost (list_of r size t)) old n
 unfolding innermost
 awaiting_list r size t old new h = h

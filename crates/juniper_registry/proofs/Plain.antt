@@ -10,7 +10,8 @@ pub same_field : (f : FieldDeclaration) (b n : Name) (t u : TypeRef) → f ≡ p
 same_field f b n t u e p q = cc
 
 -- a field that is made of its parts
-pub made_field : (b n : Name) (as' bs : List InputDeclaration) (t u : TypeRef) → b ≡ n → as' ≡ bs → t ≡ u → record { name = b; description = None; arguments = as'; of_type = t; deprecation = current } ≡ plain_field n bs u
+pub made_field : (b n : Name) (as' bs : List InputDeclaration) (t u : TypeRef) → b ≡ n → as' ≡ bs → t ≡ u →
+    record { name = b; description = None; arguments = as'; of_type = t; deprecation = current } ≡ plain_field n bs u
 unfolding plain_field
 made_field b n as' bs t u e p q = cc
 

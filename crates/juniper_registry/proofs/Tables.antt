@@ -24,7 +24,8 @@ module _ {K X : Type 0} (text : K → Name) (view : X → Meta) where
   at : Name → List (K × X) → Option X
   at n es = lookup (λ k. bytes_eq n (text k)) es
 
-  step : (n : Name) (k : K) (x : X) (o : Option Entry) (p : Option Entry) → o ≡ p → cond (bytes_eq n (text k)) (Some (entry_at (text k) (view x))) o ≡ cond (bytes_eq n (text k)) (Some (entry_at n (view x))) p
+  step : (n : Name) (k : K) (x : X) (o : Option Entry) (p : Option Entry) → o ≡ p →
+      cond (bytes_eq n (text k)) (Some (entry_at (text k) (view x))) o ≡ cond (bytes_eq n (text k)) (Some (entry_at n (view x))) p
   step n k x o p e = elim (cases_Bool (bytes_eq n (text k))) [
     | inl y ↦ rw y (ap (λ z. Some (entry_at z (view x))) (sym (same_true n (text k) y)))
     | inr f ↦ rw f e
@@ -38,26 +39,34 @@ module _ {K X : Type 0} (text : K → Name) (view : X → Meta) where
       ∙ sym (cond_map (λ x. entry_at n (view x)) (bytes_eq n (text e.0)) e.1 (at n es))
 
   -- a name is found exactly where an entry stands there
-  pub stands_found : (es : List (K × X)) (n : Name) → is_some (lookup (λ k. bytes_eq n (text k)) es) ≡ is_some (entry_in (map (λ e. entry_at (text e.0) (view e.1)) es) n)
+  pub stands_found : (es : List (K × X)) (n : Name) → is_some (lookup (λ k. bytes_eq n (text k)) es)
+      ≡ is_some (entry_in (map (λ e. entry_at (text e.0) (view e.1)) es) n)
   unfolding entries at
   stands_found es n = sym (is_some_map (λ x. entry_at n (view x)) (at n es)) ∙ ap (λ o. is_some o) (sym (entry_at_name es n))
 
   -- nothing that is found is no declaration
-  pub none_found : (es : List (K × X)) (n : Name) → None ≡ lookup (λ k. bytes_eq n (text k)) es → false ≡ is_declared (entry_in (map (λ e. entry_at (text e.0) (view e.1)) es) n)
+  pub none_found : (es : List (K × X)) (n : Name) → None ≡ lookup (λ k. bytes_eq n (text k)) es →
+      false ≡ is_declared (entry_in (map (λ e. entry_at (text e.0) (view e.1)) es) n)
   unfolding entries at
   none_found es n e = ap (λ o. is_declared (option_map (λ x. entry_at n (view x)) o)) e ∙ ap is_declared (sym (entry_at_name es n))
 
   -- what is found is a declaration, where it is no placeholder
-  pub some_found : (es : List (K × X)) (n : Name) (x : X) → Some x ≡ lookup (λ k. bytes_eq n (text k)) es → not (is_placeholder (view x).shape) ≡ is_declared (entry_in (map (λ e. entry_at (text e.0) (view e.1)) es) n)
+  pub some_found : (es : List (K × X)) (n : Name) (x : X) → Some x ≡ lookup (λ k. bytes_eq n (text k)) es →
+      not (is_placeholder (view x).shape) ≡ is_declared (entry_in (map (λ e. entry_at (text e.0) (view e.1)) es) n)
   unfolding entries at
   some_found es n x e = ap (λ o. is_declared (option_map (λ x. entry_at n (view x)) o)) e ∙ ap is_declared (sym (entry_at_name es n))
 
-  put_at : (old new : List (K × X)) (bs n : Name) (v : X) → at n new ≡ cond (bytes_eq bs n) (Some v) (at n old) → entry_in (entries new) n ≡ cond (bytes_eq n bs) (Some (entry_at n (view v))) (entry_in (entries old) n)
-  put_at old new bs n v e = entry_at_name new n ∙ (ap (option_map (λ x. entry_at n (view x))) e ∙ (cond_map (λ x. entry_at n (view x)) (bytes_eq bs n) v (at n old)
-      ∙ (ap (λ b. cond b (Some (entry_at n (view v))) (option_map (λ x. entry_at n (view x)) (at n old))) (same_sym bs n) ∙ ap (cond (bytes_eq n bs) (Some (entry_at n (view v)))) (sym (entry_at_name old n)))))
+  put_at : (old new : List (K × X)) (bs n : Name) (v : X) → at n new ≡ cond (bytes_eq bs n) (Some v) (at n old) →
+      entry_in (entries new) n ≡ cond (bytes_eq n bs) (Some (entry_at n (view v))) (entry_in (entries old) n)
+  put_at old new bs n v e =
+      entry_at_name new n ∙ (ap (option_map (λ x. entry_at n (view x))) e ∙ (cond_map (λ x. entry_at n (view x)) (bytes_eq bs n) v (at n old)
+      ∙ (ap (λ b. cond b (Some (entry_at n (view v))) (option_map (λ x. entry_at n (view x)) (at n old))) (same_sym bs n)
+      ∙ ap (cond (bytes_eq n bs) (Some (entry_at n (view v)))) (sym (entry_at_name old n)))))
 
   -- a declaration that is put at a name stands there, and what stood at others stays
-  pub put_entry : (old new : List (K × X)) (bs : Name) (v : X) → ((n : Name) → lookup (λ k. bytes_eq n (text k)) new ≡ update bytes_eq (λ m. lookup (λ k. bytes_eq m (text k)) old) bs (Some v) n) → (n : Name) →
-      entry_in (map (λ e. entry_at (text e.0) (view e.1)) new) n ≡ cond (bytes_eq n bs) (Some (entry_at n (view v))) (entry_in (map (λ e. entry_at (text e.0) (view e.1)) old) n)
+  pub put_entry : (old new : List (K × X)) (bs : Name) (v : X) → ((n : Name) →
+      lookup (λ k. bytes_eq n (text k)) new ≡ update bytes_eq (λ m. lookup (λ k. bytes_eq m (text k)) old) bs (Some v) n) → (n : Name) →
+      entry_in (map (λ e. entry_at (text e.0) (view e.1)) new) n ≡ cond (bytes_eq n bs) (Some (entry_at n (view v)))
+      (entry_in (map (λ e. entry_at (text e.0) (view e.1)) old) n)
   unfolding entries at
   put_entry old new bs v h n = put_at old new bs n v (h n)

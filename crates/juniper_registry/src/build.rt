@@ -68,7 +68,8 @@ impl<S: ScalarValue> Registry<S> {
         fields: Vec<Field<S>>,
     ) -> Result<ObjectMeta<S>, AllocError>
         requires { IsSome (T.named info.now) }
-        ensures built { IfSome (T.named info.now) (λ n. IfOk result (λ m. view_object S.shown m ≡ named_meta n (object_type (map (view_field S.shown) fields.items ++ typename_field ∷ []) []))) }
+        ensures built { IfSome (T.named info.now) (λ n. IfOk result (λ m. view_object S.shown m
+            ≡ named_meta n (object_type (map (view_field S.shown) fields.items ++ typename_field ∷ []) []))) }
         ensures awaited { Awaits result (codes "String") (view_registry S.shown self.old) (view_registry S.shown self.new) }
         ensures added { KeepsAdding (view_registry S.shown self.old) (view_registry S.shown self.new) }
     {
@@ -98,7 +99,8 @@ impl<S: ScalarValue> Registry<S> {
         fields: Vec<Field<S>>,
     ) -> Result<InterfaceMeta<S>, AllocError>
         requires { IsSome (T.named info.now) }
-        ensures built { IfSome (T.named info.now) (λ n. IfOk result (λ m. view_interface S.shown m ≡ named_meta n (interface_type (map (view_field S.shown) fields.items ++ typename_field ∷ []) []))) }
+        ensures built { IfSome (T.named info.now) (λ n. IfOk result (λ m. view_interface S.shown m
+            ≡ named_meta n (interface_type (map (view_field S.shown) fields.items ++ typename_field ∷ []) []))) }
         ensures awaited { Awaits result (codes "String") (view_registry S.shown self.old) (view_registry S.shown self.new) }
         ensures added { KeepsAdding (view_registry S.shown self.old) (view_registry S.shown self.new) }
     {
@@ -128,7 +130,8 @@ impl<S: ScalarValue> Registry<S> {
         input_fields: Vec<Argument<S>>,
     ) -> Result<InputObjectMeta<S>, AllocError>
         requires { IsSome (T.named info.now) }
-        ensures { IfSome (T.named info.now) (λ n. IfOk result (λ m. view_input_object S.shown m ≡ named_meta n (input_object_type (map (view_argument S.shown) input_fields.items)))) }
+        ensures { IfSome (T.named info.now) (λ n. IfOk result (λ m. view_input_object S.shown m
+            ≡ named_meta n (input_object_type (map (view_argument S.shown) input_fields.items)))) }
     {
         Ok(InputObjectMeta::new(self.own_name::<T>(info)?, input_fields))
     }

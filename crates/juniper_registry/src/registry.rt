@@ -99,7 +99,8 @@ impl<S: ScalarValue> Registry<S> {
     /// Puts this declaration at its own name. Where memory is refused nothing changes.
     fn declare(&mut self, name: &str, meta: MetaType<S>) -> Result<(), AllocError>
         requires { (view_meta S.shown meta).name ≡ Some name.now }
-        ensures put { OnOk result ((n : Name) → view_registry S.shown self.new n ≡ declaring name.now (view_meta S.shown meta) (view_registry S.shown self.old) n) }
+        ensures put { OnOk result ((n : Name) → view_registry S.shown self.new n
+            ≡ declaring name.now (view_meta S.shown meta) (view_registry S.shown self.old) n) }
         ensures kept { OnErr result ((n : Name) → view_registry S.shown self.new n ≡ view_registry S.shown self.old n) }
     {
         let key = String::from_str(self.alloc, name)?;
@@ -120,7 +121,8 @@ impl<S: ScalarValue> Registry<S> {
     /// memory is refused, when at most placeholders are added.
     pub fn register<T: GraphQLType<S>>(&mut self, info: &T::TypeInfo) -> Result<(), RegistryError>
         requires { IsSome (T.named info.now) }
-        ensures { IfSome (T.named info.now) (λ k. Registers result k (T.declaration info.now) (view_registry S.shown self.old) (view_registry S.shown self.new)) }
+        ensures { IfSome (T.named info.now) (λ k. Registers result k (T.declaration info.now) (view_registry S.shown self.old)
+            (view_registry S.shown self.new)) }
     {
         let name = name_of::<T, S>(info);
         if self.declares(name) {

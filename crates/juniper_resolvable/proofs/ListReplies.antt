@@ -34,8 +34,10 @@ module _ {R N : Type 0} (view : R → Tree N) where
   fails_first rs e rest = rw (first_failed rs e rest) refl
 
 -- the item behind those that are answered fails
-pub fails_at : {T R S N : Type 0} (shown : S → Shown) (view : R → Tree N) (resolves : T → Reply N) (all : List (Reply N)) (rs : List R) (left rest : List T) (x : T) (e : ResolveError S) →
+pub fails_at : {T R S N : Type 0} (shown : S → Shown) (view : R → Tree N) (resolves : T → Reply N) (all : List (Reply N)) (rs : List R) (left rest : List T)
+    (x : T) (e : ResolveError S) →
     all ≡ map (λ r. answered (view r)) rs ++ map resolves left → left ≡ x ∷ rest → FailsWith shown e (resolves x) → FailsWith shown e (list_reply all)
 fails_at shown view resolves all rs left rest x (Field e) i h f =
-    ap list_reply (i ∙ ap (λ ys. map (λ r. answered (view r)) rs ++ map resolves ys) h ∙ ap (λ y. map (λ r. answered (view r)) rs ++ (y ∷ map resolves rest)) f) ∙ fails_first view rs _ (map resolves rest)
+    ap list_reply (i ∙ ap (λ ys. map (λ r. answered (view r)) rs ++ map resolves ys) h ∙ ap (λ y. map (λ r. answered (view r)) rs ++ (y ∷ map resolves rest)) f)
+    ∙ fails_first view rs _ (map resolves rest)
 fails_at shown view resolves all rs left rest x Memory i h f = tt

@@ -16,7 +16,8 @@ fits_from (pos k) h = record { sfits = omega (arith, leb-true k 2147483647 h) }
 fits_from (negsuc k) h = record { sfits = omega (arith, leb-true k 2147483647 (and_parts _ _ h).0) }
 
 -- a sum that fits
-pub some_sum : (a b s : ℤ) → SFits w32 a → SFits w32 b → SFits w32 (to_z w32 (of_z w32 a) +ℤ to_z w32 (of_z w32 b)) → s ≡ to_z w32 (of_z w32 a) +ℤ to_z w32 (of_z w32 b) → Some (to_z w32 (of_z w32 s)) ≡ int_sum a b
+pub some_sum : (a b s : ℤ) → SFits w32 a → SFits w32 b → SFits w32 (to_z w32 (of_z w32 a) +ℤ to_z w32 (of_z w32 b)) →
+    s ≡ to_z w32 (of_z w32 a) +ℤ to_z w32 (of_z w32 b) → Some (to_z w32 (of_z w32 s)) ≡ int_sum a b
 some_sum a b s fa fb fits is =
     let e = to_z-of_z w32 a fa in
     let f = to_z-of_z w32 b fb in
@@ -28,6 +29,7 @@ some_sum a b s fa fb fits is =
 -- one that does not
 pub no_sum : (a b : ℤ) → SFits w32 a → SFits w32 b → (SFits w32 (to_z w32 (of_z w32 a) +ℤ to_z w32 (of_z w32 b)) → ⊥) → None ≡ int_sum a b
 no_sum a b fa fb over = elim (cases_Bool (fits_int (a +ℤ b))) [
-  | inl t ↦ absurd (over (subst (λ x. SFits w32 (x +ℤ to_z w32 (of_z w32 b))) (sym (to_z-of_z w32 a fa)) (subst (λ y. SFits w32 (a +ℤ y)) (sym (to_z-of_z w32 b fb)) (fits_from (a +ℤ b) t))))
+  | inl t ↦ absurd (over (subst (λ x. SFits w32 (x +ℤ to_z w32 (of_z w32 b))) (sym (to_z-of_z w32 a fa))
+      (subst (λ y. SFits w32 (a +ℤ y)) (sym (to_z-of_z w32 b fb)) (fits_from (a +ℤ b) t))))
   | inr t ↦ rw t refl
 ]

@@ -55,7 +55,11 @@ extensions_have_none (object es) = rw (value_has_none (object es)) refl
 
 error_has_none : (e : Listed) → has_float (error_data e) ≡ false
 unfolding error_data
-error_has_none e = rw (list_has_none location_data location_has_none (e.start ∷ []), list_has_none step_data step_has_none e.path, extensions_have_none e.error.extensions) refl
+error_has_none e = rw (
+  list_has_none location_data location_has_none (e.start ∷ []),
+  list_has_none step_data step_has_none e.path,
+  extensions_have_none e.error.extensions,
+) refl
 
 errors_have_none : (es : List Listed) → members_have_float (errors_data es) ≡ false
 unfolding errors_data

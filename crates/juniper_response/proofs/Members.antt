@@ -36,7 +36,8 @@ some_count v e = rw (some_is v e) refl
 pub none_sent : (v : Value) (old new : Log) → is_null v ≡ true → Logs old new map_ends → SendsMembers (extensions_data v) old new
 none_sent v old new e ended = rw (none_is v e) ended
 
-pub some_sent : (v : Value) (old a b new : Log) → is_null v ≡ false → Logs old a (field_key (codes "extensions") AsIs) → SendsValue (value_data v) a b → Logs b new map_ends → SendsMembers (extensions_data v) old new
+pub some_sent : (v : Value) (old a b new : Log) → is_null v ≡ false → Logs old a (field_key (codes "extensions") AsIs) → SendsValue (value_data v) a b →
+    Logs b new map_ends → SendsMembers (extensions_data v) old new
 some_sent v old a b new e named sent ended = rw (some_is v e) (a, b, named, sent, ended)
 
 -- ## Errors
@@ -45,9 +46,11 @@ pub error_sent : (e : Listed) (fe : Error) (m : Text) (at : Position) (p : Place
     fe ≡ e.error → m ≡ fe.message → at ≡ e.start → p ≡ e.path → x ≡ fe.extensions → n ≡ 3 + members_len (extensions_data x) →
     Logs a b (map_begins (Some n)) → Logs b c (field_key (codes "message") AsIs) → Logs c d (text m) →
     Logs d f (field_key (codes "locations") AsIs) → SendsValue (array (items_data location_data (at ∷ []))) f g →
-    Logs g h (field_key (codes "path") AsIs) → SendsValue (array (items_data step_data p)) h i → SendsMembers (extensions_data x) i new → SendsValue (error_data e) a new
+    Logs g h (field_key (codes "path") AsIs) → SendsValue (array (items_data step_data p)) h i → SendsMembers (extensions_data x) i new →
+    SendsValue (error_data e) a new
 unfolding error_data
-error_sent e fe m at p x n a b c d f g h i new is_error is_message is_start is_path is_extensions is_count begun named sent named_locations locations named_path path ended =
+error_sent e fe m at p x n a b c d f g h i new is_error is_message is_start is_path is_extensions is_count begun named sent named_locations locations named_path
+    path ended =
     let extensions : x ≡ e.error.extensions = cc in
     let message : m ≡ e.error.message = cc in
     let count : n ≡ members_len (extensions_data e.error.extensions) + 3 = subst (λ v. n ≡ members_len (extensions_data v) + 3) extensions (omega arith) in (
@@ -63,7 +66,13 @@ error_sent e fe m at p x n a b c d f g h i new is_error is_message is_start is_p
           g,
           named_locations,
           subst (λ q. SendsValue (array (items_data location_data (q ∷ []))) f g) is_start locations,
-          (h, i, named_path, subst (λ q. SendsValue (array (items_data step_data q)) h i) is_path path, subst (λ v. SendsMembers (extensions_data v) i new) extensions ended),
+          (
+            h,
+            i,
+            named_path,
+            subst (λ q. SendsValue (array (items_data step_data q)) h i) is_path path,
+            subst (λ v. SendsMembers (extensions_data v) i new) extensions ended,
+          ),
         ),
       ),
     )
@@ -73,4 +82,5 @@ error_sent e fe m at p x n a b c d f g h i new is_error is_message is_start is_p
 pub answer_sent : (v : Value) (es : List Listed) (n : ℕ) (a b c d new : Log) → n ≡ 1 + members_len (errors_data es) → Logs a b (map_begins (Some n)) →
     Logs b c (field_key (codes "data") AsIs) → SendsValue (value_data v) c d → SendsMembers (errors_data es) d new → SendsValue (answer_data v es) a new
 unfolding answer_data
-answer_sent v es n a b c d new is_count begun named sent ended = (b, subst (λ k. Logs a b (map_begins (Some k))) (omega arith) begun, (c, d, named, sent, ended))
+answer_sent v es n a b c d new is_count begun named sent ended =
+    (b, subst (λ k. Logs a b (map_begins (Some k))) (omega arith) begun, (c, d, named, sent, ended))

@@ -23,7 +23,8 @@ module _ {A : Type 0} (view : A → VariableDefinition) (s : Schema) (given : Va
   listed-first es none = rw (none) refl
 
   pub listed-next : (i : ℕ) (x : A) → i < length xs → x ≡ get_or xs i x → (es fs : List RuleError)
-      → fs ++ variable_errors s (map view (drop (i + 1) xs)) given ≡ es ++ variable_errors s (view x ∷ map view (drop (i + 1) xs)) given → IsListedBefore i es → IsListedBefore (i + 1) fs
+      → fs ++ variable_errors s (map view (drop (i + 1) xs)) given ≡ es ++ variable_errors s (view x ∷ map view (drop (i + 1) xs)) given → IsListedBefore i es →
+      IsListedBefore (i + 1) fs
   listed-next i x below is es fs more so_far = more ∙ (ap (λ l. es ++ variable_errors s (map view l) given) (sym (left-is xs i x below is)) ∙ so_far)
 
   pub listed-all : (i : ℕ) → length xs ≤ i → (es : List RuleError) → IsListedBefore i es → es ≡ variable_errors s (map view xs) given
@@ -31,7 +32,8 @@ module _ {A : Type 0} (view : A → VariableDefinition) (s : Schema) (given : Va
   listed-all i past es so_far = sym (append-nil es) ∙ (ap (λ l. es ++ variable_errors s (map view l) given) (sym (drop_all i xs past)) ∙ so_far)
 
 -- a variable without a fitting value is listed, and then what follows it
-pub misfit-listed : (s : Schema) (given : Variables) (v : VariableDefinition) (old new : List RuleError) (e : RuleError) → variable_fits s v (given v.name.item) ≡ false → e ≡ record { message = no_fitting_value v.name.item; start = v.name.span.start }
+pub misfit-listed : (s : Schema) (given : Variables) (v : VariableDefinition) (old new : List RuleError) (e : RuleError) →
+    variable_fits s v (given v.name.item) ≡ false → e ≡ record { message = no_fitting_value v.name.item; start = v.name.span.start }
     → new ≡ old ++ e ∷ [] → (rest : List VariableDefinition) → new ++ variable_errors s rest given ≡ old ++ variable_errors s (v ∷ rest) given
 unfolding variable_errors
 misfit-listed s given v old new e misfits is added rest =
@@ -41,7 +43,8 @@ misfit-listed s given v old new e misfits is added rest =
 
 module _ {S : Type 0} (shown : S → Shown) (o : Spanning (Operation S) Span) where
   -- the variables of an operation that defines some
-  pub variables-some : (v : Spanning (VariableDefinitions S) Span) → o.item.variable_definitions ≡ Some v → map (view_variable shown) v.item.items.items ≡ variables_of (view_operation shown o)
+  pub variables-some : (v : Spanning (VariableDefinitions S) Span) → o.item.variable_definitions ≡ Some v →
+      map (view_variable shown) v.item.items.items ≡ variables_of (view_operation shown o)
   unfolding variables_of
   variables-some v is = rw is refl
 

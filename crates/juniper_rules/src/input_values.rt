@@ -33,7 +33,8 @@ pub fn validate_input_values<S: ScalarValue>(
     operation: &Spanning<Operation<'_, S>, Span>,
     schema: &SchemaType<S>,
 ) -> Result<Vec<RuleError>, AllocError>
-    ensures { IfOk result (λ es. map view_rule_error es.items ≡ variable_errors (view_schema S.shown schema.now) (variables_of (view_operation S.shown operation.now)) (view_variables S.shown variables.now)) }
+    ensures { IfOk result (λ es. map view_rule_error es.items ≡ variable_errors (view_schema S.shown schema.now)
+        (variables_of (view_operation S.shown operation.now)) (view_variables S.shown variables.now)) }
 {
     match &operation.item.variable_definitions {
         Some(defined) => {
@@ -51,7 +52,8 @@ fn misfits<S: ScalarValue>(
     defined: &[Defined<'_, S>],
     schema: &SchemaType<S>,
 ) -> Result<Vec<RuleError>, AllocError>
-    ensures { IfOk result (λ es. map view_rule_error es.items ≡ variable_errors (view_schema S.shown schema.now) (map (view_variable S.shown) defined.now) (view_variables S.shown variables.now)) }
+    ensures { IfOk result (λ es. map view_rule_error es.items ≡ variable_errors (view_schema S.shown schema.now) (map (view_variable S.shown) defined.now)
+        (view_variables S.shown variables.now)) }
 {
     let mut errors = Vec::new(alloc);
     for variable in defined {
@@ -69,7 +71,10 @@ fn report<S: ScalarValue>(
     variable: &Defined<'_, S>,
     schema: &SchemaType<S>,
 ) -> Result<(), AllocError>
-    ensures { OnOk result ((rest : List documents.VariableDefinition) → map view_rule_error errors.new.items ++ variable_errors (view_schema S.shown schema.now) rest (view_variables S.shown variables.now) ≡ map view_rule_error errors.old.items ++ variable_errors (view_schema S.shown schema.now) (view_variable S.shown variable.now ∷ rest) (view_variables S.shown variables.now)) }
+    ensures { OnOk result ((rest : List documents.VariableDefinition) →
+        map view_rule_error errors.new.items ++ variable_errors (view_schema S.shown schema.now) rest (view_variables S.shown variables.now)
+        ≡ map view_rule_error errors.old.items ++ variable_errors (view_schema S.shown schema.now) (view_variable S.shown variable.now ∷ rest)
+        (view_variables S.shown variables.now)) }
 {
     if !is_fitting(alloc, variables, variable, schema)? {
         let name = variable.0.item;
@@ -87,7 +92,8 @@ fn is_fitting<S: ScalarValue>(
     variable: &Defined<'_, S>,
     schema: &SchemaType<S>,
 ) -> Result<bool, AllocError>
-    ensures { IfOk result (λ b. b ≡ variable_fits (view_schema S.shown schema.now) (view_variable S.shown variable.now) (view_variables S.shown variables.now variable.now.0.item.now)) }
+    ensures { IfOk result (λ b. b ≡ variable_fits (view_schema S.shown schema.now) (view_variable S.shown variable.now)
+        (view_variables S.shown variables.now variable.now.0.item.now)) }
 {
     let reference = owned_type(alloc, &variable.1.var_type.item)?;
     match variables.get(variable.0.item) {
@@ -103,7 +109,8 @@ fn default_fits<S: ScalarValue>(
     reference: &Type<String>,
     default: &Option<Spanning<InputValue<S>, Span>>,
 ) -> bool
-    ensures { result ≡ requests.default_fits (view_schema S.shown schema.now) (view_type (λ n. string_bytes n) reference.now) (item_of (option_map (view_spanning (view_input S.shown)) default.now)) }
+    ensures { result ≡ requests.default_fits (view_schema S.shown schema.now) (view_type (λ n. string_bytes n) reference.now)
+        (item_of (option_map (view_spanning (view_input S.shown)) default.now)) }
 {
     match default {
         Some(value) => schema.fits(&value.item, reference, false),

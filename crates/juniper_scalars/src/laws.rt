@@ -22,11 +22,13 @@ pub fn booleans_come_back<'s, S: ScalarValue>(value: bool)
 /// A String comes back from the scalar that it makes (3.5.3).
 pub fn strings_come_back<'s, S: ScalarValue>(value: &String)
     ensures given { ⟦<String as FromScalarValue<'s, S>>⟧.gives (⟦<String as ToScalarValue<S>>⟧.shows value.now) (Ok value.now) }
-    ensures back { (answer : _) → ⟦<String as FromScalarValue<'s, S>>⟧.gives (⟦<String as ToScalarValue<S>>⟧.shows value.now) answer → MatchResult answer (λ text. string_bytes text ≡ string_bytes value.now) (λ e. ⊥) }
+    ensures back { (answer : _) → ⟦<String as FromScalarValue<'s, S>>⟧.gives (⟦<String as ToScalarValue<S>>⟧.shows value.now) answer →
+        MatchResult answer (λ text. string_bytes text ≡ string_bytes value.now) (λ e. ⊥) }
 {}
 
 /// An ID comes back from the scalar that it makes (3.5.5).
 pub fn ids_come_back<'s, S: ScalarValue>(value: &ID)
     ensures given { ⟦<ID as FromScalarValue<'s, S>>⟧.gives (⟦<ID as ToScalarValue<S>>⟧.shows value.now) (Ok value.now) }
-    ensures back { (answer : _) → ⟦<ID as FromScalarValue<'s, S>>⟧.gives (⟦<ID as ToScalarValue<S>>⟧.shows value.now) answer → MatchResult answer (λ id. id_text id ≡ id_text value.now) (λ e. ⊥) }
+    ensures back { (answer : _) → ⟦<ID as FromScalarValue<'s, S>>⟧.gives (⟦<ID as ToScalarValue<S>>⟧.shows value.now) answer →
+        MatchResult answer (λ id. id_text id ≡ id_text value.now) (λ e. ⊥) }
 {}

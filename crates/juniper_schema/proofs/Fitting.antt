@@ -76,7 +76,8 @@ declared_as f None = refl
 declared_as f (Some d) = refl
 
 -- fields that fit have different names, and each fits
-pub fields_fit_are : (s : Schema) (given : Bool) (fs : InputFields) (ds : List InputDeclaration) → fields_fit s given fs ds ≡ (keys_differ fs && each_fits s given fs ds)
+pub fields_fit_are : (s : Schema) (given : Bool) (fs : InputFields) (ds : List InputDeclaration) →
+    fields_fit s given fs ds ≡ (keys_differ fs && each_fits s given fs ds)
 unfolding fits keys_differ each_fits
 fields_fit_are s given no_fields ds = refl
 fields_fit_are s given (input_field k k_at v v_at rest) ds =
@@ -91,17 +92,20 @@ count_is shown [] = refl
 count_is shown (v ∷ vs) = ap suc (count_is shown vs)
 
 -- a list at a list type, nullable or not
-pub list_met : (s : Schema) (given : Bool) (is : InputItems) (r : Bool) (size : Option ℕ) (t : TypeRef) (met : Bool) → met ≡ size_met size (count_items is) → (x : Bool) → x ≡ (met && all_fit s given is t) → x ≡ list_fits s given is (list_of r size t)
+pub list_met : (s : Schema) (given : Bool) (is : InputItems) (r : Bool) (size : Option ℕ) (t : TypeRef) (met : Bool) → met ≡ size_met size (count_items is) →
+    (x : Bool) → x ≡ (met && all_fit s given is t) → x ≡ list_fits s given is (list_of r size t)
 unfolding list_fits
 list_met s given is r size t met m x e = e ∙ ap (λ b. b && all_fit s given is t) m
 
 -- one value at a list type
-pub one_met : (u : TypeRef) (r : Bool) (size : Option ℕ) (t : TypeRef) → u ≡ list_of r size t → (met : Bool) → met ≡ size_met size 1 → (x : Bool) → x ≡ (met && takes_one t) → x ≡ takes_one u
+pub one_met : (u : TypeRef) (r : Bool) (size : Option ℕ) (t : TypeRef) → u ≡ list_of r size t → (met : Bool) → met ≡ size_met size 1 → (x : Bool) →
+    x ≡ (met && takes_one t) → x ≡ takes_one u
 unfolding takes_one
 one_met u r size t is met m x e = e ∙ (ap (λ b. b && takes_one t) m ∙ sym (ap takes_one is))
 
 -- an object at a type
-pub object_is : (s : Schema) (given : Bool) (fs : InputFields) (x : Option Shape) → object_by s given fs (declared_fields x) ≡ input_object_fits (λ ds. all_written fs ds && fields_fit s given fs ds) x
+pub object_is : (s : Schema) (given : Bool) (fs : InputFields) (x : Option Shape) →
+    object_by s given fs (declared_fields x) ≡ input_object_fits (λ ds. all_written fs ds && fields_fit s given fs ds) x
 unfolding object_by declared_fields input_object_fits
 object_is s given fs None = refl
 object_is s given fs (Some (input_object_type ds)) = ap (λ b. all_written fs ds && b) (sym (fields_fit_are s given fs ds))

@@ -32,7 +32,8 @@ module _ {X : Type 0} where
   kept_alike false x xs ys e = e
 
   -- of two that are not both kept the order does not count
-  swapped : (x y : X) (a b : Bool) (l : List X) → (a ≡ true → b ≡ true → ⊥) → cond b (y ∷ cond a (x ∷ l) l) (cond a (x ∷ l) l) ≡ cond a (x ∷ cond b (y ∷ l) l) (cond b (y ∷ l) l)
+  swapped : (x y : X) (a b : Bool) (l : List X) → (a ≡ true → b ≡ true → ⊥) →
+      cond b (y ∷ cond a (x ∷ l) l) (cond a (x ∷ l) l) ≡ cond a (x ∷ cond b (y ∷ l) l) (cond b (y ∷ l) l)
   swapped x y true true l h = absurd (h refl refl)
   swapped x y true false l h = refl
   swapped x y false true l h = refl
@@ -55,7 +56,8 @@ module _ {X : Type 0} (lt : X → X → Bool) where
 
   ascends_far : (xs : List X) → ((i j : ℕ) (d : X) → i ≤ j → j < length xs → lt (get_or xs j d) (get_or xs i d) ≡ false) → Ascends xs
   ascends_far [] h = tt
-  ascends_far (x ∷ xs) h = (none_less x xs (λ j d b. h 0 (suc j) d (omega arith) (omega arith)), ascends_far xs (λ i j d b c. h (suc i) (suc j) d (omega arith) (omega arith)))
+  ascends_far (x ∷ xs) h =
+      (none_less x xs (λ j d b. h 0 (suc j) d (omega arith) (omega arith)), ascends_far xs (λ i j d b c. h (suc i) (suc j) d (omega arith) (omega arith)))
 
   module _ (o : IsStrictWeakOrder lt) where
     ascends : (xs : List X) → IsSortedBy lt xs → Ascends xs
@@ -121,7 +123,8 @@ module _ {X : Type 0} (lt : X → X → Bool) where
     unique (y ∷ ys) [] a b h = absurd (not_empty y ys [] (h y) refl)
     unique (y ∷ ys) (z ∷ zs) a b h =
         let same = alike y z ys zs a b h in
-        ap₂ (λ w ws. w ∷ ws) same (unique ys zs a.1 b.1 (λ x. kept_alike (ties lt x y) y (filter (ties lt x) ys) (filter (ties lt x) zs) (h x ∙ ap (λ w. filter (ties lt x) (w ∷ zs)) (sym same))))
+        ap₂ (λ w ws. w ∷ ws) same (unique ys zs a.1 b.1 (λ x. kept_alike (ties lt x y) y (filter (ties lt x) ys) (filter (ties lt x) zs)
+        (h x ∙ ap (λ w. filter (ties lt x) (w ∷ zs)) (sym same))))
 
     -- ## The list in order
 
@@ -168,16 +171,20 @@ module _ {X : Type 0} (lt : X → X → Bool) where
 
 -- ## The order of what is seen
 
-placed_step : {X Y : Type 0} (view : X → Y) (b : Bool) (x y : X) (xs ys : List X) (zs : List Y) → map view xs ≡ zs → map view (cond b (y ∷ xs) (x ∷ y ∷ ys)) ≡ cond b (view y ∷ zs) (view x ∷ view y ∷ map view ys)
+placed_step : {X Y : Type 0} (view : X → Y) (b : Bool) (x y : X) (xs ys : List X) (zs : List Y) → map view xs ≡ zs →
+    map view (cond b (y ∷ xs) (x ∷ y ∷ ys)) ≡ cond b (view y ∷ zs) (view x ∷ view y ∷ map view ys)
 placed_step view true x y xs ys zs e = ap (λ l. view y ∷ l) e
 placed_step view false x y xs ys zs e = refl
 
-view_placed : {X Y : Type 0} (view : X → Y) (lt : Y → Y → Bool) (x : X) (ys : List X) → map view (put_in_order (λ a b. lt (view a) (view b)) x ys) ≡ put_in_order lt (view x) (map view ys)
+view_placed : {X Y : Type 0} (view : X → Y) (lt : Y → Y → Bool) (x : X) (ys : List X) →
+    map view (put_in_order (λ a b. lt (view a) (view b)) x ys) ≡ put_in_order lt (view x) (map view ys)
 unfolding put_in_order
 view_placed view lt x [] = refl
-view_placed view lt x (y ∷ ys) = placed_step view (lt (view y) (view x)) x y (put_in_order (λ a b. lt (view a) (view b)) x ys) ys (put_in_order lt (view x) (map view ys)) (view_placed view lt x ys)
+view_placed view lt x (y ∷ ys) = placed_step view (lt (view y) (view x)) x y (put_in_order (λ a b. lt (view a) (view b)) x ys) ys
+    (put_in_order lt (view x) (map view ys)) (view_placed view lt x ys)
 
-view_in_order : {X Y : Type 0} (view : X → Y) (lt : Y → Y → Bool) (xs : List X) → map view (in_order (λ a b. lt (view a) (view b)) xs) ≡ in_order lt (map view xs)
+view_in_order : {X Y : Type 0} (view : X → Y) (lt : Y → Y → Bool) (xs : List X) →
+    map view (in_order (λ a b. lt (view a) (view b)) xs) ≡ in_order lt (map view xs)
 unfolding in_order
 view_in_order view lt [] = refl
 view_in_order view lt (x ∷ xs) = view_placed view lt x (in_order (λ a b. lt (view a) (view b)) xs) ∙ ap (put_in_order lt (view x)) (view_in_order view lt xs)

@@ -38,7 +38,8 @@ fits_some f (Some t) = f t
 -- each field is declared, and its value fits
 unfoldable pub each_fits : Schema → Bool → InputFields → List InputDeclaration → Bool
 each_fits s given no_fields ds = true
-each_fits s given (input_field k k_at v v_at rest) ds = fits_some (fits s given v) (option_map (λ d. d.of_type) (declaration_in ds k)) && each_fits s given rest ds
+each_fits s given (input_field k k_at v v_at rest) ds =
+    fits_some (fits s given v) (option_map (λ d. d.of_type) (declaration_in ds k)) && each_fits s given rest ds
 
 -- a list fits a list type, with the expected number of items (3.11)
 unfoldable pub list_fits : Schema → Bool → InputItems → TypeRef → Bool

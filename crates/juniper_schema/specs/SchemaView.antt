@@ -21,7 +21,8 @@ view_entries shown types = map (λ e. entry_at (string_bytes e.0) (view_meta sho
 
 module _ {S : Type 0} {scalar : Scalars S} {equality : Equality S} {shows : Shows S} where
   abbrev pub view_schema : (S → Shown) → SchemaType S scalar equality shows → Schema
-  view_schema shown s = record { entries = view_entries shown s.types; query = string_bytes s.query_name; mutation = option_map (λ n. string_bytes n) s.mutation_name }
+  view_schema shown s =
+      record { entries = view_entries shown s.types; query = string_bytes s.query_name; mutation = option_map (λ n. string_bytes n) s.mutation_name }
 
 -- what an entry says, apart from its key
 abbrev pub meta_of : Entry → Meta
@@ -39,7 +40,8 @@ meta_named s n = option_map meta_of (or_else (entry_in s.entries n) (entry_in in
 
 -- a built-in scalar, which has no description
 abbrev pub built_in : Name → Bool → Bool → Bool → Entry
-built_in n int text boolean = record { key = n; name = Some n; description = None; shape = scalar_type (record { int = int; text = text; boolean = boolean }) None }
+built_in n int text boolean =
+    record { key = n; name = Some n; description = None; shape = scalar_type (record { int = int; text = text; boolean = boolean }) None }
 
 -- a placeholder stands there
 abbrev pub awaits : Option Entry → Bool
@@ -53,8 +55,10 @@ lacks (Some e) = is_placeholder e.shape
 
 -- what stands at a name, where this stood: `String` and `Boolean` are declared, `Int` and `ID` where they were asked for
 abbrev pub with_built_ins : Name → Option Entry → Option Entry
-with_built_ins n old = cond (bytes_eq n (codes "String") && lacks old) (Some (built_in (codes "String") false true false)) (cond (bytes_eq n (codes "Boolean") && lacks old) (Some (built_in (codes "Boolean") false false true))
-    (cond (bytes_eq n (codes "Int") && awaits old) (Some (built_in (codes "Int") true false false)) (cond (bytes_eq n (codes "ID") && awaits old) (Some (built_in (codes "ID") true true false)) old)))
+with_built_ins n old = cond (bytes_eq n (codes "String") && lacks old) (Some (built_in (codes "String") false true false))
+    (cond (bytes_eq n (codes "Boolean") && lacks old) (Some (built_in (codes "Boolean") false false true))
+    (cond (bytes_eq n (codes "Int") && awaits old) (Some (built_in (codes "Int") true false false))
+    (cond (bytes_eq n (codes "ID") && awaits old) (Some (built_in (codes "ID") true true false)) old)))
 
 -- the entries of a schema that is made of these
 pub record AreCompleted (old new : List Entry) : Type 0 where

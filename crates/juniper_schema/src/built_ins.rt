@@ -75,7 +75,8 @@ fn put_if<S: ScalarValue>(
     meta: MetaType<S>,
     is_wanted: bool,
 ) -> Result<(), AllocError>
-    ensures { OnOk result ((n : Name) → entry_in (view_entries S.shown types.new) n ≡ cond (bytes_eq n name.now && is_wanted) (Some (entry_at name.now (view_meta S.shown meta))) (entry_in (view_entries S.shown types.old) n)) }
+    ensures { OnOk result ((n : Name) → entry_in (view_entries S.shown types.new) n
+        ≡ cond (bytes_eq n name.now && is_wanted) (Some (entry_at name.now (view_meta S.shown meta))) (entry_in (view_entries S.shown types.old) n)) }
 {
     if is_wanted {
         put(alloc, types, name, meta)?;
@@ -90,7 +91,8 @@ fn put<S: ScalarValue>(
     name: &str,
     meta: MetaType<S>,
 ) -> Result<(), AllocError>
-    ensures { OnOk result ((n : Name) → entry_in (view_entries S.shown types.new) n ≡ cond (bytes_eq n name.now) (Some (entry_at name.now (view_meta S.shown meta))) (entry_in (view_entries S.shown types.old) n)) }
+    ensures { OnOk result ((n : Name) → entry_in (view_entries S.shown types.new) n
+        ≡ cond (bytes_eq n name.now) (Some (entry_at name.now (view_meta S.shown meta))) (entry_in (view_entries S.shown types.old) n)) }
 {
     let key = String::from_str(alloc, name)?;
     discard(types.insert(key, meta)?);

@@ -43,7 +43,8 @@ impl<S: ScalarValue> SchemaType<S> {
 
     /// The field that an object, interface or union has beside its declared ones.
     fn meta_field(&self, type_name: &str, field_name: &str) -> Option<&Field<S>>
-        ensures { option_map (λ f. view_field S.shown f.now) result ≡ field_in (typename_field ∷ cond (bytes_eq type_name.now (view_schema S.shown self.now).query) root_fields []) field_name.now }
+        ensures { option_map (λ f. view_field S.shown f.now) result ≡ field_in
+            (typename_field ∷ cond (bytes_eq type_name.now (view_schema S.shown self.now).query) root_fields []) field_name.now }
     {
         if self.may_have(type_name, field_name) {
             find_field(&self.meta_fields, field_name)

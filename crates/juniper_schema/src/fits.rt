@@ -80,7 +80,9 @@ impl<S: ScalarValue> SchemaType<S> {
     /// Whether an object fits the type.
     #[cycle(fits)]
     fn object_stands(&self, fields: &[Member<S>], reference: &Type<String>, given: bool) -> bool
-        ensures { result ≡ fit.through (λ n. fit.input_object_fits (λ ds. fit.all_written (view_fields S.shown fields.now) ds && fit.fields_fit (view_schema S.shown self.now) given (view_fields S.shown fields.now) ds) (type_named (view_schema S.shown self.now) n)) (view_type (λ n. string_bytes n) reference.now) }
+        ensures { result ≡ fit.through (λ n. fit.input_object_fits (λ ds. fit.all_written (view_fields S.shown fields.now) ds
+            && fit.fields_fit (view_schema S.shown self.now) given (view_fields S.shown fields.now) ds) (type_named (view_schema S.shown self.now) n))
+            (view_type (λ n. string_bytes n) reference.now) }
     {
         if !takes_one(reference) {
             return false;
@@ -92,7 +94,8 @@ impl<S: ScalarValue> SchemaType<S> {
     #[cycle(fits)]
     #[tactic(auto, unfolding(crate::specs::Fitting::object_by, crate::specs::Fitting::declared_of))]
     fn object_fits(&self, fields: &[Member<S>], type_name: &str, given: bool) -> bool
-        ensures { result ≡ object_by (view_schema S.shown self.now) given (view_fields S.shown fields.now) (declared_fields (type_named (view_schema S.shown self.now) type_name.now)) }
+        ensures { result ≡ object_by (view_schema S.shown self.now) given (view_fields S.shown fields.now)
+            (declared_fields (type_named (view_schema S.shown self.now) type_name.now)) }
     {
         match self.declared_fields(type_name) {
             Some(declared) => {
@@ -108,7 +111,8 @@ impl<S: ScalarValue> SchemaType<S> {
     #[cycle(fits)]
     #[tactic(auto, unfolding(crate::specs::Fitting::each_fits))]
     fn each_fits(&self, fields: &[Member<S>], type_name: &str, given: bool) -> bool
-        ensures { result ≡ each_fits (view_schema S.shown self.now) given (view_fields S.shown fields.now) (declared_of (type_named (view_schema S.shown self.now) type_name.now)) }
+        ensures { result ≡ each_fits (view_schema S.shown self.now) given (view_fields S.shown fields.now)
+            (declared_of (type_named (view_schema S.shown self.now) type_name.now)) }
     {
         for (name, value) in fields {
             let reference = self.declared_type(type_name, name.item.as_str());
@@ -127,7 +131,8 @@ impl<S: ScalarValue> SchemaType<S> {
         reference: Option<&Type<String>>,
         given: bool,
     ) -> bool
-        ensures { result ≡ fits_some (λ t. fit.fits (view_schema S.shown self.now) given (view_input S.shown value.now) t) (option_map (λ t. view_type (λ n. string_bytes n) t.now) reference.entry) }
+        ensures { result ≡ fits_some (λ t. fit.fits (view_schema S.shown self.now) given (view_input S.shown value.now) t)
+            (option_map (λ t. view_type (λ n. string_bytes n) t.now) reference.entry) }
     {
         match reference {
             Some(reference) => self.fits(value, reference, given),
@@ -138,7 +143,8 @@ impl<S: ScalarValue> SchemaType<S> {
     /// The type of a field of the input object of this name.
     #[tactic(auto, unfolding(crate::specs::Fitting::declared_of, graphql_spec::specs::Fields::declaration_in))]
     fn declared_type(&self, type_name: &str, field_name: &str) -> Option<&Type<String>>
-        ensures { option_map (λ t. view_type (λ n. string_bytes n) t.now) result ≡ option_map (λ d. d.of_type) (declaration_in (declared_of (type_named (view_schema S.shown self.now) type_name.now)) field_name.now) }
+        ensures { option_map (λ t. view_type (λ n. string_bytes n) t.now) result
+            ≡ option_map (λ d. d.of_type) (declaration_in (declared_of (type_named (view_schema S.shown self.now) type_name.now)) field_name.now) }
     {
         match self.declared_fields(type_name) {
             Some(declared) => type_of(find_argument(declared, field_name)),
@@ -159,7 +165,8 @@ impl<S: ScalarValue> SchemaType<S> {
 
     /// Whether a scalar fits the type.
     fn scalar_stands(&self, scalar: &S, reference: &Type<String>, given: bool) -> bool
-        ensures { result ≡ fit.through (λ n. fit.scalar_fits given (S.shown scalar.now) (type_named (view_schema S.shown self.now) n)) (view_type (λ n. string_bytes n) reference.now) }
+        ensures { result ≡ fit.through (λ n. fit.scalar_fits given (S.shown scalar.now) (type_named (view_schema S.shown self.now) n))
+            (view_type (λ n. string_bytes n) reference.now) }
     {
         if !takes_one(reference) {
             return false;
@@ -169,7 +176,8 @@ impl<S: ScalarValue> SchemaType<S> {
 
     /// Whether an enum's value fits the type.
     fn enum_stands(&self, value: &str, reference: &Type<String>) -> bool
-        ensures { result ≡ fit.through (λ n. fit.enum_fits value.now (type_named (view_schema S.shown self.now) n)) (view_type (λ n. string_bytes n) reference.now) }
+        ensures { result ≡ fit.through (λ n. fit.enum_fits value.now (type_named (view_schema S.shown self.now) n))
+            (view_type (λ n. string_bytes n) reference.now) }
     {
         if !takes_one(reference) {
             return false;
@@ -252,7 +260,8 @@ fn enum_fits<S: ScalarValue>(meta: &MetaType<S>, value: &str) -> bool
 
 /// The type of a declared field, where there is one.
 fn type_of<S: ScalarValue>(argument: Option<&Argument<S>>) -> Option<&Type<String>>
-    ensures { option_map (λ t. view_type (λ n. string_bytes n) t.now) result ≡ option_map (λ d. d.of_type) (option_map (λ a. view_argument S.shown a.now) argument.entry) }
+    ensures { option_map (λ t. view_type (λ n. string_bytes n) t.now) result
+        ≡ option_map (λ d. d.of_type) (option_map (λ a. view_argument S.shown a.now) argument.entry) }
 {
     match argument {
         Some(argument) => Some(&argument.arg_type),

@@ -106,7 +106,8 @@ impl<S: ScalarValue> SchemaType<S> {
 
     /// The entries and the types of introspection that are listed, in no order.
     fn listed_types(&self, alloc: Global) -> Result<Vec<NamedType<'_, S>>, AllocError>
-        ensures { IfOk result (λ made. map (view_named S.shown) made.items ≡ filter has_listed_name ((view_schema S.shown self.now).entries ++ introspection_types)) }
+        ensures { IfOk result (λ made. map (view_named S.shown) made.items
+            ≡ filter has_listed_name ((view_schema S.shown self.now).entries ++ introspection_types)) }
     {
         let mut types = Vec::new(alloc);
         for (name, meta) in &self.types {
@@ -125,7 +126,8 @@ fn push_listed<'a, S: ScalarValue>(
     name: &'a str,
     meta: &'a MetaType<S>,
 ) -> Result<(), AllocError>
-    ensures { OnOk result (map (view_named S.shown) types.new.items ≡ map (view_named S.shown) types.old.items ++ filter has_listed_name (entry_at name.now (view_meta S.shown meta.now) ∷ [])) }
+    ensures { OnOk result (map (view_named S.shown) types.new.items
+        ≡ map (view_named S.shown) types.old.items ++ filter has_listed_name (entry_at name.now (view_meta S.shown meta.now) ∷ [])) }
 {
     if is_listed(name) {
         types.push(NamedType { name, meta })?;

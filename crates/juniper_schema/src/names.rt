@@ -19,7 +19,8 @@ pub type Types<S> = HashMap<String, MetaType<S>>;
 /// What is declared at this name.
 pub fn entry<'t, S: ScalarValue>(types: &'t Types<S>, name: &str) -> Option<&'t MetaType<S>>
     ensures meta { option_map (λ m. view_meta S.shown m.now) result ≡ option_map meta_of (entry_in (view_entries S.shown types.now) name.now) }
-    ensures shape { MatchOption result (fields.shape_of (entry_in (view_entries S.shown types.now) name.now) ≡ None) (λ m. fields.shape_of (entry_in (view_entries S.shown types.now) name.now) ≡ shape_of S.shown m.now) }
+    ensures shape { MatchOption result (fields.shape_of (entry_in (view_entries S.shown types.now) name.now) ≡ None)
+        (λ m. fields.shape_of (entry_in (view_entries S.shown types.now) name.now) ≡ shape_of S.shown m.now) }
 {
     types.get(name)
 }

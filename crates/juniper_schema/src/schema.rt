@@ -72,7 +72,8 @@ impl<S: ScalarValue> SchemaType<S> {
     /// What is declared at this name: the entry, or the type of introspection; `None` where there is neither.
     pub fn concrete_type_by_name(&self, name: &str) -> Option<&MetaType<S>>
         ensures meta { option_map (λ m. view_meta S.shown m.now) result ≡ meta_named (view_schema S.shown self.now) name.now }
-        ensures shape { MatchOption result (fields.type_named (view_schema S.shown self.now) name.now ≡ None) (λ m. fields.type_named (view_schema S.shown self.now) name.now ≡ shape_of S.shown m.now) }
+        ensures shape { MatchOption result (fields.type_named (view_schema S.shown self.now) name.now ≡ None)
+            (λ m. fields.type_named (view_schema S.shown self.now) name.now ≡ shape_of S.shown m.now) }
     {
         match entry(&self.types, name) {
             Some(meta) => Some(meta),
@@ -84,7 +85,8 @@ impl<S: ScalarValue> SchemaType<S> {
     #[tactic(auto, unfolding(graphql_spec::specs::Fields::entry_named))]
     pub(crate) fn entry(&self, name: &str) -> Option<&MetaType<S>>
         ensures meta { option_map (λ m. view_meta S.shown m.now) result ≡ entry_meta (view_schema S.shown self.now) name.now }
-        ensures shape { MatchOption result (fields.entry_named (view_schema S.shown self.now) name.now ≡ None) (λ m. fields.entry_named (view_schema S.shown self.now) name.now ≡ shape_of S.shown m.now) }
+        ensures shape { MatchOption result (fields.entry_named (view_schema S.shown self.now) name.now ≡ None)
+            (λ m. fields.entry_named (view_schema S.shown self.now) name.now ≡ shape_of S.shown m.now) }
     {
         entry(&self.types, name)
     }
@@ -108,7 +110,8 @@ impl<S: ScalarValue> SchemaType<S> {
 
     /// What is declared as the mutation type; `None` where the schema has none, or nothing is declared (3.3.1).
     pub fn mutation_type(&self) -> Option<TypeType<'_, S>>
-        ensures { option_map (view_made S.shown) result ≡ option_map concrete (option_and_then (entry_meta (view_schema S.shown self.now)) (view_schema S.shown self.now).mutation) }
+        ensures { option_map (view_made S.shown) result ≡ option_map concrete
+            (option_and_then (entry_meta (view_schema S.shown self.now)) (view_schema S.shown self.now).mutation) }
     {
         match &self.mutation_name {
             Some(name) => self.entry_type(name.as_str()),
@@ -174,7 +177,8 @@ impl<S: ScalarValue> SchemaType<S> {
         reference: &Type<N>,
     ) -> Result<TypeType<'_, S>, AllocError>
         requires { IsSome (meta_named (view_schema S.shown self.now) (innermost (view_type N.text reference.now))) }
-        ensures { IfOk result (λ made. IfSome (meta_named (view_schema S.shown self.now) (innermost (view_type N.text reference.now))) (λ m. view_made S.shown made ≡ around m (view_type N.text reference.now))) }
+        ensures { IfOk result (λ made. IfSome (meta_named (view_schema S.shown self.now) (innermost (view_type N.text reference.now)))
+            (λ m. view_made S.shown made ≡ around m (view_type N.text reference.now))) }
     {
         match reference {
             Type::Named(name) => Ok(self.known(name.as_str())),

@@ -53,14 +53,17 @@ map-or : {A B : Type 0} (f : A → B) (o p : Option A) → option_map f (option_
 map-or f None p = refl
 map-or f (Some x) p = refl
 
-pub fragment-splits : (x : spec.Definition) (xs : List spec.Definition) (k : Name) → fragment_of (fragments (x ∷ xs)) k ≡ option_or (fragment_of (fragments (x ∷ [])) k) (fragment_of (fragments xs) k)
+pub fragment-splits : (x : spec.Definition) (xs : List spec.Definition) (k : Name) →
+    fragment_of (fragments (x ∷ xs)) k ≡ option_or (fragment_of (fragments (x ∷ [])) k) (fragment_of (fragments xs) k)
 unfolding fragments fragment_of
 fragment-splits (operation o) xs k = refl
 fragment-splits (fragment f) xs k = cond-or (bytes_eq k f.name.item) f (fragment_of (fragments xs) k)
 
-pub spreads-split : (x : spec.Definition) (xs : List spec.Definition) (k : Name) → spreads_at (fragments (x ∷ xs)) k ≡ option_or (spreads_at (fragments (x ∷ [])) k) (spreads_at (fragments xs) k)
+pub spreads-split : (x : spec.Definition) (xs : List spec.Definition) (k : Name) →
+    spreads_at (fragments (x ∷ xs)) k ≡ option_or (spreads_at (fragments (x ∷ [])) k) (spreads_at (fragments xs) k)
 unfolding spreads_at
-spreads-split x xs k = ap (option_map (λ f. spreads f.selections)) (fragment-splits x xs k) ∙ map-or (λ f. spreads f.selections) (fragment_of (fragments (x ∷ [])) k) (fragment_of (fragments xs) k)
+spreads-split x xs k = ap (option_map (λ f. spreads f.selections)) (fragment-splits x xs k)
+    ∙ map-or (λ f. spreads f.selections) (fragment_of (fragments (x ∷ [])) k) (fragment_of (fragments xs) k)
 
 pub fragment-none : (k : Name) → fragment_of (fragments []) k ≡ None
 unfolding fragments fragment_of
@@ -72,66 +75,81 @@ spreads-none k = refl
 
 -- ## A loop over definitions
 
-module _ {A D : Type 0} (F : List spec.Definition → Name → Option A) (splits : (x : spec.Definition) (xs : List spec.Definition) (k : Name) → F (x ∷ xs) k ≡ option_or (F (x ∷ []) k) (F xs k)) (none : (k : Name) → F [] k ≡ None)
+module _ {A D : Type 0} (F : List spec.Definition → Name → Option A)
+    (splits : (x : spec.Definition) (xs : List spec.Definition) (k : Name) → F (x ∷ xs) k ≡ option_or (F (x ∷ []) k) (F xs k))
+    (none : (k : Name) → F [] k ≡ None)
     (view : D → spec.Definition) (ds : List D) where
   pub first-init : (has : Name → Option A) → ((k : Name) → has k ≡ None) → (k : Name) → option_or (has k) (F (map view ds) k) ≡ F (map view ds) k
   first-init has empty k = ap (λ o. option_or o (F (map view ds) k)) (empty k)
 
-  pub first-next : (has now : Name → Option A) (i : ℕ) (x : D) → i < length ds → x ≡ get_or ds i x → ((k : Name) → option_or (has k) (F (map view (drop i ds)) k) ≡ F (map view ds) k) →
+  pub first-next : (has now : Name → Option A) (i : ℕ) (x : D) → i < length ds → x ≡ get_or ds i x →
+      ((k : Name) → option_or (has k) (F (map view (drop i ds)) k) ≡ F (map view ds) k) →
       ((k : Name) → now k ≡ option_or (has k) (F (view x ∷ []) k)) → (k : Name) → option_or (now k) (F (map view (drop (i + 1) ds)) k) ≡ F (map view ds) k
   first-next has now i x below is so_far one k =
       ap (λ o. option_or o (F (map view (drop (i + 1) ds)) k)) (one k)
       ∙ (or-moves (has k) (F (view x ∷ []) k) (F (map view (drop (i + 1) ds)) k)
       ∙ (ap (option_or (has k)) (sym (splits (view x) (map view (drop (i + 1) ds)) k) ∙ ap (λ l. F l k) (sym (seen-left-is view ds i x below is))) ∙ so_far k))
 
-  pub first-all : (has : Name → Option A) (i : ℕ) → length ds ≤ i → ((k : Name) → option_or (has k) (F (map view (drop i ds)) k) ≡ F (map view ds) k) → (k : Name) → has k ≡ F (map view ds) k
+  pub first-all : (has : Name → Option A) (i : ℕ) → length ds ≤ i → ((k : Name) → option_or (has k) (F (map view (drop i ds)) k) ≡ F (map view ds) k) →
+      (k : Name) → has k ≡ F (map view ds) k
   first-all has i past so_far k =
       or-none (has k) ∙ (ap (option_or (has k)) (sym (ap (λ l. F (map view l) k) (drop_all i ds past) ∙ none k)) ∙ so_far k)
 
 -- ## One entry more
 
-put-one : {V W : Type 0} (view : V → W) (b : Bool) (old new : Option V) (x : V) → new ≡ cond b (Some x) old → (b ≡ true → is_some old ≡ false) → option_map view new ≡ option_or (option_map view old) (cond b (Some (view x)) None)
+put-one : {V W : Type 0} (view : V → W) (b : Bool) (old new : Option V) (x : V) → new ≡ cond b (Some x) old → (b ≡ true → is_some old ≡ false) →
+    option_map view new ≡ option_or (option_map view old) (cond b (Some (view x)) None)
 put-one view true old new x e absent = ap (option_map view) e ∙ or-unknown (option_map view old) (Some (view x)) (some-map view old ∙ absent refl)
 put-one view false old new x e absent = ap (option_map view) e ∙ or-none (option_map view old)
 
 module _ {V W H : Type 0} (view : V → W) where
   pub put-first : (m n : HashMap (Bor (List ℕ)) V H) (name : Name) (x : V) → is_some (get_by (λ i. bytes_eq name i.now) m) ≡ false →
       ((cs : List ℕ) → get_by (λ i. bytes_eq cs i.now) n ≡ update bytes_eq (λ ds. get_by (λ i. bytes_eq ds i.now) m) name (Some x) cs) →
-      (k : Name) → option_map view (get_by (λ i. bytes_eq k i.now) n) ≡ option_or (option_map view (get_by (λ i. bytes_eq k i.now) m)) (cond (bytes_eq k name) (Some (view x)) None)
+      (k : Name) → option_map view (get_by (λ i. bytes_eq k i.now) n)
+      ≡ option_or (option_map view (get_by (λ i. bytes_eq k i.now) m)) (cond (bytes_eq k name) (Some (view x)) None)
   put-first m n name x absent put k =
-      put-one view (bytes_eq name k) (get_by (λ i. bytes_eq k i.now) m) (get_by (λ i. bytes_eq k i.now) n) x (put k) (λ e. subst (λ j. is_some (get_by (λ i. bytes_eq j i.now) m) ≡ false) (same name k e) absent)
+      put-one view (bytes_eq name k) (get_by (λ i. bytes_eq k i.now) m) (get_by (λ i. bytes_eq k i.now) n) x (put k)
+      (λ e. subst (λ j. is_some (get_by (λ i. bytes_eq j i.now) m) ≡ false) (same name k e) absent)
       ∙ ap (λ b. option_or (option_map view (get_by (λ i. bytes_eq k i.now) m)) (cond b (Some (view x)) None)) (nat_list_eq_equiv.symm name k)
 
   pub put-not : (m : HashMap (Bor (List ℕ)) V H) (name : Name) (x : W) → is_some (get_by (λ i. bytes_eq name i.now) m) ≡ true →
-      (k : Name) → option_map view (get_by (λ i. bytes_eq k i.now) m) ≡ option_or (option_map view (get_by (λ i. bytes_eq k i.now) m)) (cond (bytes_eq k name) (Some x) None)
+      (k : Name) → option_map view (get_by (λ i. bytes_eq k i.now) m)
+      ≡ option_or (option_map view (get_by (λ i. bytes_eq k i.now) m)) (cond (bytes_eq k name) (Some x) None)
   put-not m name x there k = elim (cases_Bool (bytes_eq k name)) [
-    | inl q ↦ rw q (or-known (option_map view (get_by (λ i. bytes_eq k i.now) m)) (Some x) (some-map view (get_by (λ i. bytes_eq k i.now) m) ∙ subst (λ j. is_some (get_by (λ i. bytes_eq j i.now) m) ≡ true) (sym (same k name q)) there))
+    | inl q ↦ rw q (or-known (option_map view (get_by (λ i. bytes_eq k i.now) m)) (Some x)
+        (some-map view (get_by (λ i. bytes_eq k i.now) m) ∙ subst (λ j. is_some (get_by (λ i. bytes_eq j i.now) m) ≡ true) (sym (same k name q)) there))
     | inr q ↦ rw q (or-none (option_map view (get_by (λ i. bytes_eq k i.now) m)))
   ]
 
 -- ## What a definition puts in
 
-pub operation-none : (x : spec.Definition) (o : spec.Operation) → x ≡ operation o → (old : Option spec.Fragment) (k : Name) → old ≡ option_or old (fragment_of (fragments (x ∷ [])) k)
+pub operation-none : (x : spec.Definition) (o : spec.Operation) → x ≡ operation o → (old : Option spec.Fragment) (k : Name) →
+    old ≡ option_or old (fragment_of (fragments (x ∷ [])) k)
 unfolding fragments fragment_of
 operation-none x o is old k = or-none old ∙ ap (λ y. option_or old (fragment_of (fragments (y ∷ [])) k)) (sym is)
 
-pub operation-no-spreads : (x : spec.Definition) (o : spec.Operation) → x ≡ operation o → (old : Option (List Name)) (k : Name) → old ≡ option_or old (spreads_at (fragments (x ∷ [])) k)
+pub operation-no-spreads : (x : spec.Definition) (o : spec.Operation) → x ≡ operation o → (old : Option (List Name)) (k : Name) →
+    old ≡ option_or old (spreads_at (fragments (x ∷ [])) k)
 unfolding fragments fragment_of spreads_at
 operation-no-spreads x o is old k = or-none old ∙ ap (λ y. option_or old (spreads_at (fragments (y ∷ [])) k)) (sym is)
 
-pub fragment-one : (x : spec.Definition) (f : spec.Fragment) → x ≡ fragment f → (k : Name) → fragment_of (fragments (x ∷ [])) k ≡ cond (bytes_eq k f.name.item) (Some f) None
+pub fragment-one : (x : spec.Definition) (f : spec.Fragment) → x ≡ fragment f → (k : Name) →
+    fragment_of (fragments (x ∷ [])) k ≡ cond (bytes_eq k f.name.item) (Some f) None
 unfolding fragments fragment_of
 fragment-one x f is k = ap (λ y. fragment_of (fragments (y ∷ [])) k) is
 
-pub spreads-one : (x : spec.Definition) (f : spec.Fragment) → x ≡ fragment f → (k : Name) → spreads_at (fragments (x ∷ [])) k ≡ cond (bytes_eq k f.name.item) (Some (spreads f.selections)) None
+pub spreads-one : (x : spec.Definition) (f : spec.Fragment) → x ≡ fragment f → (k : Name) →
+    spreads_at (fragments (x ∷ [])) k ≡ cond (bytes_eq k f.name.item) (Some (spreads f.selections)) None
 unfolding spreads_at
 spreads-one x f is k = ap (option_map (λ g. spreads g.selections)) (fragment-one x f is k) ∙ map-cond (λ g. spreads g.selections) (bytes_eq k f.name.item) f
 
 -- what is written in a fragment has its spreads
-pub written-spreads : {S : Type 0} (shown : S → Shown) (w : Written S) (x : spec.Definition) (f : spec.Fragment) → x ≡ fragment f → view_written shown w ≡ parts_of x → view_names w.spreads.items ≡ spreads f.selections
+pub written-spreads : {S : Type 0} (shown : S → Shown) (w : Written S) (x : spec.Definition) (f : spec.Fragment) → x ≡ fragment f →
+    view_written shown w ≡ parts_of x → view_names w.spreads.items ≡ spreads f.selections
 unfolding parts_of selections_of
 written-spreads shown w x f is e = ap (λ (p : Parts). p.spreads) e ∙ ap (λ y. spreads (selections_of y)) is
 
 -- nothing is in an empty map
-pub empty-at : {V W H : Type 0} (view : V → W) (m : HashMap (Bor (List ℕ)) V H) → m.entries ≡ [] → (k : Name) → option_map view (get_by (λ n. bytes_eq k n.now) m) ≡ None
+pub empty-at : {V W H : Type 0} (view : V → W) (m : HashMap (Bor (List ℕ)) V H) → m.entries ≡ [] → (k : Name) →
+    option_map view (get_by (λ n. bytes_eq k n.now) m) ≡ None
 empty-at view m none k = ap (λ es. option_map view (lookup (λ n. bytes_eq k n.now) es)) none

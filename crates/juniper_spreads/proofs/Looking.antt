@@ -38,12 +38,14 @@ module _ {H : Type 0} (m : HashMap (Bor (List ℕ)) (Vec (Bor (List ℕ)) Global
   unfolding spreads_at
   known-is fs are k = ap is_some (are k) ∙ some-map (λ f. spreads f.selections) (fragment_of fs k)
 
-  pub found-is : (k : Name) (o : Option (Bor (Vec (Bor (List ℕ)) Global))) (v : Bor (Vec (Bor (List ℕ)) Global)) → option_copied o ≡ get_by (λ n. bytes_eq k n.now) m → o ≡ Some v →
+  pub found-is : (k : Name) (o : Option (Bor (Vec (Bor (List ℕ)) Global))) (v : Bor (Vec (Bor (List ℕ)) Global)) →
+      option_copied o ≡ get_by (λ n. bytes_eq k n.now) m → o ≡ Some v →
       spread_by m k ≡ Some (view_names v.now.items)
   unfolding spread_by
   found-is k o v e is = ap (option_map (λ w. view_names w.items)) (sym e ∙ ap option_copied is)
 
-  pub missing-is : (k : Name) (o : Option (Bor (Vec (Bor (List ℕ)) Global))) → option_copied o ≡ get_by (λ n. bytes_eq k n.now) m → o ≡ None → spread_by m k ≡ None
+  pub missing-is : (k : Name) (o : Option (Bor (Vec (Bor (List ℕ)) Global))) → option_copied o ≡ get_by (λ n. bytes_eq k n.now) m → o ≡ None →
+      spread_by m k ≡ None
   unfolding spread_by
   missing-is k o e is = ap (option_map (λ w. view_names w.items)) (sym e ∙ ap option_copied is)
 
@@ -64,15 +66,18 @@ pub names-popped : (old rest : List (Bor (List ℕ))) (x : Bor (List ℕ)) → o
 names-popped old rest x e = seen-push (λ (n : Bor (List ℕ)). n.now) rest old x e
 
 -- there is less to do once a name is seen, and what it spreads is left
-pub goes-down : {H A : Type 0} (m : HashMap (Bor (List ℕ)) (Vec (Bor (List ℕ)) Global) H) (seen now : Name → Bool) (x : Name) → ((n : Name) → now n ≡ cond (bytes_eq x n) true (seen n)) → seen x ≡ false →
-    (left rest made : List A) (last : A) → left ≡ rest ++ last ∷ [] → length made ≡ length rest + step_count (spread_by m x) → weight now m.entries + length made < weight seen m.entries + length left
+pub goes-down : {H A : Type 0} (m : HashMap (Bor (List ℕ)) (Vec (Bor (List ℕ)) Global) H) (seen now : Name → Bool) (x : Name) →
+    ((n : Name) → now n ≡ cond (bytes_eq x n) true (seen n)) → seen x ≡ false →
+    (left rest made : List A) (last : A) → left ≡ rest ++ last ∷ [] → length made ≡ length rest + step_count (spread_by m x) →
+    weight now m.entries + length made < weight seen m.entries + length left
 goes-down m seen now x is new left rest made last e grown =
     let f = falls seen now x is m new in
     let l : length left ≡ length rest + 1 = ap length e ∙ length-append rest (last ∷ []) in
     omega (arith, f, l, grown)
 
 -- there is less to do once one is taken away
-pub goes-on : {H A : Type 0} (m : HashMap (Bor (List ℕ)) (Vec (Bor (List ℕ)) Global) H) (seen now : Name → Bool) (x : Name) → ((n : Name) → now n ≡ cond (bytes_eq x n) true (seen n)) →
+pub goes-on : {H A : Type 0} (m : HashMap (Bor (List ℕ)) (Vec (Bor (List ℕ)) Global) H) (seen now : Name → Bool) (x : Name) →
+    ((n : Name) → now n ≡ cond (bytes_eq x n) true (seen n)) →
     (left rest : List A) (last : A) → left ≡ rest ++ last ∷ [] → weight now m.entries + length rest < weight seen m.entries + length left
 goes-on m seen now x is left rest last e =
     let f = less seen now x is m.entries in
@@ -80,14 +85,17 @@ goes-on m seen now x is left rest last e =
     omega (arith, f, l)
 
 -- the same where the names are left alone
-pub goes-down-names : {H : Type 0} (m : HashMap (Bor (List ℕ)) (Vec (Bor (List ℕ)) Global) H) (seen now : Name → Bool) (x : Bor (List ℕ)) → ((n : Name) → now n ≡ cond (bytes_eq x.now n) true (seen n)) → seen x.now ≡ false →
-    (left rest made : List (Bor (List ℕ))) → left ≡ rest ++ x ∷ [] → view_names made ≡ view_names rest ++ names_or_none (spread_by m x.now) → weight now m.entries + length made < weight seen m.entries + length left
+pub goes-down-names : {H : Type 0} (m : HashMap (Bor (List ℕ)) (Vec (Bor (List ℕ)) Global) H) (seen now : Name → Bool) (x : Bor (List ℕ)) →
+    ((n : Name) → now n ≡ cond (bytes_eq x.now n) true (seen n)) → seen x.now ≡ false →
+    (left rest made : List (Bor (List ℕ))) → left ≡ rest ++ x ∷ [] → view_names made ≡ view_names rest ++ names_or_none (spread_by m x.now) →
+    weight now m.entries + length made < weight seen m.entries + length left
 goes-down-names m seen now x is new left rest made e grown =
     let f = falls seen now x.now is m new in
     let l : length left ≡ length rest + 1 = ap length e ∙ length-append rest (x ∷ []) in
     let p = length-map made (λ n. n.now) in
     let q = length-map rest (λ n. n.now) in
-    let g : length (view_names made) ≡ length (view_names rest) + length (names_or_none (spread_by m x.now)) = ap length grown ∙ length-append (view_names rest) (names_or_none (spread_by m x.now)) in
+    let g : length (view_names made) ≡ length (view_names rest) + length (names_or_none (spread_by m x.now)) = ap length grown
+    ∙ length-append (view_names rest) (names_or_none (spread_by m x.now)) in
     let w = fewer (spread_by m x.now) in
     omega (arith, f, l, p, q, g, w)
 
@@ -97,7 +105,8 @@ unfolding has_name
 empty-has s none n = ap (list_any (λ k. bytes_eq n k.now)) none
 
 -- what a look-up tells
-pub found-by : {H : Type 0} (m : HashMap (Bor (List ℕ)) (Vec (Bor (List ℕ)) Global) H) (k : Name) → is_some (get_by (λ n. bytes_eq k n.now) m) ≡ is_some (spread_by m k)
+pub found-by : {H : Type 0} (m : HashMap (Bor (List ℕ)) (Vec (Bor (List ℕ)) Global) H) (k : Name) →
+    is_some (get_by (λ n. bytes_eq k n.now) m) ≡ is_some (spread_by m k)
 unfolding spread_by
 found-by m k = sym (some-map (λ v. view_names v.items) (get_by (λ n. bytes_eq k n.now) m))
 
@@ -107,7 +116,8 @@ all-names f (k ∷ ks) = ap (λ b. f k.now && b) (all-names f ks)
 
 module _ {H : Type 0} (m : HashMap (Bor (List ℕ)) (Vec (Bor (List ℕ)) Global) H) (fs : List Fragment) (are : AreSpreadsOf m fs) (done : Name → Bool) where
   -- what a fragment spreads is done, as the document has it
-  pub all-ready : (k : Name) → list_all (λ n. done n || not (is_some (spread_by m n))) (names_or_none (spread_by m k)) ≡ true → list_all (or_unknown fs done) (next fs k) ≡ true
+  pub all-ready : (k : Name) → list_all (λ n. done n || not (is_some (spread_by m n))) (names_or_none (spread_by m k)) ≡ true →
+      list_all (or_unknown fs done) (next fs k) ≡ true
   all-ready k e =
       let same : (λ (n : Name). done n || not (is_some (spread_by m n))) ≡ or_unknown fs done = λ i n. done n || not (known-is m fs are n i) in
       ap (λ l. list_all (or_unknown fs done) l) (sym (next-is m fs are k)) ∙ (ap (λ f. list_all f (names_or_none (spread_by m k))) (sym same) ∙ e)
@@ -116,7 +126,8 @@ module _ {H : Type 0} (m : HashMap (Bor (List ℕ)) (Vec (Bor (List ℕ)) Global
   all-in [] a k e = true_false false e refl
   all-in (x ∷ xs) a k e =
       let p = and_parts (done x.now) (list_all (λ n. done n.now) xs) a in
-      elim (or_cases (bytes_eq k x.now) (list_any (λ n. bytes_eq k n.now) xs) e) [ inl q ↦ subst (λ z. done z ≡ true) (sym (same-name k x.now q)) p.0 | inr q ↦ all-in xs p.1 k q ]
+      elim (or_cases (bytes_eq k x.now) (list_any (λ n. bytes_eq k n.now) xs) e)
+      [ inl q ↦ subst (λ z. done z ≡ true) (sym (same-name k x.now q)) p.0 | inr q ↦ all-in xs p.1 k q ]
 
   -- all fragments are done
   pub all-keys : list_all (λ n. done n.now) (keys m) ≡ true → (k : Name) → is_some (fragment_of fs k) ≡ true → done k ≡ true

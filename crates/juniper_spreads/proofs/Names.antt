@@ -50,7 +50,8 @@ name_where f (j ∷ ks) e = elim (or_cases (f j) (list_any f ks) e) [
 
 pub any_from : (f : Name → Bool) (ks : List Name) (k : Name) → has ks k ≡ true → f k ≡ true → list_any f ks ≡ true
 any_from f [] k i e = true_false false i refl
-any_from f (j ∷ ks) k i e = either k j ks i (λ q. or_left (f j) (list_any f ks) (subst (λ z. f z ≡ true) q e)) (λ q. or_right (f j) (list_any f ks) (any_from f ks k q e))
+any_from f (j ∷ ks) k i e =
+    either k j ks i (λ q. or_left (f j) (list_any f ks) (subst (λ z. f z ≡ true) q e)) (λ q. or_right (f j) (list_any f ks) (any_from f ks k q e))
 
 pub has_first : (ks js : List Name) (k : Name) → has ks k ≡ true → has (ks ++ js) k ≡ true
 has_first [] js k e = true_false false e refl

@@ -46,7 +46,8 @@ module _ (fs : List Fragment) where
         | inr q ↦ reached-done done o n r.0 j is q
       ]
 
-  module _ (done now : Name → Bool) (x : Name) (is : (n : Name) → now n ≡ cond (bytes_eq x n) true (done n)) (o : IsOrdered done) (all : list_all (or_unknown done) (next fs x) ≡ true) where
+  module _ (done now : Name → Bool) (x : Name) (is : (n : Name) → now n ≡ cond (bytes_eq x n) true (done n)) (o : IsOrdered done)
+      (all : list_all (or_unknown done) (next fs x) ≡ true) where
     stays : (k : Name) → or_unknown done k ≡ true → or_unknown now k ≡ true
     stays k d = elim (or_cases (done k) (not (is_some (fragment_of fs k))) d) [
       | inl q ↦ or_left (now k) (not (is_some (fragment_of fs k))) (is k ∙ elim (cases_Bool (bytes_eq x k)) [ inl z ↦ rw z refl | inr z ↦ rw z q ])

@@ -45,11 +45,14 @@ module _ (fs : List Fragment) where
   way-reaches : (a : Name) (js : List Name) (b : Name) → Way a js b → reaches fs (suc (length js)) a b ≡ true
   unfolding reaches
   way-reaches a [] b w = any_from (λ i. bytes_eq b i || reaches fs zero i b) (next fs a) b w (or_left (bytes_eq b b) (reaches fs zero b b) (itself b))
-  way-reaches a (j ∷ js) b w = any_from (λ i. bytes_eq b i || reaches fs (suc (length js)) i b) (next fs a) j w.0 (or_right (bytes_eq b j) (reaches fs (suc (length js)) j b) (way-reaches j js b w.1))
+  way-reaches a (j ∷ js) b w = any_from (λ i. bytes_eq b i || reaches fs (suc (length js)) i b) (next fs a) j w.0
+      (or_right (bytes_eq b j) (reaches fs (suc (length js)) j b) (way-reaches j js b w.1))
 
   -- a way that comes through a goes from a on
-  cut : (a j : Name) (js : List Name) (b : Name) → IsDistinct bytes_eq (j ∷ js) → Way j js b → has (j ∷ js) a ≡ true → (is : List Name) × IsDistinct bytes_eq (a ∷ is) × Way a is b
-  cut a j [] b d w e = either a j [] e (λ q. ([], subst (λ i. IsDistinct bytes_eq (i ∷ [])) (sym q) d, subst (λ i. Way i [] b) (sym q) w)) (λ q. true_false false q refl)
+  cut : (a j : Name) (js : List Name) (b : Name) → IsDistinct bytes_eq (j ∷ js) → Way j js b → has (j ∷ js) a ≡ true →
+      (is : List Name) × IsDistinct bytes_eq (a ∷ is) × Way a is b
+  cut a j [] b d w e =
+      either a j [] e (λ q. ([], subst (λ i. IsDistinct bytes_eq (i ∷ [])) (sym q) d, subst (λ i. Way i [] b) (sym q) w)) (λ q. true_false false q refl)
   cut a j (i ∷ js) b d w e = either a j (i ∷ js) e
       (λ q. (i ∷ js, subst (λ x. IsDistinct bytes_eq (x ∷ i ∷ js)) (sym q) d, subst (λ x. Way x (i ∷ js) b) (sym q) w))
       (λ q. cut a i js b (IsDistinct-tail bytes_eq j (i ∷ js) d) w.1 q)
@@ -64,7 +67,8 @@ module _ (fs : List Fragment) where
       ]
 
   way-known : (a : Name) (js : List Name) (b : Name) → Way a js b → (k : Name) → has (a ∷ js) k ≡ true → has (names fs) k ≡ true
-  way-known a [] b w k e = either k a [] e (λ q. subst (λ i. has (names fs) i ≡ true) (sym q) (names_known fs a (spreads_known fs a b w))) (λ q. true_false false q refl)
+  way-known a [] b w k e =
+      either k a [] e (λ q. subst (λ i. has (names fs) i ≡ true) (sym q) (names_known fs a (spreads_known fs a b w))) (λ q. true_false false q refl)
   way-known a (j ∷ js) b w k e = either k a (j ∷ js) e
       (λ q. subst (λ i. has (names fs) i ≡ true) (sym q) (names_known fs a (spreads_known fs a j w.0)))
       (λ q. way-known j js b w.1 k q)

@@ -42,7 +42,8 @@ module _ {T : Type 0} (taken : T → Name → Bool) (ready : (Name → Bool) →
   }
 
   -- the next name is taken
-  pub round-taken : (now new : T) (left rest : List Name) (i : ℕ) (x : Name) → IsRound now left (x ∷ rest) i → ((k : Name) → taken now k ≡ true → taken new k ≡ true) → taken new x ≡ true → IsRound new left rest (i + 1)
+  pub round-taken : (now new : T) (left rest : List Name) (i : ℕ) (x : Name) → IsRound now left (x ∷ rest) i →
+      ((k : Name) → taken now k ≡ true → taken new k ≡ true) → taken new x ≡ true → IsRound new left rest (i + 1)
   round-taken now new left rest i x r grows is = record {
     stays = λ k e. grows k (r.stays k e);
     all = λ k e. elim (or_cases (taken now k) (has left k || has (x ∷ rest) k) (r.all k e)) [
@@ -58,23 +59,27 @@ module _ {T : Type 0} (taken : T → Name → Bool) (ready : (Name → Bool) →
   }
 
   -- the next name is left
-  pub round-left : (now new : T) (left rest : List Name) (i : ℕ) (x : Name) → IsRound now left (x ∷ rest) i → new ≡ now → ready (taken now) x ≡ false → IsRound new (left ++ x ∷ []) rest (i + 1)
+  pub round-left : (now new : T) (left rest : List Name) (i : ℕ) (x : Name) → IsRound now left (x ∷ rest) i → new ≡ now → ready (taken now) x ≡ false →
+      IsRound new (left ++ x ∷ []) rest (i + 1)
   round-left now new left rest i x r is un = record {
     stays = λ k e. subst (λ t. taken t k ≡ true) (sym is) (r.stays k e);
-    all = λ k e. subst (λ t. (taken t k || (has (left ++ x ∷ []) k || has rest k)) ≡ true) (sym is) (elim (or_cases (taken now k) (has left k || has (x ∷ rest) k) (r.all k e)) [
-      | inl t ↦ or_left (taken now k) (has (left ++ x ∷ []) k || has rest k) t
-      | inr h ↦ or_right (taken now k) (has (left ++ x ∷ []) k || has rest k) (elim (or_cases (has left k) (has (x ∷ rest) k) h) [
-        | inl l ↦ or_left (has (left ++ x ∷ []) k) (has rest k) (has_first left (x ∷ []) k l)
-        | inr m ↦ either k x rest m (λ q. or_left (has (left ++ x ∷ []) k) (has rest k) (has_second left (x ∷ []) k (or_left (bytes_eq k x) false (subst (λ j. bytes_eq k j ≡ true) q (itself k)))))
-            (λ l. or_right (has (left ++ x ∷ []) k) (has rest k) l)
-      ])
-    ]);
+    all = λ k e. subst (λ t. (taken t k || (has (left ++ x ∷ []) k || has rest k)) ≡ true) (sym is)
+        (elim (or_cases (taken now k) (has left k || has (x ∷ rest) k) (r.all k e)) [
+          | inl t ↦ or_left (taken now k) (has (left ++ x ∷ []) k || has rest k) t
+          | inr h ↦ or_right (taken now k) (has (left ++ x ∷ []) k || has rest k) (elim (or_cases (has left k) (has (x ∷ rest) k) h) [
+            | inl l ↦ or_left (has (left ++ x ∷ []) k) (has rest k) (has_first left (x ∷ []) k l)
+            | inr m ↦ either k x rest m (λ q. or_left (has (left ++ x ∷ []) k) (has rest k)
+                (has_second left (x ∷ []) k (or_left (bytes_eq k x) false (subst (λ j. bytes_eq k j ≡ true) q (itself k)))))
+                (λ l. or_right (has (left ++ x ∷ []) k) (has rest k) l)
+          ])
+        ]);
     fewer = let f = r.fewer in let n = length-append left (x ∷ []) in omega (arith, f, n);
     stuck = λ e. let n = length-append left (x ∷ []) in let s = r.stuck (omega (arith, n, e)) in (
       is ∙ s.0,
       λ k h. elim (or_cases (has (x ∷ rest) k) (not (ready (taken start) k)) (s.1 k h)) [
         | inl m ↦ either k x rest m
-            (λ q. or_right (has rest k) (not (ready (taken start) k)) (ap not (subst (λ j. ready (taken start) j ≡ false) (sym q) (subst (λ t. ready (taken t) x ≡ false) s.0 un))))
+            (λ q. or_right (has rest k) (not (ready (taken start) k)) (ap not
+            (subst (λ j. ready (taken start) j ≡ false) (sym q) (subst (λ t. ready (taken t) x ≡ false) s.0 un))))
             (λ l. or_left (has rest k) (not (ready (taken start) k)) l)
         | inr u ↦ or_right (has rest k) (not (ready (taken start) k)) u
       ],
@@ -89,15 +94,18 @@ module _ {T : Type 0} (taken : T → Name → Bool) (ready : (Name → Bool) →
   pub round-all : (now : T) (left : List Name) (i : ℕ) → IsRound now left [] i → (k : Name) → has names k ≡ true → (taken now k || has left k) ≡ true
   round-all now left i r k e = no-more (taken now k) (has left k) (r.all k e)
 
-  pub round-stuck : (now : T) (left : List Name) (i : ℕ) → IsRound now left [] i → length left ≡ i → (k : Name) → has names k ≡ true → ready (taken now) k ≡ false
+  pub round-stuck : (now : T) (left : List Name) (i : ℕ) → IsRound now left [] i → length left ≡ i → (k : Name) → has names k ≡ true →
+      ready (taken now) k ≡ false
   round-stuck now left i r e k h = let s = r.stuck e in subst (λ t. ready (taken t) k ≡ false) (sym s.0) (not-ready (ready (taken start) k) (s.1 k h))
 
   -- the next of the names that the text holds
-  pub round-seen : (now : T) (left : List Name) (xs : List (Bor (List ℕ))) (i : ℕ) (d : Bor (List ℕ)) → i < length xs → IsRound now left (view_names (drop i xs)) i → IsRound now left ((get_or xs i d).now ∷ view_names (drop (i + 1) xs)) i
+  pub round-seen : (now : T) (left : List Name) (xs : List (Bor (List ℕ))) (i : ℕ) (d : Bor (List ℕ)) → i < length xs →
+      IsRound now left (view_names (drop i xs)) i → IsRound now left ((get_or xs i d).now ∷ view_names (drop (i + 1) xs)) i
   round-seen now left xs i d below r = subst (λ l. IsRound now left (view_names l) i) (drop_more xs i d below) r
 
   -- all of them were looked at
-  pub round-ends : (now : T) (left : List Name) (xs : List (Bor (List ℕ))) (i : ℕ) → length xs ≤ i → IsRound now left (view_names (drop i xs)) i → IsRound now left [] i
+  pub round-ends : (now : T) (left : List Name) (xs : List (Bor (List ℕ))) (i : ℕ) → length xs ≤ i → IsRound now left (view_names (drop i xs)) i →
+      IsRound now left [] i
   round-ends now left xs i past r = subst (λ l. IsRound now left (view_names l) i) (drop_all i xs past) r
 
 -- ## The names of fragments
@@ -109,7 +117,8 @@ names-among (x ∷ xs) k = ap (λ b. bytes_eq k x.now || b) (names-among xs k)
 module _ {H : Type 0} (m : HashMap (Bor (List ℕ)) (Vec (Bor (List ℕ)) Global) H) (fs : List Fragment) (are : AreSpreadsOf m fs) where
   -- the names of all fragments are keys
   pub known-among : (xs : List (Bor (List ℕ))) → xs ≡ keys m → (k : Name) → is_some (fragment_of fs k) ≡ true → has (view_names xs) k ≡ true
-  known-among xs is k e = ap (λ l. has (view_names l) k) is ∙ (names-among (keys m) k ∙ (sym (is_some-lookup (λ (n : Bor (List ℕ)). bytes_eq k n.now) m.entries) ∙ (found-by m k ∙ (known-is m fs are k ∙ e))))
+  known-among xs is k e = ap (λ l. has (view_names l) k) is ∙ (names-among (keys m) k
+      ∙ (sym (is_some-lookup (λ (n : Bor (List ℕ)). bytes_eq k n.now) m.entries) ∙ (found-by m k ∙ (known-is m fs are k ∙ e))))
 
   -- the names that a fragment spreads are taken, or no fragment's, as the document has it
   pub ready-is : (taken : Name → Bool) (k : Name) → is_ready m taken k ≡ list_all (or_unknown fs taken) (next fs k)
@@ -119,7 +128,8 @@ module _ {H : Type 0} (m : HashMap (Bor (List ℕ)) (Vec (Bor (List ℕ)) Global
       ap (λ f. list_all f (names_or_none (spread_by m k))) same ∙ ap (list_all (or_unknown fs taken)) (next-is m fs are k)
 
   -- a round that took none ends the rounds
-  pub rounds-end : (old now : Name → Bool) (left : List Name) → ((k : Name) → is_some (fragment_of fs k) ≡ true → (old k || has left k) ≡ true) → ((k : Name) → old k ≡ true → now k ≡ true) →
+  pub rounds-end : (old now : Name → Bool) (left : List Name) → ((k : Name) → is_some (fragment_of fs k) ≡ true → (old k || has left k) ≡ true) →
+      ((k : Name) → old k ≡ true → now k ≡ true) →
       ((k : Name) → has left k ≡ true → is_ready m now k ≡ false) → IsStuck fs now
   rounds-end old now left all stays stuck k known out = elim (or_cases (old k) (has left k) (all k known)) [
     | inl t ↦ true_false (now k) (stays k t) out
@@ -127,7 +137,8 @@ module _ {H : Type 0} (m : HashMap (Bor (List ℕ)) (Vec (Bor (List ℕ)) Global
   ]
 
   -- what is left of the names after one more round
-  pub rounds-go-on : (old now : Name → Bool) (left kept : List Name) → ((k : Name) → is_some (fragment_of fs k) ≡ true → (old k || has left k) ≡ true) → ((k : Name) → old k ≡ true → now k ≡ true) →
+  pub rounds-go-on : (old now : Name → Bool) (left kept : List Name) → ((k : Name) → is_some (fragment_of fs k) ≡ true → (old k || has left k) ≡ true) →
+      ((k : Name) → old k ≡ true → now k ≡ true) →
       ((k : Name) → has left k ≡ true → (now k || has kept k) ≡ true) → (k : Name) → is_some (fragment_of fs k) ≡ true → (now k || has kept k) ≡ true
   rounds-go-on old now left kept all stays next k known = elim (or_cases (old k) (has left k) (all k known)) [
     | inl t ↦ or_left (now k) (has kept k) (stays k t)
@@ -138,7 +149,8 @@ module _ {H : Type 0} (m : HashMap (Bor (List ℕ)) (Vec (Bor (List ℕ)) Global
 
 module _ {A : Type 0} (fs : List Fragment) (view : A → Fragment) where
   -- the next name has a fragment
-  pub find-next : (old made : List A) (o : Option A) (x : A) (k : Name) (rest : List Name) → made ≡ old ++ x ∷ [] → o ≡ Some x → option_map view o ≡ fragment_of fs k →
+  pub find-next : (old made : List A) (o : Option A) (x : A) (k : Name) (rest : List Name) → made ≡ old ++ x ∷ [] → o ≡ Some x →
+      option_map view o ≡ fragment_of fs k →
       map view made ++ found fs rest ≡ map view old ++ found fs (k ∷ rest)
   unfolding found put
   find-next old made o x k rest more is e =
@@ -146,11 +158,13 @@ module _ {A : Type 0} (fs : List Fragment) (view : A → Fragment) where
       ∙ ap (λ p. map view old ++ put fs p (found fs rest)) (sym (ap (option_map view) is) ∙ e))
 
   -- the next name has none
-  pub find-none : (old : List A) (o : Option A) (k : Name) (rest : List Name) → o ≡ None → option_map view o ≡ fragment_of fs k → map view old ++ found fs rest ≡ map view old ++ found fs (k ∷ rest)
+  pub find-none : (old : List A) (o : Option A) (k : Name) (rest : List Name) → o ≡ None → option_map view o ≡ fragment_of fs k →
+      map view old ++ found fs rest ≡ map view old ++ found fs (k ∷ rest)
   unfolding found put
   find-none old o k rest is e = ap (λ p. map view old ++ put fs p (found fs rest)) (sym (ap (option_map view) is) ∙ e)
 
   -- all names were looked at
-  pub find-ends : (made : List A) (xs : List (Bor (List ℕ))) (i : ℕ) (all : List Fragment) → length xs ≤ i → map view made ++ found fs (view_names (drop i xs)) ≡ all → map view made ≡ all
+  pub find-ends : (made : List A) (xs : List (Bor (List ℕ))) (i : ℕ) (all : List Fragment) → length xs ≤ i →
+      map view made ++ found fs (view_names (drop i xs)) ≡ all → map view made ≡ all
   unfolding found
   find-ends made xs i all past e = sym (append-nil (map view made)) ∙ (ap (λ l. map view made ++ found fs (view_names l)) (sym (drop_all i xs past)) ∙ e)

@@ -24,7 +24,8 @@ none-is None = refl
 none-is (Some x) = refl
 
 module _ {H : Type 0} (m : HashMap (Bor (List ℕ)) (Vec (Bor (List ℕ)) Global) H) where
-  any-unknown : (fs : List Fragment) → AreSpreadsOf m fs → (ks : List (Bor (List ℕ))) → list_any (λ k. not (is_some (spread_by m k.now))) ks ≡ list_any (λ k. is_none (fragment_of fs k)) (view_names ks)
+  any-unknown : (fs : List Fragment) → AreSpreadsOf m fs → (ks : List (Bor (List ℕ))) →
+      list_any (λ k. not (is_some (spread_by m k.now))) ks ≡ list_any (λ k. is_none (fragment_of fs k)) (view_names ks)
   any-unknown fs are [] = refl
   any-unknown fs are (k ∷ ks) = ap₂ (λ a b. a || b) (ap not (known-is m fs are k.now) ∙ none-is (fragment_of fs k.now)) (any-unknown fs are ks)
 
@@ -38,13 +39,15 @@ module _ {H : Type 0} (m : HashMap (Bor (List ℕ)) (Vec (Bor (List ℕ)) Global
   round fs k = refl
 
   -- the first fragment of a name does not reach itself
-  pub first-is-free : (fs : List Fragment) → AreSpreadsOf m fs → NoneReachesItself fs → (k : Name) (ks : List Name) → spread_by m k ≡ Some ks → false ≡ is_reached fs ks k
+  pub first-is-free : (fs : List Fragment) → AreSpreadsOf m fs → NoneReachesItself fs → (k : Name) (ks : List Name) → spread_by m k ≡ Some ks →
+      false ≡ is_reached fs ks k
   unfolding names_or_none
   first-is-free fs are none k ks is =
       let same : next fs k ≡ ks = sym (next-is m fs are k) ∙ ap names_or_none is in
       sym (none (suc (length fs)) k) ∙ (sym (round fs k) ∙ ap (λ l. is_reached fs l k) same)
 
-pub itself-is : (d : Document) (x : Definition) (f : Fragment) → x ≡ fragment f → (ks : List Name) → ks ≡ spreads (selections_of x) → is_reached (fragments d) ks f.name.item ≡ spreads_itself d x
+pub itself-is : (d : Document) (x : Definition) (f : Fragment) → x ≡ fragment f → (ks : List Name) → ks ≡ spreads (selections_of x) →
+    is_reached (fragments d) ks f.name.item ≡ spreads_itself d x
 unfolding is_reached spreads_itself selections_of
 itself-is d x f is ks e =
     ap (λ l. is_reached (fragments d) l f.name.item) (e ∙ ap (λ y. spreads (selections_of y)) is) ∙ ap (spreads_itself d) (sym is)

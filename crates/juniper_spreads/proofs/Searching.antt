@@ -46,10 +46,12 @@ module _ (fs : List Fragment) (start : List Name) where
     stays is k s = is k ∙ elim (cases_Bool (bytes_eq x k)) [ inl q ↦ rw q refl | inr q ↦ rw q s ]
 
     back : ((n : Name) → now n ≡ cond (bytes_eq x n) true (seen n)) → (k : Name) → now k ≡ true → (x ≡ k) ⊎ (seen k ≡ true)
-    back is k s = let e : cond (bytes_eq x k) true (seen k) ≡ true = sym (is k) ∙ s in elim (cases_Bool (bytes_eq x k)) [ inl q ↦ inl (same x k q) | inr q ↦ inr (rw q at e) ]
+    back is k s = let e : cond (bytes_eq x k) true (seen k) ≡ true = sym (is k) ∙ s in
+        elim (cases_Bool (bytes_eq x k)) [ inl q ↦ inl (same x k q) | inr q ↦ inr (rw q at e) ]
 
     -- what was seen or left is so still
-    kept : ((n : Name) → now n ≡ cond (bytes_eq x n) true (seen n)) → (k : Name) → (seen k || has (rest ++ x ∷ []) k) ≡ true → (now k || has (rest ++ more) k) ≡ true
+    kept : ((n : Name) → now n ≡ cond (bytes_eq x n) true (seen n)) → (k : Name) → (seen k || has (rest ++ x ∷ []) k) ≡ true →
+        (now k || has (rest ++ more) k) ≡ true
     kept is k e = elim (or_cases (seen k) (has (rest ++ x ∷ []) k) e) [
       | inl q ↦ or_left (now k) (has (rest ++ more) k) (stays is k q)
       | inr q ↦ elim (has_split rest (x ∷ []) k q) [
@@ -59,15 +61,22 @@ module _ (fs : List Fragment) (start : List Name) where
     ]
 
     -- the last that was left is seen, and what it spreads is seen or left
-    pub search-next : ((n : Name) → now n ≡ cond (bytes_eq x n) true (seen n)) → IsSearched seen (rest ++ x ∷ []) → ((i : Name) → has more i ≡ true → has (next fs x) i ≡ true) →
+    pub search-next : ((n : Name) → now n ≡ cond (bytes_eq x n) true (seen n)) → IsSearched seen (rest ++ x ∷ []) →
+        ((i : Name) → has more i ≡ true → has (next fs x) i ≡ true) →
         ((i : Name) → has (next fs x) i ≡ true → (now i || has (rest ++ more) i) ≡ true) → IsSearched now (rest ++ more)
     search-next is old only all =
-        let last : is_reached fs start x ≡ true = old.sound x (or_right (seen x) (has (rest ++ x ∷ []) x) (has_second rest (x ∷ []) x (or_left (bytes_eq x x) false (itself x)))) in
+        let last : is_reached fs start x ≡ true = old.sound x (or_right (seen x) (has (rest ++ x ∷ []) x)
+        (has_second rest (x ∷ []) x (or_left (bytes_eq x x) false (itself x)))) in
         record {
           first = λ k e. kept is k (old.first k e);
-          followed = λ k s i e. elim (back is k s) [ inl z ↦ all i (subst (λ j. has (next fs j) i ≡ true) (sym z) e) | inr q ↦ kept is i (old.followed k q i e) ];
+          followed =
+              λ k s i e. elim (back is k s) [ inl z ↦ all i (subst (λ j. has (next fs j) i ≡ true) (sym z) e) | inr q ↦ kept is i (old.followed k q i e) ];
           sound = λ k e. elim (or_cases (now k) (has (rest ++ more) k) e) [
-            | inl q ↦ elim (back is k q) [ inl z ↦ subst (λ j. is_reached fs start j ≡ true) z last | inr s ↦ old.sound k (or_left (seen k) (has (rest ++ x ∷ []) k) s) ]
+            | inl q ↦ elim (back is k q) [
+              | inl z ↦ subst (λ j. is_reached fs start j ≡ true) z last
+              | inr s ↦
+                  old.sound k (or_left (seen k) (has (rest ++ x ∷ []) k) s)
+            ]
             | inr q ↦ elim (has_split rest more k q) [
               | inl r ↦ old.sound k (or_right (seen k) (has (rest ++ x ∷ []) k) (has_first rest (x ∷ []) k r))
               | inr r ↦ reached-next x k last (only k r)
@@ -75,14 +84,18 @@ module _ (fs : List Fragment) (start : List Name) where
           ];
         }
 
-    pub search-new : ((n : Name) → now n ≡ cond (bytes_eq x n) true (seen n)) → IsSearched seen (rest ++ x ∷ []) → more ≡ next fs x → IsSearched now (rest ++ more)
-    search-new is old e = search-next is old (λ i h. subst (λ l. has l i ≡ true) e h) (λ i h. or_right (now i) (has (rest ++ more) i) (has_second rest more i (subst (λ l. has l i ≡ true) (sym e) h)))
+    pub search-new : ((n : Name) → now n ≡ cond (bytes_eq x n) true (seen n)) → IsSearched seen (rest ++ x ∷ []) → more ≡ next fs x →
+        IsSearched now (rest ++ more)
+    search-new is old e = search-next is old (λ i h. subst (λ l. has l i ≡ true) e h)
+        (λ i h. or_right (now i) (has (rest ++ more) i) (has_second rest more i (subst (λ l. has l i ≡ true) (sym e) h)))
 
-    pub search-old : ((n : Name) → now n ≡ cond (bytes_eq x n) true (seen n)) → IsSearched seen (rest ++ x ∷ []) → seen x ≡ true → more ≡ [] → IsSearched now (rest ++ more)
+    pub search-old : ((n : Name) → now n ≡ cond (bytes_eq x n) true (seen n)) → IsSearched seen (rest ++ x ∷ []) → seen x ≡ true → more ≡ [] →
+        IsSearched now (rest ++ more)
     search-old is old s none = search-next is old (λ i h. true_false false (subst (λ l. has l i ≡ true) none h) refl) (λ i h. kept is i (old.followed x s i h))
 
   -- what is reached from what was seen was seen
-  closed : (seen : Name → Bool) → ((k : Name) → seen k ≡ true → (i : Name) → has (next fs k) i ≡ true → seen i ≡ true) → (m : ℕ) (k j : Name) → seen k ≡ true → reaches fs m k j ≡ true → seen j ≡ true
+  closed : (seen : Name → Bool) → ((k : Name) → seen k ≡ true → (i : Name) → has (next fs k) i ≡ true → seen i ≡ true) → (m : ℕ) (k j : Name) → seen k ≡ true →
+      reaches fs m k j ≡ true → seen j ≡ true
   unfolding reaches
   closed seen c zero k j s e = true_false false e refl
   closed seen c (suc m) k j s e =

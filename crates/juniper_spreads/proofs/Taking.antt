@@ -67,10 +67,14 @@ module _ (fs : List Fragment) where
   known-taken false true e k = e
   known-taken false false e k = k
 
-  pub taken-next : (taken now : Name → Bool) (x : Name) (order : List Name) → IsTaken fs taken order → ((n : Name) → now n ≡ cond (bytes_eq x n) true (taken n)) → taken x ≡ false →
+  pub taken-next : (taken now : Name → Bool) (x : Name) (order : List Name) → IsTaken fs taken order →
+      ((n : Name) → now n ≡ cond (bytes_eq x n) true (taken n)) → taken x ≡ false →
       list_all (or_unknown fs taken) (next fs x) ≡ true → IsTaken fs now (order ++ x ∷ [])
   taken-next taken now x order t is new all = record {
-    behind = follow-more [] order x t.behind (sym (t.same x) ∙ new, λ i s known. sym (t.same i) ∙ known-taken (taken i) (is_some (fragment_of fs i)) (all_at (or_unknown fs taken) (next fs x) all i s) known);
+    behind = follow-more [] order x t.behind (
+      sym (t.same x) ∙ new,
+      λ i s known. sym (t.same i) ∙ known-taken (taken i) (is_some (fragment_of fs i)) (all_at (or_unknown fs taken) (next fs x) all i s) known,
+    );
     same = λ k. is k ∙ (ap (cond (bytes_eq x k) true) (t.same k) ∙ sym (has-last order x k));
   }
 
@@ -91,12 +95,14 @@ module _ (fs : List Fragment) where
   stuck-deep taken stuck (suc n) k known left =
       let r = name_not (or_unknown fs taken) (next fs k) (stuck k known left) in
       let p = or_parts (taken r.0) (not (is_some (fragment_of fs r.0))) r.2 in
-      deep-is (deep fs n) (fragment_of fs k) ∙ any_from (deep fs n) (next fs k) r.0 r.1 (stuck-deep taken stuck n r.0 (not-false (is_some (fragment_of fs r.0)) p.1) p.0)
+      deep-is (deep fs n) (fragment_of fs k) ∙ any_from (deep fs n) (next fs k) r.0 r.1
+      (stuck-deep taken stuck n r.0 (not-false (is_some (fragment_of fs r.0)) p.1) p.0)
 
   pub taken-ends : (taken : Name → Bool) (order : List Name) → IsTaken fs taken order → IsStuck taken → AreInOrder fs order
   taken-ends taken order t stuck = record {
     behind = t.behind;
-    all = λ k known ends. sym (t.same k) ∙ true_from_ne_false (taken k) (λ left. true_false (deep fs (length fs) k) (stuck-deep taken stuck (length fs) k known left) ends);
+    all = λ k known ends. sym (t.same k) ∙ true_from_ne_false (taken k)
+        (λ left. true_false (deep fs (length fs) k) (stuck-deep taken stuck (length fs) k known left) ends);
   }
 
   -- ## The fragments of names
@@ -147,15 +153,19 @@ module _ (fs : List Fragment) where
   unfolding spreads_in
   one-stands before k f w e = record {
     first = subst (λ i. fragment_of fs i ≡ Some f) (of-name fs k f e) e;
-    once = λ i. let r = in-found before f i in true_false (has before k) (subst (λ j. has before j ≡ true) (of-name fs r.0 f r.2 ∙ sym (of-name fs k f e)) r.1) w.0;
+    once = λ i. let r = in-found before f i in true_false (has before k)
+        (subst (λ j. has before j ≡ true) (of-name fs r.0 f r.2 ∙ sym (of-name fs k f e)) r.1) w.0;
     spread = λ i g s h. found-in before i g (w.1 i (subst (λ o. has (spreads_in o) i ≡ true) (sym e) (in-has (spreads f.selections) i s)) (ap is_some h)) h;
   }
 
-  stand-on : (before : List Name) (k : Name) (ks : List Name) → Follows fs before k → (o : Option Fragment) → fragment_of fs k ≡ o → StandBehind fs (found fs (before ++ k ∷ [])) (found fs ks) →
+  stand-on : (before : List Name) (k : Name) (ks : List Name) → Follows fs before k → (o : Option Fragment) → fragment_of fs k ≡ o →
+      StandBehind fs (found fs (before ++ k ∷ [])) (found fs ks) →
       StandBehind fs (found fs before) (put fs o (found fs ks))
   unfolding put
-  stand-on before k ks w None e s = subst (λ l. StandBehind fs l (found fs ks)) (found-last before k ∙ (ap (λ o. found fs before ++ put fs o []) e ∙ append-nil (found fs before))) s
-  stand-on before k ks w (Some f) e s = (one-stands before k f w e, subst (λ l. StandBehind fs l (found fs ks)) (found-last before k ∙ ap (λ o. found fs before ++ put fs o []) e) s)
+  stand-on before k ks w None e s =
+      subst (λ l. StandBehind fs l (found fs ks)) (found-last before k ∙ (ap (λ o. found fs before ++ put fs o []) e ∙ append-nil (found fs before))) s
+  stand-on before k ks w (Some f) e s =
+      (one-stands before k f w e, subst (λ l. StandBehind fs l (found fs ks)) (found-last before k ∙ ap (λ o. found fs before ++ put fs o []) e) s)
 
   stand : (before ks : List Name) → Follow fs before ks → StandBehind fs (found fs before) (found fs ks)
   unfolding found
@@ -168,9 +178,11 @@ module _ (fs : List Fragment) where
   found-in-order order a = record { behind = stand [] order a.behind; all = λ k f e ends. found-in order k f (a.all k (ap is_some e) ends) e }
 
   -- each fragment of an order stands behind those that it spreads, wherever it stands
-  stands-from : (start before : List Fragment) (f : Fragment) (after : List Fragment) → StandBehind fs start (before ++ f ∷ after) → StandsBehind fs (start ++ before) f
+  stands-from : (start before : List Fragment) (f : Fragment) (after : List Fragment) → StandBehind fs start (before ++ f ∷ after) →
+      StandsBehind fs (start ++ before) f
   stands-from start [] f after s = subst (λ l. StandsBehind fs l f) (sym (append-nil start)) s.0
-  stands-from start (g ∷ before) f after s = subst (λ l. StandsBehind fs l f) (append_assoc start (g ∷ []) before) (stands-from (start ++ g ∷ []) before f after s.1)
+  stands-from start (g ∷ before) f after s =
+      subst (λ l. StandsBehind fs l f) (append_assoc start (g ∷ []) before) (stands-from (start ++ g ∷ []) before f after s.1)
 
   pub stands-at : (before : List Fragment) (f : Fragment) (after : List Fragment) → IsInOrder fs (before ++ f ∷ after) → StandsBehind fs before f
   stands-at before f after o = stands-from [] before f after o.behind

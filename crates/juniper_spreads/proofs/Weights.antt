@@ -28,9 +28,11 @@ module _ (seen now : Name → Bool) (x : Name) (is : (n : Name) → now n ≡ co
 
   pub less : (es : List Entry) → weight now es ≤ weight seen es
   less [] = omega arith
-  less (e ∷ es) = let h = one-less (suc (length e.1.items)) (bytes_eq x e.0.now) (seen e.0.now) (now e.0.now) (is e.0.now) in let t = less es in omega (arith, h, t)
+  less (e ∷ es) =
+      let h = one-less (suc (length e.1.items)) (bytes_eq x e.0.now) (seen e.0.now) (now e.0.now) (is e.0.now) in let t = less es in omega (arith, h, t)
 
-  falls-at : seen x ≡ false → (es : List Entry) → weight now es + step_count (option_map (λ v. view_names v.items) (lookup (λ k. bytes_eq x k.now) es)) ≤ weight seen es
+  falls-at : seen x ≡ false → (es : List Entry) → weight now es + step_count (option_map (λ v. view_names v.items) (lookup (λ k. bytes_eq x k.now) es))
+      ≤ weight seen es
   unfolding step_count
   falls-at new [] = omega arith
   falls-at new (e ∷ es) = elim (cases_Bool (bytes_eq x e.0.now)) [
@@ -47,7 +49,8 @@ module _ (seen now : Name → Bool) (x : Name) (is : (n : Name) → now n ≡ co
   ]
 
   -- a fragment that is seen takes its steps away
-  pub falls : {H : Type 0} (m : HashMap (Bor (List ℕ)) (Vec (Bor (List ℕ)) Global) H) → seen x ≡ false → weight now m.entries + step_count (spread_by m x) ≤ weight seen m.entries
+  pub falls : {H : Type 0} (m : HashMap (Bor (List ℕ)) (Vec (Bor (List ℕ)) Global) H) → seen x ≡ false →
+      weight now m.entries + step_count (spread_by m x) ≤ weight seen m.entries
   unfolding spread_by
   falls m new = falls-at new m.entries
 

@@ -47,7 +47,8 @@ pub fn fragments_by_name<'d, 'a, S: ScalarValue>(
 impl<'d, 'a, S: ScalarValue> FragmentsByName<'d, 'a, S> {
     /// The first fragment of a name.
     pub fn fragment(&self, name: &str) -> Option<&'d Spanning<Fragment<'a, S>, Span>>
-        ensures { (d : Document) → AreFragmentsOf S.shown self.now d → option_map (λ f. view_fragment S.shown f.now) result ≡ fragment_of (fragments d) name.now }
+        ensures { (d : Document) → AreFragmentsOf S.shown self.now d →
+            option_map (λ f. view_fragment S.shown f.now) result ≡ fragment_of (fragments d) name.now }
     {
         match self.fragments.get(name) {
             Some(fragment) => Some(*fragment),
@@ -75,7 +76,8 @@ fn put_fragment<'d, 'a, S: ScalarValue>(
     definition: &'d Definition<'a, S>,
     first: &mut HashMap<&'a str, &'d Spanning<Fragment<'a, S>, Span>>,
 ) -> Result<(), AllocError>
-    ensures { OnOk result ((k : Name) → fragment_at S.shown first.new k ≡ option_or (fragment_at S.shown first.old k) (fragment_of (fragments (view_definition S.shown definition.now ∷ [])) k)) }
+    ensures { OnOk result ((k : Name) → fragment_at S.shown first.new k
+        ≡ option_or (fragment_at S.shown first.old k) (fragment_of (fragments (view_definition S.shown definition.now ∷ [])) k)) }
 {
     match definition {
         Definition::Fragment(fragment) => {
@@ -110,7 +112,8 @@ fn put_spreads<'a, S: ScalarValue>(
     definition: &Definition<'a, S>,
     spreads: &mut SpreadsByName<'a>,
 ) -> Result<(), AllocError>
-    ensures { OnOk result ((k : Name) → spread_by spreads.new k ≡ option_or (spread_by spreads.old k) (spreads_at (fragments (view_definition S.shown definition.now ∷ [])) k)) }
+    ensures { OnOk result ((k : Name) → spread_by spreads.new k ≡ option_or (spread_by spreads.old k)
+        (spreads_at (fragments (view_definition S.shown definition.now ∷ [])) k)) }
 {
     match definition {
         Definition::Fragment(fragment) => {

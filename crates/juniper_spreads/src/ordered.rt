@@ -24,7 +24,8 @@ impl<'d, 'a, S: ScalarValue> FragmentsByName<'d, 'a, S> {
         &self,
         alloc: Global,
     ) -> Result<Vec<&'d Spanning<Fragment<'a, S>, Span>>, AllocError>
-        ensures { IfOk result (λ r. (d : Document) → AreFragmentsOf S.shown self.now d → IsInOrder (fragments d) (map (λ f. view_fragment S.shown f.now) r.items)) }
+        ensures { IfOk result (λ r. (d : Document) → AreFragmentsOf S.shown self.now d →
+            IsInOrder (fragments d) (map (λ f. view_fragment S.shown f.now) r.items)) }
     {
         let names = names_in_order(alloc, &self.spreads)?;
         self.fragments_of(alloc, &names)
@@ -36,7 +37,8 @@ impl<'d, 'a, S: ScalarValue> FragmentsByName<'d, 'a, S> {
         alloc: Global,
         names: &[&str],
     ) -> Result<Vec<&'d Spanning<Fragment<'a, S>, Span>>, AllocError>
-        ensures { IfOk result (λ r. (d : Document) → AreFragmentsOf S.shown self.now d → map (λ f. view_fragment S.shown f.now) r.items ≡ found (fragments d) (view_names names.now)) }
+        ensures { IfOk result (λ r. (d : Document) → AreFragmentsOf S.shown self.now d →
+            map (λ f. view_fragment S.shown f.now) r.items ≡ found (fragments d) (view_names names.now)) }
     {
         let mut fragments = Vec::new(alloc);
         for name in names {
@@ -98,11 +100,14 @@ impl<'a> Taken<'a> {
         spreads: &SpreadsByName<'a>,
         names: &[&'a str],
     ) -> Result<Vec<&'a str>, AllocError>
-        ensures taken { OnOk result ((fs : List SpecFragment) → AreSpreadsOf spreads.now fs → IsTaken fs (has_name self.old.names) (view_names self.old.order.items) → IsTaken fs (has_name self.new.names) (view_names self.new.order.items)) }
+        ensures taken { OnOk result ((fs : List SpecFragment) → AreSpreadsOf spreads.now fs →
+            IsTaken fs (has_name self.old.names) (view_names self.old.order.items) → IsTaken fs (has_name self.new.names) (view_names self.new.order.items)) }
         ensures stays { OnOk result ((k : Name) → has_name self.old.names k ≡ true → has_name self.new.names k ≡ true) }
-        ensures left { IfOk result (λ r. (k : Name) → is_among (view_names names.now) k ≡ true → (has_name self.new.names k || is_among (view_names r.items) k) ≡ true) }
+        ensures left { IfOk result (λ r. (k : Name) → is_among (view_names names.now) k ≡ true →
+            (has_name self.new.names k || is_among (view_names r.items) k) ≡ true) }
         ensures fewer { IfOk result (λ r. length r.items ≤ length names.now) }
-        ensures stuck { IfOk result (λ r. length r.items ≡ length names.now → (k : Name) → is_among (view_names names.now) k ≡ true → is_ready spreads.now (has_name self.new.names) k ≡ false) }
+        ensures stuck { IfOk result (λ r. length r.items ≡ length names.now → (k : Name) → is_among (view_names names.now) k ≡ true →
+            is_ready spreads.now (has_name self.new.names) k ≡ false) }
     {
         let mut left = Vec::new(alloc);
         for name in names {
@@ -115,7 +120,8 @@ impl<'a> Taken<'a> {
 
     /// Takes a name whose spreads are taken, or no fragment's; whether it is taken now.
     fn take(&mut self, spreads: &SpreadsByName<'a>, name: &'a str) -> Result<bool, AllocError>
-        ensures taken { OnOk result ((fs : List SpecFragment) → AreSpreadsOf spreads.now fs → IsTaken fs (has_name self.old.names) (view_names self.old.order.items) → IsTaken fs (has_name self.new.names) (view_names self.new.order.items)) }
+        ensures taken { OnOk result ((fs : List SpecFragment) → AreSpreadsOf spreads.now fs →
+            IsTaken fs (has_name self.old.names) (view_names self.old.order.items) → IsTaken fs (has_name self.new.names) (view_names self.new.order.items)) }
         ensures stays { OnOk result ((k : Name) → has_name self.old.names k ≡ true → has_name self.new.names k ≡ true) }
         ensures is { IfOk result (λ b. b ≡ has_name self.new.names name.now) }
         ensures not_ready { IfOk result (λ b. b ≡ false → (self.new ≡ self.old) × (is_ready spreads.now (has_name self.old.names) name.now ≡ false)) }

@@ -22,7 +22,8 @@ use std::collections::HashSet;
 impl<'d, 'a, S: ScalarValue> FragmentsByName<'d, 'a, S> {
     /// Whether a definition that spreads these names spreads a fragment that is not there (5.5.2.1).
     pub fn spreads_unknown(&self, names: &[&str]) -> bool
-        ensures { (d : Document) (x : documents.Definition) → AreFragmentsOf S.shown self.now d → view_names names.now ≡ spreads (selections_of x) → result ≡ spreads_unknown d x }
+        ensures { (d : Document) (x : documents.Definition) → AreFragmentsOf S.shown self.now d → view_names names.now ≡ spreads (selections_of x) →
+            result ≡ spreads_unknown d x }
     {
         has_unknown(&self.spreads, names)
     }
@@ -36,7 +37,9 @@ impl<'d, 'a, S: ScalarValue> FragmentsByName<'d, 'a, S> {
         definition: &Definition<'a, S>,
         names: &[&'a str],
     ) -> Result<bool, AllocError>
-        ensures { IfOk result (λ b. (d : Document) → AreFragmentsOf S.shown self.now d → view_names names.now ≡ spreads (selections_of (view_definition S.shown definition.now)) → b ≡ spreads_itself d (view_definition S.shown definition.now)) }
+        ensures { IfOk result (λ b. (d : Document) → AreFragmentsOf S.shown self.now d →
+            view_names names.now ≡ spreads (selections_of (view_definition S.shown definition.now)) →
+            b ≡ spreads_itself d (view_definition S.shown definition.now)) }
     {
         match definition {
             Definition::Fragment(fragment) => {
@@ -51,7 +54,8 @@ impl<'d, 'a, S: ScalarValue> FragmentsByName<'d, 'a, S> {
     /// The names that an operation that spreads these names reaches: these, and all that they lead to (5.8.3). The time
     /// grows with the number of spreads. An error where memory is refused.
     pub fn reached(&self, alloc: Global, names: &[&'a str]) -> Result<HashSet<&'a str>, AllocError>
-        ensures { IfOk result (λ r. (d : Document) → AreFragmentsOf S.shown self.now d → (n : Name) → has_name r n ≡ is_reached (fragments d) (view_names names.now) n) }
+        ensures { IfOk result (λ r. (d : Document) → AreFragmentsOf S.shown self.now d → (n : Name) →
+            has_name r n ≡ is_reached (fragments d) (view_names names.now) n) }
     {
         reached(alloc, &self.spreads, names)
     }
@@ -79,7 +83,8 @@ fn leads_to<'a>(
     names: &[&'a str],
     name: &str,
 ) -> Result<bool, AllocError>
-    ensures { IfOk result (λ b. (fs : List SpecFragment) → AreSpreadsOf spreads.now fs → (is_free_of_cycles ≡ true → NoneReachesItself fs) → b ≡ is_reached fs (view_names names.now) name.now) }
+    ensures { IfOk result (λ b. (fs : List SpecFragment) → AreSpreadsOf spreads.now fs → (is_free_of_cycles ≡ true → NoneReachesItself fs) →
+        b ≡ is_reached fs (view_names names.now) name.now) }
 {
     if is_free_of_cycles && are_first(spreads, name, names) {
         return Ok(false);

@@ -61,7 +61,8 @@ module _ {K X : Type 0} (test : K → Bool) where
 
 module _ {K X : Type 0} (eq : K → K → Bool) (k : K) (w : X) where
   -- a key that is there takes the value, and a new key goes last
-  pub insert-found : (ks : List K) (vs : List X) → length vs ≡ length ks → list_any (eq k) ks ≡ true → insert_entry eq (zip ks vs) k w ≡ set_value (eq k) (zip ks vs) w
+  pub insert-found : (ks : List K) (vs : List X) → length vs ≡ length ks → list_any (eq k) ks ≡ true →
+      insert_entry eq (zip ks vs) k w ≡ set_value (eq k) (zip ks vs) w
   insert-found [] vs e there = cc
   insert-found (j ∷ ks) [] e there = absurd (omega arith)
   insert-found (j ∷ ks) (v ∷ vs) e there =
@@ -70,7 +71,8 @@ module _ {K X : Type 0} (eq : K → K → Bool) (k : K) (w : X) where
         | inr here ↦ rw here (ap (λ es. (j, v) ∷ es) (insert-found ks vs (omega arith) (sym (ap (λ b. b || list_any (eq k) ks) here) ∙ there)))
       ]
 
-  pub insert-new : (ks : List K) (vs : List X) → length vs ≡ length ks → list_any (eq k) ks ≡ false → insert_entry eq (zip ks vs) k w ≡ zip (ks ++ k ∷ []) (vs ++ w ∷ [])
+  pub insert-new : (ks : List K) (vs : List X) → length vs ≡ length ks → list_any (eq k) ks ≡ false →
+      insert_entry eq (zip ks vs) k w ≡ zip (ks ++ k ∷ []) (vs ++ w ∷ [])
   insert-new [] [] e gone = refl
   insert-new [] (v ∷ vs) e gone = absurd (omega arith)
   insert-new (j ∷ ks) [] e gone = absurd (omega arith)
@@ -98,7 +100,8 @@ cloned_length [] (l ∷ ls) c = absurd c
 cloned_length (k ∷ ks) [] c = absurd c
 cloned_length (k ∷ ks) (l ∷ ls) c = ap suc (cloned_length ks ls c.1)
 
-pub cloned_names : {X Y : Type 0} (ks ls : List (String Global)) (vs : List X) (ws : List Y) → AreClones ks ls → length vs ≡ length ks → length ws ≡ length ls → names (zip ls ws) ≡ names (zip ks vs)
+pub cloned_names : {X Y : Type 0} (ks ls : List (String Global)) (vs : List X) (ws : List Y) → AreClones ks ls → length vs ≡ length ks → length ws ≡ length ls →
+    names (zip ls ws) ≡ names (zip ks vs)
 cloned_names [] [] vs ws c e f = refl
 cloned_names [] (l ∷ ls) vs ws c e f = absurd c
 cloned_names (k ∷ ks) [] vs ws c e f = absurd c

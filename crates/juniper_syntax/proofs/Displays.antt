@@ -64,7 +64,8 @@ module _ {S : Type 0} (shown : S → Shown) where
 
   pub fields_written : (xs : List (Field S)) (i : ℕ) (x : Field S) (separator done all : Text) → i < length xs → x ≡ get_or xs i x
       → done ++ separated_fields separator (view_fields shown (drop i xs)) ≡ all
-      → (done ++ (separator ++ (string_bytes x.0.item ++ (codes ": " ++ display (view_input shown x.1.item))))) ++ separated_fields (codes ", ") (view_fields shown (drop (i + 1) xs)) ≡ all
+      → (done ++ (separator ++ (string_bytes x.0.item ++ (codes ": " ++ display (view_input shown x.1.item)))))
+      ++ separated_fields (codes ", ") (view_fields shown (drop (i + 1) xs)) ≡ all
   fields_written xs i x separator done all below at_i whole =
       let read = rw (left-is xs i x below at_i, more-fields-are) at whole in
       simp append_assoc read

@@ -33,7 +33,8 @@ keep_byte s done all start i low within plain whole =
 -- an escape ends the run
 pub escape_byte : (s done all : List ℕ) (start i : ℕ) → i < length s
     → done ++ (take (i - start) (drop start s) ++ flat_map written_byte (drop i s)) ≡ all
-    → (done ++ (take (i - start) (drop start s) ++ written_byte (get_or s i 0))) ++ (take (i + 1 - (i + 1)) (drop (i + 1) s) ++ flat_map written_byte (drop (i + 1) s)) ≡ all
+    → (done ++ (take (i - start) (drop start s) ++ written_byte (get_or s i 0)))
+    ++ (take (i + 1 - (i + 1)) (drop (i + 1) s) ++ flat_map written_byte (drop (i + 1) s)) ≡ all
 escape_byte s done all start i within whole =
     let zero : i + 1 - (i + 1) ≡ 0 = omega arith in
     let read = rw (drop_more s i 0 within) at whole in
@@ -46,4 +47,14 @@ unfolding written_byte hex_digit
 control_text b h quote backslash backspace feed line return tab =
     let below : nat_lt b 32 ≡ true = grind (arith, nat_tests) in
     let low : b < 256 = omega (arith, escaped_ascii b h) in
-    rw (hex_byte true b low, ne_eqb b 34 quote, ne_eqb b 92 backslash, ne_eqb b 8 backspace, ne_eqb b 12 feed, ne_eqb b 10 line, ne_eqb b 13 return, ne_eqb b 9 tab, below)
+    rw (
+      hex_byte true b low,
+      ne_eqb b 34 quote,
+      ne_eqb b 92 backslash,
+      ne_eqb b 8 backspace,
+      ne_eqb b 12 feed,
+      ne_eqb b 10 line,
+      ne_eqb b 13 return,
+      ne_eqb b 9 tab,
+      below,
+    )

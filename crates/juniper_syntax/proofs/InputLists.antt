@@ -57,16 +57,20 @@ module _ {S : Type 0} (shown : S → Shown) where
 
   pub fields_turn : (f : InputFields → InputFields) (xs made more : List (Field S)) (i : ℕ) (x : Field S) (k : String Global) (w : InputValue S)
       → more ≡ made ++ (record { item = k; span = x.0.span }, record { item = w; span = x.1.span }) ∷ [] → i < length xs → x ≡ get_or xs i x
-      → f (view_fields shown (x ∷ drop (i + 1) xs)) ≡ input_field (string_bytes k) (view_span x.0.span) (view_input shown w) (view_span x.1.span) (f (view_fields shown (drop (i + 1) xs)))
-      → append_fields (view_fields shown more) (f (view_fields shown (drop (i + 1) xs))) ≡ append_fields (view_fields shown made) (f (view_fields shown (drop i xs)))
+      → f (view_fields shown (x ∷ drop (i + 1) xs)) ≡ input_field (string_bytes k) (view_span x.0.span) (view_input shown w) (view_span x.1.span)
+      (f (view_fields shown (drop (i + 1) xs)))
+      → append_fields (view_fields shown more) (f (view_fields shown (drop (i + 1) xs)))
+      ≡ append_fields (view_fields shown made) (f (view_fields shown (drop i xs)))
   fields_turn f xs made more i x k w pushed below at_i one =
       let here : drop i xs ≡ x ∷ drop (i + 1) xs = drop_more xs i x below ∙ ap (λ y. y ∷ drop (i + 1) xs) (sym at_i) in
-      rw (pushed, here, one) (fields_push made (record { item = k; span = x.0.span }, record { item = w; span = x.1.span }) (f (view_fields shown (drop (i + 1) xs))))
+      rw (pushed, here, one) (fields_push made (record { item = k; span = x.0.span }, record { item = w; span = x.1.span })
+      (f (view_fields shown (drop (i + 1) xs))))
 
   -- a turn that leaves the field out
   pub fields_skip : (f : InputFields → InputFields) (xs made : List (Field S)) (i : ℕ) (x : Field S) → i < length xs → x ≡ get_or xs i x
       → f (view_fields shown (x ∷ drop (i + 1) xs)) ≡ f (view_fields shown (drop (i + 1) xs))
-      → append_fields (view_fields shown made) (f (view_fields shown (drop (i + 1) xs))) ≡ append_fields (view_fields shown made) (f (view_fields shown (drop i xs)))
+      → append_fields (view_fields shown made) (f (view_fields shown (drop (i + 1) xs)))
+      ≡ append_fields (view_fields shown made) (f (view_fields shown (drop i xs)))
   fields_skip f xs made i x below at_i one =
       let here : drop i xs ≡ x ∷ drop (i + 1) xs = drop_more xs i x below ∙ ap (λ y. y ∷ drop (i + 1) xs) (sym at_i) in
       rw (here, one) refl

@@ -23,7 +23,8 @@ module _ {S : Type 0} (shown : S → Shown) where
   pub view-List : (v : Vec (Spanning (InputValue S) Span) Global) → view_input shown (ListOf v) ≡ spec.list (view_items shown v.items)
   view-List v = search (rules, the_lemmas)
 
-  pub view-Object : (v : Vec (Spanning (String Global) Span × Spanning (InputValue S) Span) Global) → view_input shown (Object v) ≡ spec.object (view_fields shown v.items)
+  pub view-Object : (v : Vec (Spanning (String Global) Span × Spanning (InputValue S) Span) Global) →
+      view_input shown (Object v) ≡ spec.object (view_fields shown v.items)
   view-Object v = search (rules, the_lemmas)
 
 -- the views of an input value, level by level

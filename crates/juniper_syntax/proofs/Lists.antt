@@ -9,7 +9,8 @@ use Rattle.std.proofs.lemmas.List.{drop_more, take_all, length-drop}
 pub left-is : {A : Type 0} (xs : List A) (i : ℕ) (x : A) → i < length xs → x ≡ get_or xs i x → drop i xs ≡ x ∷ drop (i + 1) xs
 left-is xs i x below is = drop_more xs i x below ∙ ap (λ y. y ∷ drop (i + 1) xs) (sym is)
 
-pub seen-left-is : {A B : Type 0} (view : A → B) (xs : List A) (i : ℕ) (x : A) → i < length xs → x ≡ get_or xs i x → map view (drop i xs) ≡ view x ∷ map view (drop (i + 1) xs)
+pub seen-left-is : {A B : Type 0} (view : A → B) (xs : List A) (i : ℕ) (x : A) → i < length xs → x ≡ get_or xs i x →
+    map view (drop i xs) ≡ view x ∷ map view (drop (i + 1) xs)
 seen-left-is view xs i x below is = ap (map view) (left-is xs i x below is)
 
 pub seen-last : {A B : Type 0} (view : A → B) (ys : List A) (x : A) → map view (ys ++ x ∷ []) ≡ map view ys ++ view x ∷ []

@@ -26,7 +26,8 @@ shows_text (boolean b) t e = cc
 
 module _ {S T : Type 0} (seen : S → Shown) (shown : T → Shown) where
   -- a turn that makes w of the item x
-  pub mapped_turn : (xs : List (Value S)) (made more : List (Value T)) (i : ℕ) (x : Value S) (w : Value T) → more ≡ made ++ w ∷ [] → i < length xs → x ≡ get_or xs i x
+  pub mapped_turn : (xs : List (Value S)) (made more : List (Value T)) (i : ℕ) (x : Value S) (w : Value T) → more ≡ made ++ w ∷ [] → i < length xs →
+      x ≡ get_or xs i x
       → view_value shown w ≡ view_value seen x
       → append_values (view_values shown more) (view_values seen (drop (i + 1) xs)) ≡ append_values (view_values shown made) (view_values seen (drop i xs))
   mapped_turn xs made more i x w pushed below at_i same =
@@ -34,7 +35,8 @@ module _ {S T : Type 0} (seen : S → Shown) (shown : T → Shown) where
       rw (pushed, here, sym same) (values_push shown made w (view_values seen (drop (i + 1) xs)))
 
   -- after the loop
-  pub mapped_end : (xs : List (Value S)) (made : List (Value T)) (i : ℕ) → length xs ≤ i → view_values shown made ≡ append_values (view_values shown made) (view_values seen (drop i xs))
+  pub mapped_end : (xs : List (Value S)) (made : List (Value T)) (i : ℕ) → length xs ≤ i →
+      view_values shown made ≡ append_values (view_values shown made) (view_values seen (drop i xs))
   mapped_end xs made i past =
       let empty : drop i xs ≡ [] = drop_all i xs past in
       rw empty (sym (append_values-none (view_values shown made)))

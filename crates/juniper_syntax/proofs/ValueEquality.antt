@@ -27,7 +27,8 @@ module _ {S : Type 0} (shown : S → Shown) (E : Value S → Value S → Bool) w
   abbrev Seen : Value S → Type 0
   Seen u = (v : Value S) → E u v ≡ same_value (view_value shown u) (view_value shown v)
 
-  items-same : (us : List ((u : Value S) × Seen u)) (vs : List (Value S)) → pointwise E (map (λ u. u.0) us) vs ≡ same_items (view_values shown (map (λ u. u.0) us)) (view_values shown vs)
+  items-same : (us : List ((u : Value S) × Seen u)) (vs : List (Value S)) →
+      pointwise E (map (λ u. u.0) us) vs ≡ same_items (view_values shown (map (λ u. u.0) us)) (view_values shown vs)
   unfolding same_value
   items-same [] [] = refl
   items-same [] (v ∷ vs) = refl
@@ -46,7 +47,8 @@ module _ {S : Type 0} (shown : S → Shown) (E : Value S → Value S → Bool) w
   entries-same (u ∷ us) [] = refl
   entries-same (u ∷ us) (v ∷ vs) =
       ap₂ (λ a b. (string_eq u.0 v.0 && a) && b) (u.1.1 v.1) (entries-same us vs)
-      ∙ and-last (string_eq u.0 v.0) (same_value (view_value shown u.1.0) (view_value shown v.1)) (same_entries (view_entries shown (map (λ u. (u.0, u.1.0)) us)) (view_entries shown vs))
+      ∙ and-last (string_eq u.0 v.0) (same_value (view_value shown u.1.0) (view_value shown v.1))
+      (same_entries (view_entries shown (map (λ u. (u.0, u.1.0)) us)) (view_entries shown vs))
 
 module _ (T : RattleType) (E : Ghosts T.Denot) (E-dict : Dict) (lawful : Lawful T E E-dict) where
   abbrev eq-value : Value T.Denot → Value T.Denot → Bool
@@ -54,7 +56,8 @@ module _ (T : RattleType) (E : Ghosts T.Denot) (E-dict : Dict) (lawful : Lawful 
 
   abbrev eq-object : Object T.Denot → Object T.Denot → Bool
   eq-object =
-      compared (block.the_members T.Denot) (Carrier.Values (block.the_members T.Denot) (block.the_sigs T.Denot) (block.the_carrier T.Denot)) (block.the_depth T.Denot) Bool true
+      compared (block.the_members T.Denot) (Carrier.Values (block.the_members T.Denot) (block.the_sigs T.Denot) (block.the_carrier T.Denot))
+      (block.the_depth T.Denot) Bool true
       (impl.the_step T E E-dict) block.member-Object
 
   -- two layers, with what they hold compared by `==`
@@ -68,7 +71,8 @@ module _ (T : RattleType) (E : Ghosts T.Denot) (E-dict : Dict) (lawful : Lawful 
   abbrev opened : Value T.Denot → Value T.Denot → Bool
   opened = laws.unfolded T E E-dict lawful
 
-  by-layers : (x y : Value-F T.Denot (Value T.Denot) (Object T.Denot)) (u v : Value T.Denot) → out-Value T.Denot u ≡ x → out-Value T.Denot v ≡ y → opened u v ≡ layers x y
+  by-layers : (x y : Value-F T.Denot (Value T.Denot) (Object T.Denot)) (u v : Value T.Denot) → out-Value T.Denot u ≡ x → out-Value T.Denot v ≡ y →
+      opened u v ≡ layers x y
   by-layers open_value.Null open_value.Null u v p q = rw (p, q) refl
   by-layers open_value.Null (open_value.Scalar y) u v p q = rw (p, q) refl
   by-layers open_value.Null (open_value.List y) u v p q = rw (p, q) refl
@@ -87,11 +91,13 @@ module _ (T : RattleType) (E : Ghosts T.Denot) (E-dict : Dict) (lawful : Lawful 
   by-layers (open_value.Object x) (open_value.Object y) u v p q = rw (p, q) refl
 
   eq-rolled : (x y : Value-F T.Denot (Value T.Denot) (Object T.Denot)) → eq-value (roll-Value T.Denot x) (roll-Value T.Denot y) ≡ layers x y
-  eq-rolled x y = laws.is T E E-dict lawful (roll-Value T.Denot x) (roll-Value T.Denot y) ∙ by-layers x y (roll-Value T.Denot x) (roll-Value T.Denot y) (out-roll-Value T.Denot x) (out-roll-Value T.Denot y)
+  eq-rolled x y = laws.is T E E-dict lawful (roll-Value T.Denot x) (roll-Value T.Denot y)
+      ∙ by-layers x y (roll-Value T.Denot x) (roll-Value T.Denot y) (out-roll-Value T.Denot x) (out-roll-Value T.Denot y)
 
   eq-opened : (o p : Object T.Denot) → eq-object o p ≡ fields_eq eq-value (out-Object T.Denot o).fields (out-Object T.Denot p).fields
   eq-opened o p =
-      compared_is (block.the_members T.Denot) (Carrier.Values (block.the_members T.Denot) (block.the_sigs T.Denot) (block.the_carrier T.Denot)) (block.the_depth T.Denot) Bool true
+      compared_is (block.the_members T.Denot) (Carrier.Values (block.the_members T.Denot) (block.the_sigs T.Denot) (block.the_carrier T.Denot))
+      (block.the_depth T.Denot) Bool true
       (impl.the_step T E E-dict) (laws.local T E E-dict lawful) block.member-Object o p
 
   module _ (shown : T.Denot → Shown) (same : (a b : T.Denot) → E.eq a b ≡ same_shown (shown a) (shown b)) where
@@ -142,14 +148,16 @@ module _ (T : RattleType) (E : Ghosts T.Denot) (E-dict : Dict) (lawful : Lawful 
     value-step : (x : SeenLayer) → ValueSeen (roll-Value T.Denot (bare x))
     value-step x v =
         let y = out-Value T.Denot v in
-        subst (λ w. eq-value (roll-Value T.Denot (bare x)) w ≡ same_value (view_value shown (roll-Value T.Denot (bare x))) (view_value shown w)) (roll-out-Value T.Denot v)
+        subst (λ w. eq-value (roll-Value T.Denot (bare x)) w ≡ same_value (view_value shown (roll-Value T.Denot (bare x))) (view_value shown w))
+        (roll-out-Value T.Denot v)
         (eq-rolled (bare x) y ∙ (layers-same x y ∙ sym (ap₂ same_value (rolled-seen (bare x)) (rolled-seen y))))
 
     abbrev SeenFields : Type 0
     SeenFields = Object-F T.Denot ((u : Value T.Denot) × ValueSeen u) ((o : Object T.Denot) × ObjectSeen o)
 
     abbrev bare-fields : SeenFields → Object-F T.Denot (Value T.Denot) (Object T.Denot)
-    bare-fields = map-Object T.Denot ((u : Value T.Denot) × ValueSeen u) ((o : Object T.Denot) × ObjectSeen o) (Value T.Denot) (Object T.Denot) (λ u. u.0) (λ o. o.0)
+    bare-fields =
+        map-Object T.Denot ((u : Value T.Denot) × ValueSeen u) ((o : Object T.Denot) × ObjectSeen o) (Value T.Denot) (Object T.Denot) (λ u. u.0) (λ o. o.0)
 
     object-step : (x : SeenFields) → ObjectSeen (roll-Object T.Denot (bare-fields x))
     object-step x p =

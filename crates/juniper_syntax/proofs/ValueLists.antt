@@ -21,19 +21,22 @@ append_values-none (item u us) = ap (item u) (append_values-none us)
 
 module _ {S : Type 0} (shown : S → Shown) where
   -- an item at the end of the front is one at the beginning of what is left
-  pub values_push : (us : List (Value S)) (u : Value S) (vs : Values) → append_values (view_values shown (us ++ u ∷ [])) vs ≡ append_values (view_values shown us) (item (view_value shown u) vs)
+  pub values_push : (us : List (Value S)) (u : Value S) (vs : Values) →
+      append_values (view_values shown (us ++ u ∷ [])) vs ≡ append_values (view_values shown us) (item (view_value shown u) vs)
   values_push [] u vs = refl
   values_push (w ∷ us) u vs = ap (item (view_value shown w)) (values_push us u vs)
 
   -- a turn that copies the item x
-  pub values_turn : (xs made more : List (Value S)) (i : ℕ) (x w : Value S) → more ≡ made ++ w ∷ [] → i < length xs → x ≡ get_or xs i x → view_value shown w ≡ view_value shown x
+  pub values_turn : (xs made more : List (Value S)) (i : ℕ) (x w : Value S) → more ≡ made ++ w ∷ [] → i < length xs → x ≡ get_or xs i x →
+      view_value shown w ≡ view_value shown x
       → append_values (view_values shown more) (view_values shown (drop (i + 1) xs)) ≡ append_values (view_values shown made) (view_values shown (drop i xs))
   values_turn xs made more i x w pushed below at_i same =
       let here : drop i xs ≡ x ∷ drop (i + 1) xs = drop_more xs i x below ∙ ap (λ y. y ∷ drop (i + 1) xs) (sym at_i) in
       rw (pushed, here, sym same) (values_push made w (view_values shown (drop (i + 1) xs)))
 
   -- after the loop
-  pub values_end : (xs made : List (Value S)) (i : ℕ) → length xs ≤ i → view_values shown made ≡ append_values (view_values shown made) (view_values shown (drop i xs))
+  pub values_end : (xs made : List (Value S)) (i : ℕ) → length xs ≤ i →
+      view_values shown made ≡ append_values (view_values shown made) (view_values shown (drop i xs))
   values_end xs made i past =
       let empty : drop i xs ≡ [] = drop_all i xs past in
       rw empty (sym (append_values-none (view_values shown made)))
@@ -55,7 +58,8 @@ module _ {S T : Type 0} (seen : S → Shown) (shown : T → Shown) where
       ap suc (values_long us vs (item_inner (view_value shown u) (view_value seen v) (view_values shown us) (view_values seen vs) e).1)
 
   -- beside keys that say the same they are the same entries
-  pub entries_same : (es : List (Pair T)) (fs : List (Pair S)) → names es ≡ names fs → view_values shown (values_of es) ≡ view_values seen (values_of fs) → view_entries shown es ≡ view_entries seen fs
+  pub entries_same : (es : List (Pair T)) (fs : List (Pair S)) → names es ≡ names fs → view_values shown (values_of es) ≡ view_values seen (values_of fs) →
+      view_entries shown es ≡ view_entries seen fs
   entries_same [] [] n e = refl
   entries_same [] (g ∷ fs) n e = cc
   entries_same (f ∷ es) [] n e = cc

@@ -62,7 +62,8 @@ found_some f o k es e = still_some f o ∙ (ap is_some e ∙ found_is_there k es
 
 -- what is found at a key, and what a change at it shows
 module _ {S : Type 0} (shown : S → Shown) (key : Name) where
-  looked : (b : Bool) (v : Value S) (o : Option (Value S)) → cond b (Some (view_value shown v)) (option_map (view_value shown) o) ≡ option_map (view_value shown) (cond b (Some v) o)
+  looked : (b : Bool) (v : Value S) (o : Option (Value S)) → cond b (Some (view_value shown v)) (option_map (view_value shown) o)
+      ≡ option_map (view_value shown) (cond b (Some v) o)
   looked true v o = refl
   looked false v o = refl
 
@@ -70,16 +71,19 @@ module _ {S : Type 0} (shown : S → Shown) (key : Name) where
   unfolding look_up
   look_up-view [] = refl
   look_up-view (e ∷ es) =
-      ap (cond (bytes_eq key (string_bytes e.0)) (Some (view_value shown e.1))) (look_up-view es) ∙ looked (bytes_eq key (string_bytes e.0)) e.1 (lookup (is_key key) es)
+      ap (cond (bytes_eq key (string_bytes e.0)) (Some (view_value shown e.1))) (look_up-view es)
+      ∙ looked (bytes_eq key (string_bytes e.0)) e.1 (lookup (is_key key) es)
 
   -- a value written where the key is
-  pub put-set : (es : List (Pair S)) (v w : Value S) → lookup (is_key key) es ≡ Some v → view_entries shown (set_value (is_key key) es w) ≡ put key (view_value shown w) (view_entries shown es)
+  pub put-set : (es : List (Pair S)) (v w : Value S) → lookup (is_key key) es ≡ Some v →
+      view_entries shown (set_value (is_key key) es w) ≡ put key (view_value shown w) (view_entries shown es)
   unfolding put
   put-set [] v w there = cc
   put-set (e ∷ es) v w there =
       elim (cases_Bool (bytes_eq key (string_bytes e.0))) [
         | inl here ↦ rw here refl
-        | inr here ↦ rw here (ap (entry (string_bytes e.0) (view_value shown e.1)) (put-set es v w (sym (ap (λ b. cond b (Some e.1) (lookup (is_key key) es)) here) ∙ there)))
+        | inr here ↦ rw here (ap (entry (string_bytes e.0) (view_value shown e.1))
+            (put-set es v w (sym (ap (λ b. cond b (Some e.1) (lookup (is_key key) es)) here) ∙ there)))
       ]
 
   -- nothing is written where it is not

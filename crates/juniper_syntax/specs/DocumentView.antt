@@ -63,7 +63,14 @@ module _ {S : Type 0} (shown : S → Shown) where
   Placed = place.Span → Selections → Selections
 
   abbrev pub view_head : {A B C : Type 0} → Field-F S A B C → place.Span → Head
-  view_head f at = record { alias = option_map view_word f.alias; name = view_word f.name; arguments = view_arguments f.arguments; directives = view_directives f.directives; has_set = is_some f.selection_set; span = at }
+  view_head f at = record {
+    alias = option_map view_word f.alias;
+    name = view_word f.name;
+    arguments = view_arguments f.arguments;
+    directives = view_directives f.directives;
+    has_set = is_some f.selection_set;
+    span = at;
+  }
 
   abbrev pub below_of : Option (Vec (Selections → Selections) Global) → Selections
   below_of None = end

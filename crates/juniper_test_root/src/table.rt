@@ -29,10 +29,10 @@
 //!   with a mutation type where `mutation NAME` stands there.
 //! - `answers:` is followed by a script as [`crate::read_script`] reads it; what no line tells is null.
 //! - `rows:` is followed by the rows: a request, `=>` and its answer as one line of JSON, or `refused: ` and why it is refused,
-//!   with `; ` between several reasons; where a mutation took steps, ` steps: ` and their number follow. A line behind an answer that begins with a blank goes on with it. Before a row may stand
-//!   the operation's name, the variables' values, and lines `sees: SIGHT` of what look-ahead shows at fields (as `sights.rt` reads
-//!   them), which are for this row alone; where look-ahead shows something else, the request is refused: `Out of memory`. Empty lines
-//!   between rows, and those that begin with `#`, are left out.
+//!   with `; ` between several reasons; where a mutation took steps, ` steps: ` and their number follow. A line behind an answer that begins
+//!   with a blank goes on with it. Before a row may stand the operation's name, the variables' values, and lines `sees: SIGHT` of
+//!   what look-ahead shows at fields (as `sights.rt` reads them), which are for this row alone; where look-ahead shows something
+//!   else, the request is refused: `Out of memory`. Empty lines between rows, and those that begin with `#`, are left out.
 
 use std::alloc::Global;
 use std::mem;

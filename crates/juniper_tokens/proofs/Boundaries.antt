@@ -61,7 +61,8 @@ number_boundary (b ∷ bs) u = elim (cases_Bool (b == 45)) [
 -- a comment ends before ASCII or at the end
 comment_boundary : (bs : List ℕ) → IsCharBoundary bs (prefix_len is_source_byte bs)
 comment_boundary bs = elim (cases_lt (prefix_len is_source_byte bs) (length bs)) [
-  | inl less ↦ IsCharBoundary-before_ascii bs (prefix_len is_source_byte bs) less (no_source_small (get_or bs (prefix_len is_source_byte bs) 0) (prefix_len_stops is_source_byte bs 0 less))
+  | inl less ↦ IsCharBoundary-before_ascii bs (prefix_len is_source_byte bs) less
+      (no_source_small (get_or bs (prefix_len is_source_byte bs) 0) (prefix_len_stops is_source_byte bs 0 less))
   | inr most ↦
       let same : prefix_len is_source_byte bs ≡ length bs = omega (arith, prefix_len-le-length is_source_byte bs) in
       rw same (IsCharBoundary-end bs)

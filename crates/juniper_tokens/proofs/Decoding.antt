@@ -78,7 +78,8 @@ unfolding decoded_int
 no_int_decoded w e = rw e refl
 
 -- what `parse` answers at an Int is what it stands for
-pub decoded_ok : (w : List ℕ) (i : ℤ) → is_int w ≡ true → SFits w32 (signed_digits_value 10 w) → i ≡ signed_digits_value 10 w → decoded_int w ≡ Some (to_z w32 (of_z w32 i))
+pub decoded_ok : (w : List ℕ) (i : ℤ) → is_int w ≡ true → SFits w32 (signed_digits_value 10 w) → i ≡ signed_digits_value 10 w →
+    decoded_int w ≡ Some (to_z w32 (of_z w32 i))
 decoded_ok w i e small is =
     let p = parsed w e in
     let same : i ≡ int_value w = is ∙ p.value in

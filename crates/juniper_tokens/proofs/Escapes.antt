@@ -40,7 +40,8 @@ escape_stops characters inside b bs e = absurd inside
 escape_stops after_backslash inside b bs e = rw (e, escape_from) refl
 escape_stops (hex_digits k n) inside b bs e = rw (e, escape_from) refl
 
-pub escape_goes : (m : Mode) → IsInside m → (b : ℕ) (bs : List ℕ) (p : Mode × Text) → read_byte m b ≡ Some p → escape_from m (b ∷ bs) ≡ join p.1 (escape_from p.0 bs)
+pub escape_goes : (m : Mode) → IsInside m → (b : ℕ) (bs : List ℕ) (p : Mode × Text) → read_byte m b ≡ Some p →
+    escape_from m (b ∷ bs) ≡ join p.1 (escape_from p.0 bs)
 unfolding escape_from
 escape_goes characters inside b bs p e = absurd inside
 escape_goes after_backslash inside b bs p e = rw (e, escape_from) refl
@@ -78,7 +79,8 @@ before_joined s (Some q) = before_append s q.0 (decode_from characters q.1)
 -- ---- parts
 
 -- one byte of an escape, and what follows it
-byte_decoded : (m : Mode) → IsInside m → (b : ℕ) (bs : List ℕ) (o : Option (Mode × Text)) → read_byte m b ≡ o → ((k : Mode) → decode_from k bs ≡ decoded_behind (escape_from k bs))
+byte_decoded : (m : Mode) → IsInside m → (b : ℕ) (bs : List ℕ) (o : Option (Mode × Text)) → read_byte m b ≡ o →
+    ((k : Mode) → decode_from k bs ≡ decoded_behind (escape_from k bs))
     → decode_from m (b ∷ bs) ≡ decoded_behind (escape_from m (b ∷ bs))
 byte_decoded m inside b bs None e more = decode_stops m b bs e ∙ sym (ap decoded_behind (escape_stops m inside b bs e))
 byte_decoded m inside b bs (Some p) e more =
@@ -113,14 +115,16 @@ pub read_backslash : (b : ℕ) → b == backslash ≡ true → read_byte charact
 unfolding read_byte
 read_backslash b e = rw e refl
 
-plain_decoded : (bs : List ℕ) → decode_from characters bs ≡ before (take (prefix_len is_plain bs) bs) (decode_from characters (drop (prefix_len is_plain bs) bs))
+plain_decoded : (bs : List ℕ) → decode_from characters bs ≡ before (take (prefix_len is_plain bs) bs)
+    (decode_from characters (drop (prefix_len is_plain bs) bs))
 unfolding decode_from before
 plain_decoded [] = refl
 plain_decoded (b ∷ bs) = elim (cases_Bool (is_plain b)) [
   | inl e ↦
       let n = prefix_len is_plain bs in
       rw (run_suc is_plain b bs e)
-      (decode_goes characters b bs (characters, b ∷ []) (read_plain b e) ∙ ap (before (b ∷ [])) (plain_decoded bs) ∙ before_append (b ∷ []) (take n bs) (decode_from characters (drop n bs)))
+      (decode_goes characters b bs (characters, b ∷ []) (read_plain b e) ∙ ap (before (b ∷ [])) (plain_decoded bs)
+      ∙ before_append (b ∷ []) (take n bs) (decode_from characters (drop n bs)))
   | inr e ↦ rw (run_zero is_plain b bs e) (sym (before_nil (decode_from characters (b ∷ bs))))
 ]
 
@@ -133,7 +137,8 @@ not_plain b bs none = elim (cases_Bool (is_plain b)) [
 front_decoded : (b : ℕ) (bs : List ℕ) → is_plain b ≡ false → decode_from characters (b ∷ bs) ≡ decoded_behind (escape (b ∷ bs))
 unfolding escape
 front_decoded b bs e = elim (cases_Bool (b == backslash)) [
-  | inl f ↦ rw f (decode_goes characters b bs (after_backslash, []) (read_backslash b f) ∙ before_nil (decode_from after_backslash bs) ∙ escape_decoded bs after_backslash)
+  | inl f ↦ rw f (decode_goes characters b bs (after_backslash, []) (read_backslash b f) ∙ before_nil (decode_from after_backslash bs)
+      ∙ escape_decoded bs after_backslash)
   | inr f ↦ rw f (decode_stops characters b bs (read_other b e f))
 ]
 
@@ -151,7 +156,8 @@ joined : (s : Text) (o : Option (Text × Text)) (q : Text × Text) → join s o 
 joined s None q e = absurd (none-some q e)
 joined s (Some r) q e = (r, refl, ap (λ (x : Text × Text). x.1) (same_Some (s ++ r.0, r.1) q e))
 
-byte_shorter : (m : Mode) → IsInside m → (b : ℕ) (bs : List ℕ) (o : Option (Mode × Text)) → read_byte m b ≡ o → (q : Text × Text) → escape_from m (b ∷ bs) ≡ Some q
+byte_shorter : (m : Mode) → IsInside m → (b : ℕ) (bs : List ℕ) (o : Option (Mode × Text)) → read_byte m b ≡ o → (q : Text × Text) →
+    escape_from m (b ∷ bs) ≡ Some q
     → ((k : Mode) (r : Text × Text) → escape_from k bs ≡ Some r → length r.1 ≤ length bs) → length q.1 ≤ suc (length bs)
 byte_shorter m inside b bs None e q is more = absurd (none-some q (sym (escape_stops m inside b bs e) ∙ is))
 byte_shorter m inside b bs (Some p) e q is more =
@@ -164,8 +170,10 @@ unfolding escape_from
 escape_from_shorter bs characters q e = omega (arith, ap length (ap (λ (x : Text × Text). x.1) (same_Some ([], bs) q e)))
 escape_from_shorter [] after_backslash q e = absurd (none-some q e)
 escape_from_shorter [] (hex_digits k n) q e = absurd (none-some q e)
-escape_from_shorter (b ∷ bs) after_backslash q e = byte_shorter after_backslash tt b bs (read_byte after_backslash b) refl q e (λ k r. escape_from_shorter bs k r)
-escape_from_shorter (b ∷ bs) (hex_digits k n) q e = byte_shorter (hex_digits k n) tt b bs (read_byte (hex_digits k n) b) refl q e (λ j r. escape_from_shorter bs j r)
+escape_from_shorter (b ∷ bs) after_backslash q e =
+    byte_shorter after_backslash tt b bs (read_byte after_backslash b) refl q e (λ k r. escape_from_shorter bs k r)
+escape_from_shorter (b ∷ bs) (hex_digits k n) q e =
+    byte_shorter (hex_digits k n) tt b bs (read_byte (hex_digits k n) b) refl q e (λ j r. escape_from_shorter bs j r)
 
 escape_shorter : (bs : List ℕ) (q : Text × Text) → escape bs ≡ Some q → length q.1 < length bs
 unfolding escape
@@ -227,7 +235,8 @@ inside_small (hex_digits k n) inside b p e = digit_small k n b (hex_value b) p r
 pub behind_small : (b : ℕ) (bs : List ℕ) → b < 128 → IsUtf8 (b ∷ bs) → IsUtf8 bs
 behind_small b bs small u = IsUtf8-drop (b ∷ bs) 1 u (IsCharBoundary-after_ascii (b ∷ bs) 0 u (omega arith) small)
 
-byte_utf8 : (m : Mode) → IsInside m → (b : ℕ) (bs : List ℕ) (o : Option (Mode × Text)) → read_byte m b ≡ o → (q : Text × Text) → escape_from m (b ∷ bs) ≡ Some q → IsUtf8 (b ∷ bs)
+byte_utf8 : (m : Mode) → IsInside m → (b : ℕ) (bs : List ℕ) (o : Option (Mode × Text)) → read_byte m b ≡ o → (q : Text × Text) →
+    escape_from m (b ∷ bs) ≡ Some q → IsUtf8 (b ∷ bs)
     → ((k : Mode) (r : Text × Text) → escape_from k bs ≡ Some r → IsUtf8 bs → IsUtf8 r.1) → IsUtf8 q.1
 byte_utf8 m inside b bs None e q is u more = absurd (none-some q (sym (escape_stops m inside b bs e) ∙ is))
 byte_utf8 m inside b bs (Some p) e q is u more =
@@ -248,7 +257,8 @@ pub letter_read : (b c : ℕ) (bs : List ℕ) → b == 117 ≡ false → escaped
 unfolding read_byte
 letter_read b c bs f e =
     let reads : read_byte after_backslash b ≡ Some (characters, c ∷ []) = rw (f, e) refl in
-    escape_goes after_backslash tt b bs (characters, c ∷ []) reads ∙ ap (join (c ∷ [])) (escape_done bs) ∙ ap (λ t. Some (t, bs)) (sym (encode_ascii c (escaped_ascii b c e)))
+    escape_goes after_backslash tt b bs (characters, c ∷ []) reads ∙ ap (join (c ∷ [])) (escape_done bs)
+    ∙ ap (λ t. Some (t, bs)) (sym (encode_ascii c (escaped_ascii b c e)))
 
 pub letter_unread : (b : ℕ) (bs : List ℕ) → b == 117 ≡ false → escaped b ≡ None → escape_from after_backslash (b ∷ bs) ≡ None
 unfolding read_byte
@@ -260,7 +270,8 @@ join_nil (Some q) = refl
 
 pub unicode_read : (bs : List ℕ) → escape_from after_backslash (117 ∷ bs) ≡ escape_from (hex_digits 0 0) bs
 unfolding read_byte
-unicode_read bs = let reads : read_byte after_backslash 117 ≡ Some (hex_digits 0 0, []) = refl in escape_goes after_backslash tt 117 bs (hex_digits 0 0, []) reads ∙ join_nil (escape_from (hex_digits 0 0) bs)
+unicode_read bs = let reads : read_byte after_backslash 117 ≡ Some (hex_digits 0 0, []) = refl in
+    escape_goes after_backslash tt 117 bs (hex_digits 0 0, []) reads ∙ join_nil (escape_from (hex_digits 0 0) bs)
 
 pub digit_unread : (k n b : ℕ) (bs : List ℕ) → hex_value b ≡ None → escape_from (hex_digits k n) (b ∷ bs) ≡ None
 digit_unread k n b bs e = escape_stops (hex_digits k n) tt b bs (digit_none k n b e)
@@ -277,15 +288,18 @@ no_character : (n d : ℕ) → is_surrogate (n * 16 + d) ≡ true → add_digit 
 unfolding add_digit
 no_character n d e = rw (e, add_digit) refl
 
-pub digit_read : (k n b d : ℕ) (bs : List ℕ) → hex_value b ≡ Some d → k == 3 ≡ false → escape_from (hex_digits k n) (b ∷ bs) ≡ escape_from (hex_digits (k + 1) (n * 16 + d)) bs
+pub digit_read : (k n b d : ℕ) (bs : List ℕ) → hex_value b ≡ Some d → k == 3 ≡ false →
+    escape_from (hex_digits k n) (b ∷ bs) ≡ escape_from (hex_digits (k + 1) (n * 16 + d)) bs
 digit_read k n b d bs e f =
     let more = hex_digits (k + 1) (n * 16 + d) in
     escape_goes (hex_digits k n) tt b bs (more, []) (digit_some k n b d e ∙ more_digits k n d f) ∙ join_nil (escape_from more bs)
 
-last_read : (n b d : ℕ) (bs : List ℕ) → hex_value b ≡ Some d → is_surrogate (n * 16 + d) ≡ false → escape_from (hex_digits 3 n) (b ∷ bs) ≡ Some (encode_utf8 (n * 16 + d), bs)
+last_read : (n b d : ℕ) (bs : List ℕ) → hex_value b ≡ Some d → is_surrogate (n * 16 + d) ≡ false →
+    escape_from (hex_digits 3 n) (b ∷ bs) ≡ Some (encode_utf8 (n * 16 + d), bs)
 last_read n b d bs e f =
     let word = encode_utf8 (n * 16 + d) in
-    escape_goes (hex_digits 3 n) tt b bs (characters, word) (digit_some 3 n b d e ∙ last_digit n d f) ∙ ap (join word) (escape_done bs) ∙ ap (λ t. Some (t, bs)) (append-nil word)
+    escape_goes (hex_digits 3 n) tt b bs (characters, word) (digit_some 3 n b d e ∙ last_digit n d f) ∙ ap (join word) (escape_done bs)
+    ∙ ap (λ t. Some (t, bs)) (append-nil word)
 
 surrogate_unread : (n b d : ℕ) (bs : List ℕ) → hex_value b ≡ Some d → is_surrogate (n * 16 + d) ≡ true → escape_from (hex_digits 3 n) (b ∷ bs) ≡ None
 surrogate_unread n b d bs e f = escape_stops (hex_digits 3 n) tt b bs (digit_some 3 n b d e ∙ no_character n d f)
@@ -302,7 +316,8 @@ too_few [] k n few = refl
 too_few (b ∷ bs) k n few = few_digits k n b bs (hex_value b) refl (ne_eqb k 3 (λ three. omega arith)) (λ d. too_few bs (k + 1) (n * 16 + d) (omega arith))
 
 -- the first of four digits, all of them but the last, and all of them
-two_read : (a b w x : ℕ) (bs : List ℕ) → hex_value a ≡ Some w → hex_value b ≡ Some x → escape_from (hex_digits 0 0) (a ∷ b ∷ bs) ≡ escape_from (hex_digits 2 (w * 16 + x)) bs
+two_read : (a b w x : ℕ) (bs : List ℕ) → hex_value a ≡ Some w → hex_value b ≡ Some x →
+    escape_from (hex_digits 0 0) (a ∷ b ∷ bs) ≡ escape_from (hex_digits 2 (w * 16 + x)) bs
 two_read a b w x bs e f =
     digit_read 0 0 a w (b ∷ bs) e refl ∙ digit_read 1 (0 * 16 + w) b x bs f refl ∙ ap (λ n. escape_from (hex_digits 2 n) bs) (omega arith)
 
@@ -317,13 +332,15 @@ code_of w x y z = w * 4096 + x * 256 + y * 16 + z
 code_is : (w x y z : ℕ) → (w * 256 + x * 16 + y) * 16 + z ≡ code_of w x y z
 code_is w x y z = omega arith
 
-pub four_read : (a b c d w x y z : ℕ) (bs : List ℕ) → hex_value a ≡ Some w → hex_value b ≡ Some x → hex_value c ≡ Some y → hex_value d ≡ Some z → is_surrogate (code_of w x y z) ≡ false
+pub four_read : (a b c d w x y z : ℕ) (bs : List ℕ) → hex_value a ≡ Some w → hex_value b ≡ Some x → hex_value c ≡ Some y → hex_value d ≡ Some z →
+    is_surrogate (code_of w x y z) ≡ false
     → escape_from (hex_digits 0 0) (a ∷ b ∷ c ∷ d ∷ bs) ≡ Some (encode_utf8 (code_of w x y z), bs)
 four_read a b c d w x y z bs e f g h single =
     three_read a b c w x y (d ∷ bs) e f g ∙ last_read (w * 256 + x * 16 + y) d z bs h (ap is_surrogate (code_is w x y z) ∙ single)
     ∙ ap (λ n. Some (encode_utf8 n, bs)) (code_is w x y z)
 
-pub surrogate_read : (a b c d w x y z : ℕ) (bs : List ℕ) → hex_value a ≡ Some w → hex_value b ≡ Some x → hex_value c ≡ Some y → hex_value d ≡ Some z → is_surrogate (code_of w x y z) ≡ true
+pub surrogate_read : (a b c d w x y z : ℕ) (bs : List ℕ) → hex_value a ≡ Some w → hex_value b ≡ Some x → hex_value c ≡ Some y → hex_value d ≡ Some z →
+    is_surrogate (code_of w x y z) ≡ true
     → escape_from (hex_digits 0 0) (a ∷ b ∷ c ∷ d ∷ bs) ≡ None
 surrogate_read a b c d w x y z bs e f g h surrogate =
     three_read a b c w x y (d ∷ bs) e f g ∙ surrogate_unread (w * 256 + x * 16 + y) d z bs h (ap is_surrogate (code_is w x y z) ∙ surrogate)
@@ -331,7 +348,8 @@ surrogate_read a b c d w x y z bs e f g h surrogate =
 pub second_unread : (a b w : ℕ) (bs : List ℕ) → hex_value a ≡ Some w → hex_value b ≡ None → escape_from (hex_digits 0 0) (a ∷ b ∷ bs) ≡ None
 second_unread a b w bs e f = digit_read 0 0 a w (b ∷ bs) e refl ∙ digit_unread 1 (0 * 16 + w) b bs f
 
-pub third_unread : (a b c w x : ℕ) (bs : List ℕ) → hex_value a ≡ Some w → hex_value b ≡ Some x → hex_value c ≡ None → escape_from (hex_digits 0 0) (a ∷ b ∷ c ∷ bs) ≡ None
+pub third_unread : (a b c w x : ℕ) (bs : List ℕ) → hex_value a ≡ Some w → hex_value b ≡ Some x → hex_value c ≡ None →
+    escape_from (hex_digits 0 0) (a ∷ b ∷ c ∷ bs) ≡ None
 third_unread a b c w x bs e f g = two_read a b w x (c ∷ bs) e f ∙ digit_unread 2 (w * 16 + x) c bs g
 
 pub fourth_unread : (a b c d w x y : ℕ) (bs : List ℕ) → hex_value a ≡ Some w → hex_value b ≡ Some x → hex_value c ≡ Some y → hex_value d ≡ None

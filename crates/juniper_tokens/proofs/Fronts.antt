@@ -21,7 +21,8 @@ pub data IsTaken (bs : List ℕ) (n : ℕ) : Type 0 where
   punctuator : (b : ℕ) (rest : List ℕ) → bs ≡ b ∷ rest → n ≡ 1 → is_mark b ≡ true → IsTaken bs n
   letters : (b : ℕ) (rest : List ℕ) → bs ≡ b ∷ rest → n ≡ prefix_len continues_name bs → starts_name b ≡ true → IsTaken bs n
   dotted : (rest : List ℕ) → bs ≡ three_dots ++ rest → n ≡ 3 → IsTaken bs n
-  quoted : (raw rest : List ℕ) → bs ≡ quoted_word raw ++ rest → n ≡ length (quoted_word raw) → IsSome (decoded_string raw) → IsTrue (not (is_nil raw) || ends_before is_quote rest) → IsTaken bs n
+  quoted : (raw rest : List ℕ) → bs ≡ quoted_word raw ++ rest → n ≡ length (quoted_word raw) → IsSome (decoded_string raw) →
+      IsTrue (not (is_nil raw) || ends_before is_quote rest) → IsTaken bs n
   number : n ≡ number_len bs → is_int (take n bs) ≡ true → ends_before continues_int (drop n bs) ≡ true → IsTaken bs n
 
 begins : (bs p : List ℕ) → starts_with nat_eq bs p ≡ true → bs ≡ p ++ drop (length p) bs

@@ -76,7 +76,8 @@ nil_is = refl
 -- ---- what is ignored goes before a text
 
 -- a comment's end is what ends its line, or the end of the text
-comment_ends : (b : ℕ) (rest gap tail : List ℕ) → is_source_byte b ≡ false → b ∷ rest ≡ gap ++ tail → is_ignored between gap tail ≡ true → at_token tail ≡ true → is_ignored in_comment gap tail ≡ true
+comment_ends : (b : ℕ) (rest gap tail : List ℕ) → is_source_byte b ≡ false → b ∷ rest ≡ gap ++ tail → is_ignored between gap tail ≡ true →
+    at_token tail ≡ true → is_ignored in_comment gap tail ≡ true
 unfolding at_token
 comment_ends b rest [] [] e is ign starts = absurd (cc)
 comment_ends b rest [] (c ∷ tail) e is ign starts =
@@ -137,7 +138,12 @@ comment_splits (c ∷ gap) rest tail is ign = elim (cases_Bool (is_source_byte c
   | inr e ↦ elim (cases_Bool (is_line_end c)) [
     | inl ends ↦
         let run = run_zero is_source_byte c (gap ++ tail) e in
-        rw (is, run) (record { gap_left = c ∷ gap; front = refl; back = refl; ignored = past_blank c gap tail (end_blank c ends) ∙ sym (past_end c gap tail ends) ∙ ign })
+        rw (is, run) (record {
+          gap_left = c ∷ gap;
+          front = refl;
+          back = refl;
+          ignored = past_blank c gap tail (end_blank c ends) ∙ sym (past_end c gap tail ends) ∙ ign;
+        })
     | inr goes ↦ absurd (false≢true (sym (stops_comment c gap tail e goes) ∙ ign))
   ]
 ]
@@ -173,7 +179,8 @@ first_goes : (bs tail : List ℕ) → is_ignored between (239 ∷ bs) tail ≡ i
 unfolding is_ignored ignore_byte is_blank
 first_goes bs tail = refl
 
-mark_splits : (gap rest tail : List ℕ) → order_mark ++ rest ≡ gap ++ tail → is_ignored between gap tail ≡ true → at_token tail ≡ true → Left (order_mark ++ rest) gap tail 3
+mark_splits : (gap rest tail : List ℕ) → order_mark ++ rest ≡ gap ++ tail → is_ignored between gap tail ≡ true → at_token tail ≡ true →
+    Left (order_mark ++ rest) gap tail 3
 mark_splits [] rest tail is ign starts =
     let h = no_blank_tail 239 (187 ∷ 191 ∷ rest) (ap at_token is ∙ starts) in absurd (false≢true (sym h.2))
 mark_splits (c ∷ gap) rest tail is ign starts =
@@ -182,7 +189,8 @@ mark_splits (c ∷ gap) rest tail is ign starts =
     let more = mark_second gap rest tail back (sym (first_goes gap tail) ∙ ap (λ x. is_ignored between (x ∷ gap) tail) (sym first) ∙ ign) in
     record { gap_left = more.0; front = ap (λ x. x ∷ gap) first ∙ ap (λ g. 239 ∷ g) more.1; back = more.2; ignored = more.3 }
 
-pub splits : (bs : List ℕ) (n : ℕ) → IsIgnored bs n → (gap tail : List ℕ) → bs ≡ gap ++ tail → is_ignored between gap tail ≡ true → at_token tail ≡ true → Left bs gap tail n
+pub splits : (bs : List ℕ) (n : ℕ) → IsIgnored bs n → (gap tail : List ℕ) → bs ≡ gap ++ tail → is_ignored between gap tail ≡ true → at_token tail ≡ true →
+    Left bs gap tail n
 splits bs n (blank b rest is one e) [] tail whole ign starts =
     let h = no_blank_tail b rest (ap at_token (sym is ∙ whole) ∙ starts) in absurd (false≢true (sym h.0 ∙ e))
 splits bs n (blank b rest is one e) (c ∷ gap) tail whole ign starts =
@@ -246,7 +254,8 @@ seen c gap tail ign none = elim (cases_Bool (is_blank c)) [
       | inl g ↦
           let first = eqb-true c 239 g in
           let more = marked gap tail (sym (first_goes gap tail) ∙ ap (λ x. is_ignored between (x ∷ gap) tail) (sym first) ∙ ign) in
-          let three : ignored_len (order_mark ++ (more.0 ++ tail)) ≡ 0 = subst (λ x. ignored_len (x ++ tail) ≡ 0) (ap (λ x. x ∷ gap) first ∙ ap (λ g. 239 ∷ g) more.1) none in
+          let three : ignored_len (order_mark ++ (more.0 ++ tail)) ≡ 0 = subst (λ x. ignored_len (x ++ tail) ≡ 0)
+          (ap (λ x. x ∷ gap) first ∙ ap (λ g. 239 ∷ g) more.1) none in
           absurd (omega (arith, three, len_of_mark (more.0 ++ tail)))
       | inr g ↦ absurd (false≢true (sym (stops_gap c gap tail e f g) ∙ ign))
     ]

@@ -41,7 +41,8 @@ text_behind at (t ∷ ts) bs n gap h =
     let word = h.1 in
     let rest = h.2 in
     let front = take n bs in
-    let split : bs ≡ (front ++ more) ++ (word ++ rest) = sym (take-append-drop n bs) ∙ ap (λ x. front ++ x) h.3 ∙ sym (append_assoc front more (word ++ rest)) in
+    let split : bs ≡ (front ++ more) ++ (word ++ rest) = sym (take-append-drop n bs) ∙ ap (λ x. front ++ x) h.3
+    ∙ sym (append_assoc front more (word ++ rest)) in
     let ignored = joins bs n gap more (word ++ rest) h.3 h.4 (token_begins t.lexeme word rest h.5) in
     let here : walk at (front ++ more) ≡ walk (walk at front) more = walk-append front more at in (
       front ++ more,
@@ -108,7 +109,8 @@ dots_token : (rest : List ℕ) → IsToken (mark dots) three_dots rest
 unfolding mark_text is_mark
 dots_token rest = (refl, refl)
 
-name_token : (b : ℕ) (bs rest : List ℕ) → starts_name b ≡ true → list_all continues_name bs ≡ true → ends_before continues_name rest ≡ true → IsToken (name (b ∷ bs)) (b ∷ bs) rest
+name_token : (b : ℕ) (bs rest : List ℕ) → starts_name b ≡ true → list_all continues_name bs ≡ true → ends_before continues_name rest ≡ true →
+    IsToken (name (b ∷ bs)) (b ∷ bs) rest
 unfolding is_name
 name_token b bs rest e all ends = (refl, and_from (starts_name b) _ e all, ends)
 
@@ -119,7 +121,8 @@ taken_sound bs n (letters b rest is run e) =
     let count : n ≡ suc (prefix_len continues_name rest) = run ∙ ap (prefix_len continues_name) is ∙ run_suc continues_name b rest (starts_continues b e) in
     let front = take (prefix_len continues_name rest) rest in
     let back = drop (prefix_len continues_name rest) rest in
-    rw (is, count) (subst (λ l. IsToken l (b ∷ front) back) (sym (name_is b front e)) (name_token b front back e (run_all continues_name rest) (run_ends continues_name rest)))
+    rw (is, count) (subst (λ l. IsToken l (b ∷ front) back) (sym (name_is b front e))
+    (name_token b front back e (run_all continues_name rest) (run_ends continues_name rest)))
 taken_sound bs n (dotted rest is three) = rw (is, three) (subst (λ l. IsToken l three_dots rest) (sym dots_are) (dots_token rest))
 taken_sound bs n (quoted raw rest is count decodes ends) =
     let front : take n bs ≡ quoted_word raw = ap₂ take count is ∙ take-append_seam (quoted_word raw) rest in
@@ -182,7 +185,8 @@ quote_read : (bs : List ℕ) → lexeme_len (quote ∷ bs) ≡ string_len (quote
 unfolding lexeme_len is_mark starts_name
 quote_read bs = refl
 
-string_read : (raw rest : List ℕ) → IsSome (decoded_string raw) → IsTrue (not (is_nil raw) || ends_before is_quote rest) → IsRead (string raw) (quoted_word raw) rest
+string_read : (raw rest : List ℕ) → IsSome (decoded_string raw) → IsTrue (not (is_nil raw) || ends_before is_quote rest) →
+    IsRead (string raw) (quoted_word raw) rest
 string_read raw rest decodes ends =
     record { count = quote_read ((raw ++ quote ∷ []) ++ rest) ∙ string_exact raw rest decodes ends; is = string_is raw; some = omega arith }
 
@@ -221,10 +225,21 @@ Sound s l = (p : Position) → l.ending ≡ whole p → IsText s.at l.tokens s.a
 fault_not_whole : (q p : Position) → fault q ≡ whole p → ⊥
 fault_not_whole q p e = cc
 
-token_sound : (s : Front) (l : Lexed) → lexeme_len s.ahead ≢ 0 → Sound (past (lexeme_len s.ahead) s) l → Sound s (with_token (token_of (lexeme_len s.ahead) s) l)
+token_sound : (s : Front) (l : Lexed) → lexeme_len s.ahead ≢ 0 → Sound (past (lexeme_len s.ahead) s) l →
+    Sound s (with_token (token_of (lexeme_len s.ahead) s) l)
 unfolding walk
 token_sound s l some sound p ends =
-    let n = lexeme_len s.ahead in ([], take n s.ahead, drop n s.ahead, sym (take-append-drop n s.ahead), ignored_nil _, taken_sound s.ahead n (taken_is s.ahead some), refl, refl, sound p ends)
+    let n = lexeme_len s.ahead in (
+      [],
+      take n s.ahead,
+      drop n s.ahead,
+      sym (take-append-drop n s.ahead),
+      ignored_nil _,
+      taken_sound s.ahead n (taken_is s.ahead some),
+      refl,
+      refl,
+      sound p ends,
+    )
 
 lex_sound : (k : ℕ) (s : Front) → length s.ahead ≤ k → Sound s (lex k s)
 unfolding lex
@@ -235,7 +250,8 @@ lex_sound (suc k) s enough = elim (cases_Bool (is_nil s.ahead)) [
     | inr gap ↦
         let n = ignored_len s.ahead in
         let less = shorter s.ahead n gap (ignored_fits s.ahead gap) in
-        subst (Sound s) (sym (step_gap (lex k) s e gap)) (λ p ends. text_behind s.at (lex k (past n s)).tokens s.ahead n (ignored_is s.ahead gap) (lex_sound k (past n s) (omega arith) p ends))
+        subst (Sound s) (sym (step_gap (lex k) s e gap)) (λ p ends. text_behind s.at (lex k (past n s)).tokens s.ahead n (ignored_is s.ahead gap)
+        (lex_sound k (past n s) (omega arith) p ends))
     | inl z ↦ elim (cases_eq (lexeme_len s.ahead) 0) [
       | inl y ↦ subst (Sound s) (sym (step_fault (lex k) s e z y)) (λ p ends. absurd (fault_not_whole s.at.position p ends))
       | inr some ↦
@@ -280,7 +296,8 @@ some_left : (at : Spot) (bs : List ℕ) → is_nil bs ≡ false → ignored_len 
 some_left at bs e none h = not_nil_length bs e (ap length (no_gap_before bs bs [] (sym (append-nil bs)) h none))
 
 token_complete : (f : Front → Lexed) (s : Front) (t : Token) (ts : List Token) → is_nil s.ahead ≡ false → ignored_len s.ahead ≡ 0 → IsText s.at (t ∷ ts) s.ahead
-    → (lexeme_len s.ahead ≢ 0 → IsText (past (lexeme_len s.ahead) s).at ts (past (lexeme_len s.ahead) s).ahead → Complete ts (f (past (lexeme_len s.ahead) s))) → Complete (t ∷ ts) (lex_step f s)
+    → (lexeme_len s.ahead ≢ 0 → IsText (past (lexeme_len s.ahead) s).at ts (past (lexeme_len s.ahead) s).ahead →
+    Complete ts (f (past (lexeme_len s.ahead) s))) → Complete (t ∷ ts) (lex_step f s)
 token_complete f s t ts e z h more =
     let w = h.1 in
     let rest = h.2 in
@@ -303,7 +320,8 @@ token_complete f s t ts e z h more =
     (after.0, step_token f s e z some ∙ ap₂ with_token token after.1)
 
 tokens_complete : (f : Front → Lexed) (s : Front) (ts : List Token) → is_nil s.ahead ≡ false → ignored_len s.ahead ≡ 0 → IsText s.at ts s.ahead
-    → ((us : List Token) → lexeme_len s.ahead ≢ 0 → IsText (past (lexeme_len s.ahead) s).at us (past (lexeme_len s.ahead) s).ahead → Complete us (f (past (lexeme_len s.ahead) s)))
+    → ((us : List Token) → lexeme_len s.ahead ≢ 0 → IsText (past (lexeme_len s.ahead) s).at us (past (lexeme_len s.ahead) s).ahead →
+    Complete us (f (past (lexeme_len s.ahead) s)))
     → Complete ts (lex_step f s)
 tokens_complete f s [] e z text more = absurd (some_left s.at s.ahead e z text)
 tokens_complete f s (t ∷ ts) e z text more = token_complete f s t ts e z text (λ some after. more ts some after)

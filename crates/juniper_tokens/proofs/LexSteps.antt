@@ -28,7 +28,8 @@ step_same f g s same = elim (cases_Bool (is_nil s.ahead)) [
       | inl y ↦ rw y refl
       | inr y ↦
           let some : lexeme_len s.ahead ≢ 0 = eqb-false _ 0 y in
-          rw y (ap (with_token (token_of (lexeme_len s.ahead) s)) (same (past (lexeme_len s.ahead) s) (shorter s.ahead (lexeme_len s.ahead) some (taken_fits s.ahead some))))
+          rw y (ap (with_token (token_of (lexeme_len s.ahead) s)) (same (past (lexeme_len s.ahead) s)
+          (shorter s.ahead (lexeme_len s.ahead) some (taken_fits s.ahead some))))
     ])
     | inr z ↦
         let some : ignored_len s.ahead ≢ 0 = eqb-false _ 0 z in
@@ -75,19 +76,24 @@ pub lex_token : (s : Front) → length s.ahead ≢ 0 → ignored_len s.ahead ≡
 lex_token s some e f = rw (lex_is s some, nil_not s.ahead some, eq-eqb (ignored_len s.ahead) 0 e, ne_eqb (lexeme_len s.ahead) 0 f) refl
 
 -- what the loop has found, when it ends and when it goes on
-pub ends_whole : (found : List Token) (s : Front) (l : Lexed) → length s.ahead ≡ 0 → behind found (lex_from s) ≡ l → record { tokens = found; ending = whole s.at.position } ≡ l
-ends_whole found s l none kept = ap (λ ts. record { tokens = ts; ending = whole s.at.position }) (sym (append-nil found)) ∙ sym (ap (behind found) (lex_done s none)) ∙ kept
+pub ends_whole : (found : List Token) (s : Front) (l : Lexed) → length s.ahead ≡ 0 → behind found (lex_from s) ≡ l →
+    record { tokens = found; ending = whole s.at.position } ≡ l
+ends_whole found s l none kept =
+    ap (λ ts. record { tokens = ts; ending = whole s.at.position }) (sym (append-nil found)) ∙ sym (ap (behind found) (lex_done s none)) ∙ kept
 
-pub ends_fault : (found : List Token) (s : Front) (l : Lexed) → length s.ahead ≢ 0 → ignored_len s.ahead ≡ 0 → lexeme_len s.ahead ≡ 0 → behind found (lex_from s) ≡ l
+pub ends_fault : (found : List Token) (s : Front) (l : Lexed) → length s.ahead ≢ 0 → ignored_len s.ahead ≡ 0 → lexeme_len s.ahead ≡ 0 →
+    behind found (lex_from s) ≡ l
     → record { tokens = found; ending = fault s.at.position } ≡ l
-ends_fault found s l some e f kept = ap (λ ts. record { tokens = ts; ending = fault s.at.position }) (sym (append-nil found)) ∙ sym (ap (behind found) (lex_fault s some e f)) ∙ kept
+ends_fault found s l some e f kept =
+    ap (λ ts. record { tokens = ts; ending = fault s.at.position }) (sym (append-nil found)) ∙ sym (ap (behind found) (lex_fault s some e f)) ∙ kept
 
 pub goes_on : (found : List Token) (t : Token) (s u : Front) (l : Lexed) → length s.ahead ≢ 0 → ignored_len s.ahead ≡ 0 → lexeme_len s.ahead ≢ 0
     → t ≡ token_of (lexeme_len s.ahead) s → u ≡ past (lexeme_len s.ahead) s → behind found (lex_from s) ≡ l → behind (found ++ t ∷ []) (lex_from u) ≡ l
 goes_on found t s u l some e f is at kept =
     let first = token_of (lexeme_len s.ahead) s in
     let rest : Lexed = lex_from (past (lexeme_len s.ahead) s) in
-    rw (is, at) (ap (λ ts. record { tokens = ts; ending = rest.ending }) (append_assoc found (first ∷ []) rest.tokens) ∙ sym (ap (behind found) (lex_token s some e f)) ∙ kept)
+    rw (is, at) (ap (λ ts. record { tokens = ts; ending = rest.ending }) (append_assoc found (first ∷ []) rest.tokens)
+    ∙ sym (ap (behind found) (lex_token s some e f)) ∙ kept)
 
 pub goes_past : (found : List Token) (s u : Front) (l : Lexed) → length s.ahead ≢ 0 → ignored_len s.ahead ≢ 0 → u ≡ past (ignored_len s.ahead) s
     → behind found (lex_from s) ≡ l → behind found (lex_from u) ≡ l

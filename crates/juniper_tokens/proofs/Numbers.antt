@@ -85,7 +85,8 @@ number_within (b ∷ bs) = elim (cases_Bool (b == 45)) [
   | inr e ↦ rw e (prefix_len-le-length is_ascii_digit (b ∷ bs))
 ]
 
-pub int_taken : (bs : List ℕ) (n : ℕ) → n ≡ int_len bs → n ≢ 0 → (n ≡ number_len bs) × (is_int (take n bs) ≡ true) × (ends_before continues_int (drop n bs) ≡ true)
+pub int_taken : (bs : List ℕ) (n : ℕ) → n ≡ int_len bs → n ≢ 0 →
+    (n ≡ number_len bs) × (is_int (take n bs) ≡ true) × (ends_before continues_int (drop n bs) ≡ true)
 unfolding int_len
 int_taken bs n is some = elim (cases_Bool (is_int (take (number_len bs) bs) && ends_before continues_int (drop (number_len bs) bs))) [
   | inl e ↦

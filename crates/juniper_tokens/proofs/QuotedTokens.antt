@@ -57,22 +57,41 @@ is_decoded : (raw : Text) → IsSome (decoded_string raw) → IsSome (decode_fro
 unfolding decoded_string
 is_decoded raw h = h
 
-closed_quoted : (bs behind rest : List ℕ) (n : ℕ) → false ≡ starts_with nat_eq bs three_quotes → Some behind ≡ behind_quote bs → closing characters behind ≡ Some rest → n ≡ (length bs - length rest) + 1
+closed_quoted : (bs behind rest : List ℕ) (n : ℕ) → false ≡ starts_with nat_eq bs three_quotes → Some behind ≡ behind_quote bs →
+    closing characters behind ≡ Some rest → n ≡ (length bs - length rest) + 1
     → IsQuoted bs n
 closed_quoted bs behind rest n three front closes is =
     let h = closing_is behind characters rest closes in
     let whole : bs ≡ quoted_word h.raw ++ h.more =
     behind_whole bs behind front ∙ ap (λ x. quote ∷ x) (h.whole ∙ ap (λ x. h.raw ++ x) h.ends ∙ sym (append_assoc h.raw (quote ∷ []) h.more)) in
     let count : n ≡ length (quoted_word h.raw) =
-    omega (arith, is, ap length h.ends, ap length (behind_whole bs behind front), ap length h.whole, length-append h.raw rest, length-append h.raw (quote ∷ [])) in
-    record { raw = h.raw; rest = h.more; whole = whole; count = count; decodes = decoded_is h.raw h.decodes; ends = ends_of h.raw h.more (three ∙ ap (λ x. starts_with nat_eq x three_quotes) whole) }
+    omega (
+      arith,
+      is,
+      ap length h.ends,
+      ap length (behind_whole bs behind front),
+      ap length h.whole,
+      length-append h.raw rest,
+      length-append h.raw (quote ∷ []),
+    ) in
+    record {
+      raw = h.raw;
+      rest = h.more;
+      whole = whole;
+      count = count;
+      decodes = decoded_is h.raw h.decodes;
+      ends = ends_of h.raw h.more (three ∙ ap (λ x. starts_with nat_eq x three_quotes) whole);
+    }
 
-behind_taken : (bs behind : List ℕ) (n : ℕ) (o : Option Text) → n ≡ string_len bs → n ≢ 0 → false ≡ starts_with nat_eq bs three_quotes → Some behind ≡ behind_quote bs → closing characters behind ≡ o
+behind_taken : (bs behind : List ℕ) (n : ℕ) (o : Option Text) → n ≡ string_len bs → n ≢ 0 → false ≡ starts_with nat_eq bs three_quotes →
+    Some behind ≡ behind_quote bs → closing characters behind ≡ o
     → IsQuoted bs n
 behind_taken bs behind n None is some three front closes = absurd (some (is ∙ sym (open_len bs behind three front closes)))
-behind_taken bs behind n (Some rest) is some three front closes = closed_quoted bs behind rest n three front closes (is ∙ sym (closed_len bs behind rest three front closes))
+behind_taken bs behind n (Some rest) is some three front closes =
+    closed_quoted bs behind rest n three front closes (is ∙ sym (closed_len bs behind rest three front closes))
 
-front_taken : (bs : List ℕ) (n : ℕ) (o : Option Text) → n ≡ string_len bs → n ≢ 0 → false ≡ starts_with nat_eq bs three_quotes → o ≡ behind_quote bs → IsQuoted bs n
+front_taken : (bs : List ℕ) (n : ℕ) (o : Option Text) → n ≡ string_len bs → n ≢ 0 → false ≡ starts_with nat_eq bs three_quotes → o ≡ behind_quote bs →
+    IsQuoted bs n
 front_taken bs n None is some three front = absurd (some (is ∙ sym (none_len bs three front)))
 front_taken bs n (Some behind) is some three front = behind_taken bs behind n (closing characters behind) is some three front refl
 
@@ -105,7 +124,8 @@ ends_exact after_backslash rest h = absurd (false≢true h)
 ends_exact (hex_digits k n) rest h = absurd (false≢true h)
 
 goes_exact : (m : Mode) (b : ℕ) (raw rest : List ℕ) (o : Option (Mode × Text)) → closes m b ≡ false → read_byte m b ≡ o → IsSome (decode_from m (b ∷ raw))
-    → ((k : Mode) → IsSome (decode_from k raw) → closing k (raw ++ quote ∷ rest) ≡ Some (quote ∷ rest)) → closing m (b ∷ (raw ++ quote ∷ rest)) ≡ Some (quote ∷ rest)
+    → ((k : Mode) → IsSome (decode_from k raw) → closing k (raw ++ quote ∷ rest) ≡ Some (quote ∷ rest)) →
+    closing m (b ∷ (raw ++ quote ∷ rest)) ≡ Some (quote ∷ rest)
 goes_exact m b raw rest None e f h more = absurd (undecoded m b raw f h)
 goes_exact m b raw rest (Some p) e f h more =
     let left : IsSome (decode_from p.0 raw) = some_after p.1 (decode_from p.0 raw) (subst (λ o. IsSome o) (decode_goes m b raw p f) h) in
@@ -126,7 +146,8 @@ no_third (b ∷ rest) h = elim (cases_eq b quote) [
   | inr other ↦ rw (ne_eqb quote b (λ e. other (sym e))) refl
 ]
 
-no_three : (raw rest : List ℕ) → IsSome (decode_from characters raw) → IsTrue (not (is_nil raw) || ends_before is_quote rest) → false ≡ starts_with nat_eq (quoted_word raw ++ rest) three_quotes
+no_three : (raw rest : List ℕ) → IsSome (decode_from characters raw) → IsTrue (not (is_nil raw) || ends_before is_quote rest) →
+    false ≡ starts_with nat_eq (quoted_word raw ++ rest) three_quotes
 unfolding is_nil
 no_three [] rest h ends = no_third rest ends
 no_three (b ∷ raw) rest h ends = elim (cases_Bool (b == quote)) [
@@ -138,14 +159,17 @@ behind_front : (bs : List ℕ) → Some bs ≡ behind_quote (quote ∷ bs)
 unfolding behind_quote
 behind_front bs = refl
 
-pub string_exact : (raw rest : List ℕ) → IsSome (decoded_string raw) → IsTrue (not (is_nil raw) || ends_before is_quote rest) → string_len (quoted_word raw ++ rest) ≡ length (quoted_word raw)
+pub string_exact : (raw rest : List ℕ) → IsSome (decoded_string raw) → IsTrue (not (is_nil raw) || ends_before is_quote rest) →
+    string_len (quoted_word raw ++ rest) ≡ length (quoted_word raw)
 string_exact raw rest h ends =
     let decoded = is_decoded raw h in
     let inside : (raw ++ quote ∷ []) ++ rest ≡ raw ++ quote ∷ rest = append_assoc raw (quote ∷ []) rest in
-    let closes : closing characters ((raw ++ quote ∷ []) ++ rest) ≡ Some (quote ∷ rest) = ap (closing characters) inside ∙ closing_exact raw characters rest decoded in
+    let closes : closing characters ((raw ++ quote ∷ []) ++ rest) ≡ Some (quote ∷ rest) = ap (closing characters) inside
+    ∙ closing_exact raw characters rest decoded in
     let count : (length (quoted_word raw ++ rest) - length (quote ∷ rest)) + 1 ≡ length (quoted_word raw) =
     omega (arith, ap length inside, length-append raw (quote ∷ rest), length-append raw (quote ∷ [])) in
-    sym (closed_len (quoted_word raw ++ rest) ((raw ++ quote ∷ []) ++ rest) (quote ∷ rest) (no_three raw rest decoded ends) (behind_front ((raw ++ quote ∷ []) ++ rest)) closes) ∙ count
+    sym (closed_len (quoted_word raw ++ rest) ((raw ++ quote ∷ []) ++ rest) (quote ∷ rest) (no_three raw rest decoded ends)
+    (behind_front ((raw ++ quote ∷ []) ++ rest)) closes) ∙ count
 
 -- ---- a text may be cut behind a string token
 

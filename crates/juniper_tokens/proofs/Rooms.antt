@@ -15,7 +15,10 @@ unfolding past_byte next_line
 room_past_byte s b n h =
     let same_line : HasRoom (record { position = record { index = s.position.index + 1; line = s.position.line; column = 0 }; after_return = false }) n =
     record { index = omega (arith, h.index); line = omega (arith, h.line); column = omega arith } in
-    let new_line : (r : Bool) → HasRoom (record { position = record { index = s.position.index + 1; line = s.position.line + 1; column = 0 }; after_return = r }) n =
+    let new_line : (r : Bool) → HasRoom (record {
+      position = record { index = s.position.index + 1; line = s.position.line + 1; column = 0 };
+      after_return = r;
+    }) n =
     λ r. record { index = omega (arith, h.index); line = omega (arith, h.line); column = omega arith } in
     room_cond (b == 13) _ _ n (new_line true)
     (room_cond (b == 10) _ _ n (room_cond s.after_return _ _ n same_line (new_line false))
@@ -27,7 +30,8 @@ room_past_byte s b n h =
 pub room_walk : (word : List ℕ) (s : Spot) (n : ℕ) → HasRoom s (length word + n) → HasRoom (walk s word) n
 unfolding walk
 room_walk [] s n h = record { index = omega (arith, h.index); line = h.line; column = h.column }
-room_walk (b ∷ bs) s n h = room_walk bs (past_byte s b) n (room_past_byte s b (length bs + n) (record { index = omega (arith, h.index); line = h.line; column = h.column }))
+room_walk (b ∷ bs) s n h =
+    room_walk bs (past_byte s b) n (room_past_byte s b (length bs + n) (record { index = omega (arith, h.index); line = h.line; column = h.column }))
 
 pub walk_on : (s : Spot) (word : List ℕ) (i : ℕ) → i < length word → walk s (drop i word) ≡ walk (past_byte s (get_or word i 0)) (drop (i + 1) word)
 unfolding walk

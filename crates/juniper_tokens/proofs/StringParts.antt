@@ -19,7 +19,8 @@ other_small b e = grind (arith, nat_tests)
 -- a text may be cut before what does not stand for itself
 pub plain_boundary : (bs : List ℕ) → IsCharBoundary bs (prefix_len is_plain bs)
 plain_boundary bs = elim (cases_lt (prefix_len is_plain bs) (length bs)) [
-  | inl less ↦ IsCharBoundary-before_ascii bs (prefix_len is_plain bs) less (other_small (get_or bs (prefix_len is_plain bs) 0) (prefix_len_stops is_plain bs 0 less))
+  | inl less ↦ IsCharBoundary-before_ascii bs (prefix_len is_plain bs) less
+      (other_small (get_or bs (prefix_len is_plain bs) 0) (prefix_len_stops is_plain bs 0 less))
   | inr most ↦ let same : prefix_len is_plain bs ≡ length bs = omega (arith, prefix_len-le-length is_plain bs) in rw same (IsCharBoundary-end bs)
 ]
 

@@ -37,7 +37,8 @@ left_joined : (s : Text) (o : Option (Text × Text)) → closing_left o ≡ clos
 left_joined s None = refl
 left_joined s (Some q) = refl
 
-byte_closing : (m : Mode) → IsInside m → (b : ℕ) (bs : List ℕ) (o : Option (Mode × Text)) → read_byte m b ≡ o → ((k : Mode) → closing k bs ≡ closing_left (escape_from k bs))
+byte_closing : (m : Mode) → IsInside m → (b : ℕ) (bs : List ℕ) (o : Option (Mode × Text)) → read_byte m b ≡ o →
+    ((k : Mode) → closing k bs ≡ closing_left (escape_from k bs))
     → closing m (b ∷ bs) ≡ closing_left (escape_from m (b ∷ bs))
 byte_closing m inside b bs None e more = closing_stops m b bs (inside_open m inside b) e ∙ sym (ap closing_left (escape_stops m inside b bs e))
 byte_closing m inside b bs (Some p) e more =
@@ -150,7 +151,8 @@ closing_bounds bs rest is =
 
 -- ---- what the readers of a string's quotes answer
 
-pub behind_is : (bs : List ℕ) (r : Option (Bor (List ℕ))) → MatchOption r ((rest : List ℕ) → bs ≢ 34 ∷ rest) (λ x. bs ≡ 34 ∷ x.now) → option_map (λ (x : Bor (List ℕ)). x.now) r ≡ behind_quote bs
+pub behind_is : (bs : List ℕ) (r : Option (Bor (List ℕ))) → MatchOption r ((rest : List ℕ) → bs ≢ 34 ∷ rest) (λ x. bs ≡ 34 ∷ x.now) →
+    option_map (λ (x : Bor (List ℕ)). x.now) r ≡ behind_quote bs
 unfolding behind_quote
 behind_is [] None h = refl
 behind_is (b ∷ bs) None h = elim (cases_Bool (b == quote)) [
@@ -164,7 +166,8 @@ mapped_some f None = refl
 mapped_some f (Some x) = refl
 
 -- whether a quote stands at the front, from what is found behind it
-pub found_quote : (bs : List ℕ) (r : Option (Bor (List ℕ))) (b : Bool) → option_map (λ (x : Bor (List ℕ)). x.now) r ≡ behind_quote bs → b ≡ is_some r → is_some (behind_quote bs) ≡ b
+pub found_quote : (bs : List ℕ) (r : Option (Bor (List ℕ))) (b : Bool) → option_map (λ (x : Bor (List ℕ)). x.now) r ≡ behind_quote bs → b ≡ is_some r →
+    is_some (behind_quote bs) ≡ b
 found_quote bs r b e f = ap (λ o. is_some o) (sym e) ∙ mapped_some (λ (x : Bor (List ℕ)). x.now) r ∙ sym f
 
 quote_from : (bs : List ℕ) (o : Option Text) → behind_quote bs ≡ o → is_some o ≡ true → closing characters bs ≡ Some bs
@@ -178,7 +181,8 @@ no_quote_from (Some t) none = absurd (false≢true (sym none))
 pub closes_here : (bs : List ℕ) → is_some (behind_quote bs) ≡ true → closing characters bs ≡ Some bs
 closes_here bs e = quote_from bs (behind_quote bs) refl e
 
-pub closes_later : (bs : List ℕ) (q : Text × Text) → length bs ≢ 0 → is_some (behind_quote bs) ≡ false → Some q ≡ first_part bs → closing characters q.1 ≡ closing characters bs
+pub closes_later : (bs : List ℕ) (q : Text × Text) → length bs ≢ 0 → is_some (behind_quote bs) ≡ false → Some q ≡ first_part bs →
+    closing characters q.1 ≡ closing characters bs
 closes_later bs q some none e = sym (part_closing bs some (no_quote_from (behind_quote bs) none) ∙ ap closing_left (sym e))
 
 pub closes_nowhere : (bs : List ℕ) → length bs ≢ 0 → is_some (behind_quote bs) ≡ false → None ≡ first_part bs → closing characters bs ≡ None
@@ -193,7 +197,8 @@ pub none_len : (bs : List ℕ) → false ≡ starts_with nat_eq bs three_quotes 
 unfolding string_len
 none_len bs e f = rw (← e, ← f) refl
 
-pub open_len : (bs behind : List ℕ) → false ≡ starts_with nat_eq bs three_quotes → Some behind ≡ behind_quote bs → closing characters behind ≡ None → 0 ≡ string_len bs
+pub open_len : (bs behind : List ℕ) → false ≡ starts_with nat_eq bs three_quotes → Some behind ≡ behind_quote bs → closing characters behind ≡ None →
+    0 ≡ string_len bs
 unfolding string_len
 open_len bs behind e f g = rw (← e, ← f, g) refl
 
@@ -210,7 +215,8 @@ behind_length (b ∷ bs) behind e = elim (cases_Bool (b == quote)) [
   | inr f ↦ absurd (none-some behind (sym (e ∙ rw f refl)))
 ]
 
-pub closed_bounds : (bs behind rest : List ℕ) → Some behind ≡ behind_quote bs → closing characters behind ≡ Some rest → (0 < length rest) × (length rest ≤ length bs)
+pub closed_bounds : (bs behind rest : List ℕ) → Some behind ≡ behind_quote bs → closing characters behind ≡ Some rest →
+    (0 < length rest) × (length rest ≤ length bs)
 closed_bounds bs behind rest e f = let h = closing_bounds behind rest f in (h.0, omega (arith, h.1, behind_length bs behind e))
 
 -- ---- what stands between the quotes

@@ -39,7 +39,8 @@ int_len bs = cond (is_int (take (number_len bs) bs) && ends_before continues_int
 -- how many bytes the token at the front has, and 0 where none stands there
 unfoldable pub lexeme_len : List ℕ → ℕ
 lexeme_len [] = 0
-lexeme_len (b ∷ bs) = cond (is_mark b) 1 (cond (starts_name b) (prefix_len continues_name (b ∷ bs)) (cond (starts_with nat_eq (b ∷ bs) three_dots) 3 (cond (b == quote) (string_len (b ∷ bs)) (int_len (b ∷ bs)))))
+lexeme_len (b ∷ bs) = cond (is_mark b) 1 (cond (starts_name b) (prefix_len continues_name (b ∷ bs))
+    (cond (starts_with nat_eq (b ∷ bs) three_dots) 3 (cond (b == quote) (string_len (b ∷ bs)) (int_len (b ∷ bs)))))
 
 -- `-` or a digit
 unfoldable pub starts_int : ℕ → Bool

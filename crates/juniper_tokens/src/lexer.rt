@@ -268,7 +268,8 @@ impl<'a> Lexer<'a> {
     fn token(&mut self) -> Option<Token<'a>>
         ensures { MatchOption result
             ((read.lexeme_len self.old.ahead ≡ 0) × (self.new ≡ self.old))
-            (λ t. (read.lexeme_len self.old.ahead ≢ 0) × (view_token t ≡ read.token_of (read.lexeme_len self.old.ahead) self.old) × (self.new ≡ read.past (read.lexeme_len self.old.ahead) self.old)) }
+            (λ t. (read.lexeme_len self.old.ahead ≢ 0) × (view_token t ≡ read.token_of (read.lexeme_len self.old.ahead) self.old)
+            × (self.new ≡ read.past (read.lexeme_len self.old.ahead) self.old)) }
     {
         let length = lexeme_len(self.rest());
         if length == 0 {

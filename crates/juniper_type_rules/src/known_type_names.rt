@@ -22,7 +22,8 @@ pub fn has_unknown_type<S: ScalarValue>(
     written: &Written<'_, '_, S>,
     definition: &Definition<'_, S>,
 ) -> bool
-    ensures { result ≡ list_any (λ n. is_none (type_named (view_schema S.shown schema.now) n)) ((view_written S.shown written.now).conditions ++ variable_types (view_definition S.shown definition.now)) }
+    ensures { result ≡ list_any (λ n. is_none (type_named (view_schema S.shown schema.now) n))
+        ((view_written S.shown written.now).conditions ++ variable_types (view_definition S.shown definition.now)) }
 {
     if has_unknown_condition(schema, written) {
         return true;
@@ -56,7 +57,8 @@ fn has_unknown_variable<S: ScalarValue>(
     schema: &SchemaType<S>,
     variables: &Option<Spanning<VariableDefinitions<'_, S>, Span>>,
 ) -> bool
-    ensures { result ≡ list_any (λ n. is_none (type_named (view_schema S.shown schema.now) n)) (map (λ v. innermost v.of_type.item) (view_variables S.shown variables.now)) }
+    ensures { result ≡ list_any (λ n. is_none (type_named (view_schema S.shown schema.now) n))
+        (map (λ v. innermost v.of_type.item) (view_variables S.shown variables.now)) }
 {
     match variables {
         Some(variables) => {

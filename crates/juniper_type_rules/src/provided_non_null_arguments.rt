@@ -44,7 +44,8 @@ fn is_left_out<S: ScalarValue>(
     argument: &Argument<S>,
     given: &Option<Spanning<Arguments<'_, S>, Span>>,
 ) -> bool
-    ensures { result ≡ (rules.must_be_written (view_argument S.shown argument.now) && not (list_any (λ a. bytes_eq (view_argument S.shown argument.now).name a.name.item) (written (view_arguments S.shown given.now)))) }
+    ensures { result ≡ (rules.must_be_written (view_argument S.shown argument.now)
+        && not (list_any (λ a. bytes_eq (view_argument S.shown argument.now).name a.name.item) (written (view_arguments S.shown given.now)))) }
 {
     must_be_written(argument) && !names(given, argument.name.as_str())
 }

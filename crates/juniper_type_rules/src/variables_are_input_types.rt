@@ -33,7 +33,8 @@ fn has_other_type<S: ScalarValue>(
     schema: &SchemaType<S>,
     variables: &Option<Spanning<VariableDefinitions<'_, S>, Span>>,
 ) -> bool
-    ensures { result ≡ list_any (λ n. not (is_input (type_named (view_schema S.shown schema.now) n))) (map (λ v. innermost v.of_type.item) (view_variables S.shown variables.now)) }
+    ensures { result ≡ list_any (λ n. not (is_input (type_named (view_schema S.shown schema.now) n)))
+        (map (λ v. innermost v.of_type.item) (view_variables S.shown variables.now)) }
 {
     match variables {
         Some(variables) => {

@@ -83,7 +83,8 @@ module _ {C S : Type 0} {scalar : Scalars S} {equality : Equality S} {shows : Sh
     pub is_named : (view_occurrence shown e).head.name.item ≡ name
     pub is_given : given ≡ coerced_arguments (declared_arguments (field_of (view_schema shown e.schema.now) e.concrete_type.now name))
         (view_variables shown e.variables.now) (written (view_occurrence shown e).head.arguments)
-    pub selected : IsSelected shown (is_possible (view_schema shown e.schema.now)) e.variables.now e.fragments.now e.concrete_type.now e.enclosing.now e.occurrence.now
+    pub selected : IsSelected shown (is_possible (view_schema shown e.schema.now)) e.variables.now e.fragments.now e.concrete_type.now e.enclosing.now
+        e.occurrence.now
 
 -- the fragment that the map has at a name
 abbrev pub fragment_at : {S H : Type 0} → HashMap (Bor (List ℕ)) (Bor (Fragment S)) H → Name → Option (Fragment S)

@@ -111,7 +111,8 @@ impl<'r, 's, 'd, 'a, CtxT, S: ScalarValue> Executor<'r, 's, 'd, 'a, CtxT, S> {
         alloc: Global,
         error: FieldError<S>,
     ) -> Result<ExecutionError<S>, AllocError>
-        ensures { IfOk result (λ made. view_listed S.shown made ≡ record { path = path_place (path_of self.now); start = start_of self.now; error = view_error S.shown error }) }
+        ensures { IfOk result (λ made. view_listed S.shown made ≡ record
+            { path = path_place (path_of self.now); start = start_of self.now; error = view_error S.shown error }) }
     {
         let keys = self.path.keys(alloc)?;
         ExecutionError::new(alloc, self.occurrence.span.start, keys.as_slice(), error)

@@ -55,7 +55,8 @@ same k j e = decided (bytes_eq k j) (bytes_eq-Decides k j) e
 -- ## A loop over variables
 
 -- the first variable, before the others
-splits : (v : spec.VariableDefinition) (vs : List spec.VariableDefinition) (n : Name) → definition_of (v ∷ vs) n ≡ option_or (definition_of (v ∷ []) n) (definition_of vs n)
+splits : (v : spec.VariableDefinition) (vs : List spec.VariableDefinition) (n : Name) →
+    definition_of (v ∷ vs) n ≡ option_or (definition_of (v ∷ []) n) (definition_of vs n)
 unfolding definition_of
 splits v vs n = cond-or (bytes_eq n v.name.item) v (definition_of vs n)
 
@@ -76,15 +77,18 @@ module _ {D : Type 0} (view : D → spec.VariableDefinition) (ds : List D) where
   first-next has now i x below is so_far one = λ n.
       ap (λ o. option_or o (definition_of (map view (drop (i + 1) ds)) n)) (one n)
       ∙ (or-moves (has n) (definition_of (view x ∷ []) n) (definition_of (map view (drop (i + 1) ds)) n)
-      ∙ (ap (option_or (has n)) (sym (splits (view x) (map view (drop (i + 1) ds)) n) ∙ ap (λ l. definition_of l n) (sym (seen-left-is view ds i x below is))) ∙ so_far n))
+      ∙ (ap (option_or (has n)) (sym (splits (view x) (map view (drop (i + 1) ds)) n) ∙ ap (λ l. definition_of l n) (sym (seen-left-is view ds i x below is)))
+      ∙ so_far n))
 
-  pub first-all : (has : Name → Option spec.VariableDefinition) (i : ℕ) → length ds ≤ i → IsFirstSoFar i has → (n : Name) → has n ≡ definition_of (map view ds) n
+  pub first-all : (has : Name → Option spec.VariableDefinition) (i : ℕ) → length ds ≤ i → IsFirstSoFar i has → (n : Name) →
+      has n ≡ definition_of (map view ds) n
   first-all has i past so_far n =
       or-none (has n) ∙ (ap (option_or (has n)) (sym (ap (λ l. definition_of (map view l) n) (drop_all i ds past) ∙ none-of n)) ∙ so_far n)
 
 -- ## One variable more
 
-put-one : {V W : Type 0} (view : V → W) (b : Bool) (old new : Option V) (x : V) → new ≡ cond b (Some x) old → (b ≡ true → is_some old ≡ false) → option_map view new ≡ option_or (option_map view old) (cond b (Some (view x)) None)
+put-one : {V W : Type 0} (view : V → W) (b : Bool) (old new : Option V) (x : V) → new ≡ cond b (Some x) old → (b ≡ true → is_some old ≡ false) →
+    option_map view new ≡ option_or (option_map view old) (cond b (Some (view x)) None)
 put-one view true old new x e absent = ap (option_map view) e ∙ or-unknown (option_map view old) (Some (view x)) (some-map view old ∙ absent refl)
 put-one view false old new x e absent = ap (option_map view) e ∙ or-none (option_map view old)
 
@@ -99,9 +103,11 @@ module _ {S : Type 0} (shown : S → Shown) where
     unfolding definition_at definition_of
     put-first m n x absent put k =
         let name = x.now.0.item.now in
-        put-one (λ (v : Bor Variable). view_variable shown v.now) (bytes_eq name k) (get_by (λ i. bytes_eq k i.now) m) (get_by (λ i. bytes_eq k i.now) n) x (put k)
+        put-one (λ (v : Bor Variable). view_variable shown v.now) (bytes_eq name k) (get_by (λ i. bytes_eq k i.now) m) (get_by (λ i. bytes_eq k i.now) n) x
+        (put k)
         (λ e. subst (λ j. is_some (get_by (λ i. bytes_eq j i.now) m) ≡ false) (same name k e) absent)
-        ∙ ap (λ b. option_or (option_map (λ (v : Bor Variable). view_variable shown v.now) (get_by (λ i. bytes_eq k i.now) m)) (cond b (Some (view_variable shown x.now)) None)) (nat_list_eq_equiv.symm name k)
+        ∙ ap (λ b. option_or (option_map (λ (v : Bor Variable). view_variable shown v.now) (get_by (λ i. bytes_eq k i.now) m))
+        (cond b (Some (view_variable shown x.now)) None)) (nat_list_eq_equiv.symm name k)
 
     pub put-not : (m : HashMap (Bor (List ℕ)) (Bor Variable) H) (x : Bor Variable) → is_some (get_by (λ i. bytes_eq x.now.0.item.now i.now) m) ≡ true →
         (k : Name) → definition_at shown m k ≡ option_or (definition_at shown m k) (definition_of (view_variable shown x.now ∷ []) k)
@@ -110,7 +116,9 @@ module _ {S : Type 0} (shown : S → Shown) where
         let name = x.now.0.item.now in
         let old = option_map (λ (v : Bor Variable). view_variable shown v.now) (get_by (λ i. bytes_eq k i.now) m) in
         elim (cases_Bool (bytes_eq k name)) [
-          | inl q ↦ rw q (or-known old (Some (view_variable shown x.now)) (some-map (λ (v : Bor Variable). view_variable shown v.now) (get_by (λ i. bytes_eq k i.now) m) ∙ subst (λ j. is_some (get_by (λ i. bytes_eq j i.now) m) ≡ true) (sym (same k name q)) there))
+          | inl q ↦ rw q (or-known old (Some (view_variable shown x.now))
+              (some-map (λ (v : Bor Variable). view_variable shown v.now) (get_by (λ i. bytes_eq k i.now) m)
+              ∙ subst (λ j. is_some (get_by (λ i. bytes_eq j i.now) m) ≡ true) (sym (same k name q)) there))
           | inr q ↦ rw q (or-none old)
         ]
 
@@ -124,12 +132,16 @@ module _ {S : Type 0} (shown : S → Shown) where
     unfolding definition_at
     there-is m k = sym (some-map (λ (v : Bor Variable). view_variable shown v.now) (get_by (λ n. bytes_eq k n.now) m))
 
-    pub found-is : (m : HashMap (Bor (List ℕ)) (Bor Variable) H) (k : Name) (o : Option (Bor (Bor Variable))) (v : Bor (Bor Variable)) → option_copied o ≡ get_by (λ n. bytes_eq k n.now) m → o ≡ Some v →
+    pub found-is : (m : HashMap (Bor (List ℕ)) (Bor Variable) H) (k : Name) (o : Option (Bor (Bor Variable))) (v : Bor (Bor Variable)) →
+        option_copied o ≡ get_by (λ n. bytes_eq k n.now) m → o ≡ Some v →
         Some (view_variable shown v.now.now) ≡ definition_at shown m k
     unfolding definition_at
-    found-is m k o v e is = ap (λ p. option_map (λ (w : Bor Variable). view_variable shown w.now) (option_copied p)) (sym is) ∙ ap (option_map (λ (w : Bor Variable). view_variable shown w.now)) e
+    found-is m k o v e is = ap (λ p. option_map (λ (w : Bor Variable). view_variable shown w.now) (option_copied p)) (sym is)
+        ∙ ap (option_map (λ (w : Bor Variable). view_variable shown w.now)) e
 
-    pub missing-is : (m : HashMap (Bor (List ℕ)) (Bor Variable) H) (k : Name) (o : Option (Bor (Bor Variable))) → option_copied o ≡ get_by (λ n. bytes_eq k n.now) m → o ≡ None →
+    pub missing-is : (m : HashMap (Bor (List ℕ)) (Bor Variable) H) (k : Name) (o : Option (Bor (Bor Variable))) →
+        option_copied o ≡ get_by (λ n. bytes_eq k n.now) m → o ≡ None →
         None ≡ definition_at shown m k
     unfolding definition_at
-    missing-is m k o e is = ap (λ p. option_map (λ (w : Bor Variable). view_variable shown w.now) (option_copied p)) (sym is) ∙ ap (option_map (λ (w : Bor Variable). view_variable shown w.now)) e
+    missing-is m k o e is = ap (λ p. option_map (λ (w : Bor Variable). view_variable shown w.now) (option_copied p)) (sym is)
+        ∙ ap (option_map (λ (w : Bor Variable). view_variable shown w.now)) e

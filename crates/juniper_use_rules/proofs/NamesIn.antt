@@ -20,7 +20,8 @@ module _ {S : Type 0} (shown : S → Shown) where
   items-are [] = refl
   items-are (x ∷ xs) = ap (λ l. names_of_item x ++ l) (items-are xs)
 
-  pub fields-are : (xs : List (Spanning (String Global) Span × Spanning (InputValue S) Span)) → flat_map names_of_field xs ≡ variables_in_fields (view_fields shown xs)
+  pub fields-are : (xs : List (Spanning (String Global) Span × Spanning (InputValue S) Span)) →
+      flat_map names_of_field xs ≡ variables_in_fields (view_fields shown xs)
   unfolding variables_in_fields
   fields-are [] = refl
   fields-are (x ∷ xs) = ap (λ l. names_of_field x ++ l) (fields-are xs)

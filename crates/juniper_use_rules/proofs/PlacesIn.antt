@@ -34,7 +34,8 @@ module _ {S : Type 0} (shown : S → Shown) (s : Schema) where
   items-are t [] = refl
   items-are t (x ∷ xs) = ap (λ l. uses_of_item t x ++ l) (items-are t xs)
 
-  pub fields-are : (ds : List InputDeclaration) (xs : List (Spanning (String Global) Span × Spanning (InputValue S) Span)) → flat_map (uses_of_field ds) xs ≡ uses_in_fields s (view_fields shown xs) ds
+  pub fields-are : (ds : List InputDeclaration) (xs : List (Spanning (String Global) Span × Spanning (InputValue S) Span)) →
+      flat_map (uses_of_field ds) xs ≡ uses_in_fields s (view_fields shown xs) ds
   unfolding uses_in_fields
   fields-are ds [] = refl
   fields-are ds (x ∷ xs) = ap (λ l. uses_of_field ds x ++ l) (fields-are ds xs)

@@ -22,9 +22,12 @@ module _ (s : Schema) (d : Document) (x : Definition) (o : Operation) (is : x �
   unfolding misuses_variable
   rootless-misused none = sym (ap (λ b. b && not (all_allowed s d o)) none) ∙ ap (misuses_variable s d) (sym is)
 
-  module _ (own : Usage) (us : List Usage) (reach : Name → Bool) (at : Name → Option VariableDefinition) (root : has_root s o ≡ true) (at_own : own ≡ usage_of s x) (at_us : us ≡ map (usage_of s) (as_definitions (fragments d)))
-      (at_reach : (n : Name) → reach n ≡ is_reached (fragments d) (spreads o.selections) n) (at_name : (n : Name) → at n ≡ definition_of (variables_of o) n) where
-    pub undefined-is : (list_any (λ n. not (is_some (at n))) own.names || list_any (λ u. is_reached_by reach u && list_any (λ n. not (is_some (at n))) u.names) us) ≡ uses_undefined s d x
+  module _ (own : Usage) (us : List Usage) (reach : Name → Bool) (at : Name → Option VariableDefinition) (root : has_root s o ≡ true)
+      (at_own : own ≡ usage_of s x) (at_us : us ≡ map (usage_of s) (as_definitions (fragments d)))
+      (at_reach : (n : Name) → reach n ≡ is_reached (fragments d) (spreads o.selections) n)
+      (at_name : (n : Name) → at n ≡ definition_of (variables_of o) n) where
+    pub undefined-is : (list_any (λ n. not (is_some (at n))) own.names
+        || list_any (λ u. is_reached_by reach u && list_any (λ n. not (is_some (at n))) u.names) us) ≡ uses_undefined s d x
     unfolding uses_undefined all_defined usage_of
     undefined-is =
         let same : at ≡ definition_of (variables_of o) = λ i n. at_name n i in
@@ -33,11 +36,13 @@ module _ (s : Schema) (d : Document) (x : Definition) (o : Operation) (is : x �
         ∙ (sym (one-fails (λ n. is_some (definition_of (variables_of o) n)) (flat_map names_used (parts d o)))
         ∙ (sym (ap (λ b. b && not (all_defined d o)) root) ∙ ap (uses_undefined s d) (sym is))))
 
-    pub misused-is : (list_any (λ v. not (allowed_by at v)) own.uses || list_any (λ u. is_reached_by reach u && list_any (λ v. not (allowed_by at v)) u.uses) us) ≡ misuses_variable s d x
+    pub misused-is : (list_any (λ v. not (allowed_by at v)) own.uses
+        || list_any (λ u. is_reached_by reach u && list_any (λ v. not (allowed_by at v)) u.uses) us) ≡ misuses_variable s d x
     unfolding misuses_variable all_allowed uses allowed allowed_by usage_of
     misused-is =
         let same : at ≡ definition_of (variables_of o) = λ i n. at_name n i in
-        any-part (λ y. flat_map (uses_in_call s) (calls s y)) (λ v. not (allowed_by at v)) reach s (λ u. u.uses) (λ y. refl) d o own us (at_own ∙ ap (usage_of s) is) at_us at_reach
+        any-part (λ y. flat_map (uses_in_call s) (calls s y)) (λ v. not (allowed_by at v)) reach s (λ u. u.uses) (λ y. refl) d o own us
+        (at_own ∙ ap (usage_of s) is) at_us at_reach
         ∙ (ap (λ f. list_any (λ v. not (allowed_by f v)) (uses s d o)) same
         ∙ (sym (one-fails (allowed (variables_of o)) (uses s d o))
         ∙ (sym (ap (λ b. b && not (all_allowed s d o)) root) ∙ ap (misuses_variable s d) (sym is))))

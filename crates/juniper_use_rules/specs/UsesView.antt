@@ -74,7 +74,8 @@ abbrev pub of_fragment : Usage → List Usage
 of_fragment u = where_named u.fragment u
 
 -- the definition of a variable that the map has at a name
-unfoldable pub definition_at : {S H : Type 0} → (S → Shown) → HashMap (Bor (List ℕ)) (Bor (Spanning (Bor (List ℕ)) Span × VariableDefinition S)) H → Name → Option spec.VariableDefinition
+unfoldable pub definition_at : {S H : Type 0} → (S → Shown) → HashMap (Bor (List ℕ)) (Bor (Spanning (Bor (List ℕ)) Span × VariableDefinition S)) H → Name →
+    Option spec.VariableDefinition
 definition_at shown m n = option_map (λ v. view_variable shown v.now) (get_by (λ k. bytes_eq n k.now) m)
 
 -- a variable may stand at a place, if it is defined

@@ -43,7 +43,8 @@ fn put_variable<'d, 'a, S: ScalarValue>(
     variable: &'d Variable<'a, S>,
     first: &mut VariablesByName<'d, 'a, S>,
 ) -> Result<(), AllocError>
-    ensures { OnOk result ((n : Name) → definition_at S.shown first.new n ≡ option_or (definition_at S.shown first.old n) (definition_of (view_variable S.shown variable.now ∷ []) n)) }
+    ensures { OnOk result ((n : Name) → definition_at S.shown first.new n
+        ≡ option_or (definition_at S.shown first.old n) (definition_of (view_variable S.shown variable.now ∷ []) n)) }
 {
     let name = variable.0.item;
     if first.contains_key(name) {

@@ -22,7 +22,8 @@ pub fn looks_at_schema<S: ScalarValue>(
     definition: &Definition<'_, S>,
     written: &Written<'_, '_, S>,
 ) -> bool
-    ensures { view_written S.shown written.now ≡ parts_of (view_definition S.shown definition.now) → result ≡ rules.looks_at_schema (view_schema S.shown schema.now) disabled (view_definition S.shown definition.now) }
+    ensures { view_written S.shown written.now ≡ parts_of (view_definition S.shown definition.now) →
+        result ≡ rules.looks_at_schema (view_schema S.shown schema.now) disabled (view_definition S.shown definition.now) }
 {
     if !disabled {
         return false;

@@ -34,7 +34,8 @@ fn push_of_given<'d, S: ScalarValue>(
     given: &'d Option<Spanning<Arguments<'_, S>, Span>>,
     names: &mut Vec<&'d str>,
 ) -> Result<(), AllocError>
-    ensures { OnOk result (view_names names.new.items ≡ view_names names.old.items ++ flat_map (λ a. variables_in a.value.item) (written (view_arguments S.shown given.now))) }
+    ensures { OnOk result (view_names names.new.items ≡ view_names names.old.items
+        ++ flat_map (λ a. variables_in a.value.item) (written (view_arguments S.shown given.now))) }
 {
     match given {
         Some(arguments) => {

@@ -29,7 +29,9 @@ pub fn uses_undefined<S: ScalarValue>(
     fragments: &Vec<&Used<'_>>,
     reached: &HashSet<&str>,
 ) -> Result<bool, AllocError>
-    ensures { IfOk result (λ b. (d : Document) → view_used own.now ≡ usage_of (view_schema S.shown schema.now) (view_definition S.shown definition.now) → AreUsesOfFragments (view_schema S.shown schema.now) fragments.now.items d → IsReachOf reached.now d (view_definition S.shown definition.now) → b ≡ rules.uses_undefined (view_schema S.shown schema.now) d (view_definition S.shown definition.now)) }
+    ensures { IfOk result (λ b. (d : Document) → view_used own.now ≡ usage_of (view_schema S.shown schema.now) (view_definition S.shown definition.now) →
+        AreUsesOfFragments (view_schema S.shown schema.now) fragments.now.items d → IsReachOf reached.now d (view_definition S.shown definition.now) →
+        b ≡ rules.uses_undefined (view_schema S.shown schema.now) d (view_definition S.shown definition.now)) }
 {
     match definition {
         Definition::Operation(operation) => {

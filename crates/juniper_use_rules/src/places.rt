@@ -65,7 +65,9 @@ fn push_declared<'u, S: ScalarValue>(
     declared: Option<&'u Argument<S>>,
     uses: &mut Vec<Use<'u>>,
 ) -> Result<(), AllocError>
-    ensures { OnOk result (view_uses uses.new.items ≡ view_uses uses.old.items ++ at_declared (option_map (λ a. view_argument S.shown a.now) declared.entry) (λ t b. uses_at (view_schema S.shown schema.now) (view_input S.shown value.now) t b)) }
+    ensures { OnOk result (view_uses uses.new.items ≡ view_uses uses.old.items
+        ++ at_declared (option_map (λ a. view_argument S.shown a.now) declared.entry)
+        (λ t b. uses_at (view_schema S.shown schema.now) (view_input S.shown value.now) t b)) }
 {
     match declared {
         Some(argument) => {
@@ -86,7 +88,8 @@ fn push_of_value<'u, S: ScalarValue>(
     has_default: bool,
     uses: &mut Vec<Use<'u>>,
 ) -> Result<(), AllocError>
-    ensures { OnOk result (view_uses uses.new.items ≡ view_uses uses.old.items ++ uses_at (view_schema S.shown schema.now) (view_input S.shown value.now) (view_type place.now) has_default) }
+    ensures { OnOk result (view_uses uses.new.items ≡ view_uses uses.old.items
+        ++ uses_at (view_schema S.shown schema.now) (view_input S.shown value.now) (view_type place.now) has_default) }
 {
     match value {
         InputValue::Null => Ok(()),
@@ -115,7 +118,8 @@ fn push_of_items<'u, S: ScalarValue>(
     place: &'u Type<String>,
     uses: &mut Vec<Use<'u>>,
 ) -> Result<(), AllocError>
-    ensures { OnOk result (view_uses uses.new.items ≡ view_uses uses.old.items ++ uses_in_items (view_schema S.shown schema.now) (view_items S.shown items.now) (view_type place.now)) }
+    ensures { OnOk result (view_uses uses.new.items ≡ view_uses uses.old.items
+        ++ uses_in_items (view_schema S.shown schema.now) (view_items S.shown items.now) (view_type place.now)) }
 {
     for item in items {
         push_of_value(schema, &item.item, place, false, uses)?;
@@ -131,7 +135,8 @@ fn push_of_fields<'u, S: ScalarValue>(
     declared: &'u [Argument<S>],
     uses: &mut Vec<Use<'u>>,
 ) -> Result<(), AllocError>
-    ensures { OnOk result (view_uses uses.new.items ≡ view_uses uses.old.items ++ uses_in_fields (view_schema S.shown schema.now) (view_fields S.shown fields.now) (map (view_argument S.shown) declared.now)) }
+    ensures { OnOk result (view_uses uses.new.items ≡ view_uses uses.old.items
+        ++ uses_in_fields (view_schema S.shown schema.now) (view_fields S.shown fields.now) (map (view_argument S.shown) declared.now)) }
 {
     for field in fields {
         let found = find_argument(declared, field.0.item.as_str());
@@ -147,7 +152,8 @@ fn push_use<'u>(
     has_default: bool,
     uses: &mut Vec<Use<'u>>,
 ) -> Result<(), AllocError>
-    ensures { OnOk result (view_uses uses.new.items ≡ view_uses uses.old.items ++ record { variable = variable.now; place = view_type place.now; has_default = has_default } ∷ []) }
+    ensures { OnOk result (view_uses uses.new.items ≡ view_uses uses.old.items
+        ++ record { variable = variable.now; place = view_type place.now; has_default = has_default } ∷ []) }
 {
     uses.push(Use {
         variable,

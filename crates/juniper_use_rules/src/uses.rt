@@ -51,7 +51,9 @@ pub fn used_in<'u, 'd: 'u, 'a: 'u, 's: 'u, S: ScalarValue>(
     arguments: &ArgumentLists<'d, 'a, S>,
     calls: &[Call<'d, 'a, 's, S>],
 ) -> Result<Used<'u>, AllocError>
-    ensures { IfOk result (λ u. view_lists S.shown arguments.now ≡ argument_lists (view_definition S.shown definition.now) → map (view_call S.shown) calls.now ≡ placed.calls (view_schema S.shown schema.now) (view_definition S.shown definition.now) → view_used u ≡ usage_of (view_schema S.shown schema.now) (view_definition S.shown definition.now)) }
+    ensures { IfOk result (λ u. view_lists S.shown arguments.now ≡ argument_lists (view_definition S.shown definition.now) →
+        map (view_call S.shown) calls.now ≡ placed.calls (view_schema S.shown schema.now) (view_definition S.shown definition.now) →
+        view_used u ≡ usage_of (view_schema S.shown schema.now) (view_definition S.shown definition.now)) }
 {
     let names = names_in_lists(alloc, arguments)?;
     let uses = uses_in_calls(alloc, schema, calls)?;

@@ -26,17 +26,20 @@ module _ {S : Type 0} (shown : S → Shown) where
   found_step false x o = refl
 
   -- what is found among the members is what the map has there
-  pub found : (q : Name) (es : List (Bor (List ℕ) × Placed S)) → find q (members_of shown es) ≡ option_map (λ x. meaning (view_input shown x.item)) (lookup (λ k. bytes_eq q k.now) es)
+  pub found : (q : Name) (es : List (Bor (List ℕ) × Placed S)) → find q (members_of shown es)
+      ≡ option_map (λ x. meaning (view_input shown x.item)) (lookup (λ k. bytes_eq q k.now) es)
   unfolding find
   found q [] = refl
-  found q (e ∷ es) = find-put q e.0.now (meant e.1) (members_of shown es) ∙ (ap (cond (bytes_eq q e.0.now) (Some (meant e.1))) (found q es) ∙ found_step (bytes_eq q e.0.now) e.1 (lookup (λ k. bytes_eq q k.now) es))
+  found q (e ∷ es) = find-put q e.0.now (meant e.1) (members_of shown es)
+      ∙ (ap (cond (bytes_eq q e.0.now) (Some (meant e.1))) (found q es) ∙ found_step (bytes_eq q e.0.now) e.1 (lookup (λ k. bytes_eq q k.now) es))
 
   some_mapped : (o : Option (Placed S)) → is_some (option_map meant o) ≡ is_some o
   some_mapped None = refl
   some_mapped (Some x) = refl
 
   -- a name is among the members where it is a key of the map
-  pub there : {H : Type 0} (m : IndexMap (Bor (List ℕ)) (Placed S) H) (q : Name) → is_some (find q (members_of shown m.entries)) ≡ is_some (get_by (λ k. bytes_eq q k.now) m)
+  pub there : {H : Type 0} (m : IndexMap (Bor (List ℕ)) (Placed S) H) (q : Name) →
+      is_some (find q (members_of shown m.entries)) ≡ is_some (get_by (λ k. bytes_eq q k.now) m)
   there m q = ap is_some (found q m.entries) ∙ some_mapped (lookup (λ k. bytes_eq q k.now) m.entries)
 
   as_put : Bor (List ℕ) × Placed S → Name × Option Constant
@@ -47,21 +50,25 @@ module _ {S : Type 0} (shown : S → Shown) where
   as_all [] = refl
   as_all (e ∷ es) = ap (insert e.0.now (meant e.1)) (as_all es)
 
-  more : (es : List (Bor (List ℕ) × Placed S)) (k : Bor (List ℕ)) (v : Placed S) → is_some (find k.now (members_of shown es)) ≡ false → members_of shown (es ++ (k, v) ∷ []) ≡ insert k.now (meant v) (members_of shown es)
+  more : (es : List (Bor (List ℕ) × Placed S)) (k : Bor (List ℕ)) (v : Placed S) → is_some (find k.now (members_of shown es)) ≡ false →
+      members_of shown (es ++ (k, v) ∷ []) ≡ insert k.now (meant v) (members_of shown es)
   unfolding put_some as_put
   more es k v absent =
       let absent' : is_some (find k.now (put_all (map as_put es))) ≡ false = subst (λ z. is_some (find k.now z) ≡ false) (as_all es) absent in
-      as_all (es ++ (k, v) ∷ []) ∙ (ap put_all (map-append as_put es ((k, v) ∷ [])) ∙ (put_all-more (map as_put es) k.now (Some (meant v)) ∙ (rw absent' (ap (insert k.now (meant v)) (sym (as_all es))))))
+      as_all (es ++ (k, v) ∷ []) ∙ (ap put_all (map-append as_put es ((k, v) ∷ []))
+      ∙ (put_all-more (map as_put es) k.now (Some (meant v)) ∙ (rw absent' (ap (insert k.now (meant v)) (sym (as_all es))))))
 
   none_there : {A : Type 0} (o : Option A) → is_some o ≡ false → o ≡ None
   none_there None e = refl
   none_there (Some x) e = cc
 
   -- a new key goes last, and its value is put in
-  pub put_new : {H : Type 0} (m : IndexMap (Bor (List ℕ)) (Placed S) H) (k : Bor (List ℕ)) (v : Placed S) → is_some (get_by (λ j. bytes_eq k.now j.now) m) ≡ false →
+  pub put_new : {H : Type 0} (m : IndexMap (Bor (List ℕ)) (Placed S) H) (k : Bor (List ℕ)) (v : Placed S) →
+      is_some (get_by (λ j. bytes_eq k.now j.now) m) ≡ false →
       members_of shown (insert_entry same_name m.entries k v) ≡ insert k.now (meaning (view_input shown v.item)) (members_of shown m.entries)
   put_new m k v absent =
-      ap (members_of shown) (insert_entry-new same_name m k v (none_there (get_by (λ j. bytes_eq k.now j.now) m) absent)) ∙ more m.entries k v (there m k.now ∙ absent)
+      ap (members_of shown) (insert_entry-new same_name m k v (none_there (get_by (λ j. bytes_eq k.now j.now) m) absent))
+      ∙ more m.entries k v (there m k.now ∙ absent)
 
 -- ## Defaults
 

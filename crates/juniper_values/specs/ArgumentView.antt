@@ -42,7 +42,8 @@ view_arguments shown a = members_of shown a.items.entries
 
 -- What is got of an argument, by the value that is there: nothing where there is none, else what the value is converted
 -- into, or its error; nothing is said where memory is refused.
-abbrev pub GivesArgument : {S T E : Type 0} → (S → Shown) → (Constant → Result T E → Type 0) → (E → Error) → Option Constant → Result (Option T) (ResolveError S) → Type 0
+abbrev pub GivesArgument : {S T E : Type 0} → (S → Shown) → (Constant → Result T E → Type 0) → (E → Error) → Option Constant →
+    Result (Option T) (ResolveError S) → Type 0
 GivesArgument shown gives becomes o (Ok None) = o ≡ None
 GivesArgument shown gives becomes o (Ok (Some x)) = (v : Constant) × (o ≡ Some v) × gives v (Ok x)
 GivesArgument {E = E} shown gives becomes o (Err (Field r)) = (v : Constant) × (e : E) × (o ≡ Some v) × gives v (Err e) × (view_error shown r ≡ becomes e)

@@ -95,7 +95,8 @@ fn fill_defaults<'a, S: ScalarValue>(
     mut items: IndexMap<&'a str, Spanning<InputValue<S>, Span>>,
     declared: &'a [Argument<S>],
 ) -> Result<IndexMap<&'a str, Spanning<InputValue<S>, Span>>, AllocError>
-    ensures { IfOk result (λ filled. members_of S.shown filled.entries ≡ with_defaults (map (view_argument S.shown) declared.now) (members_of S.shown items.entry.entries)) }
+    ensures { IfOk result (λ filled. members_of S.shown filled.entries
+        ≡ with_defaults (map (view_argument S.shown) declared.now) (members_of S.shown items.entry.entries)) }
 {
     for argument in declared {
         put_default(alloc, &mut items, argument)?;
@@ -109,7 +110,8 @@ fn put_default<'a, S: ScalarValue>(
     items: &mut IndexMap<&'a str, Spanning<InputValue<S>, Span>>,
     argument: &'a Argument<S>,
 ) -> Result<(), AllocError>
-    ensures { OnOk result (members_of S.shown items.new.entries ≡ put_default (string_bytes argument.now.name) (option_map (view_input S.shown) argument.now.default_value) (members_of S.shown items.old.entries)) }
+    ensures { OnOk result (members_of S.shown items.new.entries ≡ put_default (string_bytes argument.now.name)
+        (option_map (view_input S.shown) argument.now.default_value) (members_of S.shown items.old.entries)) }
 {
     let name = argument.name.as_str();
     if items.contains_key(name) {

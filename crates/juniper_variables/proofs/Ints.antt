@@ -15,5 +15,6 @@ narrowed z (Err e) over = elim (cases_Bool (fits_int z)) [
 ]
 
 -- what a conversion to 32 bits answers
-pub narrow : {E : Type 0} (z : ℤ) (r : Result ℤ E) (o : Option ℤ) → SFits w64 z → OkIff r (SFits w32 (to_z w64 (of_z w64 z))) (to_z w64 (of_z w64 z)) → o ≡ result_ok r → o ≡ as_int z
+pub narrow : {E : Type 0} (z : ℤ) (r : Result ℤ E) (o : Option ℤ) → SFits w64 z → OkIff r (SFits w32 (to_z w64 (of_z w64 z))) (to_z w64 (of_z w64 z)) →
+    o ≡ result_ok r → o ≡ as_int z
 narrow z r o fits h e = e ∙ narrowed z r (subst (λ y. OkIff r (SFits w32 y) y) (to_z-of_z w64 z fits) h)

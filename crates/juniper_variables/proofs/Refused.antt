@@ -22,7 +22,8 @@ range_left ms e g =
     rw (f, h) refl
 
 -- each is an Int
-pub all_found : (ms : Members) (vars : Variables) → all_members (is_wanted Integer) ms ≡ true → all_members (is_wanted Int) ms ≡ true → vars ≡ values_of ms → variables_in ms ≡ Ok vars
+pub all_found : (ms : Members) (vars : Variables) → all_members (is_wanted Integer) ms ≡ true → all_members (is_wanted Int) ms ≡ true → vars ≡ values_of ms →
+    variables_in ms ≡ Ok vars
 unfolding is_wanted
 all_found ms vars e g made =
     let f : all_members (λ n. not (is_float n)) ms ≡ true = e in

@@ -89,7 +89,8 @@ put_value k d old n = cond (bytes_eq k n) (Some (input_of d)) (old n)
 
 -- what the members of an object give
 abbrev pub variables_in : Members → Result Variables VariablesError
-variables_in ms = cond (all_members (λ n. not (is_float n)) ms) (cond (all_members (λ n. is_some (int_in n)) ms) (Ok (values_of ms)) (Err OutOfRange)) (Err Float)
+variables_in ms =
+    cond (all_members (λ n. not (is_float n)) ms) (cond (all_members (λ n. is_some (int_in n)) ms) (Ok (values_of ms)) (Err OutOfRange)) (Err Float)
 
 -- what a text gives, by the JSON value that it is, if it is one
 abbrev pub variables_from : Option Members → Result Variables VariablesError

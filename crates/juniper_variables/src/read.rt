@@ -90,7 +90,8 @@ fn put(
     name: &str,
     value: &Value,
 ) -> Result<(), AllocError>
-    ensures { OnOk result ((n : Name) → view_variables default_shown made.new n ≡ put_value name.now (view value.now) (view_variables default_shown made.old) n) }
+    ensures { OnOk result ((n : Name) → view_variables default_shown made.new n
+        ≡ put_value name.now (view value.now) (view_variables default_shown made.old) n) }
 {
     let key = String::from_str(alloc, name)?;
     let value = input(alloc, value)?;

@@ -19,7 +19,8 @@ module _ {N : Type 0} (W : World N) (s : Forest) (n : N) (T : Name) where
   pub root-agrees : (os : List Occurrence) → os ≡ occurrences W.possible T s → SelectionsAgree W T s → AllAgree W T os
   root-agrees os is agree = subst (λ l. AllAgree W T l) (sym is) agree
 
-  pub walk-is-answer : (at : Place) (os : List Occurrence) (v : Value) (es ds : List Listed) → at ≡ [] → os ≡ occurrences W.possible T s → IsWalkedThrough W at T n os v es →
+  pub walk-is-answer : (at : Place) (os : List Occurrence) (v : Value) (es ds : List Listed) → at ≡ [] → os ≡ occurrences W.possible T s →
+      IsWalkedThrough W at T n os v es →
       ((p : Listed → Bool) → count_listed p ds ≡ count_listed p es) → IsTrue (is_sorted ds) → IsAnswerFor keys_only W T n s v ds
   walk-is-answer at os v es ds top is walked counted sorted =
       let deep : deepest os ≤ depth s = subst (λ l. deepest l ≤ depth s) (sym is) (deepest-of W.possible T s) in

@@ -30,10 +30,14 @@ module _ {X : Type 0} (view : X → Listed) where
   least x [] h = refl
   least x (y ∷ ys) h = rw (turned x (view y) (h 0 y (omega arith)), least x ys (λ j d b. h (suc j) d (omega arith))) refl
 
-  sorted_of_far : (xs : List X) → ((i j : ℕ) (d : X) → i ≤ j → j < length xs → is_lt (compare (view (get_or xs j d)) (view (get_or xs i d))) ≡ false) → is_sorted (map view xs) ≡ true
+  sorted_of_far : (xs : List X) → ((i j : ℕ) (d : X) → i ≤ j → j < length xs → is_lt (compare (view (get_or xs j d)) (view (get_or xs i d))) ≡ false) →
+      is_sorted (map view xs) ≡ true
   unfolding is_sorted
   sorted_of_far [] h = refl
-  sorted_of_far (x ∷ xs) h = rw (least (view x) xs (λ j d b. h 0 (suc j) d (omega arith) (omega arith)), sorted_of_far xs (λ i j d b c. h (suc i) (suc j) d (omega arith) (omega arith))) refl
+  sorted_of_far (x ∷ xs) h = rw (
+    least (view x) xs (λ j d b. h 0 (suc j) d (omega arith) (omega arith)),
+    sorted_of_far xs (λ i j d b c. h (suc i) (suc j) d (omega arith) (omega arith)),
+  ) refl
 
   pub is_sorted_by : (xs : List X) → IsSortedBy (λ a b. is_lt (compare (view a) (view b))) xs → IsTrue (is_sorted (map view xs))
   is_sorted_by xs up = sorted_of_far xs (sorted_far (λ a b. is_lt (compare (view a) (view b))) (ranks_by compare_total view) xs up)

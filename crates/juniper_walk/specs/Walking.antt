@@ -28,7 +28,8 @@ all_keyed [] = true
 all_keyed (v ∷ vs) = is_keyed v && all_keyed vs
 
 -- the collector is ready, takes for possible what the world takes, and has the values of variables that the resolver has
-pub record IsReadyWalk {N S R : Type 0} (shown : S → Shown) (possible : R → Name → Name → Bool) (values : R → VariableMap S) (W : World N) (walk : Walk S R) : Type 0 where
+pub record IsReadyWalk {N S R : Type 0} (shown : S → Shown) (possible : R → Name → Name → Bool) (values : R → VariableMap S) (W : World N)
+    (walk : Walk S R) : Type 0 where
   pub collector : IsReady shown walk.collector
   pub same : possible walk.collector.possible ≡ W.possible
   pub variables : values walk.collector.possible ≡ walk.collector.variables.now
@@ -61,7 +62,8 @@ module _ {N : Type 0} (W : World N) where
   -- ## Only private clauses cite what follows
 
   -- the answer to a field of a node, taken apart from its nodes
-  pub record IsPrepared (at : Place) (T : Name) (m : N) (o : Occurrence) (place : Place) (r : Bool) (s : Skeleton) (ns : List N) (es : List Listed) : Type 0 where
+  pub record IsPrepared (at : Place) (T : Name) (m : N) (o : Occurrence) (place : Place) (r : Bool) (s : Skeleton) (ns : List N)
+      (es : List Listed) : Type 0 where
     pub is_place : place ≡ at ++ key (response_key o.head) ∷ []
     pub non_null : r ≡ required (type_of W T (o ∷ []))
     pub skeleton : s ≡ reply_skeleton W (type_of W T (o ∷ [])) (reply_of W T m (o ∷ []))
@@ -74,7 +76,8 @@ module _ {N : Type 0} (W : World N) where
     pub keyed : is_keyed (object es) ≡ true
 
 -- a field's value was added to its object, but where its null rises
-pub record IsAdded (k : Name) (r : Bool) (s : Skeleton) (vs : List Value) (more : List Listed) (rises : Bool) (es made : Entries) (errors all : List Listed) : Type 0 where
+pub record IsAdded (k : Name) (r : Bool) (s : Skeleton) (vs : List Value) (more : List Listed) (rises : Bool) (es made : Entries)
+    (errors all : List Listed) : Type 0 where
   pub errors_are : all ≡ errors ++ more
   pub rising : rises ≡ (is_null (fill s vs).value && r)
   pub put_in : rises ≡ false → made ≡ joined_in k (fill s vs).value es

@@ -30,9 +30,11 @@ pub(crate) fn add_field<'a, N: Drop, S: ScalarValue>(
 ) -> Result<bool, AllocError>
     requires entries { IsTrue (is_keyed (object (view_object S.shown entries.old))) }
     requires walked { IsTrue (all_keyed (map (view_value S.shown) walked.values.items)) }
-    ensures { IfOk result (λ rises. IsAdded (key_of (head_of S.shown field.now)) prepared.entry.is_non_null (view_skeleton S.shown prepared.entry.skeleton) (map (view_value S.shown) walked.values.items)
+    ensures { IfOk result (λ rises. IsAdded (key_of (head_of S.shown field.now)) prepared.entry.is_non_null (view_skeleton S.shown prepared.entry.skeleton)
+        (map (view_value S.shown) walked.values.items)
         (map (view_listed S.shown) prepared.entry.errors.items ++ map (view_listed S.shown) walked.errors.items) rises
-        (view_object S.shown entries.old) (view_object S.shown entries.new) (map (view_listed S.shown) errors.old.items) (map (view_listed S.shown) errors.new.items)) }
+        (view_object S.shown entries.old) (view_object S.shown entries.new) (map (view_listed S.shown) errors.old.items)
+        (map (view_listed S.shown) errors.new.items)) }
 {
     let mut listed = prepared.errors;
     errors.append(&mut listed)?;
@@ -62,8 +64,10 @@ pub(crate) fn add_object<S: ScalarValue>(
     errors: &mut Vec<ExecutionError<S>>,
     walked: Walked<S>,
 ) -> Result<(), AllocError>
-    ensures values { OnOk result (map (view_value S.shown) values.new.items ≡ map (view_value S.shown) values.old.items ++ view_value S.shown walked.value ∷ []) }
-    ensures errors { OnOk result (map (view_listed S.shown) errors.new.items ≡ map (view_listed S.shown) errors.old.items ++ map (view_listed S.shown) walked.errors.items) }
+    ensures values { OnOk result (map (view_value S.shown) values.new.items
+        ≡ map (view_value S.shown) values.old.items ++ view_value S.shown walked.value ∷ []) }
+    ensures errors { OnOk result (map (view_listed S.shown) errors.new.items
+        ≡ map (view_listed S.shown) errors.old.items ++ map (view_listed S.shown) walked.errors.items) }
 {
     let mut listed = walked.errors;
     errors.append(&mut listed)?;

@@ -58,8 +58,10 @@ pub trait Resolver<S: ScalarValue>: Completer<S> + Conditions {
         site: &Site<'_, 'd, 'a, S>,
     ) -> Asked<'t, Self::Node, S>
         requires acyclic { IsAcyclic S.shown site.now.fragments.now }
-        requires selected { IsSelected S.shown (Self.possible self.now) (values self.now) site.now.fragments.now concrete.now site.now.enclosing.now site.now.field.now }
-        ensures declared { view_type (λ n. string_bytes n) result.declared.now ≡ (Self.world self.now).field_type concrete.now (head_of S.shown site.now.field.now).name.item }
+        requires selected { IsSelected S.shown (Self.possible self.now)
+            (values self.now) site.now.fragments.now concrete.now site.now.enclosing.now site.now.field.now }
+        ensures declared { view_type (λ n. string_bytes n) result.declared.now
+            ≡ (Self.world self.now).field_type concrete.now (head_of S.shown site.now.field.now).name.item }
         ensures answer { Answers S.shown result.answer (reply_to (Self.world self.now) concrete.now node.now (head_of S.shown site.now.field.now)) };
 }
 

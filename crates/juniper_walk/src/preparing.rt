@@ -83,7 +83,8 @@ pub(crate) fn prepare<'d, 'a, S: ScalarValue, R: Resolver<S>>(
     requires ready { IsReadyWalk S.shown R.possible R.values (R.world walk.now.collector.possible) walk.now }
     requires among { In (view_collected S.shown walk.now.collector field.now) (occurrences (R.possible walk.now.collector.possible) concrete.now
         (expansion S.shown walk.now.collector (view_selections S.shown enclosing.now))) }
-    ensures { IfOk result (λ p. IsPrepared (R.world walk.now.collector.possible) (path_place path.now.value) concrete.now node.now (view_collected S.shown walk.now.collector field.now)
+    ensures { IfOk result (λ p. IsPrepared (R.world walk.now.collector.possible) (path_place path.now.value) concrete.now node.now
+        (view_collected S.shown walk.now.collector field.now)
         (path_place p.path.value) p.is_non_null (view_skeleton S.shown p.skeleton) p.nodes.items (map (view_listed S.shown) p.errors.items)) }
 {
     let alloc = walk.alloc;

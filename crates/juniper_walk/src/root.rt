@@ -28,7 +28,8 @@ pub fn answer<'d, 'a, S: ScalarValue, R: Resolver<S>>(
     selections: &'d [Selection<'a, S>],
 ) -> Result<Walked<S>, AllocError>
     requires ready { IsReadyWalk S.shown R.possible R.values (R.world walk.now.collector.possible) walk.now }
-    requires agree { SelectionsAgree (R.world walk.now.collector.possible) concrete.now (expansion S.shown walk.now.collector (view_selections S.shown selections.now)) }
+    requires agree { SelectionsAgree (R.world walk.now.collector.possible) concrete.now
+        (expansion S.shown walk.now.collector (view_selections S.shown selections.now)) }
     ensures { IfOk result (λ r. IsAnswerFor keys_only (R.world walk.now.collector.possible) concrete.now root.now
         (expansion S.shown walk.now.collector (view_selections S.shown selections.now))
         (view_value S.shown r.value) (map (view_listed S.shown) r.errors.items)) }

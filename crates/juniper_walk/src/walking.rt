@@ -48,7 +48,8 @@ pub fn object<'d, 'a, S: ScalarValue, R: Resolver<S>>(
     requires agree { AllAgree (R.world walk.now.collector.possible) concrete.now (view_all S.shown walk.now.collector fields.now) }
     requires collected { view_all S.shown walk.now.collector fields.now ≡ occurrences (R.possible walk.now.collector.possible) concrete.now
         (expansion S.shown walk.now.collector (view_selections S.shown enclosing.now)) }
-    ensures { IfOk result (λ r. IsWalkedThrough (R.world walk.now.collector.possible) (path_place path.now.value) concrete.now node.now (view_all S.shown walk.now.collector fields.now)
+    ensures { IfOk result (λ r. IsWalkedThrough (R.world walk.now.collector.possible) (path_place path.now.value) concrete.now node.now
+        (view_all S.shown walk.now.collector fields.now)
         (view_value S.shown r.value) (map (view_listed S.shown) r.errors.items)) }
 {
     let mut entries = Object::with_capacity(walk.alloc, fields.len())?;
@@ -88,7 +89,8 @@ pub(crate) fn objects_of<'d, 'a, S: ScalarValue, R: Resolver<S>>(
 ) -> Result<AllWalked<S>, AllocError>
     requires ready { IsReadyWalk S.shown R.possible R.values (R.world walk.now.collector.possible) walk.now }
     requires agree { AreReached (R.world walk.now.collector.possible) nodes.now (view_collected S.shown walk.now.collector field.now).below }
-    ensures { IfOk result (λ r. AreAllWalked (R.world walk.now.collector.possible) (path_place path.now.value) (view_collected S.shown walk.now.collector field.now).below nodes.now
+    ensures { IfOk result (λ r. AreAllWalked (R.world walk.now.collector.possible) (path_place path.now.value)
+        (view_collected S.shown walk.now.collector field.now).below nodes.now
         (map (view_value S.shown) r.values.items) (map (view_listed S.shown) r.errors.items)) }
 {
     let selections = selections_of(field);

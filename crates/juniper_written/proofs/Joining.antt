@@ -44,12 +44,14 @@ pub adds-head : (old : Parts) (h : Head) (fs : List Head) (ds : List Directive) 
 unfolding joined field_parts
 adds-head old h fs ds f d = same-parts _ _ _ _ _ _ _ _ f (sym (append-nil old.spreads)) (sym (append-nil old.conditions)) d
 
-pub adds-spread-head : (old : Parts) (x : spec.Spread) (ns : List Name) (ds : List Directive) → ns ≡ old.spreads ++ x.name.item ∷ [] → ds ≡ old.directives ++ x.directives →
+pub adds-spread-head : (old : Parts) (x : spec.Spread) (ns : List Name) (ds : List Directive) → ns ≡ old.spreads ++ x.name.item ∷ [] →
+    ds ≡ old.directives ++ x.directives →
     made old.fields ns old.conditions ds ≡ joined old (spread_parts x)
 unfolding joined spread_parts
 adds-spread-head old x ns ds n d = same-parts _ _ _ _ _ _ _ _ (sym (append-nil old.fields)) n (sym (append-nil old.conditions)) d
 
-pub adds-inline-head : (old m : Parts) (x : spec.Inline) (ds : List Directive) → m.fields ≡ old.fields → m.spreads ≡ old.spreads → m.conditions ≡ old.conditions ++ condition_names x.condition →
+pub adds-inline-head : (old m : Parts) (x : spec.Inline) (ds : List Directive) → m.fields ≡ old.fields → m.spreads ≡ old.spreads →
+    m.conditions ≡ old.conditions ++ condition_names x.condition →
     ds ≡ old.directives ++ x.directives → made m.fields m.spreads m.conditions ds ≡ joined old (inline_parts x)
 unfolding joined inline_parts
 adds-inline-head old m x ds f n k d = same-parts _ _ _ _ _ _ _ _ (f ∙ sym (append-nil old.fields)) (n ∙ sym (append-nil old.spreads)) k d
@@ -64,14 +66,16 @@ spread-parts : (x : spec.Spread) (rest : Selections) → parts_in (spread x rest
 unfolding joined parts_in spread_parts heads spreads conditions directives_in
 spread-parts x rest = refl
 
-conditions-inline : (o : Option Word) (x : spec.Inline) (below rest : Selections) → x.condition ≡ o → conditions (inline x below rest) ≡ (condition_names o ++ conditions below) ++ conditions rest
+conditions-inline : (o : Option Word) (x : spec.Inline) (below rest : Selections) → x.condition ≡ o →
+    conditions (inline x below rest) ≡ (condition_names o ++ conditions below) ++ conditions rest
 unfolding conditions condition_names
 conditions-inline None x below rest is = rw is refl
 conditions-inline (Some w) x below rest is = rw is refl
 
 inline-parts : (x : spec.Inline) (below rest : Selections) → parts_in (inline x below rest) ≡ joined (joined (inline_parts x) (parts_in below)) (parts_in rest)
 unfolding joined parts_in inline_parts heads spreads directives_in
-inline-parts x below rest = same-parts _ _ _ _ _ _ _ _ refl refl (conditions-inline x.condition x below rest refl) (sym (append_assoc x.directives (directives_in below) (directives_in rest)))
+inline-parts x below rest = same-parts _ _ _ _ _ _ _ _ refl refl (conditions-inline x.condition x below rest refl)
+    (sym (append_assoc x.directives (directives_in below) (directives_in rest)))
 
 -- ## A selection of the code
 
@@ -80,20 +84,23 @@ module _ {S : Type 0} (shown : S → Shown) (x : Selection S) (old new : Parts) 
   abbrev pub IsAdded : Type 0
   IsAdded = (rest : Selections) → joined new (parts_in rest) ≡ joined old (parts_in (put_selection shown x rest))
 
-  at-field : (s : Spanning (FieldType S) Span) (o : Option (Vec (Selection S) Global)) (rest : Selections) → x ≡ Field s → (out-Field S s.item).selection_set ≡ o →
+  at-field : (s : Spanning (FieldType S) Span) (o : Option (Vec (Selection S) Global)) (rest : Selections) → x ≡ Field s →
+      (out-Field S s.item).selection_set ≡ o →
       parts_in (put_selection shown x rest) ≡ joined (joined (field_parts (view_field shown s)) (parts_in (view_set shown o))) (parts_in rest)
   at-field s o rest is set =
       ap (λ y. parts_in (put_selection shown y rest)) is ∙ (ap parts_in (put-Field shown s rest)
       ∙ (field-parts (view_field shown s) (view_set shown (out-Field S s.item).selection_set) rest
       ∙ ap (λ v. joined (joined (field_parts (view_field shown s)) (parts_in (view_set shown v))) (parts_in rest)) set))
 
-  pub adds-leaf : (s : Spanning (FieldType S) Span) → x ≡ Field s → (out-Field S s.item).selection_set ≡ None → new ≡ joined old (field_parts (view_field shown s)) → IsAdded
+  pub adds-leaf : (s : Spanning (FieldType S) Span) → x ≡ Field s → (out-Field S s.item).selection_set ≡ None →
+      new ≡ joined old (field_parts (view_field shown s)) → IsAdded
   adds-leaf s is none e = λ rest.
       let first : Parts = field_parts (view_field shown s) in
       ap (λ p. joined p (parts_in rest)) e ∙ (joined-assoc old first (parts_in rest)
       ∙ ap (joined old) (ap (λ p. joined p (parts_in rest)) (sym (joined-end first)) ∙ sym (at-field s None rest is none)))
 
-  pub adds-set : (s : Spanning (FieldType S) Span) (v : Vec (Selection S) Global) (within : List (Selection S)) (m : Parts) → x ≡ Field s → (out-Field S s.item).selection_set ≡ Some v →
+  pub adds-set : (s : Spanning (FieldType S) Span) (v : Vec (Selection S) Global) (within : List (Selection S)) (m : Parts) → x ≡ Field s →
+      (out-Field S s.item).selection_set ≡ Some v →
       within ≡ v.items → m ≡ joined old (field_parts (view_field shown s)) → new ≡ joined m (parts_in (view_selections shown within)) → IsAdded
   adds-set s v within m is some same first e = λ rest.
       let head : Parts = field_parts (view_field shown s) in
@@ -106,9 +113,11 @@ module _ {S : Type 0} (shown : S → Shown) (x : Selection S) (old new : Parts) 
   pub adds-spread : (s : Spanning (SpreadType S) Span) → x ≡ FragmentSpread s → new ≡ joined old (spread_parts (view_spread_at shown s)) → IsAdded
   adds-spread s is e = λ rest.
       ap (λ p. joined p (parts_in rest)) e ∙ (joined-assoc old (spread_parts (view_spread_at shown s)) (parts_in rest)
-      ∙ ap (joined old) (sym (ap (λ y. parts_in (put_selection shown y rest)) is ∙ (ap parts_in (put-FragmentSpread shown s rest) ∙ spread-parts (view_spread_at shown s) rest))))
+      ∙ ap (joined old) (sym (ap (λ y. parts_in (put_selection shown y rest)) is
+      ∙ (ap parts_in (put-FragmentSpread shown s rest) ∙ spread-parts (view_spread_at shown s) rest))))
 
-  pub adds-inline : (s : Spanning (InlineType S) Span) (within : List (Selection S)) (m : Parts) → x ≡ InlineFragment s → within ≡ (out-InlineFragment S s.item).selection_set.items →
+  pub adds-inline : (s : Spanning (InlineType S) Span) (within : List (Selection S)) (m : Parts) → x ≡ InlineFragment s →
+      within ≡ (out-InlineFragment S s.item).selection_set.items →
       m ≡ joined old (inline_parts (view_inline shown s)) → new ≡ joined m (parts_in (view_selections shown within)) → IsAdded
   adds-inline s within m is same first e = λ rest.
       let head : Parts = inline_parts (view_inline shown s) in
@@ -138,15 +147,18 @@ module _ {S : Type 0} (shown : S → Shown) (xs : List (Selection S)) (old : Par
 
 -- ## Definitions
 
-pub operation-parts : (o : spec.Operation) (v p : Parts) (own ds : List Directive) → v ≡ made [] [] [] [] → own ≡ v.directives ++ o.directives → ds ≡ own ++ flat_map (λ x. x.directives) (spec.variables_of o) →
+pub operation-parts : (o : spec.Operation) (v p : Parts) (own ds : List Directive) → v ≡ made [] [] [] [] → own ≡ v.directives ++ o.directives →
+    ds ≡ own ++ flat_map (λ x. x.directives) (spec.variables_of o) →
     p ≡ joined (made v.fields v.spreads v.conditions ds) (parts_in o.selections) → p ≡ parts_of (spec.operation o)
 unfolding joined parts_in parts_of selections_of all_conditions all_directives own_directives
 operation-parts o v p own ds none first more e =
     let fm : List Directive = flat_map (λ x. x.directives) (spec.variables_of o) in
     let is : ds ≡ o.directives ++ fm = more ∙ (ap (λ l. l ++ fm) first ∙ ap (λ (q : Parts). (q.directives ++ o.directives) ++ fm) none) in
-    e ∙ (ap (λ (q : Parts). joined (made q.fields q.spreads q.conditions ds) (parts_in o.selections)) none ∙ ap (λ l. joined (made [] [] [] l) (parts_in o.selections)) is)
+    e ∙ (ap (λ (q : Parts). joined (made q.fields q.spreads q.conditions ds) (parts_in o.selections)) none
+    ∙ ap (λ l. joined (made [] [] [] l) (parts_in o.selections)) is)
 
-pub fragment-parts : (f : spec.Fragment) (v p : Parts) (ns : List Name) (ds : List Directive) → v ≡ made [] [] [] [] → ns ≡ v.conditions ++ f.condition.item ∷ [] → ds ≡ v.directives ++ f.directives →
+pub fragment-parts : (f : spec.Fragment) (v p : Parts) (ns : List Name) (ds : List Directive) → v ≡ made [] [] [] [] →
+    ns ≡ v.conditions ++ f.condition.item ∷ [] → ds ≡ v.directives ++ f.directives →
     p ≡ joined (made v.fields v.spreads ns ds) (parts_in f.selections) → p ≡ parts_of (spec.fragment f)
 unfolding joined parts_in parts_of selections_of all_conditions all_directives own_directives
 fragment-parts f v p ns ds none condition first e =

@@ -29,7 +29,8 @@ module _ {A C : Type 0} (view : A → C) (xs : List A) (old : List C) where
   abbrev pub IsSeenSoFar : ℕ → List C → Type 0
   IsSeenSoFar i ys = ys ++ map view (drop i xs) ≡ old ++ map view xs
 
-  pub seen-next : (i : ℕ) (x : A) (ys made : List C) → i < length xs → x ≡ get_or xs i x → IsSeenSoFar i ys → made ≡ ys ++ view x ∷ [] → IsSeenSoFar (i + 1) made
+  pub seen-next : (i : ℕ) (x : A) (ys made : List C) → i < length xs → x ≡ get_or xs i x → IsSeenSoFar i ys → made ≡ ys ++ view x ∷ [] →
+      IsSeenSoFar (i + 1) made
   seen-next i x ys made below is so_far e =
       ap (λ l. l ++ map view (drop (i + 1) xs)) e ∙ (append_assoc ys (view x ∷ []) (map view (drop (i + 1) xs))
       ∙ (ap (λ l. ys ++ map view l) (sym (left-is xs i x below is)) ∙ so_far))

@@ -10,7 +10,8 @@ use Rattle.juniper_syntax.proofs.Lists.{rest-is}
 use Rattle.juniper_written.specs.WrittenView.{has_name, view_names}
 
 -- the first name, before the others
-pub front-is : (xs : List (Bor (List ℕ))) (d : Bor (List ℕ)) → 1 ≤ length xs → view_names xs ≡ (get_or xs 0 d).now ∷ view_names (take (length xs - 1) (drop 1 xs))
+pub front-is : (xs : List (Bor (List ℕ))) (d : Bor (List ℕ)) → 1 ≤ length xs →
+    view_names xs ≡ (get_or xs 0 d).now ∷ view_names (take (length xs - 1) (drop 1 xs))
 front-is [] d some = absurd (omega arith)
 front-is (x ∷ xs) d some = ap (λ l. x.now ∷ view_names l) (sym (rest-is (x ∷ xs) 1))
 
@@ -35,10 +36,12 @@ or-flips false true = refl
 or-flips false false = refl
 
 -- one of them was seen, or is the new name
-any-more : (has now : Name → Bool) (x : Name) → ((n : Name) → now n ≡ cond (bytes_eq x n) true (has n)) → (xs : List Name) → list_any now xs ≡ (list_any has xs || list_any (bytes_eq x) xs)
+any-more : (has now : Name → Bool) (x : Name) → ((n : Name) → now n ≡ cond (bytes_eq x n) true (has n)) → (xs : List Name) →
+    list_any now xs ≡ (list_any has xs || list_any (bytes_eq x) xs)
 any-more has now x more [] = refl
 any-more has now x more (y ∷ ys) =
-    ap₂ (λ a b. a || b) (more y ∙ or-flips (bytes_eq x y) (has y)) (any-more has now x more ys) ∙ or-swaps (has y) (bytes_eq x y) (list_any has ys) (list_any (bytes_eq x) ys)
+    ap₂ (λ a b. a || b) (more y ∙ or-flips (bytes_eq x y) (has y)) (any-more has now x more ys)
+    ∙ or-swaps (has y) (bytes_eq x y) (list_any has ys) (list_any (bytes_eq x) ys)
 
 none-seen : {H : Type 0} (s : HashSet (Bor (List ℕ)) H) → s.keys ≡ [] → (ys : List Name) → list_any (has_name s) ys ≡ false
 unfolding has_name
@@ -53,11 +56,13 @@ module _ (xs : List Name) where
   pub left-first : {H : Type 0} (s : HashSet (Bor (List ℕ)) H) → s.keys ≡ [] → IsLeft xs (has_name s)
   left-first s none = sym (ap (λ b. b || repeats xs) (none-seen s none xs))
 
-  at-turn : (left rest : List Name) (x : Name) (has : Name → Bool) → left ≡ x ∷ rest → IsLeft left has → repeats xs ≡ ((has x || list_any has rest) || (list_any (bytes_eq x) rest || repeats rest))
+  at-turn : (left rest : List Name) (x : Name) (has : Name → Bool) → left ≡ x ∷ rest → IsLeft left has →
+      repeats xs ≡ ((has x || list_any has rest) || (list_any (bytes_eq x) rest || repeats rest))
   unfolding repeats
   at-turn left rest x has is so_far = so_far ∙ ap (λ l. list_any has l || repeats l) is
 
-  pub left-next : (left rest : List Name) (x : Name) (has now : Name → Bool) → left ≡ x ∷ rest → has x ≡ false → ((n : Name) → now n ≡ cond (bytes_eq x n) true (has n)) → IsLeft left has → IsLeft rest now
+  pub left-next : (left rest : List Name) (x : Name) (has now : Name → Bool) → left ≡ x ∷ rest → has x ≡ false →
+      ((n : Name) → now n ≡ cond (bytes_eq x n) true (has n)) → IsLeft left has → IsLeft rest now
   left-next left rest x has now is new more so_far =
       at-turn left rest x has is so_far
       ∙ (ap (λ b. (b || list_any has rest) || (list_any (bytes_eq x) rest || repeats rest)) new

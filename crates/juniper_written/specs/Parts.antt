@@ -28,7 +28,12 @@ parts_in s = record { fields = heads s; spreads = spreads s; conditions = condit
 
 -- the one behind the other, kind by kind
 unfoldable pub joined : Parts → Parts → Parts
-joined p q = record { fields = p.fields ++ q.fields; spreads = p.spreads ++ q.spreads; conditions = p.conditions ++ q.conditions; directives = p.directives ++ q.directives }
+joined p q = record {
+  fields = p.fields ++ q.fields;
+  spreads = p.spreads ++ q.spreads;
+  conditions = p.conditions ++ q.conditions;
+  directives = p.directives ++ q.directives;
+}
 
 -- a field without what stands below it
 unfoldable pub field_parts : Head → Parts

@@ -61,4 +61,9 @@ module _ {S : Type 0} (shown : S → Shown) where
   view_lists l = view_list l.lists.items
 
   abbrev pub view_written : Written S → Parts
-  view_written w = record { fields = view_fields w.fields.items; spreads = view_names w.spreads.items; conditions = view_names w.conditions.items; directives = view_directives_at w.directives.items }
+  view_written w = record {
+    fields = view_fields w.fields.items;
+    spreads = view_names w.spreads.items;
+    conditions = view_names w.conditions.items;
+    directives = view_directives_at w.directives.items;
+  }

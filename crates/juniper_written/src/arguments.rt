@@ -35,7 +35,8 @@ fn push_of_fields<'d, 'a, S: ScalarValue>(
     fields: &Vec<&'d Spanning<Field<'a, S>, Span>>,
     lists: &mut Vec<&'d Option<Spanning<Arguments<'a, S>, Span>>>,
 ) -> Result<(), AllocError>
-    ensures { OnOk result (view_list S.shown lists.new.items ≡ view_list S.shown lists.old.items ++ map (λ h. written h.arguments) (view_fields S.shown fields.now.items)) }
+    ensures { OnOk result (view_list S.shown lists.new.items ≡ view_list S.shown lists.old.items
+        ++ map (λ h. written h.arguments) (view_fields S.shown fields.now.items)) }
 {
     for index in 0..fields.len() {
         let field = fields[index];
@@ -49,7 +50,8 @@ fn push_of_directives<'d, 'a, S: ScalarValue>(
     directives: &Vec<&'d Spanning<Directive<'a, S>, Span>>,
     lists: &mut Vec<&'d Option<Spanning<Arguments<'a, S>, Span>>>,
 ) -> Result<(), AllocError>
-    ensures { OnOk result (view_list S.shown lists.new.items ≡ view_list S.shown lists.old.items ++ map (λ d. written d.arguments) (view_directives_at S.shown directives.now.items)) }
+    ensures { OnOk result (view_list S.shown lists.new.items ≡ view_list S.shown lists.old.items
+        ++ map (λ d. written d.arguments) (view_directives_at S.shown directives.now.items)) }
 {
     for index in 0..directives.len() {
         let directive = directives[index];

@@ -103,7 +103,8 @@ fn write_selection<'d, 'a, S: ScalarValue>(
     selection: &'d Selection<'a, S>,
     written: &mut Written<'d, 'a, S>,
 ) -> Result<(), AllocError>
-    ensures { OnOk result ((rest : Selections) → joined (view_written S.shown written.new) (parts_in rest) ≡ joined (view_written S.shown written.old) (parts_in (put_selection S.shown selection.now rest))) }
+    ensures { OnOk result ((rest : Selections) → joined (view_written S.shown written.new) (parts_in rest)
+        ≡ joined (view_written S.shown written.old) (parts_in (put_selection S.shown selection.now rest))) }
 {
     match selection {
         Selection::Field(field) => {
@@ -192,7 +193,8 @@ pub fn write_variables<'d, 'a, S: ScalarValue>(
     variables: &'d Option<Spanning<VariableDefinitions<'a, S>, Span>>,
     into: &mut Vec<&'d Spanning<Directive<'a, S>, Span>>,
 ) -> Result<(), AllocError>
-    ensures { OnOk result (view_directives_at S.shown into.new.items ≡ view_directives_at S.shown into.old.items ++ flat_map (λ v. v.directives) (view_variables S.shown variables.now)) }
+    ensures { OnOk result (view_directives_at S.shown into.new.items
+        ≡ view_directives_at S.shown into.old.items ++ flat_map (λ v. v.directives) (view_variables S.shown variables.now)) }
 {
     match variables {
         Some(variables) => {

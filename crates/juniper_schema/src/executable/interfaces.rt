@@ -84,7 +84,8 @@ fn implements_fields<S: ScalarValue>(
     fields: &[Field<S>],
     wanted: &[Field<S>],
 ) -> bool
-    ensures { result ≡ list_all (λ g. spec.implements_field (view_schema S.shown schema.now) (field_in (map (view_field S.shown) fields.now) g.name) g) (map (view_field S.shown) wanted.now) }
+    ensures { result ≡ list_all (λ g. spec.implements_field (view_schema S.shown schema.now) (field_in (map (view_field S.shown) fields.now) g.name) g)
+        (map (view_field S.shown) wanted.now) }
 {
     for field in wanted {
         if !implements_field(schema, fields, field) {
@@ -101,7 +102,8 @@ fn implements_field<S: ScalarValue>(
     fields: &[Field<S>],
     wanted: &Field<S>,
 ) -> bool
-    ensures { result ≡ spec.implements_field (view_schema S.shown schema.now) (field_in (map (view_field S.shown) fields.now) (view_field S.shown wanted.now).name) (view_field S.shown wanted.now) }
+    ensures { result ≡ spec.implements_field (view_schema S.shown schema.now)
+        (field_in (map (view_field S.shown) fields.now) (view_field S.shown wanted.now).name) (view_field S.shown wanted.now) }
 {
     match find_field(fields, wanted.name.as_str()) {
         Some(field) => keeps_field(schema, field, wanted),

@@ -20,7 +20,8 @@ loop-argument-preserved g c =
     let before = take c.loop-argument.argument-index c.args.written.now in
     let a = view c.argument-item.result in
     rw (take_more c.args.written.now c.loop-argument.argument-index c.argument-item.result c.loop-argument-test.true, ← c.argument-item.is)
-    (c.in_ok-put_given.ensures ∙ (ap (λ ms. cond (is_some (find a.name.item ms)) ms (put_given a.name.item (const vars a.value.item) ms)) c.loop-argument.invariant
+    (c.in_ok-put_given.ensures ∙ (ap (λ ms. cond (is_some (find a.name.item ms)) ms (put_given a.name.item (const vars a.value.item) ms))
+    c.loop-argument.invariant
     ∙ (sym (given-more vars (map view before) a) ∙ sym (ap (given vars) (map-append view before (c.argument-item.result ∷ []))))))
 
 pub returns : goal.returns

@@ -7,4 +7,5 @@ use Rattle.juniper.proofs.coerce.give.Given as goal
 
 abbrev pub invariant-loop-argument : goal.invariant-loop-argument
 invariant-loop-argument g l =
-    members_of g.S.ScalarValue.shown l.items.entries ≡ given (view_variables g.S.ScalarValue.shown l.variables) (map (view_argument g.S.ScalarValue.shown) (take l.argument-index l.written))
+    members_of g.S.ScalarValue.shown l.items.entries ≡ given (view_variables g.S.ScalarValue.shown l.variables)
+    (map (view_argument g.S.ScalarValue.shown) (take l.argument-index l.written))

@@ -6,12 +6,17 @@ use Rattle.juniper_values.proofs.ArgumentMembers.{there, put_new, given-none, gi
 use Rattle.juniper.proofs.coerce.put_given.Goals as goal
 
 pub returns-then-contains_key : goal.returns-then-contains_key
-returns-then-contains_key g c = rw (there g.S.ScalarValue.shown c.args.items.now c.args.argument.now.0.item.now ∙ (sym c.contains_key.ensures ∙ c.if-contains_key.true)) refl
+returns-then-contains_key g c =
+    rw (there g.S.ScalarValue.shown c.args.items.now c.args.argument.now.0.item.now ∙ (sym c.contains_key.ensures ∙ c.if-contains_key.true)) refl
 
 pub returns-in-None : goal.returns-in-None
 returns-in-None g c =
     let shown = g.S.ScalarValue.shown in
-    rw (there shown c.args.items.now c.args.argument.now.0.item.now ∙ (sym c.contains_key.ensures ∙ c.if-contains_key.false), ← c.in_ok-into_const.ensures, c.in-None.is)
+    rw (
+      there shown c.args.items.now c.args.argument.now.0.item.now ∙ (sym c.contains_key.ensures ∙ c.if-contains_key.false),
+      ← c.in_ok-into_const.ensures,
+      c.in-None.is,
+    )
     (sym (given-none c.args.argument.now.0.item.now (members_of shown c.args.items.now.entries)))
 
 pub returns-in_ok-insert-in-Some : goal.returns-in_ok-insert-in-Some

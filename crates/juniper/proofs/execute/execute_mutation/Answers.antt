@@ -98,7 +98,8 @@ run_groups-requires-clause-agree g c = λ now.
     let d = view_document shown c.args.document.now in
     let o = view_operation shown c.args.operation.now in
     let is = c.in_ok-fragments.ensures.is ∙ ap (λ ds. fragments (map (view_definition shown) ds)) c.as_slice.ensures.value in
-    mutation-agrees s root.is_introspection_disabled root.executable d c.requires.valid o c.requires.member c.requires.mutation c.args.concrete.now c.requires.root
+    mutation-agrees s root.is_introspection_disabled root.executable d c.requires.valid o c.requires.member c.requires.mutation c.args.concrete.now
+    c.requires.root
     (view_variables shown c.args.variables.now)
     (g.Q.GraphQLValue.concrete root.query.now root.query_info.now now) (g.Q.GraphQLValue.answer root.query.now root.query_info.now now) _ is _
     (ap (view_selections shown) c.as_slice-2.ensures.value)

@@ -14,8 +14,13 @@ returns-in-Subscription g c =
     let root = c.args.served.now in
     let s = view_schema shown root.schema.now in
     let m = rooted_steps g.M.GraphQLMutationValue.step g.M.GraphQLMutationValue.torn root.mutation.now root.mutation_info.now in
-    let S = service_in g.Q.GraphQLValue.concrete g.Q.GraphQLValue.answer g.Q.GraphQLValue.root root.query.now root.query_info.now m s root.is_introspection_disabled in
-    (spec.is_subscription, refl, subscription-ends S s (view_document shown c.args.document.now) (view_operation shown c.args.operation.now) (view_variables shown c.args.variables.now) c.args.context.now (ap view_kind c.in-Subscription.is))
+    let S = service_in g.Q.GraphQLValue.concrete g.Q.GraphQLValue.answer g.Q.GraphQLValue.root root.query.now root.query_info.now m s
+    root.is_introspection_disabled in (
+      spec.is_subscription,
+      refl,
+      subscription-ends S s (view_document shown c.args.document.now) (view_operation shown c.args.operation.now)
+          (view_variables shown c.args.variables.now) c.args.context.now (ap view_kind c.in-Subscription.is),
+    )
 
 pub returns-in_default : goal.returns-in_default
 returns-in_default g c =
@@ -23,7 +28,8 @@ returns-in_default g c =
     let root = c.args.served.now in
     let s = view_schema shown root.schema.now in
     let m = rooted_steps g.M.GraphQLMutationValue.step g.M.GraphQLMutationValue.torn root.mutation.now root.mutation_info.now in
-    let S = service_in g.Q.GraphQLValue.concrete g.Q.GraphQLValue.answer g.Q.GraphQLValue.root root.query.now root.query_info.now m s root.is_introspection_disabled in
+    let S = service_in g.Q.GraphQLValue.concrete g.Q.GraphQLValue.answer g.Q.GraphQLValue.root root.query.now root.query_info.now m s
+    root.is_introspection_disabled in
     let d = view_document shown c.args.document.now in
     let o = view_operation shown c.args.operation.now in
     let given = view_variables shown c.args.variables.now in (
@@ -39,7 +45,8 @@ returns-in-Err g c =
     let root = c.args.served.now in
     let s = view_schema shown root.schema.now in
     let m = rooted_steps g.M.GraphQLMutationValue.step g.M.GraphQLMutationValue.torn root.mutation.now root.mutation_info.now in
-    let S = service_in g.Q.GraphQLValue.concrete g.Q.GraphQLValue.answer g.Q.GraphQLValue.root root.query.now root.query_info.now m s root.is_introspection_disabled in
+    let S = service_in g.Q.GraphQLValue.concrete g.Q.GraphQLValue.answer g.Q.GraphQLValue.root root.query.now root.query_info.now m s
+    root.is_introspection_disabled in
     let d = view_document shown c.args.document.now in
     let o = view_operation shown c.args.operation.now in
     let given = view_variables shown c.args.variables.now in
@@ -55,7 +62,8 @@ returns-in-Mutation g c =
     let root = c.args.served.now in
     let s = view_schema shown root.schema.now in
     let m = rooted_steps g.M.GraphQLMutationValue.step g.M.GraphQLMutationValue.torn root.mutation.now root.mutation_info.now in
-    let S = service_in g.Q.GraphQLValue.concrete g.Q.GraphQLValue.answer g.Q.GraphQLValue.root root.query.now root.query_info.now m s root.is_introspection_disabled in
+    let S = service_in g.Q.GraphQLValue.concrete g.Q.GraphQLValue.answer g.Q.GraphQLValue.root root.query.now root.query_info.now m s
+    root.is_introspection_disabled in
     let d = view_document shown c.args.document.now in
     let o = view_operation shown c.args.operation.now in
     let given = view_variables shown c.args.variables.now in
@@ -71,5 +79,8 @@ returns g c =
     let root = c.args.served.now in
     let s = view_schema shown root.schema.now in
     let m = rooted_steps g.M.GraphQLMutationValue.step g.M.GraphQLMutationValue.torn root.mutation.now root.mutation_info.now in
-    let S = service_in g.Q.GraphQLValue.concrete g.Q.GraphQLValue.answer g.Q.GraphQLValue.root root.query.now root.query_info.now m s root.is_introspection_disabled in
-    query-ends S s (view_document shown c.args.document.now) (view_operation shown c.args.operation.now) (view_variables shown c.args.variables.now) c.args.context.now (ap view_kind c.in-Query.is) _ c.in_ok-values-in-Query.ensures _ _ c.in_ok-answered-in-Query.ensures
+    let S = service_in g.Q.GraphQLValue.concrete g.Q.GraphQLValue.answer g.Q.GraphQLValue.root root.query.now root.query_info.now m s
+    root.is_introspection_disabled in
+    query-ends S s (view_document shown c.args.document.now) (view_operation shown c.args.operation.now)
+    (view_variables shown c.args.variables.now) c.args.context.now
+    (ap view_kind c.in-Query.is) _ c.in_ok-values-in-Query.ensures _ _ c.in_ok-answered-in-Query.ensures

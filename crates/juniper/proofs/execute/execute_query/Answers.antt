@@ -23,7 +23,14 @@ answer-requires-clause-ready g c =
     let s = view_schema shown c.args.served.now.schema.now in
     let d = view_document shown c.args.document.now in
     let is = c.in_ok-fragments.ensures.is ∙ ap (λ ds. fragments (map (view_definition shown) ds)) c.as_slice.ensures.value in
-    record { collector = record { made = c.in_ok-fragments.ensures.made; acyclic = no-cycle s c.args.served.now.is_introspection_disabled d c.requires.valid _ is }; same = refl; variables = refl }
+    record {
+      collector = record {
+        made = c.in_ok-fragments.ensures.made;
+        acyclic = no-cycle s c.args.served.now.is_introspection_disabled d c.requires.valid _ is;
+      };
+      same = refl;
+      variables = refl;
+    }
 
 pub answer-requires-clause-agree : goal.answer-requires-clause-agree
 unfolding expansion
@@ -34,8 +41,10 @@ answer-requires-clause-agree g c =
     let d = view_document shown c.args.document.now in
     let o = view_operation shown c.args.operation.now in
     let is = c.in_ok-fragments.ensures.is ∙ ap (λ ds. fragments (map (view_definition shown) ds)) c.as_slice.ensures.value in
-    query-agrees s root.is_introspection_disabled root.executable d c.requires.valid o c.requires.member c.requires.query (view_variables shown c.args.variables.now)
-    (g.Q.GraphQLValue.concrete root.query.now root.query_info.now c.args.context.now) (g.Q.GraphQLValue.answer root.query.now root.query_info.now c.args.context.now)
+    query-agrees s root.is_introspection_disabled root.executable d c.requires.valid o c.requires.member c.requires.query
+    (view_variables shown c.args.variables.now)
+    (g.Q.GraphQLValue.concrete root.query.now root.query_info.now c.args.context.now)
+    (g.Q.GraphQLValue.answer root.query.now root.query_info.now c.args.context.now)
     c.query_name.result.now c.query_name.ensures _ is (view_selections shown c.as_slice-2.result.now) (ap (view_selections shown) c.as_slice-2.ensures.value)
 
 pub returns : goal.returns
@@ -50,5 +59,6 @@ returns g c =
     let W = world_in g.Q.GraphQLValue.concrete g.Q.GraphQLValue.answer root.query.now root.query_info.now c.args.context.now s vars in
     let is = c.in_ok-fragments.ensures.is ∙ ap (λ ds. fragments (map (view_definition shown) ds)) c.as_slice.ensures.value in
     answer-moves W _ _ _ _ _ _ _ _ c.query_name.ensures c.root_node.ensures
-    (ap (λ fs. expand (passes vars) fs (view_selections shown c.as_slice-2.result.now)) is ∙ ap (λ ss. expand (passes vars) (fragments d) (view_selections shown ss)) c.as_slice-2.ensures.value)
+    (ap (λ fs. expand (passes vars) fs (view_selections shown c.as_slice-2.result.now)) is
+    ∙ ap (λ ss. expand (passes vars) (fragments d) (view_selections shown ss)) c.as_slice-2.ensures.value)
     c.in_ok-walked.ensures

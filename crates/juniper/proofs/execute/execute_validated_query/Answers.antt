@@ -15,6 +15,7 @@ returns g c =
     let o = view_operation shown c.args.operation.now in
     let given = view_variables shown c.args.variables.now in
     answers-so shown _ _
-    (λ r p. outcome-moved g.Q.GraphQLValue.concrete g.Q.GraphQLValue.answer g.Q.GraphQLValue.root g.M.GraphQLMutationValue.step g.M.GraphQLMutationValue.torn root _ _ _ _ _
+    (λ r p. outcome-moved g.Q.GraphQLValue.concrete g.Q.GraphQLValue.answer g.Q.GraphQLValue.root g.M.GraphQLMutationValue.step g.M.GraphQLMutationValue.torn
+    root _ _ _ _ _
     (ap (view_schema shown) c.schema.ensures) c.is_introspection_disabled.ensures c.query_info.ensures c.mutation.ensures c.mutation_info.ensures
     (λ x. outcome_of x d o given) c.args.context.now r c.execute_operation.new.context p) c.execute_operation.result c.execute_operation.ensures

@@ -8,4 +8,5 @@ use Rattle.juniper.proofs.operation.only_operation.Given as goal
 abbrev pub invariant-loop-definition : goal.invariant-loop-definition
 invariant-loop-definition g l =
     let shown = g.S.ScalarValue.shown in
-    found_in (option_map (λ o. view_operation shown o.now) l.found) ++ operations (map (view_definition shown) (drop l.definition-index l.document)) ≡ operations (map (view_definition shown) l.document)
+    found_in (option_map (λ o. view_operation shown o.now) l.found) ++ operations (map (view_definition shown) (drop l.definition-index l.document))
+    ≡ operations (map (view_definition shown) l.document)

@@ -9,5 +9,6 @@ use Rattle.juniper.proofs.operation.operation_named.Given as goal
 abbrev pub invariant-loop-definition : goal.invariant-loop-definition
 invariant-loop-definition g l =
     let shown = g.S.ScalarValue.shown in
-    choose_named l.name (operations (map (view_definition shown) (drop l.definition-index l.document))) (choice_of (option_map (λ o. view_operation shown o.now) l.found))
+    choose_named l.name (operations (map (view_definition shown) (drop l.definition-index l.document)))
+    (choice_of (option_map (λ o. view_operation shown o.now) l.found))
     ≡ choose_named l.name (operations (map (view_definition shown) l.document)) unknown

@@ -11,4 +11,5 @@ returns-else-is_empty g c =
     let shown = g.S.ScalarValue.shown in
     let P = IsInvalid (view_schema shown c.args.schema.now) c.args.is_introspection_disabled (view_document shown c.args.document.now) in
     subst (λ e. StandsFor P (view_request_error e)) (sym c.from.ensures)
-    (some-found c.in_ok-errors.errors.items c.is_empty.result (c.is_empty.ensures ∙ ap (λ n. n == 0) c.in_ok-errors.errors.ok.0) _ c.in_ok-errors.ensures c.if-is_empty.false P (λ x xs found. (x, xs, refl, found)))
+    (some-found c.in_ok-errors.errors.items c.is_empty.result (c.is_empty.ensures ∙ ap (λ n. n == 0) c.in_ok-errors.errors.ok.0) _ c.in_ok-errors.ensures
+    c.if-is_empty.false P (λ x xs found. (x, xs, refl, found)))

@@ -13,10 +13,15 @@ returns-then-not-is_empty g c =
     let shown = g.S.ScalarValue.shown in
     let P = AreRefused (view_schema shown c.args.schema.now) (view_operation shown c.args.operation.now) (view_variables shown c.args.variables.now) in
     subst (λ e. StandsFor P (view_request_error e)) (sym c.from.ensures)
-    (some-found c.in_ok-errors.errors.items c.is_empty.result (c.is_empty.ensures ∙ ap (λ n. n == 0) c.in_ok-errors.errors.ok.0) _ c.in_ok-errors.ensures (search (rules, c.if-not-is_empty.true)) P (λ x xs found. inl (x, xs, refl, found)))
+    (some-found c.in_ok-errors.errors.items c.is_empty.result (c.is_empty.ensures ∙ ap (λ n. n == 0) c.in_ok-errors.errors.ok.0) _ c.in_ok-errors.ensures
+    (search (rules, c.if-not-is_empty.true)) P (λ x xs found. inl (x, xs, refl, found)))
 
 pub returns-in-Some : goal.returns-in-Some
 returns-in-Some g c =
     let first = sym c.first_not_constant.ensures ∙ ap (option_map (λ n. n.now)) c.in-Some.is in
-    let fitting = none-found c.in_ok-errors.errors.items c.is_empty.result (c.is_empty.ensures ∙ ap (λ n. n == 0) c.in_ok-errors.errors.ok.0) _ c.in_ok-errors.ensures (search (rules, c.if-not-is_empty.false)) in
-    (spec.variable_not_constant (string_bytes c.in_ok-held-in-Some.held), refl, inr (fitting, (c.in-Some.name.now, ap spec.variable_not_constant c.in_ok-held-in-Some.ensures.ok, first)))
+    let fitting = none-found c.in_ok-errors.errors.items c.is_empty.result
+    (c.is_empty.ensures ∙ ap (λ n. n == 0) c.in_ok-errors.errors.ok.0) _ c.in_ok-errors.ensures (search (rules, c.if-not-is_empty.false)) in (
+      spec.variable_not_constant (string_bytes c.in_ok-held-in-Some.held),
+      refl,
+      inr (fitting, (c.in-Some.name.now, ap spec.variable_not_constant c.in_ok-held-in-Some.ensures.ok, first)),
+    )

@@ -22,8 +22,13 @@ unfolding rooted_service
 returns-in-Err g c =
     let shown = g.S.ScalarValue.shown in
     let root = c.args.root_node.now in
-    let S = service_of g.Q.GraphQLValue.concrete g.Q.GraphQLValue.answer g.Q.GraphQLValue.root g.M.GraphQLMutationValue.step g.M.GraphQLMutationValue.torn shown root in
-    let q : Request = record { text = c.args.document_source.now; operation = option_map (λ n. n.now) c.args.operation_name; variables = view_variables shown c.args.variables.now } in
+    let S = service_of g.Q.GraphQLValue.concrete g.Q.GraphQLValue.answer g.Q.GraphQLValue.root g.M.GraphQLMutationValue.step g.M.GraphQLMutationValue.torn shown
+    root in
+    let q : Request = record {
+      text = c.args.document_source.now;
+      operation = option_map (λ n. n.now) c.args.operation_name;
+      variables = view_variables shown c.args.variables.now;
+    } in
     at-parse S q c.args.context.now (view_request_error c.in-Err.error) c.in-Err.ensures
 
 pub returns-in-Err-check_document : goal.returns-in-Err-check_document
@@ -32,10 +37,15 @@ returns-in-Err-check_document g c =
     let shown = g.S.ScalarValue.shown in
     let root = c.args.root_node.now in
     let s = view_schema shown (schema_of root) in
-    let S = service_of g.Q.GraphQLValue.concrete g.Q.GraphQLValue.answer g.Q.GraphQLValue.root g.M.GraphQLMutationValue.step g.M.GraphQLMutationValue.torn shown root in
+    let S = service_of g.Q.GraphQLValue.concrete g.Q.GraphQLValue.answer g.Q.GraphQLValue.root g.M.GraphQLMutationValue.step g.M.GraphQLMutationValue.torn shown
+    root in
     let same = ap (view_schema shown) c.schema-schema.ensures in
     let off = c.is_introspection_disabled.ensures in
-    let q : Request = record { text = c.args.document_source.now; operation = option_map (λ n. n.now) c.args.operation_name; variables = view_variables shown c.args.variables.now } in
+    let q : Request = record {
+      text = c.args.document_source.now;
+      operation = option_map (λ n. n.now) c.args.operation_name;
+      variables = view_variables shown c.args.variables.now;
+    } in
     let d = view_document shown c.in-Ok.document in
     let read = c.in-Ok.ensures in
     let e = view_request_error c.in-Err-check_document.error in
@@ -48,13 +58,22 @@ returns-in-Err-get_operation g c =
     let shown = g.S.ScalarValue.shown in
     let root = c.args.root_node.now in
     let s = view_schema shown (schema_of root) in
-    let S = service_of g.Q.GraphQLValue.concrete g.Q.GraphQLValue.answer g.Q.GraphQLValue.root g.M.GraphQLMutationValue.step g.M.GraphQLMutationValue.torn shown root in
+    let S = service_of g.Q.GraphQLValue.concrete g.Q.GraphQLValue.answer g.Q.GraphQLValue.root g.M.GraphQLMutationValue.step g.M.GraphQLMutationValue.torn shown
+    root in
     let same = ap (view_schema shown) c.schema-schema.ensures in
     let off = c.is_introspection_disabled.ensures in
-    let q : Request = record { text = c.args.document_source.now; operation = option_map (λ n. n.now) c.args.operation_name; variables = view_variables shown c.args.variables.now } in
+    let q : Request = record {
+      text = c.args.document_source.now;
+      operation = option_map (λ n. n.now) c.args.operation_name;
+      variables = view_variables shown c.args.variables.now;
+    } in
     let d = view_document shown c.in-Ok.document in
     let read = c.in-Ok.ensures in
-    let valid : IsReadAsValid S q d = (read, subst (λ b. rule_errors s b d ≡ []) off (subst (λ x. rule_errors x c.is_introspection_disabled.result d ≡ []) same c.in-Ok-check_document.ensures)) in
+    let valid : IsReadAsValid S q d = (
+      read,
+      subst (λ b. rule_errors s b d ≡ []) off
+          (subst (λ x. rule_errors x c.is_introspection_disabled.result d ≡ []) same c.in-Ok-check_document.ensures),
+    ) in
     at-choose S q c.args.context.now d read valid (choose d q.operation) refl (view_request_error c.in-Err-get_operation.error) c.in-Err-get_operation.ensures
 
 pub returns-in-Err-check_variables : goal.returns-in-Err-check_variables
@@ -63,13 +82,22 @@ returns-in-Err-check_variables g c =
     let shown = g.S.ScalarValue.shown in
     let root = c.args.root_node.now in
     let s = view_schema shown (schema_of root) in
-    let S = service_of g.Q.GraphQLValue.concrete g.Q.GraphQLValue.answer g.Q.GraphQLValue.root g.M.GraphQLMutationValue.step g.M.GraphQLMutationValue.torn shown root in
+    let S = service_of g.Q.GraphQLValue.concrete g.Q.GraphQLValue.answer g.Q.GraphQLValue.root g.M.GraphQLMutationValue.step g.M.GraphQLMutationValue.torn shown
+    root in
     let same = ap (view_schema shown) c.schema-schema.ensures in
     let off = c.is_introspection_disabled.ensures in
-    let q : Request = record { text = c.args.document_source.now; operation = option_map (λ n. n.now) c.args.operation_name; variables = view_variables shown c.args.variables.now } in
+    let q : Request = record {
+      text = c.args.document_source.now;
+      operation = option_map (λ n. n.now) c.args.operation_name;
+      variables = view_variables shown c.args.variables.now;
+    } in
     let d = view_document shown c.in-Ok.document in
     let read = c.in-Ok.ensures in
-    let valid : IsReadAsValid S q d = (read, subst (λ b. rule_errors s b d ≡ []) off (subst (λ x. rule_errors x c.is_introspection_disabled.result d ≡ []) same c.in-Ok-check_document.ensures)) in
+    let valid : IsReadAsValid S q d = (
+      read,
+      subst (λ b. rule_errors s b d ≡ []) off
+          (subst (λ x. rule_errors x c.is_introspection_disabled.result d ≡ []) same c.in-Ok-check_document.ensures),
+    ) in
     let o = view_operation shown c.in-Ok-get_operation.operation.now in
     let choice = c.in-Ok-get_operation.ensures in
     let e = view_request_error c.in-Err-check_variables.error in
@@ -85,12 +113,14 @@ execute_validated_query-requires-clause-valid g c =
 pub execute_validated_query-requires-clause-member : goal.execute_validated_query-requires-clause-member
 execute_validated_query-requires-clause-member g c =
     let shown = g.S.ScalarValue.shown in
-    choice-in (view_document shown c.in-Ok.document) (option_map (λ n. n.now) c.args.operation_name) (view_operation shown c.in-Ok-get_operation.operation.now) c.in-Ok-get_operation.ensures
+    choice-in (view_document shown c.in-Ok.document) (option_map (λ n. n.now) c.args.operation_name)
+    (view_operation shown c.in-Ok-get_operation.operation.now) c.in-Ok-get_operation.ensures
 
 pub execute_validated_query-requires-clause-coercible : goal.execute_validated_query-requires-clause-coercible
 execute_validated_query-requires-clause-coercible g c =
     let shown = g.S.ScalarValue.shown in
-    subst (λ x. AreCoercible x (view_operation shown c.in-Ok-get_operation.operation.now) (view_variables shown c.args.variables.now)) (ap (view_schema shown) c.schema-schema.ensures) c.in-Ok-check_variables.ensures
+    subst (λ x. AreCoercible x (view_operation shown c.in-Ok-get_operation.operation.now) (view_variables shown c.args.variables.now))
+    (ap (view_schema shown) c.schema-schema.ensures) c.in-Ok-check_variables.ensures
 
 pub returns-in-Err-execute_validated_query : goal.returns-in-Err-execute_validated_query
 unfolding rooted_service
@@ -98,19 +128,30 @@ returns-in-Err-execute_validated_query g c =
     let shown = g.S.ScalarValue.shown in
     let root = c.args.root_node.now in
     let s = view_schema shown (schema_of root) in
-    let S = service_of g.Q.GraphQLValue.concrete g.Q.GraphQLValue.answer g.Q.GraphQLValue.root g.M.GraphQLMutationValue.step g.M.GraphQLMutationValue.torn shown root in
+    let S = service_of g.Q.GraphQLValue.concrete g.Q.GraphQLValue.answer g.Q.GraphQLValue.root g.M.GraphQLMutationValue.step g.M.GraphQLMutationValue.torn shown
+    root in
     let same = ap (view_schema shown) c.schema-schema.ensures in
     let off = c.is_introspection_disabled.ensures in
-    let q : Request = record { text = c.args.document_source.now; operation = option_map (λ n. n.now) c.args.operation_name; variables = view_variables shown c.args.variables.now } in
+    let q : Request = record {
+      text = c.args.document_source.now;
+      operation = option_map (λ n. n.now) c.args.operation_name;
+      variables = view_variables shown c.args.variables.now;
+    } in
     let d = view_document shown c.in-Ok.document in
     let read = c.in-Ok.ensures in
-    let valid : IsReadAsValid S q d = (read, subst (λ b. rule_errors s b d ≡ []) off (subst (λ x. rule_errors x c.is_introspection_disabled.result d ≡ []) same c.in-Ok-check_document.ensures)) in
+    let valid : IsReadAsValid S q d = (
+      read,
+      subst (λ b. rule_errors s b d ≡ []) off
+          (subst (λ x. rule_errors x c.is_introspection_disabled.result d ≡ []) same c.in-Ok-check_document.ensures),
+    ) in
     let o = view_operation shown c.in-Ok-get_operation.operation.now in
     let choice = c.in-Ok-get_operation.ensures in
     let fits : AreCoercible s o q.variables = subst (λ x. AreCoercible x o q.variables) same c.in-Ok-check_variables.ensures in
     let after = c.execute_validated_query.new.context in
-    responds-so (λ r. IsOutcomeOf S keys_only (outcome_of s d o q.variables) c.args.context.now r after) (λ r. IsOutcome S keys_only q c.args.context.now r after)
-    (λ r. at-execute S q c.args.context.now d read valid o choice fits r after) (view_request_error c.in-Err-execute_validated_query.error) c.in-Err-execute_validated_query.ensures
+    responds-so (λ r. IsOutcomeOf S keys_only (outcome_of s d o q.variables) c.args.context.now r after)
+    (λ r. IsOutcome S keys_only q c.args.context.now r after)
+    (λ r. at-execute S q c.args.context.now d read valid o choice fits r after)
+    (view_request_error c.in-Err-execute_validated_query.error) c.in-Err-execute_validated_query.ensures
 
 pub returns : goal.returns
 unfolding rooted_service
@@ -118,13 +159,22 @@ returns g c =
     let shown = g.S.ScalarValue.shown in
     let root = c.args.root_node.now in
     let s = view_schema shown (schema_of root) in
-    let S = service_of g.Q.GraphQLValue.concrete g.Q.GraphQLValue.answer g.Q.GraphQLValue.root g.M.GraphQLMutationValue.step g.M.GraphQLMutationValue.torn shown root in
+    let S = service_of g.Q.GraphQLValue.concrete g.Q.GraphQLValue.answer g.Q.GraphQLValue.root g.M.GraphQLMutationValue.step g.M.GraphQLMutationValue.torn shown
+    root in
     let same = ap (view_schema shown) c.schema-schema.ensures in
     let off = c.is_introspection_disabled.ensures in
-    let q : Request = record { text = c.args.document_source.now; operation = option_map (λ n. n.now) c.args.operation_name; variables = view_variables shown c.args.variables.now } in
+    let q : Request = record {
+      text = c.args.document_source.now;
+      operation = option_map (λ n. n.now) c.args.operation_name;
+      variables = view_variables shown c.args.variables.now;
+    } in
     let d = view_document shown c.in-Ok.document in
     let read = c.in-Ok.ensures in
-    let valid : IsReadAsValid S q d = (read, subst (λ b. rule_errors s b d ≡ []) off (subst (λ x. rule_errors x c.is_introspection_disabled.result d ≡ []) same c.in-Ok-check_document.ensures)) in
+    let valid : IsReadAsValid S q d = (
+      read,
+      subst (λ b. rule_errors s b d ≡ []) off
+          (subst (λ x. rule_errors x c.is_introspection_disabled.result d ≡ []) same c.in-Ok-check_document.ensures),
+    ) in
     let o = view_operation shown c.in-Ok-get_operation.operation.now in
     let choice = c.in-Ok-get_operation.ensures in
     let fits : AreCoercible s o q.variables = subst (λ x. AreCoercible x o q.variables) same c.in-Ok-check_variables.ensures in

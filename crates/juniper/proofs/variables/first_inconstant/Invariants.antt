@@ -8,4 +8,5 @@ use Rattle.juniper.proofs.variables.first_inconstant.Given as goal
 abbrev pub invariant-loop-variable : goal.invariant-loop-variable
 invariant-loop-variable g l =
     let shown = g.S.ScalarValue.shown in
-    first_not_constant (map (view_variable shown) (drop l.variable-index l.defined)) (view_variables shown l.variables) ≡ first_not_constant (map (view_variable shown) l.defined) (view_variables shown l.variables)
+    first_not_constant (map (view_variable shown) (drop l.variable-index l.defined)) (view_variables shown l.variables)
+    ≡ first_not_constant (map (view_variable shown) l.defined) (view_variables shown l.variables)

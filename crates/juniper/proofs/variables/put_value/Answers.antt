@@ -16,7 +16,8 @@ returns-in_ok-insert-in-Some g c =
     let defined = c.args.variable.now in
     let key = string_bytes c.in_ok-name-in-Some.name in
     let copy = c.in_ok-copy-in-Some.copy in
-    put-one (view_input shown) (view_variables shown c.args.variables.now) (item_of (view_variable shown defined).default) (get_by_text c.args.made.now) (get_by_text c.insert.new.self) defined.0.item.now (Some copy)
+    put-one (view_input shown) (view_variables shown c.args.variables.now) (item_of (view_variable shown defined).default) (get_by_text c.args.made.now)
+    (get_by_text c.insert.new.self) defined.0.item.now (Some copy)
     (subst (λ k. (j : Name) → get_by_text c.insert.new.self j ≡ update bytes_eq (get_by_text c.args.made.now) k (Some copy) j) c.in_ok-name-in-Some.ensures.ok
     (hash_map_updates_text key c.args.made.now c.insert.new.self (Some copy) c.in_ok-insert-in-Some.ensures.updates))
     (ap Some c.in_ok-copy-in-Some.ensures ∙ c.in-Some.ensures)
@@ -25,5 +26,6 @@ pub returns-in-None : goal.returns-in-None
 returns-in-None g c =
     let shown = g.S.ScalarValue.shown in
     let defined = c.args.variable.now in
-    put-one (view_input shown) (view_variables shown c.args.variables.now) (item_of (view_variable shown defined).default) (get_by_text c.args.made.now) (get_by_text c.remove.new.self) defined.0.item.now None
+    put-one (view_input shown) (view_variables shown c.args.variables.now) (item_of (view_variable shown defined).default) (get_by_text c.args.made.now)
+    (get_by_text c.remove.new.self) defined.0.item.now None
     (hash_map_updates_text defined.0.item.now c.args.made.now c.remove.new.self None c.remove.ensures.updates) c.in-None.ensures

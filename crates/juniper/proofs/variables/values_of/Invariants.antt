@@ -9,4 +9,5 @@ use Rattle.juniper.proofs.variables.values_of.Given as goal
 abbrev pub invariant-loop-index : goal.invariant-loop-index
 invariant-loop-index g l =
     let shown = g.S.ScalarValue.shown in
-    (n : Name) → view_variables shown l.made n ≡ coerced_variables (map (view_variable shown) (drop (length l.defined - l.index) l.defined)) (view_variables shown l.variables) n
+    (n : Name) → view_variables shown l.made n ≡ coerced_variables (map (view_variable shown) (drop (length l.defined - l.index) l.defined))
+    (view_variables shown l.variables) n

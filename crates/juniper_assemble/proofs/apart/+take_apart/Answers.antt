@@ -29,7 +29,8 @@ returns-in_ok-part-in-Node g t c =
 pub returns-in_ok-unlisted-in-None : goal.returns-in_ok-unlisted-in-None
 returns-in_ok-unlisted-in-None g t c =
     let shown = g.S.ScalarValue.shown in
-    seen-as _ _ _ _ _ _ _ _ _ (ap (view_resolved shown) c.in-List.is ∙ view-List shown _) (list-refused _ _ _ _ _ _ _ (sym c.in-None.ensures) c.in_ok-unlisted-in-None.ensures)
+    seen-as _ _ _ _ _ _ _ _ _ (ap (view_resolved shown) c.in-List.is ∙ view-List shown _)
+    (list-refused _ _ _ _ _ _ _ (sym c.in-None.ensures) c.in_ok-unlisted-in-None.ensures)
 
 pub loop-item-init : goal.loop-item-init
 loop-item-init g t c =
@@ -57,4 +58,6 @@ returns-in-None-item g t c =
     let out = none_left (into_iter_items it) it.rest.len it.rest.ok.0 c.in-None-item.ensures.steps.0 in
     let gives = ap (λ l. trees_of (map (view_resolved shown) l)) c.into_iter-item-iterator.ensures.into_iter_gives.0 in
     seen-as _ _ _ _ _ _ _ _ _ (ap (view_resolved shown) c.in-List.is ∙ (view-List shown _ ∙ ap items (sym gives)))
-    (list-apart _ _ _ _ _ _ _ _ _ _ _ c.in-Some.ensures c.loop-item.invariant (ap (λ l. trees_of (map (view_resolved shown) l)) out) (skeleton-Several shown _ c.loop-item.made ∙ ap (λ b. several b (skeletons_of (map (view_skeleton shown) c.loop-item.made.items))) c.is_non_null.ensures))
+    (list-apart _ _ _ _ _ _ _ _ _ _ _ c.in-Some.ensures c.loop-item.invariant (ap (λ l. trees_of (map (view_resolved shown) l)) out)
+    (skeleton-Several shown _ c.loop-item.made ∙ ap (λ b. several b (skeletons_of (map (view_skeleton shown) c.loop-item.made.items)))
+    c.is_non_null.ensures))

@@ -7,4 +7,5 @@ use Rattle.juniper_bench_tasks.proofs.Answering.{answers-list}
 use Rattle.juniper_bench_tasks.proofs.answers.listed.Goals as goal
 
 pub returns : goal.returns
-returns c = answers-list (view_schema default_shown c.in_ok-schema.schema) (view_document default_shown c.args.document.now) c.list_answer.result (map view_rule_error c.in_ok-errors.errors.items) c.in_ok-errors.ensures c.list_answer.ensures.status c.list_answer.ensures.line
+returns c = answers-list (view_schema default_shown c.in_ok-schema.schema) (view_document default_shown c.args.document.now) c.list_answer.result
+    (map view_rule_error c.in_ok-errors.errors.items) c.in_ok-errors.ensures c.list_answer.ensures.status c.list_answer.ensures.line

@@ -11,10 +11,12 @@ count_selection-returns-in-Some g t c =
 
 pub count_selection-returns-in-None : goal.count_selection-returns-in-None
 unfolding capped
-count_selection-returns-in-None g t c = counts-leaf g.S.ScalarValue.shown c.args.selection.now c.args.before _ c.in-Field.field c.in-Field.is c.in-None.is c.saturating_add-in-None.ensures
+count_selection-returns-in-None g t c =
+    counts-leaf g.S.ScalarValue.shown c.args.selection.now c.args.before _ c.in-Field.field c.in-Field.is c.in-None.is c.saturating_add-in-None.ensures
 
 pub count_selection-returns-in-FragmentSpread : goal.count_selection-returns-in-FragmentSpread
-count_selection-returns-in-FragmentSpread g t c = counts-spread g.S.ScalarValue.shown c.args.selection.now c.args.before _ c.in-FragmentSpread.field-0 c.in-FragmentSpread.is refl
+count_selection-returns-in-FragmentSpread g t c =
+    counts-spread g.S.ScalarValue.shown c.args.selection.now c.args.before _ c.in-FragmentSpread.field-0 c.in-FragmentSpread.is refl
 
 pub count_selection-returns-in-InlineFragment : goal.count_selection-returns-in-InlineFragment
 count_selection-returns-in-InlineFragment g t c =

@@ -5,4 +5,5 @@ use Rattle.juniper_builtins.proofs.built_in_directives.reason_argument.Goals as 
 
 pub returns : goal.returns
 unfolding plain_input
-returns g c = c.default_value.ensures ∙ ap₂ with_default (c.in_ok-argument.ensures ∙ ap (plain_input (codes "reason")) c.in_ok-maybe.ensures) c.in_ok-reason.ensures
+returns g c =
+    c.default_value.ensures ∙ ap₂ with_default (c.in_ok-argument.ensures ∙ ap (plain_input (codes "reason")) c.in_ok-maybe.ensures) c.in_ok-reason.ensures

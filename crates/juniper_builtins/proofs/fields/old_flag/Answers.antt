@@ -6,4 +6,5 @@ use Rattle.juniper_builtins.proofs.fields.old_flag.Goals as goal
 
 pub returns : goal.returns
 unfolding old_flag field_without plain_field
-returns g c = c.deprecated.ensures ∙ ap₂ deprecated_field (c.in_ok-field.ensures ∙ ap (field_without c.args.name.now) c.in_ok-must.ensures) (ap Some c.in_ok-reason.ensures.ok)
+returns g c = c.deprecated.ensures ∙ ap₂ deprecated_field (c.in_ok-field.ensures ∙ ap (field_without c.args.name.now) c.in_ok-must.ensures)
+    (ap Some c.in_ok-reason.ensures.ok)

@@ -5,4 +5,5 @@ use Rattle.juniper_builtins.proofs.introspection.values_named.Given as goal
 
 -- what is made, before what is still to be made, is the whole
 abbrev pub invariant-loop-name : goal.invariant-loop-name
-invariant-loop-name l = map view_enum_value l.values.items ++ map value_named (map (λ n. n.now) (drop l.name-index l.names)) ≡ map value_named (map (λ n. n.now) l.names)
+invariant-loop-name l =
+    map view_enum_value l.values.items ++ map value_named (map (λ n. n.now) (drop l.name-index l.names)) ≡ map value_named (map (λ n. n.now) l.names)

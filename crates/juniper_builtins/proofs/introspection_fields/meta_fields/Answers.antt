@@ -7,4 +7,11 @@ use Rattle.juniper_builtins.proofs.introspection_fields.meta_fields.Goals as goa
 
 pub returns : goal.returns
 unfolding typename_field root_fields field_without maybe must plain_field
-returns g c = rw (ap (map (view_field g.S.ScalarValue.shown)) c.into_items.ensures, c.in_ok-fields.ensures, c.in_ok-must-2.ensures, c.in_ok-must.ensures, c.new.ensures, c.in_ok-type_field.ensures) refl
+returns g c = rw (
+  ap (map (view_field g.S.ScalarValue.shown)) c.into_items.ensures,
+  c.in_ok-fields.ensures,
+  c.in_ok-must-2.ensures,
+  c.in_ok-must.ensures,
+  c.new.ensures,
+  c.in_ok-type_field.ensures,
+) refl

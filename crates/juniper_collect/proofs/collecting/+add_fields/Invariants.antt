@@ -14,6 +14,8 @@ invariant-loop-selection g l =
     let shown = g.S.ScalarValue.shown in
     record {
       within : IsWithin shown l.collector l.spreads_left (view_selections shown (drop l.selection-index l.selections));
-      so_far : view_all shown l.collector l.fields.items ++ occurrences (g.P.Conditions.possible l.collector.possible) l.concrete (expansion shown l.collector (view_selections shown (drop l.selection-index l.selections)))
-          ≡ view_all shown l.collector l.initial.fields.items ++ occurrences (g.P.Conditions.possible l.collector.possible) l.concrete (expansion shown l.collector (view_selections shown l.selections));
+      so_far : view_all shown l.collector l.fields.items ++ occurrences (g.P.Conditions.possible l.collector.possible) l.concrete
+          (expansion shown l.collector (view_selections shown (drop l.selection-index l.selections)))
+          ≡ view_all shown l.collector l.initial.fields.items ++ occurrences (g.P.Conditions.possible l.collector.possible) l.concrete
+          (expansion shown l.collector (view_selections shown l.selections));
     }

@@ -9,4 +9,5 @@ use Rattle.juniper_collect.proofs.fragments.first_fragments.Given as goal
 abbrev pub invariant-loop-definition : goal.invariant-loop-definition
 invariant-loop-definition g l =
     let view = view_definition g.S.ScalarValue.shown in
-    (k : Name) → option_or (fragment_at g.S.ScalarValue.shown l.first k) (fragment_named (fragments (map view (drop l.definition-index l.document))) k) ≡ fragment_named (fragments (map view l.document)) k
+    (k : Name) → option_or (fragment_at g.S.ScalarValue.shown l.first k) (fragment_named (fragments (map view (drop l.definition-index l.document))) k)
+    ≡ fragment_named (fragments (map view l.document)) k

@@ -10,13 +10,15 @@ pub returns-in_ok-field_at-in-Object : goal.returns-in_ok-field_at-in-Object
 returns-in_ok-field_at-in-Object g c =
     let shown = g.S.ScalarValue.shown in
     rw (c.in-Object.is, means-Object shown c.in-Object.fields)
-    (c.int_of.ensures ∙ ap (option_and_then int_of) (c.in_ok-field_at-in-Object.ensures ∙ ap (λ fs. find c.args.name.now (members (view_fields shown fs))) c.deref.ensures.value))
+    (c.int_of.ensures ∙ ap (option_and_then int_of) (c.in_ok-field_at-in-Object.ensures
+    ∙ ap (λ fs. find c.args.name.now (members (view_fields shown fs))) c.deref.ensures.value))
 
 pub returns-in_err-field_at-in-Object : goal.returns-in_err-field_at-in-Object
 returns-in_err-field_at-in-Object g c =
     let shown = g.S.ScalarValue.shown in
     rw (c.in-Object.is, means-Object shown c.in-Object.fields)
-    (c.from_residual.ensures ∙ ap (option_and_then int_of) (c.in_err-field_at-in-Object.ensures ∙ ap (λ fs. find c.args.name.now (members (view_fields shown fs))) c.deref.ensures.value))
+    (c.from_residual.ensures ∙ ap (option_and_then int_of) (c.in_err-field_at-in-Object.ensures
+    ∙ ap (λ fs. find c.args.name.now (members (view_fields shown fs))) c.deref.ensures.value))
 
 pub returns-in-Null : goal.returns-in-Null
 returns-in-Null g c = rw (c.in-Null.is, means-Null g.S.ScalarValue.shown) refl

@@ -14,7 +14,8 @@ returns g c =
       | in-Null+in_ok-message-in-Null w ↦ rw (w.message-is, w.in-Null.is, means-Null shown) w.in_ok-message-in-Null.ensures.ok
       | in-Scalar+in_ok-message-in-Scalar w ↦ rw (w.message-is, w.in-Scalar.is, means-Scalar shown w.in-Scalar.field-0) w.in_ok-message-in-Scalar.ensures
       | in-Enum+in_ok-message-in-Enum w ↦ rw (w.message-is, w.in-Enum.is, means-Enum shown w.in-Enum.field-0) w.in_ok-message-in-Enum.ensures.ok
-      | in-Variable+in_ok-message-in-Variable w ↦ rw (w.message-is, w.in-Variable.is, means-Variable shown w.in-Variable.field-0) w.in_ok-message-in-Variable.ensures.ok
+      | in-Variable+in_ok-message-in-Variable w ↦ rw (w.message-is, w.in-Variable.is, means-Variable shown w.in-Variable.field-0)
+          w.in_ok-message-in-Variable.ensures.ok
       | in-List+in_ok-message-in-List w ↦ rw (w.message-is, w.in-List.is, means-List shown w.in-List.field-0) w.in_ok-message-in-List.ensures.ok
       | in-Object+in_ok-message-in-Object w ↦ rw (w.message-is, w.in-Object.is, means-Object shown w.in-Object.field-0) w.in_ok-message-in-Object.ensures.ok
     ] in

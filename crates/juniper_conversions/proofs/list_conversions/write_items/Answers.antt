@@ -15,7 +15,8 @@ pub loop-value-preserved : goal.loop-value-preserved
 loop-value-preserved g c =
     let view = view_input g.S.ScalarValue.shown in
     rw c.in_ok-push.ensures.items
-    (written_next (λ x. meaning (view x.item)) g.T.ToInputValue.input c.loop-value.items.items c.args.values.now c.loop-value.value-index c.value-item.result c.value-item.is c.loop-value-test.true
+    (written_next (λ x. meaning (view x.item)) g.T.ToInputValue.input c.loop-value.items.items c.args.values.now c.loop-value.value-index c.value-item.result
+    c.value-item.is c.loop-value-test.true
     c.loop-value.invariant c.unlocated.result (ap (λ v. meaning (view v)) c.unlocated.ensures.item ∙ c.in_ok-to_input_value.ensures))
 
 pub loop-value-init : goal.loop-value-init

@@ -8,7 +8,8 @@ use Rattle.juniper_demo_server.proofs.schema.demo_root.Goals as goal
 
 pub returns-in-Ok-new-clause-schema : goal.returns-in-Ok-new-clause-schema
 returns-in-Ok-new-clause-schema c =
-    made_is_same (view_registry default_shown c.in-Ok.registry) (view_schema default_shown (schema_of c.in-Ok-new.root)) c.in-Ok.ensures.types c.in-Ok-new.ensures.schema.0
+    made_is_same (view_registry default_shown c.in-Ok.registry) (view_schema default_shown (schema_of c.in-Ok-new.root)) c.in-Ok.ensures.types
+    c.in-Ok-new.ensures.schema.0
 
 pub returns-in-Err-new-clause-refused : goal.returns-in-Err-new-clause-refused
 returns-in-Err-new-clause-refused c =

@@ -9,12 +9,16 @@ use Rattle.juniper_demo_server.proofs.words.answer_with.Goals as goal
 
 pub returns-in-Err-show : goal.returns-in-Err-show
 returns-in-Err-show c =
-    request_left c.args.text.now c.args.context.now _ (name_in c.args.name.now) (option_map (λ n. n.now) c.operation_name-name.result) (view_variables default_shown c.args.variables.now)
+    request_left c.args.text.now c.args.context.now _ (name_in c.args.name.now) (option_map (λ n. n.now) c.operation_name-name.result)
+    (view_variables default_shown c.args.variables.now)
     _ _ _ (view_schema default_shown (schema_of c.in-Ok.root)) c.execute_sync-outcome.result c.operation_name-name.ensures c.in-Ok.ensures.resolver
     (ap (option_map _) (sym c.in-Ok.ensures.schema.mutation)) c.in-Ok.ensures.introspection c.in-Ok.ensures.schema c.execute_sync-outcome.ensures
 
 pub returns : goal.returns
 returns c =
-    request_answered c.args.text.now c.args.context.now _ (name_in c.args.name.now) (option_map (λ n. n.now) c.operation_name-name.result) (view_variables default_shown c.args.variables.now)
-    _ _ _ (view_schema default_shown (schema_of c.in-Ok.root)) c.execute_sync-outcome.result c.in-Ok-show.answer c.operation_name-name.ensures c.in-Ok.ensures.resolver
-    (ap (option_map _) (sym c.in-Ok.ensures.schema.mutation)) c.in-Ok.ensures.introspection c.in-Ok.ensures.schema c.execute_sync-outcome.ensures c.in-Ok-show.ensures
+    request_answered c.args.text.now c.args.context.now _ (name_in c.args.name.now) (option_map (λ n. n.now) c.operation_name-name.result)
+    (view_variables default_shown c.args.variables.now)
+    _ _ _ (view_schema default_shown (schema_of c.in-Ok.root)) c.execute_sync-outcome.result c.in-Ok-show.answer c.operation_name-name.ensures
+    c.in-Ok.ensures.resolver
+    (ap (option_map _) (sym c.in-Ok.ensures.schema.mutation)) c.in-Ok.ensures.introspection c.in-Ok.ensures.schema c.execute_sync-outcome.ensures
+    c.in-Ok-show.ensures

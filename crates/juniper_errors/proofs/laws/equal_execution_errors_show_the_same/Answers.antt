@@ -11,7 +11,8 @@ returns-clause-equal g c =
     let a = c.args.a.now in
     let b = c.args.b.now in
     listed-equal (view a) (view b) _ _ (keys-equal a.path.items b.path.items) (keys-same a.path.items b.path.items)
-    (values-same g.row.S g.S.PartialEq g.S.PartialEq-dict (record { laws = g.met.S.PartialEq.laws }) g.S.ScalarValue.shown g.met.S.ScalarValue.eq_is_same_shown a.error.extensions b.error.extensions)
+    (values-same g.row.S g.S.PartialEq g.S.PartialEq-dict (record { laws = g.met.S.PartialEq.laws }) g.S.ScalarValue.shown g.met.S.ScalarValue.eq_is_same_shown
+    a.error.extensions b.error.extensions)
 
 pub returns-clause-same : goal.returns-clause-same
 unfolding same_position
@@ -20,4 +21,5 @@ returns-clause-same g c =
     let a = c.args.a.now in
     let b = c.args.b.now in
     listed-same (view a) (view b) _ _ (keys-equal a.path.items b.path.items) (keys-same a.path.items b.path.items)
-    (values-same g.row.S g.S.PartialEq g.S.PartialEq-dict (record { laws = g.met.S.PartialEq.laws }) g.S.ScalarValue.shown g.met.S.ScalarValue.eq_is_same_shown a.error.extensions b.error.extensions)
+    (values-same g.row.S g.S.PartialEq g.S.PartialEq-dict (record { laws = g.met.S.PartialEq.laws }) g.S.ScalarValue.shown g.met.S.ScalarValue.eq_is_same_shown
+    a.error.extensions b.error.extensions)

@@ -15,22 +15,29 @@ pub gather_set-loop-selection-preserved : goal.gather_set-loop-selection-preserv
 gather_set-loop-selection-preserved g t c fs ends unknown is ready =
     let shown = g.S.ScalarValue.shown in
     let before = c.loop-selection.invariant fs ends unknown is ready in
-    so-far-next shown (view_schema shown c.args.known.now.schema.now) fs ends (numbers_at c.args.known.now.fragments.now) c.args.parent.now c.args.gathered.now.graph c.loop-selection.gathered.graph c.gather_selection.new.gathered.graph
-    (view_sets c.args.gathered.now.sets) (view_sets c.loop-selection.gathered.sets) (view_sets c.gather_selection.new.gathered.sets) c.new-numbers.result c.loop-selection.numbers c.gather_selection.new.numbers
+    so-far-next shown (view_schema shown c.args.known.now.schema.now) fs ends
+    (numbers_at c.args.known.now.fragments.now) c.args.parent.now c.args.gathered.now.graph c.loop-selection.gathered.graph
+    c.gather_selection.new.gathered.graph
+    (view_sets c.args.gathered.now.sets) (view_sets c.loop-selection.gathered.sets)
+    (view_sets c.gather_selection.new.gathered.sets) c.new-numbers.result c.loop-selection.numbers c.gather_selection.new.numbers
     c.args.selections.now c.loop-selection.selection-index c.selection-item.result c.loop-selection-test.true c.selection-item.is before
     (c.in_ok-gather_selection.ensures fs ends unknown before.0.graph)
 
 pub gather_set-loop-selection-init : goal.gather_set-loop-selection-init
 gather_set-loop-selection-init g t c fs ends unknown is ready =
     let shown = g.S.ScalarValue.shown in
-    so-far-none shown (view_schema shown c.args.known.now.schema.now) fs ends (numbers_at c.args.known.now.fragments.now) c.args.parent.now c.args.gathered.now.graph (view_sets c.args.gathered.now.sets) c.new-numbers.result c.args.selections.now is ready
+    so-far-none shown (view_schema shown c.args.known.now.schema.now) fs ends
+    (numbers_at c.args.known.now.fragments.now) c.args.parent.now c.args.gathered.now.graph
+    (view_sets c.args.gathered.now.sets) c.new-numbers.result c.args.selections.now is ready
 
 pub gather_set-returns : goal.gather_set-returns
 gather_set-returns g t c fs ends unknown is ready =
     let shown = g.S.ScalarValue.shown in
-    so-far-all shown (view_schema shown c.args.known.now.schema.now) fs ends (numbers_at c.args.known.now.fragments.now) c.args.parent.now c.args.gathered.now.graph c.loop-selection.gathered.graph
+    so-far-all shown (view_schema shown c.args.known.now.schema.now) fs ends
+    (numbers_at c.args.known.now.fragments.now) c.args.parent.now c.args.gathered.now.graph c.loop-selection.gathered.graph
     (view_sets c.args.gathered.now.sets) (view_sets c.loop-selection.gathered.sets) (view_sets c.put_set.new.sets) c.new-numbers.result c.loop-selection.numbers
-    c.args.selections.now c.loop-selection.selection-index c.in_ok-set.set.items c.loop-selection-test.false c.new-numbers.ensures (c.loop-selection.invariant fs ends unknown is ready) c.in_ok-set.ensures.0 c.in_ok-set.ensures.1
+    c.args.selections.now c.loop-selection.selection-index c.in_ok-set.set.items c.loop-selection-test.false c.new-numbers.ensures
+    (c.loop-selection.invariant fs ends unknown is ready) c.in_ok-set.ensures.0 c.in_ok-set.ensures.1
 
 pub gather_field-returns : goal.gather_field-returns
 gather_field-returns g t c fs ends unknown is rest ready =
@@ -41,13 +48,17 @@ gather_field-returns g t c fs ends unknown is rest ready =
     let declared = c.declared_type-declared_type.ensures unknown in
     elim c.match-field.branch [
       | gather_field-in-Some+in_ok-below-in-Some w ↦
-          field-step shown s fs ends (numbers_at c.args.known.now.fragments.now) c.args.parent.now old.graph now.graph c.put_field.new.graph (view_sets old.sets) (view_sets now.sets) c.args.numbers.now c.put_field.new.numbers rest
-          (selections.Field c.args.field.now) c.args.field.now (view_selections shown w.deref.result.now) c.match-field.below.items refl (ap (view_set shown) w.in-Some.is ∙ sym (ap (view_selections shown) w.deref.ensures.value)) ready
-          (λ r. set-as shown s fs old.graph w.gather_set.new.gathered now (view_sets old.sets) w.innermost_name-inner.result.now _ (view_selections shown w.deref.result.now) w.in_ok-below-in-Some.below c.match-field.below
+          field-step shown s fs ends (numbers_at c.args.known.now.fragments.now) c.args.parent.now old.graph now.graph c.put_field.new.graph
+          (view_sets old.sets) (view_sets now.sets) c.args.numbers.now c.put_field.new.numbers rest
+          (selections.Field c.args.field.now) c.args.field.now (view_selections shown w.deref.result.now) c.match-field.below.items refl
+          (ap (view_set shown) w.in-Some.is ∙ sym (ap (view_selections shown) w.deref.ensures.value)) ready
+          (λ r. set-as shown s fs old.graph w.gather_set.new.gathered now (view_sets old.sets) w.innermost_name-inner.result.now _
+          (view_selections shown w.deref.result.now) w.in_ok-below-in-Some.below c.match-field.below
           w.gathered-is w.below-is (w.innermost_name-inner.ensures ∙ ap innermost declared) (w.in_ok-below-in-Some.ensures fs ends unknown is r))
           (λ graph once. c.in_ok-put_field.ensures graph declared once)
       | gather_field-in-None w ↦
-          field-step shown s fs ends (numbers_at c.args.known.now.fragments.now) c.args.parent.now old.graph now.graph c.put_field.new.graph (view_sets old.sets) (view_sets now.sets) c.args.numbers.now c.put_field.new.numbers rest
+          field-step shown s fs ends (numbers_at c.args.known.now.fragments.now) c.args.parent.now old.graph now.graph c.put_field.new.graph
+          (view_sets old.sets) (view_sets now.sets) c.args.numbers.now c.put_field.new.numbers rest
           (selections.Field c.args.field.now) c.args.field.now spec.end c.match-field.below.items refl (ap (view_set shown) w.in-None.is) ready
           (λ r. none-as shown s fs old now w.new-below.result c.match-field.below _ w.gathered-is w.below-is w.new-below.ensures.items is)
           (λ graph once. c.in_ok-put_field.ensures graph declared once)
@@ -57,27 +68,42 @@ pub gather_selection-returns-in_ok-gather_field-in-Field : goal.gather_selection
 gather_selection-returns-in_ok-gather_field-in-Field g t c fs ends unknown is rest ready =
     let shown = g.S.ScalarValue.shown in
     let s = view_schema shown c.args.known.now.schema.now in
-    subst (λ x. IsGathered shown s fs c.args.gathered.now.graph c.gather_field.new.gathered.graph (view_sets c.args.gathered.now.sets) (view_sets c.gather_field.new.gathered.sets) c.args.numbers.now c.gather_field.new.numbers c.args.parent.now rest (put_selection shown x rest))
-    (sym c.in-Field.is) (c.in_ok-gather_field-in-Field.ensures fs ends unknown is rest (subst (λ x. IsReadyIn shown s fs c.args.gathered.now.graph (numbers_at c.args.known.now.fragments.now) (put_selection shown x rest)) c.in-Field.is ready))
+    subst (λ x. IsGathered shown s fs c.args.gathered.now.graph c.gather_field.new.gathered.graph (view_sets c.args.gathered.now.sets)
+    (view_sets c.gather_field.new.gathered.sets) c.args.numbers.now c.gather_field.new.numbers c.args.parent.now rest (put_selection shown x rest))
+    (sym c.in-Field.is) (c.in_ok-gather_field-in-Field.ensures fs ends unknown is rest
+    (subst (λ x. IsReadyIn shown s fs c.args.gathered.now.graph (numbers_at c.args.known.now.fragments.now) (put_selection shown x rest)) c.in-Field.is
+    ready))
 
 pub gather_selection-returns-in_ok-extend-in-Some : goal.gather_selection-returns-in_ok-extend-in-Some
 gather_selection-returns-in_ok-extend-in-Some g t c fs ends unknown is rest ready =
     let shown = g.S.ScalarValue.shown in
-    spread-step shown (view_schema shown c.args.known.now.schema.now) fs ends (numbers_at c.args.known.now.fragments.now) c.args.parent.now c.args.gathered.now.graph (view_sets c.args.gathered.now.sets) c.args.numbers.now c.extend.new.self
-    rest c.args.selection.now c.in-FragmentSpread.spread c.deref.result.now c.in-FragmentSpread.is is ready (numbers-some c.args.known.now.fragments.now c.in-FragmentSpread.spread.item.name.item.now c.in-Some.held.now c.in-Some.ensures.value ∙ sym (ap Some c.deref.ensures.value)) c.in_ok-extend-in-Some.ensures
+    spread-step shown (view_schema shown c.args.known.now.schema.now) fs ends
+    (numbers_at c.args.known.now.fragments.now) c.args.parent.now c.args.gathered.now.graph
+    (view_sets c.args.gathered.now.sets) c.args.numbers.now c.extend.new.self
+    rest c.args.selection.now c.in-FragmentSpread.spread c.deref.result.now c.in-FragmentSpread.is is ready
+    (numbers-some c.args.known.now.fragments.now c.in-FragmentSpread.spread.item.name.item.now c.in-Some.held.now c.in-Some.ensures.value
+    ∙ sym (ap Some c.deref.ensures.value)) c.in_ok-extend-in-Some.ensures
 
 pub gather_selection-returns-in-None : goal.gather_selection-returns-in-None
 gather_selection-returns-in-None g t c fs ends unknown is rest ready =
     let shown = g.S.ScalarValue.shown in
-    unknown-step shown (view_schema shown c.args.known.now.schema.now) fs ends (numbers_at c.args.known.now.fragments.now) c.args.parent.now c.args.gathered.now.graph (view_sets c.args.gathered.now.sets) c.args.numbers.now
-    rest c.args.selection.now c.in-FragmentSpread.spread c.in-FragmentSpread.is is ready (numbers-none c.args.known.now.fragments.now c.in-FragmentSpread.spread.item.name.item.now c.in-None.ensures.value)
+    unknown-step shown (view_schema shown c.args.known.now.schema.now) fs ends
+    (numbers_at c.args.known.now.fragments.now) c.args.parent.now c.args.gathered.now.graph (view_sets c.args.gathered.now.sets) c.args.numbers.now
+    rest c.args.selection.now c.in-FragmentSpread.spread c.in-FragmentSpread.is is ready
+    (numbers-none c.args.known.now.fragments.now c.in-FragmentSpread.spread.item.name.item.now c.in-None.ensures.value)
 
 pub gather_selection-returns-in_ok-extend-in-InlineFragment : goal.gather_selection-returns-in_ok-extend-in-InlineFragment
 gather_selection-returns-in_ok-extend-in-InlineFragment g t c fs ends unknown is rest ready =
     let shown = g.S.ScalarValue.shown in
-    inline-step shown (view_schema shown c.args.known.now.schema.now) fs ends (numbers_at c.args.known.now.fragments.now) c.args.parent.now c.args.gathered.now.graph c.gather_set.new.gathered.graph
-    (view_sets c.args.gathered.now.sets) (view_sets c.gather_set.new.gathered.sets) c.args.numbers.now c.extend-in-InlineFragment.new.self rest c.args.selection.now c.in-InlineFragment.inline
-    (view_selections shown c.deref-in-InlineFragment.result.now) c.in_ok-held-in-InlineFragment.held.items c.in-InlineFragment.is (sym (ap (view_selections shown) c.deref-in-InlineFragment.ensures.value)) ready
-    (λ r. subst (λ q. IsSetGathered shown (view_schema shown c.args.known.now.schema.now) fs c.args.gathered.now.graph c.gather_set.new.gathered.graph (view_sets c.args.gathered.now.sets) (view_sets c.gather_set.new.gathered.sets) q (view_selections shown c.deref-in-InlineFragment.result.now) c.in_ok-held-in-InlineFragment.held.items)
+    inline-step shown (view_schema shown c.args.known.now.schema.now) fs ends
+    (numbers_at c.args.known.now.fragments.now) c.args.parent.now c.args.gathered.now.graph c.gather_set.new.gathered.graph
+    (view_sets c.args.gathered.now.sets) (view_sets c.gather_set.new.gathered.sets) c.args.numbers.now c.extend-in-InlineFragment.new.self rest
+    c.args.selection.now c.in-InlineFragment.inline
+    (view_selections shown c.deref-in-InlineFragment.result.now) c.in_ok-held-in-InlineFragment.held.items c.in-InlineFragment.is
+    (sym (ap (view_selections shown) c.deref-in-InlineFragment.ensures.value)) ready
+    (λ r. subst (λ q. IsSetGathered shown (view_schema shown c.args.known.now.schema.now) fs c.args.gathered.now.graph c.gather_set.new.gathered.graph
+    (view_sets c.args.gathered.now.sets) (view_sets c.gather_set.new.gathered.sets) q
+    (view_selections shown c.deref-in-InlineFragment.result.now) c.in_ok-held-in-InlineFragment.held.items)
     c.type_inside-inner.ensures (c.in_ok-held-in-InlineFragment.ensures fs ends unknown is r))
-    (λ all a. subst (λ l. IsSetOf c.extend-in-InlineFragment.new.self (all ++ l)) c.deref-in-InlineFragment-2.ensures.value (c.in_ok-extend-in-InlineFragment.ensures all a))
+    (λ all a. subst (λ l. IsSetOf c.extend-in-InlineFragment.new.self (all ++ l)) c.deref-in-InlineFragment-2.ensures.value
+    (c.in_ok-extend-in-InlineFragment.ensures all a))

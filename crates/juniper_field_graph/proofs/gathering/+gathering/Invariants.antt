@@ -15,6 +15,8 @@ abbrev pub invariant-gather_set-loop-selection : goal.invariant-gather_set-loop-
 invariant-gather_set-loop-selection g l =
     let shown = g.S.ScalarValue.shown in
     let s = view_schema shown l.known.schema.now in
-    (fs : List SpecFragment) (ends : HasNoCycle fs) → view_type l.known.undeclared.now ≡ fields.declared_type None → IsGraphOf shown s l.initial.gathered.graph →
+    (fs : List SpecFragment) (ends : HasNoCycle fs) → view_type l.known.undeclared.now ≡ fields.declared_type None →
+    IsGraphOf shown s l.initial.gathered.graph →
     IsReadyIn shown s fs l.initial.gathered.graph (numbers_at l.known.fragments.now) (view_selections shown l.selections) →
-    IsSoFar shown s fs ends (numbers_at l.known.fragments.now) l.parent l.initial.gathered.graph l.gathered.graph (view_sets l.initial.gathered.sets) (view_sets l.gathered.sets) l.initial.numbers l.numbers l.selections l.selection-index
+    IsSoFar shown s fs ends (numbers_at l.known.fragments.now) l.parent l.initial.gathered.graph l.gathered.graph (view_sets l.initial.gathered.sets)
+    (view_sets l.gathered.sets) l.initial.numbers l.numbers l.selections l.selection-index

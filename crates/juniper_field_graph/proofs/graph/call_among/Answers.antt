@@ -9,7 +9,8 @@ pub loop-kind-preserved : goal.loop-kind-preserved
 loop-kind-preserved g c once own =
     let shown = g.S.ScalarValue.shown in
     let test : ℕ → Bool = λ r. has_call (view_field shown c.args.field.now) (slice_get (heads_in shown c.args.fields.now) r) in
-    kind-passed test c.args.kinds.now c.loop-kind.kind-index c.has_call.result c.loop-kind-test.true (c.has_call.ensures once own) c.if-has_call.false (c.loop-kind.invariant once own)
+    kind-passed test c.args.kinds.now c.loop-kind.kind-index c.has_call.result c.loop-kind-test.true (c.has_call.ensures once own) c.if-has_call.false
+    (c.loop-kind.invariant once own)
 
 pub returns-then-has_call : goal.returns-then-has_call
 returns-then-has_call g c once own =

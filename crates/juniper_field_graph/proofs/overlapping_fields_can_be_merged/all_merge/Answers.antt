@@ -21,4 +21,5 @@ returns-then-not-branch-clause-differs c e =
     )
 
 pub returns-clause-merges : goal.returns-clause-merges
-returns-clause-merges c e = all-taken (λ v. v.items) c.args.sets.now (λ set. (n : ℕ) → set_merges_at (map view_vertex c.args.vertices.now) n set ≡ true) c.loop-set.set-index c.loop-set-test.false c.loop-set.invariant
+returns-clause-merges c e = all-taken (λ v. v.items) c.args.sets.now
+    (λ set. (n : ℕ) → set_merges_at (map view_vertex c.args.vertices.now) n set ≡ true) c.loop-set.set-index c.loop-set-test.false c.loop-set.invariant

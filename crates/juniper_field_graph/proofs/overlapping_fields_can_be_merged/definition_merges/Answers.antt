@@ -9,21 +9,25 @@ use Rattle.juniper_field_graph.proofs.overlapping_fields_can_be_merged.definitio
 pub returns-in_ok-merges-in-Some : goal.returns-in_ok-merges-in-Some
 returns-in_ok-merges-in-Some g c d ends unknown is ready =
     let shown = g.S.ScalarValue.shown in
-    operation-as shown (view_schema shown c.args.known.now.schema.now) d c.args.gathered.now.graph c.sets_merge.new.gathered.graph (numbers_at c.args.known.now.fragments.now) (view_definition shown c.args.definition.now)
+    operation-as shown (view_schema shown c.args.known.now.schema.now) d c.args.gathered.now.graph c.sets_merge.new.gathered.graph
+    (numbers_at c.args.known.now.fragments.now) (view_definition shown c.args.definition.now)
     (view_operation shown c.in-Operation.operation) c.in-Some.root.now (view_selections shown c.as_slice-selections.result.now) c.in_ok-merges-in-Some.merges
-    (ap (view_definition shown) c.in-Operation.is) (sym (ap (view_selections shown) c.as_slice-selections.ensures.value)) (sym (ap (option_map (λ n. n.now)) c.in-Some.is) ∙ c.root_name.ensures) ready
+    (ap (view_definition shown) c.in-Operation.is) (sym (ap (view_selections shown) c.as_slice-selections.ensures.value))
+    (sym (ap (option_map (λ n. n.now)) c.in-Some.is) ∙ c.root_name.ensures) ready
     (λ r. c.in_ok-merges-in-Some.ensures (fragments d) ends unknown is r)
 
 pub returns-in-None : goal.returns-in-None
 returns-in-None g c d ends unknown is ready =
     let shown = g.S.ScalarValue.shown in
-    rootless-as shown (view_schema shown c.args.known.now.schema.now) d c.args.gathered.now.graph (view_definition shown c.args.definition.now) (view_operation shown c.in-Operation.operation)
+    rootless-as shown (view_schema shown c.args.known.now.schema.now) d c.args.gathered.now.graph (view_definition shown c.args.definition.now)
+    (view_operation shown c.in-Operation.operation)
     (ap (view_definition shown) c.in-Operation.is) (sym (ap (option_map (λ n. n.now)) c.in-None.is) ∙ c.root_name.ensures) is
 
 pub returns-in_ok-merges-in-Fragment : goal.returns-in_ok-merges-in-Fragment
 returns-in_ok-merges-in-Fragment g c d ends unknown is ready =
     let shown = g.S.ScalarValue.shown in
-    fragment-as shown (view_schema shown c.args.known.now.schema.now) d c.args.gathered.now.graph c.sets_merge-in-Fragment.new.gathered.graph (numbers_at c.args.known.now.fragments.now) (view_definition shown c.args.definition.now)
+    fragment-as shown (view_schema shown c.args.known.now.schema.now) d c.args.gathered.now.graph c.sets_merge-in-Fragment.new.gathered.graph
+    (numbers_at c.args.known.now.fragments.now) (view_definition shown c.args.definition.now)
     (view_fragment shown c.in-Fragment.fragment) (view_selections shown c.as_slice-selections-in-Fragment.result.now) c.in_ok-merges-in-Fragment.merges
     (ap (view_definition shown) c.in-Fragment.is) (sym (ap (view_selections shown) c.as_slice-selections-in-Fragment.ensures.value)) ready
     (λ r. c.in_ok-merges-in-Fragment.ensures (fragments d) ends unknown is r)

@@ -16,6 +16,7 @@ abbrev pub invariant-loop-index : goal.invariant-loop-index
 invariant-loop-index g l =
     let shown = g.S.ScalarValue.shown in
     let s = view_schema shown l.schema in
-    (fs : List documents.Fragment) → HasNoCycle fs → view_type l.undeclared ≡ fields.declared_type None → AreWritten fs → IsInOrder fs (map (λ f. view_fragment shown f.now) l.order.items) →
+    (fs : List documents.Fragment) → HasNoCycle fs → view_type l.undeclared ≡ fields.declared_type None → AreWritten fs →
+    IsInOrder fs (map (λ f. view_fragment shown f.now) l.order.items) →
     ((k : Name) → numbers_at l.initial.held k ≡ None) → IsGraphOf shown s l.initial.gathered.graph →
     AreHeldSoFar shown s fs l.initial.gathered.graph l.gathered.graph (numbers_at l.held) l.order.items l.index

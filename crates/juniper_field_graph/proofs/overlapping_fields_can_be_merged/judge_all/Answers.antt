@@ -17,4 +17,5 @@ returns g c disabled are unknown names =
     let ends = names_end_spreads s disabled d names in
     let held = c.in_ok-hold_fragments.ensures (fragments d) ends unknown (are-written s disabled d names) (c.in_ok-order.ensures d are)
     (empty-numbers c.new-held.result c.new-held.ensures.empty) (c.nothing_gathered-gathered.ensures s) in
-    c.in_ok-found.ensures d ends unknown held.graph (definitions-ready s disabled d names (vertices_of shown c.hold_fragments.new.gathered.graph) (heads_of shown c.hold_fragments.new.gathered.graph) (numbers_at c.hold_fragments.new.held) held.known)
+    c.in_ok-found.ensures d ends unknown held.graph (definitions-ready s disabled d names (vertices_of shown c.hold_fragments.new.gathered.graph)
+    (heads_of shown c.hold_fragments.new.gathered.graph) (numbers_at c.hold_fragments.new.held) held.known)

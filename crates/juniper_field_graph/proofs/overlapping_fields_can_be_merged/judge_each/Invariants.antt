@@ -17,6 +17,8 @@ abbrev pub invariant-loop-definition : goal.invariant-loop-definition
 invariant-loop-definition g l =
     let shown = g.S.ScalarValue.shown in
     let s = view_schema shown l.known.schema.now in
-    (d : Document) → HasNoCycle (documents.fragments d) → view_type l.known.undeclared.now ≡ fields.declared_type None → IsGraphOf shown s l.initial.gathered.graph →
-    ((x : documents.Definition) → In x (map (view_definition shown) l.document) → IsReadyIn shown s (documents.fragments d) l.initial.gathered.graph (numbers_at l.known.fragments.now) (selections_of x)) →
+    (d : Document) → HasNoCycle (documents.fragments d) → view_type l.known.undeclared.now ≡ fields.declared_type None →
+    IsGraphOf shown s l.initial.gathered.graph →
+    ((x : documents.Definition) → In x (map (view_definition shown) l.document) →
+    IsReadyIn shown s (documents.fragments d) l.initial.gathered.graph (numbers_at l.known.fragments.now) (selections_of x)) →
     AreJudgedSoFar shown s d l.initial.gathered.graph l.gathered.graph l.found.items l.document l.definition-index

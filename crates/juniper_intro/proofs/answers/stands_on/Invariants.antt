@@ -5,4 +5,5 @@ use Rattle.juniper_intro.proofs.answers.stands_on.Given as goal
 
 -- what is left decides
 abbrev pub invariant-loop-location : goal.invariant-loop-location
-invariant-loop-location g l = list_any (bytes_eq l.place) (map view_location l.location-items) ≡ list_any (bytes_eq l.place) (map view_location (drop l.location-index l.location-items))
+invariant-loop-location g l =
+    list_any (bytes_eq l.place) (map view_location l.location-items) ≡ list_any (bytes_eq l.place) (map view_location (drop l.location-index l.location-items))

@@ -9,7 +9,8 @@ use Rattle.juniper_intro.proofs.arguments.text_of.Goals as goal
 pub returns-in-Scalar : goal.returns-in-Scalar
 returns-in-Scalar g c =
     let shown = g.S.ScalarValue.shown in
-    c.try_to_str.ensures ∙ (sym (given-shown _) ∙ ap (λ m. given_text (Some m)) (sym (ap (λ v. meaning (view_input shown v)) c.in-Scalar.is ∙ means-Scalar shown _)))
+    c.try_to_str.ensures ∙ (sym (given-shown _) ∙ ap (λ m. given_text (Some m))
+    (sym (ap (λ v. meaning (view_input shown v)) c.in-Scalar.is ∙ means-Scalar shown _)))
 
 pub returns-in-Null : goal.returns-in-Null
 unfolding given_text

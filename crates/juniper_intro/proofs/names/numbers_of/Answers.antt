@@ -15,11 +15,13 @@ loop-number-preserved c =
     let size = length-map c.args.names.now (λ n. string_bytes n) in
     let low : k < length c.args.names.now = omega (arith, c.loop-number-test.true) in
     let is : string_bytes c.in_ok-name.name ≡ get_or names k [] =
-    c.in_ok-name.ensures.ok ∙ (c.as_str.ensures.value ∙ (ap (λ n. string_bytes n) c.index-names-number.is ∙ sym (get_or-map (λ n. string_bytes n) c.args.names.now k c.index-names-number.result [] low))) in
+    c.in_ok-name.ensures.ok ∙ (c.as_str.ensures.value ∙ (ap (λ n. string_bytes n) c.index-names-number.is
+    ∙ sym (get_or-map (λ n. string_bytes n) c.args.names.now k c.index-names-number.result [] low))) in
     subst (λ l. StandAt l names c.insert.new.self) (take-map (λ n. string_bytes n) (k + 1) c.args.names.now)
     (stand-more names c.loop-number.numbers c.insert.new.self k (string_bytes c.in_ok-name.name) (omega (arith, size, low)) is
     (hash_map_updates_text (string_bytes c.in_ok-name.name) c.loop-number.numbers c.insert.new.self (Some k) c.in_ok-insert.ensures.updates)
     (subst (λ l. StandAt l names c.loop-number.numbers) (sym (take-map (λ n. string_bytes n) k c.args.names.now)) c.loop-number.invariant))
 
 pub returns : goal.returns
-returns c = subst (λ l. StandAt (map (λ n. string_bytes n) l) (map (λ n. string_bytes n) c.args.names.now) c.loop-number.numbers) (take_all c.loop-number.number c.args.names.now (omega arith)) c.loop-number.invariant
+returns c = subst (λ l. StandAt (map (λ n. string_bytes n) l) (map (λ n. string_bytes n) c.args.names.now) c.loop-number.numbers)
+    (take_all c.loop-number.number c.args.names.now (omega arith)) c.loop-number.invariant

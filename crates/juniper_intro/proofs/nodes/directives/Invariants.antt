@@ -8,4 +8,5 @@ use Rattle.juniper_intro.proofs.nodes.directives.Given as goal
 
 -- the nodes so far
 abbrev pub invariant-loop-number : goal.invariant-loop-number
-invariant-loop-number g l = map (view_resolved g.S.ScalarValue.shown) l.nodes.items ≡ map (λ k. node (of_handle (directive_handle k))) (range_with_len 0 l.number)
+invariant-loop-number g l =
+    map (view_resolved g.S.ScalarValue.shown) l.nodes.items ≡ map (λ k. node (of_handle (directive_handle k))) (range_with_len 0 l.number)

@@ -12,5 +12,6 @@ use Rattle.juniper_intro.proofs.nodes.fields.Given as goal
 abbrev pub invariant-loop-number : goal.invariant-loop-number
 invariant-loop-number g l =
     let shown = g.S.ScalarValue.shown in
-    map (view_resolved shown) l.nodes.items ++ left (view_field shown) (lists_field l.deprecated_too) (λ k. node (of_handle (field_handle l.of_type k))) l.fields l.number
+    map (view_resolved shown) l.nodes.items ++ left (view_field shown) (lists_field l.deprecated_too)
+    (λ k. node (of_handle (field_handle l.of_type k))) l.fields l.number
     ≡ left (view_field shown) (lists_field l.deprecated_too) (λ k. node (of_handle (field_handle l.of_type k))) l.fields 0

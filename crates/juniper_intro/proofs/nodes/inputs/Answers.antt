@@ -14,7 +14,8 @@ use Rattle.juniper_intro.proofs.nodes.inputs.Goals as goal
 pub loop-number-preserved : goal.loop-number-preserved
 loop-number-preserved g c =
     let shown = g.S.ScalarValue.shown in
-    nodes-more shown _ _ _ _ _ c.in_ok-push.ensures.items c.loop-number.invariant (view-Node shown _ ∙ ap (λ p. node (rooted.Introspected (handle.Input p))) c.place.ensures)
+    nodes-more shown _ _ _ _ _ c.in_ok-push.ensures.items c.loop-number.invariant
+    (view-Node shown _ ∙ ap (λ p. node (rooted.Introspected (handle.Input p))) c.place.ensures)
     ∙ turn-more (λ k. node (of_handle (input_handle (place_in c.args.owner k)))) c.loop-number.number
 
 pub returns : goal.returns
@@ -22,4 +23,6 @@ unfolding inputs_at
 returns g c =
     let shown = g.S.ScalarValue.shown in
     let ended : length c.args.inputs.now ≡ c.loop-number.number = omega arith in
-    ap answered (turn-all shown (λ k. input_handle (place_in c.args.owner k)) (map (view_argument shown) c.args.inputs.now) c.loop-number.nodes c.loop-number.number (length-map c.args.inputs.now (view_argument shown) ∙ ended) c.loop-number.invariant)
+    ap answered (turn-all shown (λ k. input_handle (place_in c.args.owner k))
+    (map (view_argument shown) c.args.inputs.now) c.loop-number.nodes c.loop-number.number
+    (length-map c.args.inputs.now (view_argument shown) ∙ ended) c.loop-number.invariant)

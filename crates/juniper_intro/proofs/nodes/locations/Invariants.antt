@@ -6,4 +6,5 @@ use Rattle.juniper_intro.proofs.nodes.locations.Given as goal
 
 -- the names so far
 abbrev pub invariant-loop-location : goal.invariant-loop-location
-invariant-loop-location g l = map (view_resolved g.S.ScalarValue.shown) l.names.items ≡ map (λ n. says n) (map view_location (take l.location-index l.locations))
+invariant-loop-location g l =
+    map (view_resolved g.S.ScalarValue.shown) l.names.items ≡ map (λ n. says n) (map view_location (take l.location-index l.locations))

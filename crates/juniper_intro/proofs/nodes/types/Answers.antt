@@ -10,4 +10,5 @@ use Rattle.juniper_intro.proofs.nodes.types.Goals as goal
 pub returns : goal.returns
 returns g c =
     ap answered (called-listed g.S.ScalarValue.shown (number_of c.args.names.now) (map g.T.AsStr.text c.args.listed.now) c.loop-name.nodes
-    (c.loop-name.invariant ∙ ap (λ l. map (λ n. node (of_handle (type_handle (by_name (number_of c.args.names.now n)) 0))) (map g.T.AsStr.text l)) (take_all c.loop-name.name-index c.args.listed.now c.loop-name-test.false)))
+    (c.loop-name.invariant ∙ ap (λ l. map (λ n. node (of_handle (type_handle (by_name (number_of c.args.names.now n)) 0))) (map g.T.AsStr.text l))
+    (take_all c.loop-name.name-index c.args.listed.now c.loop-name-test.false)))

@@ -9,4 +9,5 @@ use Rattle.juniper_intro.proofs.nodes.types.Given as goal
 -- the nodes so far
 abbrev pub invariant-loop-name : goal.invariant-loop-name
 invariant-loop-name g l =
-    map (view_resolved g.S.ScalarValue.shown) l.nodes.items ≡ map (λ n. node (of_handle (type_handle (by_name (number_of l.names n)) 0))) (map g.T.AsStr.text (take l.name-index l.listed))
+    map (view_resolved g.S.ScalarValue.shown) l.nodes.items ≡ map (λ n. node (of_handle (type_handle (by_name (number_of l.names n)) 0)))
+    (map g.T.AsStr.text (take l.name-index l.listed))

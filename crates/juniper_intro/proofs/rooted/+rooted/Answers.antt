@@ -12,15 +12,18 @@ use Rattle.juniper_intro.proofs.rooted.+rooted.Goals as goal
 
 pub returns-in-Null : goal.returns-in-Null
 unfolding map_tree
-returns-in-Null g t c = let shown = g.S.ScalarValue.shown in view-Null shown ∙ sym (ap (λ a. map_tree of_user (view_resolved shown a)) c.in-Null.is ∙ ap (map_tree of_user) (view-Null shown))
+returns-in-Null g t c = let shown = g.S.ScalarValue.shown in view-Null shown
+    ∙ sym (ap (λ a. map_tree of_user (view_resolved shown a)) c.in-Null.is ∙ ap (map_tree of_user) (view-Null shown))
 
 pub returns-in-Scalar : goal.returns-in-Scalar
 unfolding map_tree
-returns-in-Scalar g t c = let shown = g.S.ScalarValue.shown in view-Scalar shown _ ∙ sym (ap (λ a. map_tree of_user (view_resolved shown a)) c.in-Scalar.is ∙ ap (map_tree of_user) (view-Scalar shown _))
+returns-in-Scalar g t c = let shown = g.S.ScalarValue.shown in view-Scalar shown _
+    ∙ sym (ap (λ a. map_tree of_user (view_resolved shown a)) c.in-Scalar.is ∙ ap (map_tree of_user) (view-Scalar shown _))
 
 pub returns-in-Node : goal.returns-in-Node
 unfolding map_tree
-returns-in-Node g t c = let shown = g.S.ScalarValue.shown in view-Node shown _ ∙ sym (ap (λ a. map_tree of_user (view_resolved shown a)) c.in-Node.is ∙ ap (map_tree of_user) (view-Node shown _))
+returns-in-Node g t c = let shown = g.S.ScalarValue.shown in view-Node shown _
+    ∙ sym (ap (λ a. map_tree of_user (view_resolved shown a)) c.in-Node.is ∙ ap (map_tree of_user) (view-Node shown _))
 
 pub rooted-requires : goal.rooted-requires
 rooted-requires g t c κs within =

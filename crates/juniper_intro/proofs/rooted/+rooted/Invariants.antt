@@ -13,4 +13,5 @@ decreases-rooted g l = layers_of (view_resolved g.S.ScalarValue.shown l.answer)
 abbrev pub invariant-loop-item : goal.invariant-loop-item
 invariant-loop-item g l =
     let shown = g.S.ScalarValue.shown in
-    AreSeen of_user (map (view_resolved shown) l.made.items) (map (view_resolved shown) (into_iter_items l.item-iterator)) (map (view_resolved shown) (into_iter_items l.initial.item-iterator))
+    AreSeen of_user (map (view_resolved shown) l.made.items) (map (view_resolved shown) (into_iter_items l.item-iterator))
+    (map (view_resolved shown) (into_iter_items l.initial.item-iterator))

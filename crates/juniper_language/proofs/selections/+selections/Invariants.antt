@@ -27,5 +27,7 @@ decreases-selections g l = 6 * l.depth + 5
 
 abbrev pub invariant-selections-loop-turn : goal.invariant-selections-loop-turn
 invariant-selections-loop-turn g l =
-    rule.put_first (chain (map (put_selection g.S.ScalarValue.shown) l.found.items)) (read.until 125 (rule.selection l.depth (rule.inside_of l.depth)) (l._turn-end - l._turn) l.parser)
-    ≡ read.and_then (read.until 125 (rule.selection l.depth (rule.inside_of l.depth)) (length l.fn.parser.ahead) l.fn.parser) (λ xs. read.pure (rule.selections_of xs))
+    rule.put_first (chain (map (put_selection g.S.ScalarValue.shown) l.found.items))
+    (read.until 125 (rule.selection l.depth (rule.inside_of l.depth)) (l._turn-end - l._turn) l.parser)
+    ≡ read.and_then (read.until 125 (rule.selection l.depth (rule.inside_of l.depth)) (length l.fn.parser.ahead) l.fn.parser)
+    (λ xs. read.pure (rule.selections_of xs))

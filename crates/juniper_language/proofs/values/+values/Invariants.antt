@@ -26,7 +26,8 @@ decreases-fields g l = 5 * l.depth + 4
 
 abbrev pub invariant-items-loop-turn : goal.invariant-items-loop-turn
 invariant-items-loop-turn g l =
-    read.prepend (map (view_spanning (view_input g.S.ScalarValue.shown)) l.found.items) (read.until 93 (read.spanned (value l.constant l.depth)) (l._turn-end - l._turn) l.parser)
+    read.prepend (map (view_spanning (view_input g.S.ScalarValue.shown)) l.found.items)
+    (read.until 93 (read.spanned (value l.constant l.depth)) (l._turn-end - l._turn) l.parser)
     ≡ read.until 93 (read.spanned (value l.constant l.depth)) (length l.fn.parser.ahead) l.fn.parser
 
 abbrev pub invariant-fields-loop-turn : goal.invariant-fields-loop-turn

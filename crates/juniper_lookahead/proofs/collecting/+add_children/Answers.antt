@@ -35,21 +35,26 @@ loop-selection-preserved g t c =
     elim c.match-part_of.branch [
       | in-Nothing w ↦ record {
         within = next;
-        so_far = rw w.children-is (added shown vars fragments on c.args.selections.now c.loop-selection.selection-index c.args.spreads_left _ c.selection-item.result _ old old _
+        so_far = rw w.children-is (added shown vars fragments on c.args.selections.now c.loop-selection.selection-index c.args.spreads_left _
+            c.selection-item.result _ old old _
             c.loop-selection-test.true c.selection-item.is w.in-Nothing.ensures c.loop-selection.invariant.within c.loop-selection.invariant.so_far
             (nothing-added shown vars fragments on c.args.selections.now old));
       }
       | in-Field+in_ok-push-in-Field w ↦ record {
         within = next;
-        so_far = rw w.children-is (added shown vars fragments on c.args.selections.now c.loop-selection.selection-index c.args.spreads_left _ c.selection-item.result _ old _ _
+        so_far = rw w.children-is (added shown vars fragments on c.args.selections.now c.loop-selection.selection-index c.args.spreads_left _
+            c.selection-item.result _ old _ _
             c.loop-selection-test.true c.selection-item.is w.in-Field.ensures c.loop-selection.invariant.within c.loop-selection.invariant.so_far
-            (field-added shown vars fragments on c.args.selections.now view_selection w.in-Field.field c.loop-selection.children.items _ w.child_of.result w.in_ok-push-in-Field.ensures.items w.child_of.ensures));
+            (field-added shown vars fragments on c.args.selections.now view_selection w.in-Field.field c.loop-selection.children.items _ w.child_of.result
+            w.in_ok-push-in-Field.ensures.items w.child_of.ensures));
       }
       | in-Selections+in_ok-add_children-in-Selections w ↦ record {
         within = next;
-        so_far = rw w.children-is (added shown vars fragments on c.args.selections.now c.loop-selection.selection-index c.args.spreads_left _ c.selection-item.result _ old _ _
+        so_far = rw w.children-is (added shown vars fragments on c.args.selections.now c.loop-selection.selection-index c.args.spreads_left _
+            c.selection-item.result _ old _ _
             c.loop-selection-test.true c.selection-item.is w.in-Selections.ensures c.loop-selection.invariant.within c.loop-selection.invariant.so_far
-            (selections-added shown vars fragments on c.args.selections.now w.in-Selections.inner w.in-Selections.within w.in-Selections.left old _ w.in_ok-add_children-in-Selections.ensures));
+            (selections-added shown vars fragments on c.args.selections.now w.in-Selections.inner w.in-Selections.within w.in-Selections.left old _
+            w.in_ok-add_children-in-Selections.ensures));
       }
     ]
 

@@ -13,7 +13,8 @@ returns-in-Some-clause-taken c = group-put c.args.groups.now c.remove.new.self c
 
 pub returns-in-None-clause-numbers : goal.returns-in-None-clause-numbers
 unfolding numbers_of
-returns-in-None-clause-numbers c = c.new.ensures.items ∙ (ap numbers_of (sym c.in-None.is) ∙ group-found c.args.groups.now c.args.key.now c.remove.result c.remove.ensures.value)
+returns-in-None-clause-numbers c =
+    c.new.ensures.items ∙ (ap numbers_of (sym c.in-None.is) ∙ group-found c.args.groups.now c.args.key.now c.remove.result c.remove.ensures.value)
 
 pub returns-in-None-clause-taken : goal.returns-in-None-clause-taken
 unfolding numbers_of

@@ -27,7 +27,8 @@ pub returns-in_default : goal.returns-in_default
 returns-in_default c =
     let vs = c.args.vertices.now in
     let p = c.args.pair in
-    let first = vertex-some vs p.first c.in_default.field-0-0.now (found-at vs p.first c.get.result c.in_default.field-0-0 c.get.ensures.lookup.3 c.in_default.is-0) in
+    let first = vertex-some vs p.first c.in_default.field-0-0.now (found-at vs p.first c.get.result c.in_default.field-0-0 c.get.ensures.lookup.3
+    c.in_default.is-0) in
     let second = vertex-none vs p.second (missing-at vs p.second c.get-2.result c.get-2.ensures.lookup.3 c.in_default.is-1) in
     looks-nowhere (map view_vertex vs) p c.args.search.now (inr (view_vertex c.in_default.field-0-0.now, first, second))
 
@@ -35,4 +36,5 @@ pub returns-in_default-2 : goal.returns-in_default-2
 returns-in_default-2 c =
     let vs = c.args.vertices.now in
     let p = c.args.pair in
-    looks-nowhere (map view_vertex vs) p c.args.search.now (inl (vertex-none vs p.first (missing-at vs p.first c.get.result c.get.ensures.lookup.3 c.in_default.is-0)))
+    looks-nowhere (map view_vertex vs) p c.args.search.now (inl (vertex-none vs p.first
+    (missing-at vs p.first c.get.result c.get.ensures.lookup.3 c.in_default.is-0)))

@@ -13,8 +13,10 @@ returns-then-not-branch c =
     let n = c.loop-first.first-index in
     let with = pairs_with vs c.args.must_merge c.args.second in
     let p : Pair = record { first = get_or g n 0; second = c.args.second; must_merge = c.args.must_merge } in
-    looked-fails vs (with g) (with (drop n g)) (p ∷ []) (with (drop (n + 1) g)) c.args.search.now c.loop-first.search c.look_at.new.search c.loop-first.invariant
-    (one-left vs c.args.must_merge c.args.second g n (get_or g n 0) c.loop-first-test.true (sym (get_or_default_zero g n (get_or g n 0) c.loop-first-test.true)))
+    looked-fails vs (with g) (with (drop n g)) (p ∷ []) (with (drop (n + 1) g)) c.args.search.now c.loop-first.search c.look_at.new.search
+    c.loop-first.invariant
+    (one-left vs c.args.must_merge c.args.second g n (get_or g n 0) c.loop-first-test.true
+    (sym (get_or_default_zero g n (get_or g n 0) c.loop-first-test.true)))
     (subst (λ b. Looks vs (p ∷ []) c.loop-first.search c.look_at.new.search b) c.if-not-branch.true c.in_ok-look_at.ensures)
 
 pub loop-first-preserved : goal.loop-first-preserved
@@ -25,7 +27,8 @@ loop-first-preserved c =
     let with = pairs_with vs c.args.must_merge c.args.second in
     let p : Pair = record { first = get_or g n 0; second = c.args.second; must_merge = c.args.must_merge } in
     looked-next vs (with g) (with (drop n g)) (p ∷ []) (with (drop (n + 1) g)) c.args.search.now c.loop-first.search c.look_at.new.search c.loop-first.invariant
-    (one-left vs c.args.must_merge c.args.second g n (get_or g n 0) c.loop-first-test.true (sym (get_or_default_zero g n (get_or g n 0) c.loop-first-test.true)))
+    (one-left vs c.args.must_merge c.args.second g n (get_or g n 0) c.loop-first-test.true
+    (sym (get_or_default_zero g n (get_or g n 0) c.loop-first-test.true)))
     (subst (λ b. Looks vs (p ∷ []) c.loop-first.search c.look_at.new.search b) c.if-not-branch.false c.in_ok-look_at.ensures)
 
 pub returns : goal.returns
@@ -34,4 +37,5 @@ returns c =
     let g = c.args.group.now in
     let n = c.loop-first.first-index in
     let with = pairs_with vs c.args.must_merge c.args.second in
-    looked-all vs (with g) (with (drop n g)) c.args.search.now c.loop-first.search c.loop-first.invariant (none-left vs c.args.must_merge c.args.second g n c.loop-first-test.false)
+    looked-all vs (with g) (with (drop n g)) c.args.search.now c.loop-first.search c.loop-first.invariant
+    (none-left vs c.args.must_merge c.args.second g n c.loop-first-test.false)

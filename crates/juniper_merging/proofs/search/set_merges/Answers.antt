@@ -9,7 +9,8 @@ pub returns-then-not-branch-clause-differs : goal.returns-then-not-branch-clause
 returns-then-not-branch-clause-differs c = λ e.
     let vs = map view_vertex c.args.vertices.now in
     let a : Search = record { shapes = c.new.result; merges = c.new-2.result; left = c.new-3.result } in
-    first-differs vs c.args.set.now a c.look_through.new.search (subst (λ b. Looks vs (pairs_of vs true c.args.set.now) a c.look_through.new.search b) c.if-not-branch.true c.in_ok-look_through.ensures)
+    first-differs vs c.args.set.now a c.look_through.new.search (subst
+    (λ b. Looks vs (pairs_of vs true c.args.set.now) a c.look_through.new.search b) c.if-not-branch.true c.in_ok-look_through.ensures)
 
 pub loop-pair-init : goal.loop-pair-init
 loop-pair-init c =
@@ -23,7 +24,8 @@ returns-then-not-branch-2-clause-differs c = λ e.
     let vs = map view_vertex c.args.vertices.now in
     let p = c.in-Some.pair in
     let mid : Search = record { shapes = c.loop-pair.search.shapes; merges = c.loop-pair.search.merges; left = c.pop.new.self } in
-    next-differs vs c.args.set.now p c.loop-pair.search mid c.follow.new.search (popped c.loop-pair.search.left.items c.pop.new.self.items c.pop.result p c.pop.ensures.items c.in-Some.is) c.loop-pair.invariant
+    next-differs vs c.args.set.now p c.loop-pair.search mid c.follow.new.search
+    (popped c.loop-pair.search.left.items c.pop.new.self.items c.pop.result p c.pop.ensures.items c.in-Some.is) c.loop-pair.invariant
     (subst (λ b. Looks vs (pairs_below vs p) mid c.follow.new.search b) c.if-not-branch-2.true c.in_ok-follow.ensures)
 
 pub loop-pair-smaller : goal.loop-pair-smaller
@@ -32,7 +34,8 @@ loop-pair-smaller c =
     let vs = map view_vertex c.args.vertices.now in
     let p = c.in-Some.pair in
     let mid : Search = record { shapes = c.loop-pair.search.shapes; merges = c.loop-pair.search.merges; left = c.pop.new.self } in
-    less-work vs (pairs_below vs p) p c.loop-pair.search mid c.follow.new.search (popped c.loop-pair.search.left.items c.pop.new.self.items c.pop.result p c.pop.ensures.items c.in-Some.is) (λ q. refl)
+    less-work vs (pairs_below vs p) p c.loop-pair.search mid c.follow.new.search
+    (popped c.loop-pair.search.left.items c.pop.new.self.items c.pop.result p c.pop.ensures.items c.in-Some.is) (λ q. refl)
     (subst (λ b. Looks vs (pairs_below vs p) mid c.follow.new.search b) c.if-not-branch-2.false c.in_ok-follow.ensures)
 
 pub loop-pair-preserved : goal.loop-pair-preserved
@@ -41,7 +44,8 @@ loop-pair-preserved c =
     let vs = map view_vertex c.args.vertices.now in
     let p = c.in-Some.pair in
     let mid : Search = record { shapes = c.loop-pair.search.shapes; merges = c.loop-pair.search.merges; left = c.pop.new.self } in
-    next-found vs c.args.set.now p c.loop-pair.search mid c.follow.new.search (popped c.loop-pair.search.left.items c.pop.new.self.items c.pop.result p c.pop.ensures.items c.in-Some.is) (λ q. refl) c.loop-pair.invariant
+    next-found vs c.args.set.now p c.loop-pair.search mid c.follow.new.search
+    (popped c.loop-pair.search.left.items c.pop.new.self.items c.pop.result p c.pop.ensures.items c.in-Some.is) (λ q. refl) c.loop-pair.invariant
     (subst (λ b. Looks vs (pairs_below vs p) mid c.follow.new.search b) c.if-not-branch-2.false c.in_ok-follow.ensures)
 
 pub returns-clause-merges : goal.returns-clause-merges

@@ -5,4 +5,5 @@ use Rattle.juniper_meta.proofs.declaration.find_argument.Given as goal
 
 -- what is left decides
 abbrev pub invariant-loop-argument : goal.invariant-loop-argument
-invariant-loop-argument g l = declaration_in (map (view_argument g.S.ScalarValue.shown) l.arguments) l.name ≡ declaration_in (map (view_argument g.S.ScalarValue.shown) (drop l.argument-index l.arguments)) l.name
+invariant-loop-argument g l = declaration_in (map (view_argument g.S.ScalarValue.shown) l.arguments) l.name
+    ≡ declaration_in (map (view_argument g.S.ScalarValue.shown) (drop l.argument-index l.arguments)) l.name

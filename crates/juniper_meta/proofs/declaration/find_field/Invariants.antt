@@ -5,4 +5,5 @@ use Rattle.juniper_meta.proofs.declaration.find_field.Given as goal
 
 -- what is left decides
 abbrev pub invariant-loop-field : goal.invariant-loop-field
-invariant-loop-field g l = field_in (map (view_field g.S.ScalarValue.shown) l.fields) l.name ≡ field_in (map (view_field g.S.ScalarValue.shown) (drop l.field-index l.fields)) l.name
+invariant-loop-field g l =
+    field_in (map (view_field g.S.ScalarValue.shown) l.fields) l.name ≡ field_in (map (view_field g.S.ScalarValue.shown) (drop l.field-index l.fields)) l.name

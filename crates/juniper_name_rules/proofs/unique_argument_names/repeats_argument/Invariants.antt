@@ -6,4 +6,5 @@ use Rattle.juniper_written.proofs.Deciding.{IsOpen}
 use Rattle.juniper_name_rules.proofs.unique_argument_names.repeats_argument.Given as goal
 
 abbrev pub invariant-loop-index : goal.invariant-loop-index
-invariant-loop-index g l = IsOpen (λ a. written (view_arguments g.S.ScalarValue.shown a.now)) (λ as'. repeats (map (λ a. a.name.item) as')) l.arguments.lists.items l.index
+invariant-loop-index g l =
+    IsOpen (λ a. written (view_arguments g.S.ScalarValue.shown a.now)) (λ as'. repeats (map (λ a. a.name.item) as')) l.arguments.lists.items l.index

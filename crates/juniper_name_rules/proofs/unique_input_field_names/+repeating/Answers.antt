@@ -53,12 +53,14 @@ items_repeat-loop-item-init g t c = refl
 pub items_repeat-loop-item-preserved : goal.items_repeat-loop-item-preserved
 items_repeat-loop-item-preserved g t c =
     let l = c.loop-item in
-    items_pass g.S.ScalarValue.shown c.args.items.now l.item-index c.item-item.result c.loop-item-test.true c.item-item.is (sym c.in_ok-value_repeats.ensures ∙ c.if-branch.false) ∙ l.invariant
+    items_pass g.S.ScalarValue.shown c.args.items.now l.item-index c.item-item.result c.loop-item-test.true c.item-item.is
+    (sym c.in_ok-value_repeats.ensures ∙ c.if-branch.false) ∙ l.invariant
 
 pub items_repeat-returns-then-branch : goal.items_repeat-returns-then-branch
 items_repeat-returns-then-branch g t c =
     let l = c.loop-item in
-    items_stop g.S.ScalarValue.shown c.args.items.now l.item-index c.item-item.result c.loop-item-test.true c.item-item.is (sym c.in_ok-value_repeats.ensures ∙ c.if-branch.true) ∙ l.invariant
+    items_stop g.S.ScalarValue.shown c.args.items.now l.item-index c.item-item.result c.loop-item-test.true c.item-item.is
+    (sym c.in_ok-value_repeats.ensures ∙ c.if-branch.true) ∙ l.invariant
 
 pub items_repeat-returns : goal.items_repeat-returns
 items_repeat-returns g t c = items_done g.S.ScalarValue.shown c.args.items.now c.loop-item.item-index c.loop-item-test.false ∙ c.loop-item.invariant
@@ -71,14 +73,16 @@ object_repeats-returns-then-branch g t c =
 pub object_repeats-loop-field-preserved : goal.object_repeats-loop-field-preserved
 object_repeats-loop-field-preserved g t c =
     let l = c.loop-field in
-    fields_pass g.S.ScalarValue.shown c.args.fields.now l.field-index c.field-item.result c.loop-field-test.true c.field-item.is (sym c.in_ok-value_repeats.ensures ∙ c.if-branch-2.false) ∙ l.invariant
+    fields_pass g.S.ScalarValue.shown c.args.fields.now l.field-index c.field-item.result c.loop-field-test.true c.field-item.is
+    (sym c.in_ok-value_repeats.ensures ∙ c.if-branch-2.false) ∙ l.invariant
 
 pub object_repeats-returns-then-branch-2 : goal.object_repeats-returns-then-branch-2
 object_repeats-returns-then-branch-2 g t c =
     let shown = g.S.ScalarValue.shown in
     let l = c.loop-field in
     let fs = view_fields shown c.args.fields.now in
-    fields_stop shown c.args.fields.now l.field-index c.field-item.result c.loop-field-test.true c.field-item.is (sym c.in_ok-value_repeats.ensures ∙ c.if-branch-2.true) ∙ (l.invariant
+    fields_stop shown c.args.fields.now l.field-index c.field-item.result c.loop-field-test.true c.field-item.is
+    (sym c.in_ok-value_repeats.ensures ∙ c.if-branch-2.true) ∙ (l.invariant
     ∙ sym (repeats-split fs ∙ ap (λ b. b || values_repeat fs) (sym c.in_ok-names_repeat.ensures ∙ c.if-branch.false)))
 
 pub object_repeats-returns : goal.object_repeats-returns

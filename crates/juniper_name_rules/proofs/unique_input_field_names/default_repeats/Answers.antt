@@ -6,7 +6,8 @@ use Rattle.juniper_name_rules.proofs.unique_input_field_names.default_repeats.Go
 
 pub returns-in_ok-found-in-Some : goal.returns-in_ok-found-in-Some
 unfolding value_repeats_or
-returns-in_ok-found-in-Some g c = c.in_ok-found-in-Some.ensures ∙ ap (λ o. value_repeats_or (option_map (view_spanning (view_input g.S.ScalarValue.shown)) o)) (sym c.in-Some.is)
+returns-in_ok-found-in-Some g c =
+    c.in_ok-found-in-Some.ensures ∙ ap (λ o. value_repeats_or (option_map (view_spanning (view_input g.S.ScalarValue.shown)) o)) (sym c.in-Some.is)
 
 pub returns-in-None : goal.returns-in-None
 unfolding value_repeats_or

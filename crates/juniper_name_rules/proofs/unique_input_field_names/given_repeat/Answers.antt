@@ -21,14 +21,17 @@ returns-then-branch g c =
     let shown = g.S.ScalarValue.shown in
     one-passes (view_argument shown) value_repeats_in c.deref-argument-items.result.now c.loop-argument.argument-index c.argument-item.result
     c.loop-argument-test.true c.argument-item.is (sym c.in_ok-value_repeats-in-Some.ensures ∙ c.if-branch.true) c.loop-argument.invariant
-    ∙ (ap (λ l. list_any value_repeats_in (map (view_argument shown) l)) c.deref-argument-items.ensures.value ∙ ap (λ o. list_any value_repeats_in (written (view_arguments shown o))) (sym c.in-Some.is))
+    ∙ (ap (λ l. list_any value_repeats_in (map (view_argument shown) l)) c.deref-argument-items.ensures.value
+    ∙ ap (λ o. list_any value_repeats_in (written (view_arguments shown o))) (sym c.in-Some.is))
 
 pub returns-after-loop-argument : goal.returns-after-loop-argument
 unfolding written
 returns-after-loop-argument g c =
     let shown = g.S.ScalarValue.shown in
-    none-passes (view_argument shown) value_repeats_in c.deref-argument-items.result.now c.loop-argument.argument-index c.loop-argument-test.false c.loop-argument.invariant
-    ∙ (ap (λ l. list_any value_repeats_in (map (view_argument shown) l)) c.deref-argument-items.ensures.value ∙ ap (λ o. list_any value_repeats_in (written (view_arguments shown o))) (sym c.in-Some.is))
+    none-passes (view_argument shown) value_repeats_in c.deref-argument-items.result.now c.loop-argument.argument-index c.loop-argument-test.false
+    c.loop-argument.invariant
+    ∙ (ap (λ l. list_any value_repeats_in (map (view_argument shown) l)) c.deref-argument-items.ensures.value
+    ∙ ap (λ o. list_any value_repeats_in (written (view_arguments shown o))) (sym c.in-Some.is))
 
 pub returns-in-None : goal.returns-in-None
 unfolding written

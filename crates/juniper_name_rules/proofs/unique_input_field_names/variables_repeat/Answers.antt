@@ -21,13 +21,16 @@ returns-then-branch g c =
     let shown = g.S.ScalarValue.shown in
     one-passes (view_variable shown) default_repeats c.deref-variable-items.result.now c.loop-variable.variable-index c.variable-item.result
     c.loop-variable-test.true c.variable-item.is (sym c.in_ok-default_repeats-in-Some.ensures ∙ c.if-branch.true) c.loop-variable.invariant
-    ∙ (ap (λ l. list_any default_repeats (map (view_variable shown) l)) c.deref-variable-items.ensures.value ∙ ap (λ o. list_any default_repeats (view_variables shown o)) (sym c.in-Some.is))
+    ∙ (ap (λ l. list_any default_repeats (map (view_variable shown) l)) c.deref-variable-items.ensures.value
+    ∙ ap (λ o. list_any default_repeats (view_variables shown o)) (sym c.in-Some.is))
 
 pub returns-after-loop-variable : goal.returns-after-loop-variable
 returns-after-loop-variable g c =
     let shown = g.S.ScalarValue.shown in
-    none-passes (view_variable shown) default_repeats c.deref-variable-items.result.now c.loop-variable.variable-index c.loop-variable-test.false c.loop-variable.invariant
-    ∙ (ap (λ l. list_any default_repeats (map (view_variable shown) l)) c.deref-variable-items.ensures.value ∙ ap (λ o. list_any default_repeats (view_variables shown o)) (sym c.in-Some.is))
+    none-passes (view_variable shown) default_repeats c.deref-variable-items.result.now c.loop-variable.variable-index c.loop-variable-test.false
+    c.loop-variable.invariant
+    ∙ (ap (λ l. list_any default_repeats (map (view_variable shown) l)) c.deref-variable-items.ensures.value
+    ∙ ap (λ o. list_any default_repeats (view_variables shown o)) (sym c.in-Some.is))
 
 pub returns-in-None : goal.returns-in-None
 returns-in-None g c = ap (λ o. list_any default_repeats (view_variables g.S.ScalarValue.shown o)) (sym c.in-None.is)

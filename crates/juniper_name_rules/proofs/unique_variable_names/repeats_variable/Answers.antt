@@ -14,7 +14,8 @@ returns-in_ok-found-in-Operation g c =
     let o = c.in-Operation.operation in
     c.in_ok-found-in-Operation.ensures
     ∙ (ap (λ l. repeats (view_names l)) c.deref.ensures.value
-    ∙ (ap repeats (c.in_ok-names-in-Operation.ensures ∙ ap (map (λ (v : VariableDefinition). v.name.item)) (variables-seen shown o.item.variable_definitions (view_operation shown o) refl))
+    ∙ (ap repeats (c.in_ok-names-in-Operation.ensures ∙ ap (map (λ (v : VariableDefinition). v.name.item))
+    (variables-seen shown o.item.variable_definitions (view_operation shown o) refl))
     ∙ ap (λ x. repeats_variable (view_definition shown x)) (sym c.in-Operation.is)))
 
 pub returns-in-Fragment : goal.returns-in-Fragment

@@ -25,4 +25,5 @@ returns-then-is_none g c =
 pub returns : goal.returns
 returns g c =
     let shown = g.S.ScalarValue.shown in
-    names-done g.N.AsStr.text shown c.args.values.now c.loop-value.value-index (view_named g.M.AsStr.text shown c.args.others.now) c.loop-value-test.false ∙ c.loop-value.invariant
+    names-done g.N.AsStr.text shown c.args.values.now c.loop-value.value-index (view_named g.M.AsStr.text shown c.args.others.now) c.loop-value-test.false
+    ∙ c.loop-value.invariant

@@ -6,4 +6,5 @@ use Rattle.juniper_overlapping_fields.proofs.named_values.value_at.Given as goal
 -- what is left decides
 abbrev pub invariant-loop-value : goal.invariant-loop-value
 invariant-loop-value g l =
-    field_at (view_named g.N.AsStr.text g.S.ScalarValue.shown (drop l.value-index l.values)) l.name ≡ field_at (view_named g.N.AsStr.text g.S.ScalarValue.shown l.values) l.name
+    field_at (view_named g.N.AsStr.text g.S.ScalarValue.shown (drop l.value-index l.values)) l.name
+    ≡ field_at (view_named g.N.AsStr.text g.S.ScalarValue.shown l.values) l.name

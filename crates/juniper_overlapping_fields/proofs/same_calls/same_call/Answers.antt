@@ -7,4 +7,5 @@ pub returns-then-eq : goal.returns-then-eq
 returns-then-eq g c =
     let one = view_field g.S.ScalarValue.shown c.args.first.now in
     let other = view_field g.S.ScalarValue.shown c.args.second.now in
-    calls-told one.name.item other.name.item (written one.arguments) (written other.arguments) c.eq.result c.same_arguments.result c.eq.ensures c.if-eq.true c.same_arguments.ensures
+    calls-told one.name.item other.name.item (written one.arguments)
+    (written other.arguments) c.eq.result c.same_arguments.result c.eq.ensures c.if-eq.true c.same_arguments.ensures

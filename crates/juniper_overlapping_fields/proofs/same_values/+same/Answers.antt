@@ -18,7 +18,8 @@ same_value-returns-in-Object g t c =
 pub same_object-returns-then-same_fields : goal.same_object-returns-then-same_fields
 same_object-returns-then-same_fields g t c =
     let shown = g.S.ScalarValue.shown in
-    both-keyed shown c.args.second.now c.in-Object.others c.args.fields.now c.as_slice.result.now c.as_slice-then-same_fields.result.now c.in-Object.is c.as_slice.ensures.value c.as_slice-then-same_fields.ensures.value
+    both-keyed shown c.args.second.now c.in-Object.others c.args.fields.now c.as_slice.result.now c.as_slice-then-same_fields.result.now c.in-Object.is
+    c.as_slice.ensures.value c.as_slice-then-same_fields.ensures.value
     c.same_fields.result c.all_named.result c.same_fields.ensures c.if-same_fields.true c.all_named.ensures
 
 pub same_object-returns-else-same_fields : goal.same_object-returns-else-same_fields
@@ -36,7 +37,8 @@ same_fields-loop-field-preserved g t c =
     let others = view_named (λ n. string_bytes n) shown c.args.others.now in
     let x = c.field-item.result in
     values-pass (λ n. string_bytes n) shown c.args.fields.now others c.loop-field.field-index x c.loop-field-test.true c.field-item.is
-    (value-found (λ n. string_bytes n) shown others x c.as_str.result.now c.value_at.result c.as_str.ensures.value c.value_at.ensures c.is_matched.result c.is_matched.ensures ∙ c.if-not-is_matched.false)
+    (value-found (λ n. string_bytes n) shown others x c.as_str.result.now c.value_at.result c.as_str.ensures.value c.value_at.ensures c.is_matched.result
+    c.is_matched.ensures ∙ c.if-not-is_matched.false)
     ∙ c.loop-field.invariant
 
 pub same_fields-returns-then-not-is_matched : goal.same_fields-returns-then-not-is_matched
@@ -45,19 +47,22 @@ same_fields-returns-then-not-is_matched g t c =
     let others = view_named (λ n. string_bytes n) shown c.args.others.now in
     let x = c.field-item.result in
     values-stop (λ n. string_bytes n) shown c.args.fields.now others c.loop-field.field-index x c.loop-field-test.true c.field-item.is
-    (value-found (λ n. string_bytes n) shown others x c.as_str.result.now c.value_at.result c.as_str.ensures.value c.value_at.ensures c.is_matched.result c.is_matched.ensures ∙ c.if-not-is_matched.true)
+    (value-found (λ n. string_bytes n) shown others x c.as_str.result.now c.value_at.result c.as_str.ensures.value c.value_at.ensures c.is_matched.result
+    c.is_matched.ensures ∙ c.if-not-is_matched.true)
     ∙ c.loop-field.invariant
 
 pub same_fields-returns : goal.same_fields-returns
 same_fields-returns g t c =
     let shown = g.S.ScalarValue.shown in
-    values-done (λ n. string_bytes n) shown c.args.fields.now (view_named (λ n. string_bytes n) shown c.args.others.now) c.loop-field.field-index c.loop-field-test.false ∙ c.loop-field.invariant
+    values-done (λ n. string_bytes n) shown c.args.fields.now (view_named (λ n. string_bytes n) shown c.args.others.now) c.loop-field.field-index
+    c.loop-field-test.false ∙ c.loop-field.invariant
 
 pub is_matched-returns-in-Some : goal.is_matched-returns-in-Some
 unfolding passes
 is_matched-returns-in-Some g t c =
     let shown = g.S.ScalarValue.shown in
-    c.same_value.ensures ∙ ap (λ o. passes (λ w. same_value (view_input shown c.args.first.now) w) (option_map (λ v. view_input shown v.now) o)) (sym c.in-Some.is)
+    c.same_value.ensures ∙ ap (λ o. passes (λ w. same_value (view_input shown c.args.first.now) w) (option_map (λ v. view_input shown v.now) o))
+    (sym c.in-Some.is)
 
 pub is_matched-returns-in-None : goal.is_matched-returns-in-None
 unfolding passes
@@ -75,7 +80,8 @@ pub same_items-loop-index-preserved : goal.same_items-loop-index-preserved
 same_items-loop-index-preserved g t c =
     let one = c.in-Some-Some.ensures.lookup in
     let two = c.in-Some-Some.ensures'.lookup in
-    items-pass g.S.ScalarValue.shown c.args.items.now c.args.others.now c.loop-index.index c.in-Some-Some.item.now c.in-Some-Some.other.now one.3.0 two.3.0 one.1 two.1
+    items-pass g.S.ScalarValue.shown c.args.items.now c.args.others.now c.loop-index.index c.in-Some-Some.item.now c.in-Some-Some.other.now one.3.0 two.3.0
+    one.1 two.1
     (sym c.same_value.ensures ∙ c.if-not-same_value.false)
     ∙ c.loop-index.invariant
 
@@ -83,7 +89,8 @@ pub same_items-returns-then-not-same_value : goal.same_items-returns-then-not-sa
 same_items-returns-then-not-same_value g t c =
     let one = c.in-Some-Some.ensures.lookup in
     let two = c.in-Some-Some.ensures'.lookup in
-    items-stop g.S.ScalarValue.shown c.args.items.now c.args.others.now c.loop-index.index c.in-Some-Some.item.now c.in-Some-Some.other.now one.3.0 two.3.0 one.1 two.1
+    items-stop g.S.ScalarValue.shown c.args.items.now c.args.others.now c.loop-index.index c.in-Some-Some.item.now c.in-Some-Some.other.now one.3.0 two.3.0
+    one.1 two.1
     (sym c.same_value.ensures ∙ c.if-not-same_value.true)
     ∙ c.loop-index.invariant
 

@@ -14,4 +14,5 @@ invariant-loop-definition g l =
     let shown = g.S.ScalarValue.shown in
     let d = map (view_definition shown) l.document in
     IsEarlier l.earlier (map (view_definition shown) (take l.definition-index l.document))
-    × ((disabled : Bool) → AreFragmentsOf shown l.fragments d → IsFoundBefore (view_definition shown) (name_errors (view_schema shown l.schema) disabled d) l.document l.definition-index (map view_rule_error l.errors.items))
+    × ((disabled : Bool) → AreFragmentsOf shown l.fragments d → IsFoundBefore (view_definition shown)
+    (name_errors (view_schema shown l.schema) disabled d) l.document l.definition-index (map view_rule_error l.errors.items))

@@ -12,4 +12,5 @@ abbrev pub invariant-loop-is_violated : goal.invariant-loop-is_violated
 invariant-loop-is_violated g l =
     let x = view_definition g.S.ScalarValue.shown l.definition in
     (view_position l.start ≡ (span_of_definition x).start)
-    × (map view_rule_error l.errors.items ++ flat_map (λ f. reported f.0 f.1.now x) (drop l.is_violated-index l.findings) ≡ map view_rule_error l.initial.errors.items ++ flat_map (λ f. reported f.0 f.1.now x) l.findings)
+    × (map view_rule_error l.errors.items ++ flat_map (λ f. reported f.0 f.1.now x) (drop l.is_violated-index l.findings)
+    ≡ map view_rule_error l.initial.errors.items ++ flat_map (λ f. reported f.0 f.1.now x) l.findings)

@@ -10,4 +10,5 @@ use Rattle.juniper_phases.proofs.types.type_errors.Given as goal
 abbrev pub invariant-loop-definition : goal.invariant-loop-definition
 invariant-loop-definition g l =
     let shown = g.S.ScalarValue.shown in
-    (disabled : Bool) → IsFoundBefore (view_definition shown) (type_errors (view_schema shown l.schema) disabled (map (view_definition shown) l.document)) l.document l.definition-index (map view_rule_error l.errors.items)
+    (disabled : Bool) → IsFoundBefore (view_definition shown) (type_errors (view_schema shown l.schema) disabled (map (view_definition shown) l.document))
+    l.document l.definition-index (map view_rule_error l.errors.items)

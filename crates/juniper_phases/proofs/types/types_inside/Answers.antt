@@ -24,18 +24,21 @@ unfolding placing.parts_of placing.calls_of calls has_unknown_argument
 returns-clause-unknown g c =
     let shown = g.S.ScalarValue.shown in
     let s = view_schema shown c.args.schema.now in
-    c.has_unknown_argument.ensures ∙ ap (list_any gives_unknown) (ap (view_calls shown) c.deref.ensures.value ∙ c.in_ok-calls.ensures ∙ ap (placing.calls_of s) c.in_ok-parts.ensures)
+    c.has_unknown_argument.ensures ∙ ap (list_any gives_unknown) (ap (view_calls shown) c.deref.ensures.value ∙ c.in_ok-calls.ensures
+    ∙ ap (placing.calls_of s) c.in_ok-parts.ensures)
 
 pub returns-clause-lacking : goal.returns-clause-lacking
 unfolding placing.parts_of placing.calls_of calls lacks_argument
 returns-clause-lacking g c =
     let shown = g.S.ScalarValue.shown in
     let s = view_schema shown c.args.schema.now in
-    c.lacks_argument.ensures ∙ ap (list_any gives_too_few) (ap (view_calls shown) c.deref-2.ensures.value ∙ c.in_ok-calls.ensures ∙ ap (placing.calls_of s) c.in_ok-parts.ensures)
+    c.lacks_argument.ensures ∙ ap (list_any gives_too_few) (ap (view_calls shown) c.deref-2.ensures.value ∙ c.in_ok-calls.ensures
+    ∙ ap (placing.calls_of s) c.in_ok-parts.ensures)
 
 pub returns-clause-wrong : goal.returns-clause-wrong
 unfolding placing.parts_of placing.calls_of calls has_wrong_argument
 returns-clause-wrong g c =
     let shown = g.S.ScalarValue.shown in
     let s = view_schema shown c.args.schema.now in
-    c.has_wrong_argument.ensures ∙ ap (list_any (gives_wrong s)) (ap (view_calls shown) c.deref-3.ensures.value ∙ c.in_ok-calls.ensures ∙ ap (placing.calls_of s) c.in_ok-parts.ensures)
+    c.has_wrong_argument.ensures ∙ ap (list_any (gives_wrong s)) (ap (view_calls shown) c.deref-3.ensures.value ∙ c.in_ok-calls.ensures
+    ∙ ap (placing.calls_of s) c.in_ok-parts.ensures)

@@ -11,7 +11,8 @@ pub returns-then-not-is_empty : goal.returns-then-not-is_empty
 returns-then-not-is_empty g c are no_names =
     let shown = g.S.ScalarValue.shown in
     let errors = c.in_ok-errors.errors in
-    types-listed (view_schema shown c.args.schema.now) c.args.introspection_disabled (map (view_definition shown) c.args.document.now) (map view_rule_error errors.items) (sym no_names) (c.in_ok-errors.ensures c.args.introspection_disabled)
+    types-listed (view_schema shown c.args.schema.now) c.args.introspection_disabled (map (view_definition shown) c.args.document.now)
+    (map view_rule_error errors.items) (sym no_names) (c.in_ok-errors.ensures c.args.introspection_disabled)
     (some-seen view_rule_error errors.items errors.len errors.ok.0 c.if-not-is_empty.ensures)
 
 pub returns : goal.returns

@@ -17,7 +17,8 @@ returns-then-not-is_empty g c =
     let d = map (view_definition shown) c.as_slice-definitions.result.now in
     let found = map view_rule_error c.in_ok-errors.errors.items in
     let are : AreFragmentsOf shown c.in_ok-fragments.fragments d = c.in_ok-fragments.ensures in
-    let some : found ≡ [] → ⊥ = some-seen view_rule_error c.in_ok-errors.errors.items c.in_ok-errors.errors.len c.in_ok-errors.errors.ok.0 c.if-not-is_empty.ensures in
+    let some : found ≡ [] → ⊥ = some-seen view_rule_error c.in_ok-errors.errors.items c.in_ok-errors.errors.len c.in_ok-errors.errors.ok.0
+    c.if-not-is_empty.ensures in
     subst (λ x. found ≡ rule_errors s disabled x) (ap (map (view_definition shown)) c.as_slice-definitions.ensures.value)
     (names-listed s disabled d found (c.in_ok-errors.ensures disabled are) some)
 

@@ -7,4 +7,5 @@ use Rattle.juniper_placed.proofs.call_list.push_of_directives.Given as goal
 abbrev pub invariant-loop-index : goal.invariant-loop-index
 invariant-loop-index g l =
     let shown = g.S.ScalarValue.shown in
-    IsFlatSoFar (λ d. call_of_directive (view_directive shown d.now)) l.directives.items (view_calls shown l.initial.calls.items) l.index (view_calls shown l.calls.items)
+    IsFlatSoFar (λ d. call_of_directive (view_directive shown d.now)) l.directives.items (view_calls shown l.initial.calls.items) l.index
+    (view_calls shown l.calls.items)

@@ -23,5 +23,6 @@ pub returns-in-None : goal.returns-in-None
 unfolding call_of_field
 returns-in-None g c =
     let shown = g.S.ScalarValue.shown in
-    adds-none (field_call (view_field shown c.args.placed.now.field.now)) (option_map (λ f. metas.view_field shown f.now) c.args.placed.now.declared) (view_calls shown c.args.calls.now.items)
+    adds-none (field_call (view_field shown c.args.placed.now.field.now)) (option_map (λ f. metas.view_field shown f.now) c.args.placed.now.declared)
+    (view_calls shown c.args.calls.now.items)
     (ap (option_map (λ f. metas.view_field shown f.now)) c.in-None.is)

@@ -7,4 +7,5 @@ use Rattle.juniper_placed.proofs.call_list.push_of_fields.Given as goal
 abbrev pub invariant-loop-placed : goal.invariant-loop-placed
 invariant-loop-placed g l =
     let shown = g.S.ScalarValue.shown in
-    IsFlatSoFar (λ p. call_of_field (view_placed shown p)) l.placed-items (view_calls shown l.initial.calls.items) l.placed-index (view_calls shown l.calls.items)
+    IsFlatSoFar (λ p. call_of_field (view_placed shown p)) l.placed-items (view_calls shown l.initial.calls.items) l.placed-index
+    (view_calls shown l.calls.items)

@@ -12,9 +12,11 @@ place_selection-returns-in_ok-place_selections-in-Some-selection_set g t c =
     let s = view_schema shown c.args.schema.now in
     let m = view_parts shown c.place_field.new.placed in
     let type = option_map (λ n. n.now) c.in_ok-below-in-Field.below in
-    adds-field shown s c.args.parent.now c.args.selection.now (view_parts shown c.args.placed.now) (view_parts shown c.place_selections.new.placed) c.in-Field.field type m
+    adds-field shown s c.args.parent.now c.args.selection.now (view_parts shown c.args.placed.now)
+    (view_parts shown c.place_selections.new.placed) c.in-Field.field type m
     c.in-Field.is c.in_ok-below-in-Field.ensures.below c.in_ok-below-in-Field.ensures.added
-    (set-below shown s m type c.in-Some.inner.now c.in-Field.field.item.selection_set c.in-Some-selection_set.selections c.deref.result.now _ (ap (option_map (λ n. n.now)) c.in-Some.is) c.in-Some-selection_set.is
+    (set-below shown s m type c.in-Some.inner.now c.in-Field.field.item.selection_set c.in-Some-selection_set.selections c.deref.result.now _
+    (ap (option_map (λ n. n.now)) c.in-Some.is) c.in-Some-selection_set.is
     c.deref.ensures.value c.in_ok-place_selections-in-Some-selection_set.ensures)
 
 pub place_selection-returns-in-None-selection_set : goal.place_selection-returns-in-None-selection_set
@@ -24,7 +26,8 @@ place_selection-returns-in-None-selection_set g t c =
     let m = view_parts shown c.place_field.new.placed in
     let type = option_map (λ n. n.now) c.in_ok-below-in-Field.below in
     adds-field shown s c.args.parent.now c.args.selection.now (view_parts shown c.args.placed.now) m c.in-Field.field type m
-    c.in-Field.is c.in_ok-below-in-Field.ensures.below c.in_ok-below-in-Field.ensures.added (leaf-below shown s m type c.in-Field.field.item.selection_set c.in-None-selection_set.is)
+    c.in-Field.is c.in_ok-below-in-Field.ensures.below c.in_ok-below-in-Field.ensures.added
+    (leaf-below shown s m type c.in-Field.field.item.selection_set c.in-None-selection_set.is)
 
 pub place_selection-returns-in-None : goal.place_selection-returns-in-None
 place_selection-returns-in-None g t c =
@@ -51,8 +54,10 @@ place_selection-returns-in_ok-place_selections-in-Some-type_inside g t c =
     let type = option_map (λ n. n.now) c.type_inside.result in
     adds-inline shown s c.args.parent.now c.args.selection.now old _ inline type _ c.in-InlineFragment.is c.type_inside.ensures
     (adds-directives old _ (view_inline shown inline).directives c.in_ok-write_directives-in-InlineFragment.ensures)
-    (some-inside s _ _ type c.in-Some-type_inside.inner.now (view_selections shown inline.item.selection_set.items) (view_selections shown c.deref-in-Some-type_inside.result.now)
-    (ap (option_map (λ n. n.now)) c.in-Some-type_inside.is) (ap (view_selections shown) c.deref-in-Some-type_inside.ensures.value) c.in_ok-place_selections-in-Some-type_inside.ensures)
+    (some-inside s _ _ type c.in-Some-type_inside.inner.now (view_selections shown inline.item.selection_set.items)
+    (view_selections shown c.deref-in-Some-type_inside.result.now)
+    (ap (option_map (λ n. n.now)) c.in-Some-type_inside.is) (ap (view_selections shown) c.deref-in-Some-type_inside.ensures.value)
+    c.in_ok-place_selections-in-Some-type_inside.ensures)
 
 pub place_selection-returns-in-None-type_inside : goal.place_selection-returns-in-None-type_inside
 place_selection-returns-in-None-type_inside g t c =
@@ -68,11 +73,14 @@ place_selection-returns-in-None-type_inside g t c =
 pub place_selections-returns : goal.place_selections-returns
 place_selections-returns g t c =
     let shown = g.S.ScalarValue.shown in
-    adds-all shown (view_schema shown c.args.schema.now) c.args.parent.now c.args.selections.now (view_parts shown c.args.placed.now) c.loop-selection.selection-index (view_parts shown c.loop-selection.placed) c.loop-selection-test.false c.loop-selection.invariant
+    adds-all shown (view_schema shown c.args.schema.now) c.args.parent.now c.args.selections.now
+    (view_parts shown c.args.placed.now) c.loop-selection.selection-index
+    (view_parts shown c.loop-selection.placed) c.loop-selection-test.false c.loop-selection.invariant
 
 pub place_selections-loop-selection-preserved : goal.place_selections-loop-selection-preserved
 place_selections-loop-selection-preserved g t c =
     let shown = g.S.ScalarValue.shown in
-    adds-next shown (view_schema shown c.args.schema.now) c.args.parent.now c.args.selections.now (view_parts shown c.args.placed.now) c.loop-selection.selection-index c.selection-item.result
+    adds-next shown (view_schema shown c.args.schema.now) c.args.parent.now c.args.selections.now
+    (view_parts shown c.args.placed.now) c.loop-selection.selection-index c.selection-item.result
     (view_parts shown c.loop-selection.placed) (view_parts shown c.place_selection.new.placed)
     c.loop-selection-test.true c.selection-item.is c.loop-selection.invariant c.in_ok-place_selection.ensures

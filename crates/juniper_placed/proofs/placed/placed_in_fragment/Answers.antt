@@ -22,5 +22,6 @@ pub returns-else-is_composite : goal.returns-else-is_composite
 returns-else-is_composite g c =
     let shown = g.S.ScalarValue.shown in
     let ds = view_directives_at shown c.write_directives.new.into.items in
-    other-parts (view_schema shown c.args.schema.now) (view_parts shown c.nothing_placed-placed.result) c.nothing_placed-placed.ensures (view_fragment shown c.args.fragment.now) ds
+    other-parts (view_schema shown c.args.schema.now) (view_parts shown c.nothing_placed-placed.result) c.nothing_placed-placed.ensures
+    (view_fragment shown c.args.fragment.now) ds
     (sym c.if-is_composite.ensures) c.in_ok-write_directives.ensures

@@ -20,11 +20,13 @@ returns-in_ok-place_selections-in-Some g c =
     let root = c.in-Some.root.now in
     operation-parts s none c.nothing_placed-placed.ensures o root own ds (view_parts shown c.place_selections.new.placed)
     (sym (ap (option_map (λ n. n.now)) c.in-Some.is) ∙ c.root_name.ensures) c.in_ok-write_directives-in-Some.ensures
-    (c.in_ok-write_variables-in-Some.ensures ∙ ap (λ vs. own ++ flat_map (λ x. x.directives) vs) (variables-seen shown c.args.operation.now.item.variable_definitions o refl))
+    (c.in_ok-write_variables-in-Some.ensures ∙ ap (λ vs. own ++ flat_map (λ x. x.directives) vs)
+    (variables-seen shown c.args.operation.now.item.variable_definitions o refl))
     (c.in_ok-place_selections-in-Some.ensures ∙ ap (λ l. joined (made none.fields ds) (parts_in s root (view_selections shown l))) c.as_slice.ensures.value)
 
 pub returns-in-None : goal.returns-in-None
 returns-in-None g c =
     let shown = g.S.ScalarValue.shown in
-    rootless-parts (view_schema shown c.args.schema.now) (view_parts shown c.nothing_placed-placed.result) c.nothing_placed-placed.ensures (view_operation shown c.args.operation.now)
+    rootless-parts (view_schema shown c.args.schema.now) (view_parts shown c.nothing_placed-placed.result) c.nothing_placed-placed.ensures
+    (view_operation shown c.args.operation.now)
     (sym (ap (option_map (λ n. n.now)) c.in-None.is) ∙ c.root_name.ensures)

@@ -10,4 +10,5 @@ use Rattle.juniper_rules.proofs.input_values.misfits.Given as goal
 abbrev pub invariant-loop-variable : goal.invariant-loop-variable
 invariant-loop-variable g l =
     let shown = g.S.ScalarValue.shown in
-    IsListedBefore (view_variable shown) (view_schema shown l.schema) (view_variables shown l.variables) l.defined l.variable-index (map view_rule_error l.errors.items)
+    IsListedBefore (view_variable shown) (view_schema shown l.schema) (view_variables shown l.variables) l.defined l.variable-index
+    (map view_rule_error l.errors.items)

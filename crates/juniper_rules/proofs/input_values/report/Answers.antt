@@ -14,7 +14,9 @@ returns-in_ok-push g c =
     let shown = g.S.ScalarValue.shown in
     let s = view_schema shown c.args.schema.now in
     let given = view_variables shown c.args.variables.now in
-    misfit-listed s given (view_variable shown c.args.variable.now) (map view_rule_error c.args.errors.now.items) (map view_rule_error c.push.new.self.items) (view_rule_error c.in_ok-new.field-0)
+    misfit-listed s given (view_variable shown c.args.variable.now) (map view_rule_error c.args.errors.now.items) (map view_rule_error c.push.new.self.items)
+    (view_rule_error c.in_ok-new.field-0)
     (sym c.in_ok-is_fitting.ensures ∙ c.if-not-branch.true)
-    (c.in_ok-new.ensures ∙ ap (λ m. record { message = m; start = (view_variable shown c.args.variable.now).name.span.start }) (c.as_str.ensures.value ∙ c.in_ok-message.ensures.ok))
+    (c.in_ok-new.ensures ∙ ap (λ m. record { message = m; start = (view_variable shown c.args.variable.now).name.span.start })
+    (c.as_str.ensures.value ∙ c.in_ok-message.ensures.ok))
     (ap (map view_rule_error) c.in_ok-push.ensures.items ∙ map-append view_rule_error c.args.errors.now.items (c.in_ok-new.field-0 ∷ []))

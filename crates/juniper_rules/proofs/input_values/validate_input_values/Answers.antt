@@ -12,12 +12,15 @@ use Rattle.juniper_rules.proofs.input_values.validate_input_values.Goals as goal
 pub returns-in_ok-errors-in-Some : goal.returns-in_ok-errors-in-Some
 returns-in_ok-errors-in-Some g c =
     let shown = g.S.ScalarValue.shown in
-    let errors_of : List VariableDefinition → List RuleError = λ vs. variable_errors (view_schema shown c.args.schema.now) vs (view_variables shown c.args.variables.now) in
-    c.in_ok-errors-in-Some.ensures ∙ (ap (λ l. errors_of (map (view_variable shown) l)) c.as_slice.ensures.value ∙ ap errors_of (variables-some shown c.args.operation.now c.in-Some.defined c.in-Some.is))
+    let errors_of : List VariableDefinition → List RuleError = λ vs. variable_errors (view_schema shown c.args.schema.now) vs
+    (view_variables shown c.args.variables.now) in
+    c.in_ok-errors-in-Some.ensures ∙ (ap (λ l. errors_of (map (view_variable shown) l)) c.as_slice.ensures.value
+    ∙ ap errors_of (variables-some shown c.args.operation.now c.in-Some.defined c.in-Some.is))
 
 pub returns-in-None : goal.returns-in-None
 unfolding variable_errors
 returns-in-None g c =
     let shown = g.S.ScalarValue.shown in
-    let errors_of : List VariableDefinition → List RuleError = λ vs. variable_errors (view_schema shown c.args.schema.now) vs (view_variables shown c.args.variables.now) in
+    let errors_of : List VariableDefinition → List RuleError = λ vs. variable_errors (view_schema shown c.args.schema.now) vs
+    (view_variables shown c.args.variables.now) in
     ap (map view_rule_error) c.new.ensures.items ∙ ap errors_of (variables-none shown c.args.operation.now c.in-None.is)

@@ -10,5 +10,7 @@ use Rattle.juniper_schema.proofs.built_ins.put.Goals as goal
 pub returns : goal.returns
 returns g c =
     let view = view_meta g.S.ScalarValue.shown in let old = c.args.types.now in let new = c.insert.new.self in let key = c.in_ok-key.key in
-    subst (λ b. (n : Name) → entry_in (view_entries g.S.ScalarValue.shown new) n ≡ cond (bytes_eq n b) (Some (entry_at b (view c.args.meta))) (entry_in (view_entries g.S.ScalarValue.shown old) n)) c.in_ok-key.ensures.ok
-    (put_entry (λ k. string_bytes k) view old.entries new.entries (string_bytes key) c.args.meta (hash_map_updates_text (string_bytes key) old new (Some c.args.meta) c.in_ok-insert.ensures.updates))
+    subst (λ b. (n : Name) → entry_in (view_entries g.S.ScalarValue.shown new) n
+    ≡ cond (bytes_eq n b) (Some (entry_at b (view c.args.meta))) (entry_in (view_entries g.S.ScalarValue.shown old) n)) c.in_ok-key.ensures.ok
+    (put_entry (λ k. string_bytes k) view old.entries new.entries (string_bytes key) c.args.meta
+    (hash_map_updates_text (string_bytes key) old new (Some c.args.meta) c.in_ok-insert.ensures.updates))

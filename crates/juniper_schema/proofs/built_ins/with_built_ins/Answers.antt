@@ -17,9 +17,13 @@ returns g c =
     let at4 : Name → Option Entry = entry_in (view_entries shown c.put_if-4.new.types) in
     record {
       held = all_put at0 at1 at2 at3 at4
-          (put_as at0 at1 (codes "String") c.lacks-is_wanted.result _ _ String' c.lacks-is_wanted.ensures (ap (entry_at (codes "String")) c.in_ok-string_scalar.ensures) c.in_ok-put_if.ensures)
-          (put_as at1 at2 (codes "Boolean") c.lacks-is_wanted-2.result _ _ Boolean' c.lacks-is_wanted-2.ensures (ap (entry_at (codes "Boolean")) c.in_ok-boolean_scalar.ensures) c.in_ok-put_if-2.ensures)
-          (put_as at2 at3 (codes "Int") c.awaits-is_wanted.result _ _ Int' c.awaits-is_wanted.ensures (ap (entry_at (codes "Int")) c.in_ok-int_scalar.ensures) c.in_ok-put_if-3.ensures)
-          (put_as at3 at4 (codes "ID") c.awaits-is_wanted-2.result _ _ ID' c.awaits-is_wanted-2.ensures (ap (entry_at (codes "ID")) c.in_ok-id_scalar.ensures) c.in_ok-put_if-4.ensures);
+          (put_as at0 at1 (codes "String") c.lacks-is_wanted.result _ _ String' c.lacks-is_wanted.ensures
+          (ap (entry_at (codes "String")) c.in_ok-string_scalar.ensures) c.in_ok-put_if.ensures)
+          (put_as at1 at2 (codes "Boolean") c.lacks-is_wanted-2.result _ _ Boolean' c.lacks-is_wanted-2.ensures
+          (ap (entry_at (codes "Boolean")) c.in_ok-boolean_scalar.ensures) c.in_ok-put_if-2.ensures)
+          (put_as at2 at3 (codes "Int") c.awaits-is_wanted.result _ _ Int' c.awaits-is_wanted.ensures
+          (ap (entry_at (codes "Int")) c.in_ok-int_scalar.ensures) c.in_ok-put_if-3.ensures)
+          (put_as at3 at4 (codes "ID") c.awaits-is_wanted-2.result _ _ ID' c.awaits-is_wanted-2.ensures
+          (ap (entry_at (codes "ID")) c.in_ok-id_scalar.ensures) c.in_ok-put_if-4.ensures);
       distinct = keys_differ (λ k. string_bytes k) (view_meta shown) c.put_if-4.new.types.entries c.len-count.ensures.unique;
     }

@@ -5,4 +5,5 @@ use Rattle.juniper_schema.proofs.fields.find_directive.Given as goal
 
 -- what is left decides
 abbrev pub invariant-loop-directive : goal.invariant-loop-directive
-invariant-loop-directive g l = directive_in (map (view_directive g.S.ScalarValue.shown) l.directives) l.name ≡ directive_in (map (view_directive g.S.ScalarValue.shown) (drop l.directive-index l.directives)) l.name
+invariant-loop-directive g l = directive_in (map (view_directive g.S.ScalarValue.shown) l.directives) l.name
+    ≡ directive_in (map (view_directive g.S.ScalarValue.shown) (drop l.directive-index l.directives)) l.name

@@ -5,4 +5,5 @@ use Rattle.juniper_schema.proofs.fits.has_field.Given as goal
 
 -- what is left decides
 abbrev pub invariant-loop-key : goal.invariant-loop-key
-invariant-loop-key g l = has_field l.name (view_fields g.S.ScalarValue.shown l.fields) ≡ has_field l.name (view_fields g.S.ScalarValue.shown (drop l.key-index l.fields))
+invariant-loop-key g l =
+    has_field l.name (view_fields g.S.ScalarValue.shown l.fields) ≡ has_field l.name (view_fields g.S.ScalarValue.shown (drop l.key-index l.fields))

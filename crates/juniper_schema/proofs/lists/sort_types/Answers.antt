@@ -12,5 +12,7 @@ returns g c =
     let view = view_named g.S.ScalarValue.shown in
     let order = ranks_by names_total (λ t. (view t).key) in
     on_ok_weaker c.sort_by.result
-    (λ up. seen_in_order view comes_before order c.args.types.now.items c.sort_by.new.self.items (up _ order (answers_always _ _ _ (λ f a r k called. search rules))) (c.sort_by.ensures.stable _ order (answers_always _ _ _ (λ f a r k called. search rules))))
+    (λ up. seen_in_order view comes_before order c.args.types.now.items c.sort_by.new.self.items
+    (up _ order (answers_always _ _ _ (λ f a r k called. search rules)))
+    (c.sort_by.ensures.stable _ order (answers_always _ _ _ (λ f a r k called. search rules))))
     c.sort_by.ensures.sorted

@@ -4,4 +4,5 @@ use Rattle.juniper_schema.proofs.names.contains.Given as goal
 
 -- what is left decides
 abbrev pub invariant-loop-own : goal.invariant-loop-own
-invariant-loop-own l = list_any (bytes_eq l.name) (map (λ n. string_bytes n) l.names) ≡ list_any (bytes_eq l.name) (map (λ n. string_bytes n) (drop l.own-index l.names))
+invariant-loop-own l =
+    list_any (bytes_eq l.name) (map (λ n. string_bytes n) l.names) ≡ list_any (bytes_eq l.name) (map (λ n. string_bytes n) (drop l.own-index l.names))

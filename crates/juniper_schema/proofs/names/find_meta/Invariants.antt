@@ -5,4 +5,5 @@ use Rattle.juniper_schema.proofs.names.find_meta.Given as goal
 
 -- what is left decides
 abbrev pub invariant-loop-meta : goal.invariant-loop-meta
-invariant-loop-meta g l = entry_in (map (own_entry g.S.ScalarValue.shown) l.metas) l.name ≡ entry_in (map (own_entry g.S.ScalarValue.shown) (drop l.meta-index l.metas)) l.name
+invariant-loop-meta g l =
+    entry_in (map (own_entry g.S.ScalarValue.shown) l.metas) l.name ≡ entry_in (map (own_entry g.S.ScalarValue.shown) (drop l.meta-index l.metas)) l.name

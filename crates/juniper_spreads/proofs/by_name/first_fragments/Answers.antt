@@ -8,16 +8,20 @@ use Rattle.juniper_spreads.proofs.by_name.first_fragments.Goals as goal
 pub loop-definition-init : goal.loop-definition-init
 unfolding fragment_at
 loop-definition-init g c =
-    first-init (λ ds k. fragment_of (fragments ds) k) fragment-splits fragment-none (view_definition g.S.ScalarValue.shown) c.args.document.now (fragment_at g.S.ScalarValue.shown c.new-first.result)
+    first-init (λ ds k. fragment_of (fragments ds) k) fragment-splits fragment-none (view_definition g.S.ScalarValue.shown) c.args.document.now
+    (fragment_at g.S.ScalarValue.shown c.new-first.result)
     (empty-at _ c.new-first.result c.new-first.ensures.empty)
 
 pub loop-definition-preserved : goal.loop-definition-preserved
 loop-definition-preserved g c =
     let shown = g.S.ScalarValue.shown in
-    first-next (λ ds k. fragment_of (fragments ds) k) fragment-splits fragment-none (view_definition shown) c.args.document.now (fragment_at shown c.loop-definition.first) (fragment_at shown c.put_fragment.new.first)
-    c.loop-definition.definition-index c.definition-item.result c.loop-definition-test.true c.definition-item.is c.loop-definition.invariant c.in_ok-put_fragment.ensures
+    first-next (λ ds k. fragment_of (fragments ds) k) fragment-splits fragment-none (view_definition shown) c.args.document.now
+    (fragment_at shown c.loop-definition.first) (fragment_at shown c.put_fragment.new.first)
+    c.loop-definition.definition-index c.definition-item.result c.loop-definition-test.true c.definition-item.is c.loop-definition.invariant
+    c.in_ok-put_fragment.ensures
 
 pub returns : goal.returns
 returns g c =
-    first-all (λ ds k. fragment_of (fragments ds) k) fragment-splits fragment-none (view_definition g.S.ScalarValue.shown) c.args.document.now (fragment_at g.S.ScalarValue.shown c.loop-definition.first)
+    first-all (λ ds k. fragment_of (fragments ds) k) fragment-splits fragment-none (view_definition g.S.ScalarValue.shown) c.args.document.now
+    (fragment_at g.S.ScalarValue.shown c.loop-definition.first)
     c.loop-definition.definition-index c.loop-definition-test.false c.loop-definition.invariant

@@ -10,4 +10,5 @@ use Rattle.juniper_spreads.proofs.by_name.first_fragments.Given as goal
 abbrev pub invariant-loop-definition : goal.invariant-loop-definition
 invariant-loop-definition g l =
     let view = view_definition g.S.ScalarValue.shown in
-    (k : Name) → option_or (fragment_at g.S.ScalarValue.shown l.first k) (fragment_of (fragments (map view (drop l.definition-index l.document))) k) ≡ fragment_of (fragments (map view l.document)) k
+    (k : Name) → option_or (fragment_at g.S.ScalarValue.shown l.first k) (fragment_of (fragments (map view (drop l.definition-index l.document))) k)
+    ≡ fragment_of (fragments (map view l.document)) k

@@ -7,15 +7,19 @@ use Rattle.juniper_spreads.proofs.by_name.first_spreads.Goals as goal
 pub loop-definition-init : goal.loop-definition-init
 unfolding spread_by
 loop-definition-init g c =
-    first-init (λ ds k. spreads_at (fragments ds) k) spreads-split spreads-none (view_definition g.S.ScalarValue.shown) c.args.document.now (spread_by c.new-first.result)
+    first-init (λ ds k. spreads_at (fragments ds) k) spreads-split spreads-none (view_definition g.S.ScalarValue.shown) c.args.document.now
+    (spread_by c.new-first.result)
     (empty-at _ c.new-first.result c.new-first.ensures.empty)
 
 pub loop-definition-preserved : goal.loop-definition-preserved
 loop-definition-preserved g c =
-    first-next (λ ds k. spreads_at (fragments ds) k) spreads-split spreads-none (view_definition g.S.ScalarValue.shown) c.args.document.now (spread_by c.loop-definition.first) (spread_by c.put_spreads.new.spreads)
-    c.loop-definition.definition-index c.definition-item.result c.loop-definition-test.true c.definition-item.is c.loop-definition.invariant c.in_ok-put_spreads.ensures
+    first-next (λ ds k. spreads_at (fragments ds) k) spreads-split spreads-none (view_definition g.S.ScalarValue.shown) c.args.document.now
+    (spread_by c.loop-definition.first) (spread_by c.put_spreads.new.spreads)
+    c.loop-definition.definition-index c.definition-item.result c.loop-definition-test.true c.definition-item.is c.loop-definition.invariant
+    c.in_ok-put_spreads.ensures
 
 pub returns : goal.returns
 returns g c =
-    first-all (λ ds k. spreads_at (fragments ds) k) spreads-split spreads-none (view_definition g.S.ScalarValue.shown) c.args.document.now (spread_by c.loop-definition.first)
+    first-all (λ ds k. spreads_at (fragments ds) k) spreads-split spreads-none (view_definition g.S.ScalarValue.shown) c.args.document.now
+    (spread_by c.loop-definition.first)
     c.loop-definition.definition-index c.loop-definition-test.false c.loop-definition.invariant

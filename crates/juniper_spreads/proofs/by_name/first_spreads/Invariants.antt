@@ -9,4 +9,5 @@ use Rattle.juniper_spreads.proofs.by_name.first_spreads.Given as goal
 abbrev pub invariant-loop-definition : goal.invariant-loop-definition
 invariant-loop-definition g l =
     let view = view_definition g.S.ScalarValue.shown in
-    (k : Name) → option_or (spread_by l.first k) (spreads_at (fragments (map view (drop l.definition-index l.document))) k) ≡ spreads_at (fragments (map view l.document)) k
+    (k : Name) → option_or (spread_by l.first k) (spreads_at (fragments (map view (drop l.definition-index l.document))) k)
+    ≡ spreads_at (fragments (map view l.document)) k

@@ -15,8 +15,10 @@ unfolding spread_by
 returns-then-contains_key g c = λ k.
     let shown = g.S.ScalarValue.shown in
     let f = view_fragment shown c.in-Fragment.fragment in
-    put-not (λ v. view_names v.items) c.args.spreads.now c.in-Fragment.fragment.item.name.item.now (spreads f.selections) (sym c.contains_key.ensures ∙ c.if-contains_key.true) k
-    ∙ ap (option_or (spread_by c.args.spreads.now k)) (sym (spreads-one (view_definition shown c.args.definition.now) f (ap (view_definition shown) c.in-Fragment.is) k))
+    put-not (λ v. view_names v.items) c.args.spreads.now c.in-Fragment.fragment.item.name.item.now (spreads f.selections)
+    (sym c.contains_key.ensures ∙ c.if-contains_key.true) k
+    ∙ ap (option_or (spread_by c.args.spreads.now k)) (sym (spreads-one (view_definition shown c.args.definition.now) f
+    (ap (view_definition shown) c.in-Fragment.is) k))
 
 pub returns-in_ok-insert-in-Fragment : goal.returns-in_ok-insert-in-Fragment
 unfolding spread_by
@@ -25,12 +27,15 @@ returns-in_ok-insert-in-Fragment g c = λ k.
     let name = c.in-Fragment.fragment.item.name.item.now in
     let f = view_fragment shown c.in-Fragment.fragment in
     let is : view_definition shown c.args.definition.now ≡ fragment f = ap (view_definition shown) c.in-Fragment.is in
-    put-first (λ v. view_names v.items) c.args.spreads.now c.insert.new.self name c.in_ok-written-in-Fragment.written.spreads (sym c.contains_key.ensures ∙ c.if-contains_key.false)
+    put-first (λ v. view_names v.items) c.args.spreads.now c.insert.new.self name c.in_ok-written-in-Fragment.written.spreads
+    (sym c.contains_key.ensures ∙ c.if-contains_key.false)
     (hash_map_updates_str name c.args.spreads.now c.insert.new.self _ c.in_ok-insert-in-Fragment.ensures.updates) k
-    ∙ (ap (λ ns. option_or (spread_by c.args.spreads.now k) (cond (bytes_eq k name) (Some ns) None)) (written-spreads shown c.in_ok-written-in-Fragment.written (view_definition shown c.args.definition.now) f is c.in_ok-written-in-Fragment.ensures)
+    ∙ (ap (λ ns. option_or (spread_by c.args.spreads.now k) (cond (bytes_eq k name) (Some ns) None))
+    (written-spreads shown c.in_ok-written-in-Fragment.written (view_definition shown c.args.definition.now) f is c.in_ok-written-in-Fragment.ensures)
     ∙ ap (option_or (spread_by c.args.spreads.now k)) (sym (spreads-one (view_definition shown c.args.definition.now) f is k)))
 
 pub returns-in-Operation : goal.returns-in-Operation
 returns-in-Operation g c = λ k.
     let shown = g.S.ScalarValue.shown in
-    operation-no-spreads (view_definition shown c.args.definition.now) (view_operation shown c.in-Operation.field-0) (ap (view_definition shown) c.in-Operation.is) (spread_by c.args.spreads.now k) k
+    operation-no-spreads (view_definition shown c.args.definition.now) (view_operation shown c.in-Operation.field-0)
+    (ap (view_definition shown) c.in-Operation.is) (spread_by c.args.spreads.now k) k

@@ -9,4 +9,5 @@ use Rattle.juniper_spreads.proofs.cycles.none_left.Goals as goal
 pub returns : goal.returns
 unfolding has_name
 returns c =
-    all_from_yields_List (λ (k : Bor (List ℕ)). has_name c.args.done.now k.now) _ _ _ c.all.ensures.ran (YieldsList-from_rest (keys c.args.spreads.now) c.keys.ensures.rest) (λ x b q k. search (rules, tests))
+    all_from_yields_List (λ (k : Bor (List ℕ)). has_name c.args.done.now k.now) _ _ _ c.all.ensures.ran
+    (YieldsList-from_rest (keys c.args.spreads.now) c.keys.ensures.rest) (λ x b q k. search (rules, tests))

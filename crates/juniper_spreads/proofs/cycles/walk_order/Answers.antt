@@ -11,4 +11,5 @@ loop-step-smaller-in-Continue-branch-3 c =
 pub loop-step-smaller-else-branch : goal.loop-step-smaller-else-branch
 loop-step-smaller-else-branch c =
     goes-on c.args.spreads.now (has_name c.loop-step.entered) (has_name c.is_new.new.seen) c.in-Enter.name.now c.in_ok-is_new-in-Enter.ensures.added
-    c.loop-step.steps.items c.pop.new.self.items c.in-Some.step (popped c.loop-step.steps.items c.pop.new.self.items c.pop.result c.in-Some.step c.pop.ensures.items c.in-Some.is)
+    c.loop-step.steps.items c.pop.new.self.items c.in-Some.step (popped c.loop-step.steps.items c.pop.new.self.items c.pop.result c.in-Some.step
+    c.pop.ensures.items c.in-Some.is)

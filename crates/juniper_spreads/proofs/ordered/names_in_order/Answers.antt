@@ -10,8 +10,12 @@ use Rattle.juniper_spreads.proofs.ordered.names_in_order.Goals as goal
 pub loop-left-init : goal.loop-left-init
 loop-left-init c = λ fs are.
     let names = has_name c.new-2.result in
-    let first = subst (λ l. IsTaken fs names (view_names l)) (sym c.new.ensures.items) (taken-first fs names (empty-has c.new-2.result c.new-2.ensures.empty)) in
-    (c.in_ok-take_ready.ensures.taken fs are first, λ k known. or_right (has_name c.take_ready.new.self.names k) (is_among (view_names c.in_ok-left.left.items) k) (known-among c.args.spreads.now fs are c.in_ok-left.left.items c.in_ok-left.ensures k known))
+    let first = subst (λ l. IsTaken fs names (view_names l)) (sym c.new.ensures.items)
+    (taken-first fs names (empty-has c.new-2.result c.new-2.ensures.empty)) in (
+      c.in_ok-take_ready.ensures.taken fs are first,
+      λ k known. or_right (has_name c.take_ready.new.self.names k)
+          (is_among (view_names c.in_ok-left.left.items) k) (known-among c.args.spreads.now fs are c.in_ok-left.left.items c.in_ok-left.ensures k known),
+    )
 
 pub returns-then-len : goal.returns-then-len
 returns-then-len c = λ fs are.
@@ -39,6 +43,8 @@ loop-left-preserved c = λ fs are.
     let i = c.loop-left.invariant fs are in
     let left : c.deref-in-loop-left.result.now ≡ c.loop-left.left.items = c.deref-in-loop-left.ensures.value in (
       c.in_ok-kept.ensures.taken fs are i.0,
-      rounds-go-on c.args.spreads.now fs are (has_name c.loop-left.taken.names) (has_name c.take_ready-in-loop-left.new.self.names) (view_names c.loop-left.left.items)
-          (view_names c.in_ok-kept.kept.items) i.1 c.in_ok-kept.ensures.stays (λ k e. c.in_ok-kept.ensures.left k (ap (λ l. is_among (view_names l) k) left ∙ e)),
+      rounds-go-on c.args.spreads.now fs are (has_name c.loop-left.taken.names) (has_name c.take_ready-in-loop-left.new.self.names)
+          (view_names c.loop-left.left.items)
+          (view_names c.in_ok-kept.kept.items) i.1 c.in_ok-kept.ensures.stays
+          (λ k e. c.in_ok-kept.ensures.left k (ap (λ l. is_among (view_names l) k) left ∙ e)),
     )

@@ -9,7 +9,8 @@ use Rattle.juniper_spreads.proofs.ordered.names_in_order.Given as goal
 
 abbrev pub invariant-loop-left : goal.invariant-loop-left
 invariant-loop-left l = (fs : List Fragment) → AreSpreadsOf l.spreads fs →
-    IsTaken fs (has_name l.taken.names) (view_names l.taken.order.items) × ((k : Name) → is_some (fragment_of fs k) ≡ true → (has_name l.taken.names k || is_among (view_names l.left.items) k) ≡ true)
+    IsTaken fs (has_name l.taken.names) (view_names l.taken.order.items)
+    × ((k : Name) → is_some (fragment_of fs k) ≡ true → (has_name l.taken.names k || is_among (view_names l.left.items) k) ≡ true)
 
 abbrev pub decreases-loop-left : goal.decreases-loop-left
 decreases-loop-left l = length l.left.items

@@ -21,7 +21,8 @@ loop-name-smaller-in-Continue-branch-3 c =
 pub loop-name-smaller : goal.loop-name-smaller
 loop-name-smaller c =
     goes-on c.args.spreads.now (has_name c.loop-name.seen) (has_name c.is_new.new.seen) c.in-Some.name.now c.in_ok-is_new.ensures.added
-    c.loop-name.left.items c.pop.new.self.items c.in-Some.name (popped c.loop-name.left.items c.pop.new.self.items c.pop.result c.in-Some.name c.pop.ensures.items c.in-Some.is)
+    c.loop-name.left.items c.pop.new.self.items c.in-Some.name (popped c.loop-name.left.items c.pop.new.self.items c.pop.result c.in-Some.name
+    c.pop.ensures.items c.in-Some.is)
 
 pub loop-name-preserved-in-Continue-branch-3 : goal.loop-name-preserved-in-Continue-branch-3
 loop-name-preserved-in-Continue-branch-3 c = λ fs are.
@@ -29,7 +30,8 @@ loop-name-preserved-in-Continue-branch-3 c = λ fs are.
     let x = c.in-Some.name.now in
     let rest = view_names c.pop.new.self.items in
     let more = names_or_none (spread_by c.args.spreads.now x) in
-    let old = names-popped c.loop-name.left.items c.pop.new.self.items c.in-Some.name (popped c.loop-name.left.items c.pop.new.self.items c.pop.result c.in-Some.name c.pop.ensures.items c.in-Some.is) in
+    let old = names-popped c.loop-name.left.items c.pop.new.self.items c.in-Some.name
+    (popped c.loop-name.left.items c.pop.new.self.items c.pop.result c.in-Some.name c.pop.ensures.items c.in-Some.is) in
     subst (λ l. IsSearched fs start (has_name c.is_new.new.seen) l) (sym c.in_ok-follow.ensures)
     (search-new fs start (has_name c.loop-name.seen) (has_name c.is_new.new.seen) x rest more c.in_ok-is_new.ensures.added
     (subst (λ l. IsSearched fs start (has_name c.loop-name.seen) l) old (c.loop-name.invariant fs are)) (next-is c.args.spreads.now fs are x))
@@ -39,13 +41,16 @@ loop-name-preserved c = λ fs are.
     let start = view_names c.args.names.now in
     let x = c.in-Some.name.now in
     let rest = view_names c.pop.new.self.items in
-    let old = names-popped c.loop-name.left.items c.pop.new.self.items c.in-Some.name (popped c.loop-name.left.items c.pop.new.self.items c.pop.result c.in-Some.name c.pop.ensures.items c.in-Some.is) in
+    let old = names-popped c.loop-name.left.items c.pop.new.self.items c.in-Some.name
+    (popped c.loop-name.left.items c.pop.new.self.items c.pop.result c.in-Some.name c.pop.ensures.items c.in-Some.is) in
     subst (λ l. IsSearched fs start (has_name c.is_new.new.seen) l) (append-nil rest)
     (search-old fs start (has_name c.loop-name.seen) (has_name c.is_new.new.seen) x rest [] c.in_ok-is_new.ensures.added
-    (subst (λ l. IsSearched fs start (has_name c.loop-name.seen) l) old (c.loop-name.invariant fs are)) (not-false _ _ c.in_ok-is_new.ensures.found c.if-branch.false) refl)
+    (subst (λ l. IsSearched fs start (has_name c.loop-name.seen) l) old (c.loop-name.invariant fs are))
+    (not-false _ _ c.in_ok-is_new.ensures.found c.if-branch.false) refl)
 
 pub returns : goal.returns
 returns c = λ fs are.
     let start = view_names c.args.names.now in
     let none : c.loop-name.left.items ≡ [] = search rules in
-    search-ends fs start (has_name c.loop-name.seen) (subst (λ l. IsSearched fs start (has_name c.loop-name.seen) (view_names l)) none (c.loop-name.invariant fs are))
+    search-ends fs start (has_name c.loop-name.seen) (subst (λ l. IsSearched fs start (has_name c.loop-name.seen) (view_names l)) none
+    (c.loop-name.invariant fs are))

@@ -9,7 +9,8 @@ use Rattle.juniper_spreads.proofs.rules.are_first.Goals as goal
 pub returns-in-Some : goal.returns-in-Some
 unfolding names_or_none
 returns-in-Some c =
-    let is : spread_by c.args.spreads.now c.args.name.now ≡ Some (view_names c.in-Some.first.now.items) = found-is c.args.spreads.now c.args.name.now c.get.result c.in-Some.first c.get.ensures.value c.in-Some.is in (
+    let is : spread_by c.args.spreads.now c.args.name.now ≡ Some (view_names c.in-Some.first.now.items) = found-is c.args.spreads.now c.args.name.now
+    c.get.result c.in-Some.first c.get.ensures.value c.in-Some.is in (
       λ e. is ∙ ap Some (ap view_names (sym c.deref.ensures.value) ∙ c.are_same.ensures.0 e),
       λ e. c.are_same.ensures.1 (ap view_names c.deref.ensures.value ∙ ap names_or_none (sym is ∙ e)),
     )

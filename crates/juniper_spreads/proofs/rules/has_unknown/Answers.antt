@@ -7,4 +7,5 @@ use Rattle.juniper_spreads.proofs.rules.has_unknown.Goals as goal
 
 pub returns : goal.returns
 returns c =
-    any_from_yields_List (λ (k : Bor (List ℕ)). not (is_some (spread_by c.args.spreads.now k.now))) _ _ _ c.any.ensures.ran (YieldsList-from_slice c.args.names.now c.iter.ensures.rest) (λ x b q k. search (rules, tests))
+    any_from_yields_List (λ (k : Bor (List ℕ)). not (is_some (spread_by c.args.spreads.now k.now))) _ _ _ c.any.ensures.ran
+    (YieldsList-from_slice c.args.names.now c.iter.ensures.rest) (λ x b q k. search (rules, tests))

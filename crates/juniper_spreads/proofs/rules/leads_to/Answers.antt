@@ -5,7 +5,8 @@ use Rattle.juniper_spreads.proofs.rules.leads_to.Goals as goal
 
 pub returns-then-are_first : goal.returns-then-are_first
 returns-then-are_first c = λ fs are free.
-    first-is-free c.args.spreads.now fs are (free c.if-is_free_of_cycles.true) c.args.name.now (view_names c.args.names.now) (c.are_first.ensures.0 c.if-are_first.true)
+    first-is-free c.args.spreads.now fs are (free c.if-is_free_of_cycles.true) c.args.name.now (view_names c.args.names.now)
+    (c.are_first.ensures.0 c.if-are_first.true)
 
 pub returns : goal.returns
 unfolding has_name

@@ -52,7 +52,8 @@ write_fields-loop-field-preserved g t c =
           let name = rw c.as_str.ensures.value at c.write_str-in-loop-field.ensures.writes comma.plain (search rules) in
           let colon = c.write_str-in-loop-field-2.ensures.writes name.plain (search rules) in
           let value = rw c.value_of.ensures at c.write_input.ensures colon.plain (search rules) in
-          has_written_append _ _ _ _ _ _ sofar (has_written_append _ _ _ _ _ _ comma (has_written_append _ _ _ _ _ _ name (has_written_append _ _ _ _ _ _ colon value))),
+          has_written_append _ _ _ _ _ _ sofar (has_written_append _ _ _ _ _ _ comma
+          (has_written_append _ _ _ _ _ _ name (has_written_append _ _ _ _ _ _ colon value))),
     )
 
 pub write_fields-returns : goal.write_fields-returns

@@ -29,7 +29,8 @@ loop-at-preserved g c =
                 let sofar = wrote plain in
                 let one = w.write_str.ensures.writes sofar.plain (search rules) in
                 let two = w.write_escape.ensures (grind (arith, common_steps)) one.plain (search rules) in
-                has_written_of_eq _ _ _ _ _ (grind (arith, common_steps, append_assoc)) (has_written_append _ _ _ _ _ _ (has_written_append _ _ _ _ _ _ sofar one) two),
+                has_written_of_eq _ _ _ _ _ (grind (arith, common_steps, append_assoc))
+                (has_written_append _ _ _ _ _ _ (has_written_append _ _ _ _ _ _ sofar one) two),
           )
       | else-is_escaped w ↦
           let plain : is_escaped (get_or s l.at 0) ≡ false = grind (arith, common_steps) in

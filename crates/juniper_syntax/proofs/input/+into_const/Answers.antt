@@ -26,7 +26,8 @@ InputValue::into_const-returns-in_ok-const_fields-in-Object g t c =
     let shown = g.S.ScalarValue.shown in
     let vars = view_variables shown c.args.variables.now in
     let seen = ap (view_input shown) c.in-Object.is ∙ view-Object shown c.in-Object.fields in
-    ap Some (view-Object shown c.in_ok-const_fields-in-Object.field-0 ∙ ap object (c.in_ok-const_fields-in-Object.ensures ∙ ap (λ vs. const_fields vars (view_fields shown vs)) c.as_slice-in-Object.ensures.value))
+    ap Some (view-Object shown c.in_ok-const_fields-in-Object.field-0
+    ∙ ap object (c.in_ok-const_fields-in-Object.ensures ∙ ap (λ vs. const_fields vars (view_fields shown vs)) c.as_slice-in-Object.ensures.value))
     ∙ ap (const vars) (sym seen)
 
 pub const_items-loop-item-preserved : goal.const_items-loop-item-preserved
@@ -37,7 +38,8 @@ const_items-loop-item-preserved g t c =
     let l = c.loop-item in
     let x = c.item-item.result in
     let rest = const_items vars (view_items shown (drop (l.item-index + 1) c.args.items.now)) in
-    items_turn shown (const_items vars) c.args.items.now l.made.items c.push.new.self.items l.item-index x c.or_null-value.result c.in_ok-push.ensures.items (omega arith) c.item-item.is
+    items_turn shown (const_items vars) c.args.items.now l.made.items c.push.new.self.items l.item-index x c.or_null-value.result c.in_ok-push.ensures.items
+    (omega arith) c.item-item.is
     (ap (λ v. item v (view_span x.span) rest) (sym (c.or_null-value.ensures ∙ ap (λ o. unwrap_or o null) c.in_ok-into_const.ensures)))
     ∙ l.invariant
 
@@ -45,7 +47,8 @@ pub const_items-returns : goal.const_items-returns
 unfolding const
 const_items-returns g t c =
     let shown = g.S.ScalarValue.shown in
-    items_end shown (const_items (view_variables shown c.args.variables.now)) c.args.items.now c.loop-item.made.items c.loop-item.item-index (omega arith) refl ∙ c.loop-item.invariant
+    items_end shown (const_items (view_variables shown c.args.variables.now)) c.args.items.now c.loop-item.made.items c.loop-item.item-index (omega arith) refl
+    ∙ c.loop-item.invariant
 
 pub const_fields-loop-field-preserved : goal.const_fields-loop-field-preserved
 unfolding const field_if
@@ -60,7 +63,8 @@ const_fields-loop-field-preserved g t c =
       | const_fields-in-Some+in_ok-name+in_ok-push w ↦
           let kept = ap (option_map (view_input shown)) (sym w.in-Some.is) ∙ value in
           let k = sym (w.in_ok-name.ensures.ok ∙ w.as_str.ensures.value) in
-          fields_turn shown (const_fields vars) c.args.fields.now l.made.items c.match-branch-3.made.items l.field-index x w.in_ok-name.name w.in-Some.value (ap (λ o. o.items) w.made-is ∙ w.in_ok-push.ensures.items) (omega arith) c.field-item.is
+          fields_turn shown (const_fields vars) c.args.fields.now l.made.items c.match-branch-3.made.items l.field-index x w.in_ok-name.name w.in-Some.value
+          (ap (λ o. o.items) w.made-is ∙ w.in_ok-push.ensures.items) (omega arith) c.field-item.is
           (ap₂ (λ k o. field_if k (view_span x.0.span) o (view_span x.1.span) rest) k (sym kept))
           ∙ l.invariant
       | const_fields-in_default w ↦
@@ -74,7 +78,8 @@ pub const_fields-returns : goal.const_fields-returns
 unfolding const
 const_fields-returns g t c =
     let shown = g.S.ScalarValue.shown in
-    fields_end shown (const_fields (view_variables shown c.args.variables.now)) c.args.fields.now c.loop-field.made.items c.loop-field.field-index (omega arith) refl ∙ c.loop-field.invariant
+    fields_end shown (const_fields (view_variables shown c.args.variables.now)) c.args.fields.now c.loop-field.made.items c.loop-field.field-index
+    (omega arith) refl ∙ c.loop-field.invariant
 
 pub const_fields-into_const-requires : goal.const_fields-into_const-requires
 unfolding const
@@ -103,7 +108,8 @@ InputValue::into_const-returns-in_ok-const_items-in-List g t c =
     let shown = g.S.ScalarValue.shown in
     let vars = view_variables shown c.args.variables.now in
     let seen = ap (view_input shown) c.in-List.is ∙ view-List shown c.in-List.items in
-    ap Some (view-List shown c.in_ok-const_items-in-List.field-0 ∙ ap list (c.in_ok-const_items-in-List.ensures ∙ ap (λ vs. const_items vars (view_items shown vs)) c.as_slice.ensures.value))
+    ap Some (view-List shown c.in_ok-const_items-in-List.field-0 ∙ ap list
+    (c.in_ok-const_items-in-List.ensures ∙ ap (λ vs. const_items vars (view_items shown vs)) c.as_slice.ensures.value))
     ∙ ap (const vars) (sym seen)
 
 pub const_items-loop-item-init : goal.const_items-loop-item-init

@@ -8,7 +8,8 @@ abbrev pub invariant-const_fields-loop-field : goal.invariant-const_fields-loop-
 invariant-const_fields-loop-field g l =
     let shown = g.S.ScalarValue.shown in
     let vars = view_variables shown l.variables in
-    append_fields (view_fields shown l.made.items) (const_fields vars (view_fields shown (drop l.field-index l.fields))) ≡ const_fields vars (view_fields shown l.fields)
+    append_fields (view_fields shown l.made.items) (const_fields vars (view_fields shown (drop l.field-index l.fields)))
+    ≡ const_fields vars (view_fields shown l.fields)
 
 abbrev pub invariant-const_items-loop-item : goal.invariant-const_items-loop-item
 invariant-const_items-loop-item g l =

@@ -34,12 +34,14 @@ items_are_const-loop-item-init g t c = refl
 pub items_are_const-loop-item-preserved : goal.items_are_const-loop-item-preserved
 items_are_const-loop-item-preserved g t c =
     let l = c.loop-item in
-    items_pass g.S.ScalarValue.shown c.args.items.now l.item-index c.item-item.result c.loop-item-test.true c.item-item.is (sym c.is_const.ensures ∙ c.if-not-is_const.false) ∙ l.invariant
+    items_pass g.S.ScalarValue.shown c.args.items.now l.item-index c.item-item.result c.loop-item-test.true c.item-item.is
+    (sym c.is_const.ensures ∙ c.if-not-is_const.false) ∙ l.invariant
 
 pub items_are_const-returns-then-not-is_const : goal.items_are_const-returns-then-not-is_const
 items_are_const-returns-then-not-is_const g t c =
     let l = c.loop-item in
-    items_stop g.S.ScalarValue.shown c.args.items.now l.item-index c.item-item.result c.loop-item-test.true c.item-item.is (sym c.is_const.ensures ∙ c.if-not-is_const.true) ∙ l.invariant
+    items_stop g.S.ScalarValue.shown c.args.items.now l.item-index c.item-item.result c.loop-item-test.true c.item-item.is
+    (sym c.is_const.ensures ∙ c.if-not-is_const.true) ∙ l.invariant
 
 pub items_are_const-returns : goal.items_are_const-returns
 items_are_const-returns g t c = items_done g.S.ScalarValue.shown c.args.items.now c.loop-item.item-index c.loop-item-test.false ∙ c.loop-item.invariant
@@ -50,12 +52,14 @@ fields_are_const-loop-field-init g t c = refl
 pub fields_are_const-loop-field-preserved : goal.fields_are_const-loop-field-preserved
 fields_are_const-loop-field-preserved g t c =
     let l = c.loop-field in
-    fields_pass g.S.ScalarValue.shown c.args.fields.now l.field-index c.field-item.result c.loop-field-test.true c.field-item.is (sym c.is_const.ensures ∙ c.if-not-is_const.false) ∙ l.invariant
+    fields_pass g.S.ScalarValue.shown c.args.fields.now l.field-index c.field-item.result c.loop-field-test.true c.field-item.is
+    (sym c.is_const.ensures ∙ c.if-not-is_const.false) ∙ l.invariant
 
 pub fields_are_const-returns-then-not-is_const : goal.fields_are_const-returns-then-not-is_const
 fields_are_const-returns-then-not-is_const g t c =
     let l = c.loop-field in
-    fields_stop g.S.ScalarValue.shown c.args.fields.now l.field-index c.field-item.result c.loop-field-test.true c.field-item.is (sym c.is_const.ensures ∙ c.if-not-is_const.true) ∙ l.invariant
+    fields_stop g.S.ScalarValue.shown c.args.fields.now l.field-index c.field-item.result c.loop-field-test.true c.field-item.is
+    (sym c.is_const.ensures ∙ c.if-not-is_const.true) ∙ l.invariant
 
 pub fields_are_const-returns : goal.fields_are_const-returns
 fields_are_const-returns g t c = fields_done g.S.ScalarValue.shown c.args.fields.now c.loop-field.field-index c.loop-field-test.false ∙ c.loop-field.invariant

@@ -22,7 +22,8 @@ clone_items-loop-item-preserved g t c =
     let shown = g.S.ScalarValue.shown in
     let l = c.loop-item in
     let rest = view_items shown (drop (l.item-index + 1) c.args.items.now) in
-    items_turn shown (λ is. is) c.args.items.now l.made.items c.push.new.self.items l.item-index c.item-item.result c.in_ok-copy.copy c.in_ok-push.ensures.items (omega arith) c.item-item.is
+    items_turn shown (λ is. is) c.args.items.now l.made.items c.push.new.self.items l.item-index c.item-item.result c.in_ok-copy.copy c.in_ok-push.ensures.items
+    (omega arith) c.item-item.is
     (ap (λ v. item v (view_span c.item-item.result.span) rest) (sym c.in_ok-copy.ensures))
     ∙ l.invariant
 
@@ -36,8 +37,10 @@ clone_fields-loop-field-preserved g t c =
     let l = c.loop-field in
     let x = c.field-item.result in
     let rest = view_fields shown (drop (l.field-index + 1) c.args.fields.now) in
-    fields_turn shown (λ fs. fs) c.args.fields.now l.made.items c.push.new.self.items l.field-index x c.in_ok-name.name c.in_ok-copy.copy c.in_ok-push.ensures.items (omega arith) c.field-item.is
-    (ap₂ (λ k v. input_field k (view_span x.0.span) v (view_span x.1.span) rest) (sym (c.in_ok-name.ensures.ok ∙ c.as_str.ensures.value)) (sym (c.in_ok-copy.ensures ∙ ap (view_input shown) c.value_of.ensures)))
+    fields_turn shown (λ fs. fs) c.args.fields.now l.made.items c.push.new.self.items l.field-index x c.in_ok-name.name c.in_ok-copy.copy
+    c.in_ok-push.ensures.items (omega arith) c.field-item.is
+    (ap₂ (λ k v. input_field k (view_span x.0.span) v (view_span x.1.span) rest) (sym (c.in_ok-name.ensures.ok ∙ c.as_str.ensures.value))
+    (sym (c.in_ok-copy.ensures ∙ ap (view_input shown) c.value_of.ensures)))
     ∙ l.invariant
 
 pub clone_fields-returns : goal.clone_fields-returns
@@ -74,13 +77,15 @@ pub InputValue::try_clone-returns-in_ok-from_str-in-Variable : goal.InputValue::
 InputValue::try_clone-returns-in_ok-from_str-in-Variable g t c =
     let shown = g.S.ScalarValue.shown in
     let seen = ap (view_input shown) c.in-Variable.is ∙ view-Variable shown c.in-Variable.name in
-    view-Variable shown c.in_ok-from_str-in-Variable.field-0 ∙ ap variable (c.in_ok-from_str-in-Variable.ensures.ok ∙ c.as_str-in-Variable.ensures.value) ∙ sym seen
+    view-Variable shown c.in_ok-from_str-in-Variable.field-0 ∙ ap variable (c.in_ok-from_str-in-Variable.ensures.ok ∙ c.as_str-in-Variable.ensures.value)
+    ∙ sym seen
 
 pub InputValue::try_clone-returns-in_ok-clone_items-in-List : goal.InputValue::try_clone-returns-in_ok-clone_items-in-List
 InputValue::try_clone-returns-in_ok-clone_items-in-List g t c =
     let shown = g.S.ScalarValue.shown in
     let seen = ap (view_input shown) c.in-List.is ∙ view-List shown c.in-List.items in
-    view-List shown c.in_ok-clone_items-in-List.field-0 ∙ ap list (c.in_ok-clone_items-in-List.ensures ∙ ap (view_items shown) c.as_slice.ensures.value) ∙ sym seen
+    view-List shown c.in_ok-clone_items-in-List.field-0 ∙ ap list (c.in_ok-clone_items-in-List.ensures ∙ ap (view_items shown) c.as_slice.ensures.value)
+    ∙ sym seen
 
 pub clone_items-loop-item-init : goal.clone_items-loop-item-init
 clone_items-loop-item-init g t c =

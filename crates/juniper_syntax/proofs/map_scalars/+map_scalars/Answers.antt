@@ -16,7 +16,8 @@ map_values-loop-item-init g t c =
 
 pub map_values-loop-item-preserved : goal.map_values-loop-item-preserved
 map_values-loop-item-preserved g t c =
-    mapped_turn g.S.ScalarValue.shown g.T.ScalarValue.shown c.args.items.now c.loop-item.made.items c.push.new.self.items c.loop-item.item-index c.item-item.result c.in_ok-copy.copy c.in_ok-push.ensures.items (omega arith)
+    mapped_turn g.S.ScalarValue.shown g.T.ScalarValue.shown c.args.items.now c.loop-item.made.items c.push.new.self.items c.loop-item.item-index
+    c.item-item.result c.in_ok-copy.copy c.in_ok-push.ensures.items (omega arith)
     c.item-item.is c.in_ok-copy.ensures
     ∙ c.loop-item.invariant
 
@@ -30,13 +31,15 @@ map_object-returns g t c =
     let shown = g.T.ScalarValue.shown in
     let fields = (out-Object g.row.S.Denot c.args.object.now).fields in
     let values = ap (view_values shown) c.in_ok-fields.ensures.values ∙ c.in_ok-values.ensures ∙ ap (view_values seen) c.values.ensures in
-    view-roll shown c.in_ok-fields.fields ∙ entries_same seen shown c.in_ok-fields.fields fields c.in_ok-fields.ensures.keys values ∙ sym (view-out seen c.args.object.now)
+    view-roll shown c.in_ok-fields.fields ∙ entries_same seen shown c.in_ok-fields.fields fields c.in_ok-fields.ensures.keys values
+    ∙ sym (view-out seen c.args.object.now)
 
 pub map_object-with_values-requires : goal.map_object-with_values-requires
 map_object-with_values-requires g t c =
     let seen = g.S.ScalarValue.shown in
     let fields = (out-Object g.row.S.Denot c.args.object.now).fields in
-    values_long seen g.T.ScalarValue.shown c.in_ok-values.values.items (values_of fields) (c.in_ok-values.ensures ∙ ap (view_values seen) c.values.ensures) ∙ length-values_of fields
+    values_long seen g.T.ScalarValue.shown c.in_ok-values.values.items (values_of fields) (c.in_ok-values.ensures ∙ ap (view_values seen) c.values.ensures)
+    ∙ length-values_of fields
 
 pub map_value-returns-in-Null : goal.map_value-returns-in-Null
 map_value-returns-in-Null g t c =
@@ -53,7 +56,8 @@ pub map_value-returns-in_ok-map_values-in-List : goal.map_value-returns-in_ok-ma
 map_value-returns-in_ok-map_values-in-List g t c =
     let seen = g.S.ScalarValue.shown in
     let is = ap (view_value seen) c.in-List.is ∙ view-List seen c.in-List.items in
-    view-List g.T.ScalarValue.shown c.in_ok-map_values-in-List.field-0 ∙ ap spec.list (c.in_ok-map_values-in-List.ensures ∙ ap (view_values seen) c.as_slice.ensures.value) ∙ sym is
+    view-List g.T.ScalarValue.shown c.in_ok-map_values-in-List.field-0
+    ∙ ap spec.list (c.in_ok-map_values-in-List.ensures ∙ ap (view_values seen) c.as_slice.ensures.value) ∙ sym is
 
 pub map_value-returns-in_ok-map_object-in-Object : goal.map_value-returns-in_ok-map_object-in-Object
 map_value-returns-in_ok-map_object-in-Object g t c =

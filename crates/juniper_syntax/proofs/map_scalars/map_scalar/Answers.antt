@@ -15,7 +15,8 @@ pub returns-in-Some-try_to_bool : goal.returns-in-Some-try_to_bool
 returns-in-Some-try_to_bool g c = c.from_bool.ensures ∙ shows_boolean _ c.in-Some-try_to_bool.truth c.in-Some-try_to_bool.ensures
 
 pub unreachable-requires : goal.unreachable-requires
-unreachable-requires g c = shows_one (g.S.ScalarValue.shown c.args.scalar.now) _ _ _ c.try_to_int.ensures c.try_to_bool.ensures c.in-None.ensures c.in_default.is c.in_default-try_to_bool.is refl
+unreachable-requires g c = shows_one (g.S.ScalarValue.shown c.args.scalar.now) _ _ _ c.try_to_int.ensures c.try_to_bool.ensures c.in-None.ensures
+    c.in_default.is c.in_default-try_to_bool.is refl
 
 pub returns : goal.returns
 returns g c =

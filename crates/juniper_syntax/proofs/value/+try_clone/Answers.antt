@@ -10,7 +10,8 @@ use Rattle.juniper_syntax.proofs.value.+try_clone.Goals as goal
 
 pub clone_values-loop-item-preserved : goal.clone_values-loop-item-preserved
 clone_values-loop-item-preserved g t c =
-    values_turn g.S.ScalarValue.shown c.args.items.now c.loop-item.made.items c.push.new.self.items c.loop-item.item-index c.item-item.result c.in_ok-copy.copy c.in_ok-push.ensures.items (omega arith)
+    values_turn g.S.ScalarValue.shown c.args.items.now c.loop-item.made.items c.push.new.self.items c.loop-item.item-index c.item-item.result c.in_ok-copy.copy
+    c.in_ok-push.ensures.items (omega arith)
     c.item-item.is c.in_ok-copy.ensures
     ∙ c.loop-item.invariant
 
@@ -23,13 +24,15 @@ clone_object-returns g t c =
     let shown = g.S.ScalarValue.shown in
     let fields = (out-Object g.row.S.Denot c.args.object.now).fields in
     let values = ap (view_values shown) c.in_ok-fields.ensures.values ∙ c.in_ok-values.ensures ∙ ap (view_values shown) c.values.ensures in
-    view-roll shown c.in_ok-fields.fields ∙ entries_same shown shown c.in_ok-fields.fields fields c.in_ok-fields.ensures.keys values ∙ sym (view-out shown c.args.object.now)
+    view-roll shown c.in_ok-fields.fields ∙ entries_same shown shown c.in_ok-fields.fields fields c.in_ok-fields.ensures.keys values
+    ∙ sym (view-out shown c.args.object.now)
 
 pub clone_object-with_values-requires : goal.clone_object-with_values-requires
 clone_object-with_values-requires g t c =
     let shown = g.S.ScalarValue.shown in
     let fields = (out-Object g.row.S.Denot c.args.object.now).fields in
-    values_long shown shown c.in_ok-values.values.items (values_of fields) (c.in_ok-values.ensures ∙ ap (view_values shown) c.values.ensures) ∙ length-values_of fields
+    values_long shown shown c.in_ok-values.values.items (values_of fields) (c.in_ok-values.ensures ∙ ap (view_values shown) c.values.ensures)
+    ∙ length-values_of fields
 
 pub Value::try_clone-returns-in-Null : goal.Value::try_clone-returns-in-Null
 Value::try_clone-returns-in-Null g t c = sym (ap (view_value g.S.ScalarValue.shown) c.in-Null.is)
@@ -44,7 +47,8 @@ pub Value::try_clone-returns-in_ok-clone_values-in-List : goal.Value::try_clone-
 Value::try_clone-returns-in_ok-clone_values-in-List g t c =
     let shown = g.S.ScalarValue.shown in
     let seen = ap (view_value shown) c.in-List.is ∙ view-List shown c.in-List.items in
-    view-List shown c.in_ok-clone_values-in-List.field-0 ∙ ap spec.list (c.in_ok-clone_values-in-List.ensures ∙ ap (view_values shown) c.as_slice.ensures.value) ∙ sym seen
+    view-List shown c.in_ok-clone_values-in-List.field-0 ∙ ap spec.list (c.in_ok-clone_values-in-List.ensures ∙ ap (view_values shown) c.as_slice.ensures.value)
+    ∙ sym seen
 
 pub Value::try_clone-returns-in_ok-clone_object-in-Object : goal.Value::try_clone-returns-in_ok-clone_object-in-Object
 Value::try_clone-returns-in_ok-clone_object-in-Object g t c =

@@ -22,7 +22,8 @@ returns-in_default c =
     let s : Front = c.loop-lexer.lexer in
     let found = map view_token c.loop-lexer.tokens.items in
     let some : length s.ahead ≢ 0 = λ none. eqb-false (length c.rest.result.now) 0 (sym c.loop-lexer-test.ensures) (ap length c.rest.ensures ∙ none) in
-    let is : c.ignored_len-ignored.result ≡ ignored_len s.ahead = c.ignored_len-ignored.ensures ∙ ap ignored_len (c.as_bytes.ensures.value ∙ c.rest-in-loop-lexer.ensures) in
+    let is : c.ignored_len-ignored.result ≡ ignored_len s.ahead = c.ignored_len-ignored.ensures
+    ∙ ap ignored_len (c.as_bytes.ensures.value ∙ c.rest-in-loop-lexer.ensures) in
     let no_gap : ignored_len s.ahead ≡ 0 = omega (arith, is, c.if-ignored-gt0.false) in
     let nothing : lexeme_len s.ahead ≡ 0 = c.in_default.ensures.0 in
     rw (c.position.ensures, c.in_default.ensures.1) (ends_fault found s (lexed c.args.text.now) some no_gap nothing c.loop-lexer.invariant)
@@ -33,9 +34,11 @@ loop-lexer-preserved c =
     let found = map view_token c.loop-lexer.tokens.items in
     let token = c.in-Some.token in
     let some : length s.ahead ≢ 0 = λ none. eqb-false (length c.rest.result.now) 0 (sym c.loop-lexer-test.ensures) (ap length c.rest.ensures ∙ none) in
-    let is : c.ignored_len-ignored.result ≡ ignored_len s.ahead = c.ignored_len-ignored.ensures ∙ ap ignored_len (c.as_bytes.ensures.value ∙ c.rest-in-loop-lexer.ensures) in
+    let is : c.ignored_len-ignored.result ≡ ignored_len s.ahead = c.ignored_len-ignored.ensures
+    ∙ ap ignored_len (c.as_bytes.ensures.value ∙ c.rest-in-loop-lexer.ensures) in
     let no_gap : ignored_len s.ahead ≡ 0 = omega (arith, is, c.if-ignored-gt0.false) in
-    let all : map view_token c.push.new.self.items ≡ found ++ view_token token ∷ [] = ap (map view_token) c.in_ok-push.ensures.items ∙ map-append view_token c.loop-lexer.tokens.items (token ∷ []) in
+    let all : map view_token c.push.new.self.items ≡ found ++ view_token token ∷ [] = ap (map view_token) c.in_ok-push.ensures.items
+    ∙ map-append view_token c.loop-lexer.tokens.items (token ∷ []) in
     let step = c.in-Some.ensures in
     rw all (goes_on found (view_token token) s c.token.new.self (lexed c.args.text.now) some no_gap step.0 step.1 step.2 c.loop-lexer.invariant)
 

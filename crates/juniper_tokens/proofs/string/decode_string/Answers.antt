@@ -11,7 +11,8 @@ loop-left-preserved c =
     let left = c.loop-left.left.now in
     let some : length left ≢ 0 = eqb-false (length left) 0 (sym c.loop-left-test.ensures) in (
       leaves_text left (view_part c.in-Some.found, c.in-Some.behind.now) c.in-Some.ensures c.loop-left.invariant.0,
-      decodes_on (string_bytes c.loop-left.text) (string_bytes c.push_part.new.text) left (view_part c.in-Some.found, c.in-Some.behind.now) (decoded_string c.args.raw.now) some c.in-Some.ensures
+      decodes_on (string_bytes c.loop-left.text) (string_bytes c.push_part.new.text) left (view_part c.in-Some.found, c.in-Some.behind.now)
+          (decoded_string c.args.raw.now) some c.in-Some.ensures
           c.in_ok-push_part.ensures c.loop-left.invariant.1,
     )
 

@@ -8,4 +8,5 @@ split_at-requires c =
     let bytes = c.as_bytes.result.now in
     let found = c.in_ok-character-in-len1-up in
     subst (λ x. IsCharBoundary x (found.length + 1)) c.as_bytes.ensures.value
-    (escape_boundary bytes _ found.length _ (behind_first bytes) c.as_bytes.ensures.utf8 c.in-len1-up.len_at_least c.if-first-ne92.false found.ensures.length found.ensures.value)
+    (escape_boundary bytes _ found.length _ (behind_first bytes) c.as_bytes.ensures.utf8 c.in-len1-up.len_at_least c.if-first-ne92.false found.ensures.length
+    found.ensures.value)

@@ -10,4 +10,5 @@ use Rattle.juniper_type_rules.proofs.arguments_of_correct_type.gives_wrong.Given
 abbrev pub invariant-loop-argument : goal.invariant-loop-argument
 invariant-loop-argument g l =
     let shown = g.S.ScalarValue.shown in
-    IsOpen (view_argument shown) (λ a. misfits (view_schema shown l.schema) (declaration_in (map (metas.view_argument shown) l.declared) a.name.item) a.value.item) l.argument-items l.argument-index
+    IsOpen (view_argument shown) (λ a. misfits (view_schema shown l.schema)
+    (declaration_in (map (metas.view_argument shown) l.declared) a.name.item) a.value.item) l.argument-items l.argument-index

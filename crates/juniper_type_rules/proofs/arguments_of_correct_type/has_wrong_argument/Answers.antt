@@ -13,16 +13,19 @@ loop-call-init g c =
 pub loop-call-preserved : goal.loop-call-preserved
 loop-call-preserved g c =
     let shown = g.S.ScalarValue.shown in
-    open-next (view_call shown) (gives_wrong (view_schema shown c.args.schema.now)) c.args.calls.now c.loop-call.call-index c.call-item.result c.loop-call-test.true c.call-item.is
+    open-next (view_call shown) (gives_wrong (view_schema shown c.args.schema.now)) c.args.calls.now c.loop-call.call-index c.call-item.result
+    c.loop-call-test.true c.call-item.is
     (sym c.if-gives_wrong.ensures) c.loop-call.invariant
 
 pub returns : goal.returns
 returns g c =
     let shown = g.S.ScalarValue.shown in
-    none-passes (view_call shown) (gives_wrong (view_schema shown c.args.schema.now)) c.args.calls.now c.loop-call.call-index c.loop-call-test.false c.loop-call.invariant
+    none-passes (view_call shown) (gives_wrong (view_schema shown c.args.schema.now)) c.args.calls.now c.loop-call.call-index c.loop-call-test.false
+    c.loop-call.invariant
 
 pub returns-then-gives_wrong : goal.returns-then-gives_wrong
 returns-then-gives_wrong g c =
     let shown = g.S.ScalarValue.shown in
-    one-passes (view_call shown) (gives_wrong (view_schema shown c.args.schema.now)) c.args.calls.now c.loop-call.call-index c.call-item.result c.loop-call-test.true c.call-item.is
+    one-passes (view_call shown) (gives_wrong (view_schema shown c.args.schema.now)) c.args.calls.now c.loop-call.call-index c.call-item.result
+    c.loop-call-test.true c.call-item.is
     (sym c.if-gives_wrong.ensures) c.loop-call.invariant

@@ -13,18 +13,21 @@ loop-placed-init g c =
 pub loop-placed-preserved : goal.loop-placed-preserved
 loop-placed-preserved g c =
     let shown = g.S.ScalarValue.shown in
-    open-next (view_placed shown) (λ p. is_none p.declared) c.deref-placed-items.result.now c.loop-placed.placed-index c.placed-item.result c.loop-placed-test.true c.placed-item.is
+    open-next (view_placed shown) (λ p. is_none p.declared) c.deref-placed-items.result.now c.loop-placed.placed-index c.placed-item.result
+    c.loop-placed-test.true c.placed-item.is
     (sym c.if-is_unknown.ensures) c.loop-placed.invariant
 
 pub returns : goal.returns
 returns g c =
     let shown = g.S.ScalarValue.shown in
-    none-passes (view_placed shown) (λ p. is_none p.declared) c.deref-placed-items.result.now c.loop-placed.placed-index c.loop-placed-test.false c.loop-placed.invariant
+    none-passes (view_placed shown) (λ p. is_none p.declared) c.deref-placed-items.result.now c.loop-placed.placed-index c.loop-placed-test.false
+    c.loop-placed.invariant
     ∙ ap (λ l. list_any (λ p. is_none p.declared) (map (view_placed shown) l)) c.deref-placed-items.ensures.value
 
 pub returns-then-is_unknown : goal.returns-then-is_unknown
 returns-then-is_unknown g c =
     let shown = g.S.ScalarValue.shown in
-    one-passes (view_placed shown) (λ p. is_none p.declared) c.deref-placed-items.result.now c.loop-placed.placed-index c.placed-item.result c.loop-placed-test.true c.placed-item.is
+    one-passes (view_placed shown) (λ p. is_none p.declared) c.deref-placed-items.result.now c.loop-placed.placed-index c.placed-item.result
+    c.loop-placed-test.true c.placed-item.is
     (sym c.if-is_unknown.ensures) c.loop-placed.invariant
     ∙ ap (λ l. list_any (λ p. is_none p.declared) (map (view_placed shown) l)) c.deref-placed-items.ensures.value

@@ -12,31 +12,42 @@ use Rattle.juniper_type_rules.proofs.known_argument_names.gives_unknown.Goals as
 pub loop-argument-init : goal.loop-argument-init
 loop-argument-init g c =
     let shown = g.S.ScalarValue.shown in
-    open-first (view_argument shown) (λ a. is_none (declaration_in (map (metas.view_argument shown) c.args.call.now.declared.now) a.name.item)) c.deref-argument-items.result.now
+    open-first (view_argument shown) (λ a. is_none (declaration_in (map (metas.view_argument shown) c.args.call.now.declared.now) a.name.item))
+    c.deref-argument-items.result.now
 
 pub loop-argument-preserved : goal.loop-argument-preserved
 loop-argument-preserved g c =
     let shown = g.S.ScalarValue.shown in
-    open-next (view_argument shown) (λ a. is_none (declaration_in (map (metas.view_argument shown) c.args.call.now.declared.now) a.name.item)) c.deref-argument-items.result.now c.loop-argument.argument-index c.argument-item.result c.loop-argument-test.true c.argument-item.is
+    open-next (view_argument shown) (λ a. is_none (declaration_in (map (metas.view_argument shown) c.args.call.now.declared.now) a.name.item))
+    c.deref-argument-items.result.now c.loop-argument.argument-index c.argument-item.result c.loop-argument-test.true c.argument-item.is
     (sym c.if-is_undeclared.ensures) c.loop-argument.invariant
 
 pub returns-after-loop-argument : goal.returns-after-loop-argument
 unfolding gives_unknown written
 returns-after-loop-argument g c =
     let shown = g.S.ScalarValue.shown in
-    none-passes (view_argument shown) (λ a. is_none (declaration_in (map (metas.view_argument shown) c.args.call.now.declared.now) a.name.item)) c.deref-argument-items.result.now c.loop-argument.argument-index c.loop-argument-test.false c.loop-argument.invariant
-    ∙ (ap (λ l. list_any (λ a. is_none (declaration_in (map (metas.view_argument shown) c.args.call.now.declared.now) a.name.item)) (map (view_argument shown) l)) c.deref-argument-items.ensures.value ∙ ap (λ o. list_any (λ a. is_none (declaration_in (map (metas.view_argument shown) c.args.call.now.declared.now) a.name.item)) (written (view_arguments shown o))) (sym c.in-Some.is))
+    none-passes (view_argument shown) (λ a. is_none (declaration_in (map (metas.view_argument shown) c.args.call.now.declared.now) a.name.item))
+    c.deref-argument-items.result.now c.loop-argument.argument-index c.loop-argument-test.false c.loop-argument.invariant
+    ∙ (ap (λ l. list_any (λ a. is_none (declaration_in (map (metas.view_argument shown) c.args.call.now.declared.now) a.name.item))
+    (map (view_argument shown) l)) c.deref-argument-items.ensures.value
+    ∙ ap (λ o. list_any (λ a. is_none (declaration_in (map (metas.view_argument shown) c.args.call.now.declared.now) a.name.item))
+    (written (view_arguments shown o))) (sym c.in-Some.is))
 
 pub returns-then-is_undeclared : goal.returns-then-is_undeclared
 unfolding gives_unknown written
 returns-then-is_undeclared g c =
     let shown = g.S.ScalarValue.shown in
-    one-passes (view_argument shown) (λ a. is_none (declaration_in (map (metas.view_argument shown) c.args.call.now.declared.now) a.name.item)) c.deref-argument-items.result.now c.loop-argument.argument-index c.argument-item.result c.loop-argument-test.true c.argument-item.is
+    one-passes (view_argument shown) (λ a. is_none (declaration_in (map (metas.view_argument shown) c.args.call.now.declared.now) a.name.item))
+    c.deref-argument-items.result.now c.loop-argument.argument-index c.argument-item.result c.loop-argument-test.true c.argument-item.is
     (sym c.if-is_undeclared.ensures) c.loop-argument.invariant
-    ∙ (ap (λ l. list_any (λ a. is_none (declaration_in (map (metas.view_argument shown) c.args.call.now.declared.now) a.name.item)) (map (view_argument shown) l)) c.deref-argument-items.ensures.value ∙ ap (λ o. list_any (λ a. is_none (declaration_in (map (metas.view_argument shown) c.args.call.now.declared.now) a.name.item)) (written (view_arguments shown o))) (sym c.in-Some.is))
+    ∙ (ap (λ l. list_any (λ a. is_none (declaration_in (map (metas.view_argument shown) c.args.call.now.declared.now) a.name.item))
+    (map (view_argument shown) l)) c.deref-argument-items.ensures.value
+    ∙ ap (λ o. list_any (λ a. is_none (declaration_in (map (metas.view_argument shown) c.args.call.now.declared.now) a.name.item))
+    (written (view_arguments shown o))) (sym c.in-Some.is))
 
 pub returns-in-None : goal.returns-in-None
 unfolding gives_unknown written
 returns-in-None g c =
     let shown = g.S.ScalarValue.shown in
-    ap (λ o. list_any (λ a. is_none (declaration_in (map (metas.view_argument shown) c.args.call.now.declared.now) a.name.item)) (written (view_arguments shown o))) (sym c.in-None.is)
+    ap (λ o. list_any (λ a. is_none (declaration_in (map (metas.view_argument shown) c.args.call.now.declared.now) a.name.item))
+    (written (view_arguments shown o))) (sym c.in-None.is)

@@ -17,7 +17,8 @@ pub returns-then-has_unknown_condition : goal.returns-then-has_unknown_condition
 returns-then-has_unknown_condition g c =
     let shown = g.S.ScalarValue.shown in
     let s = view_schema shown c.args.schema.now in
-    any-first (λ n. is_none (type_named s n)) (view_written shown c.args.written.now).conditions (variable_types (view_definition shown c.args.definition.now)) c.if-has_unknown_condition.ensures
+    any-first (λ n. is_none (type_named s n)) (view_written shown c.args.written.now).conditions
+    (variable_types (view_definition shown c.args.definition.now)) c.if-has_unknown_condition.ensures
 
 pub returns-in-Operation : goal.returns-in-Operation
 unfolding variable_types defined_variables
@@ -25,9 +26,11 @@ returns-in-Operation g c =
     let shown = g.S.ScalarValue.shown in
     let s = view_schema shown c.args.schema.now in
     let o = c.in-Operation.operation in
-    any-second (λ n. is_none (type_named s n)) (view_written shown c.args.written.now).conditions (variable_types (view_definition shown c.args.definition.now)) _ c.if-has_unknown_condition.ensures
+    any-second (λ n. is_none (type_named s n)) (view_written shown c.args.written.now).conditions
+    (variable_types (view_definition shown c.args.definition.now)) _ c.if-has_unknown_condition.ensures
     (c.has_unknown_variable.ensures
-    ∙ (ap (λ vs. list_any (λ n. is_none (type_named s n)) (map (λ (v : VariableDefinition). innermost v.of_type.item) vs)) (variables-seen shown o.item.variable_definitions (view_operation shown o) refl)
+    ∙ (ap (λ vs. list_any (λ n. is_none (type_named s n)) (map (λ (v : VariableDefinition). innermost v.of_type.item) vs))
+    (variables-seen shown o.item.variable_definitions (view_operation shown o) refl)
     ∙ ap (λ x. list_any (λ n. is_none (type_named s n)) (variable_types (view_definition shown x))) (sym c.in-Operation.is)))
 
 pub returns-in-Fragment : goal.returns-in-Fragment
@@ -35,5 +38,6 @@ unfolding variable_types defined_variables
 returns-in-Fragment g c =
     let shown = g.S.ScalarValue.shown in
     let s = view_schema shown c.args.schema.now in
-    any-second (λ n. is_none (type_named s n)) (view_written shown c.args.written.now).conditions (variable_types (view_definition shown c.args.definition.now)) _ c.if-has_unknown_condition.ensures
+    any-second (λ n. is_none (type_named s n)) (view_written shown c.args.written.now).conditions
+    (variable_types (view_definition shown c.args.definition.now)) _ c.if-has_unknown_condition.ensures
     (ap (λ x. list_any (λ n. is_none (type_named s n)) (variable_types (view_definition shown x))) (sym c.in-Fragment.is))

@@ -14,32 +14,48 @@ use Rattle.juniper_type_rules.proofs.known_type_names.has_unknown_variable.Goals
 pub loop-variable-init : goal.loop-variable-init
 loop-variable-init g c =
     let shown = g.S.ScalarValue.shown in
-    open-first (λ v. innermost (view_variable shown v).of_type.item) (λ n. is_none (type_named (view_schema shown c.args.schema.now) n)) c.deref-variable-items.result.now
+    open-first (λ v. innermost (view_variable shown v).of_type.item)
+    (λ n. is_none (type_named (view_schema shown c.args.schema.now) n)) c.deref-variable-items.result.now
 
 pub loop-variable-preserved : goal.loop-variable-preserved
 loop-variable-preserved g c =
     let shown = g.S.ScalarValue.shown in
-    open-next (λ v. innermost (view_variable shown v).of_type.item) (λ n. is_none (type_named (view_schema shown c.args.schema.now) n)) c.deref-variable-items.result.now c.loop-variable.variable-index c.variable-item.result c.loop-variable-test.true c.variable-item.is
-    (ap (λ n. is_none (type_named (view_schema shown c.args.schema.now) n)) (sym c.innermost_name-name.ensures) ∙ sym c.if-is_unknown.ensures) c.loop-variable.invariant
+    open-next (λ v. innermost (view_variable shown v).of_type.item)
+    (λ n. is_none (type_named (view_schema shown c.args.schema.now) n)) c.deref-variable-items.result.now c.loop-variable.variable-index
+    c.variable-item.result c.loop-variable-test.true c.variable-item.is
+    (ap (λ n. is_none (type_named (view_schema shown c.args.schema.now) n)) (sym c.innermost_name-name.ensures) ∙ sym c.if-is_unknown.ensures)
+    c.loop-variable.invariant
 
 pub returns-after-loop-variable : goal.returns-after-loop-variable
 returns-after-loop-variable g c =
     let shown = g.S.ScalarValue.shown in
-    none-passes (λ v. innermost (view_variable shown v).of_type.item) (λ n. is_none (type_named (view_schema shown c.args.schema.now) n)) c.deref-variable-items.result.now c.loop-variable.variable-index c.loop-variable-test.false c.loop-variable.invariant
-    ∙ (ap (list_any (λ n. is_none (type_named (view_schema shown c.args.schema.now) n))) (seen-twice (view_variable shown) (λ (v : VariableDefinition). innermost v.of_type.item) c.deref-variable-items.result.now)
-    ∙ (ap (λ l. list_any (λ n. is_none (type_named (view_schema shown c.args.schema.now) n)) (map (λ (v : VariableDefinition). innermost v.of_type.item) (map (view_variable shown) l))) c.deref-variable-items.ensures.value
-    ∙ ap (λ o. list_any (λ n. is_none (type_named (view_schema shown c.args.schema.now) n)) (map (λ (v : VariableDefinition). innermost v.of_type.item) (view_variables shown o))) (sym c.in-Some.is)))
+    none-passes (λ v. innermost (view_variable shown v).of_type.item)
+    (λ n. is_none (type_named (view_schema shown c.args.schema.now) n)) c.deref-variable-items.result.now c.loop-variable.variable-index
+    c.loop-variable-test.false c.loop-variable.invariant
+    ∙ (ap (list_any (λ n. is_none (type_named (view_schema shown c.args.schema.now) n)))
+    (seen-twice (view_variable shown) (λ (v : VariableDefinition). innermost v.of_type.item) c.deref-variable-items.result.now)
+    ∙ (ap (λ l. list_any (λ n. is_none (type_named (view_schema shown c.args.schema.now) n))
+    (map (λ (v : VariableDefinition). innermost v.of_type.item) (map (view_variable shown) l))) c.deref-variable-items.ensures.value
+    ∙ ap (λ o. list_any (λ n. is_none (type_named (view_schema shown c.args.schema.now) n))
+    (map (λ (v : VariableDefinition). innermost v.of_type.item) (view_variables shown o))) (sym c.in-Some.is)))
 
 pub returns-then-is_unknown : goal.returns-then-is_unknown
 returns-then-is_unknown g c =
     let shown = g.S.ScalarValue.shown in
-    one-passes (λ v. innermost (view_variable shown v).of_type.item) (λ n. is_none (type_named (view_schema shown c.args.schema.now) n)) c.deref-variable-items.result.now c.loop-variable.variable-index c.variable-item.result c.loop-variable-test.true c.variable-item.is
-    (ap (λ n. is_none (type_named (view_schema shown c.args.schema.now) n)) (sym c.innermost_name-name.ensures) ∙ sym c.if-is_unknown.ensures) c.loop-variable.invariant
-    ∙ (ap (list_any (λ n. is_none (type_named (view_schema shown c.args.schema.now) n))) (seen-twice (view_variable shown) (λ (v : VariableDefinition). innermost v.of_type.item) c.deref-variable-items.result.now)
-    ∙ (ap (λ l. list_any (λ n. is_none (type_named (view_schema shown c.args.schema.now) n)) (map (λ (v : VariableDefinition). innermost v.of_type.item) (map (view_variable shown) l))) c.deref-variable-items.ensures.value
-    ∙ ap (λ o. list_any (λ n. is_none (type_named (view_schema shown c.args.schema.now) n)) (map (λ (v : VariableDefinition). innermost v.of_type.item) (view_variables shown o))) (sym c.in-Some.is)))
+    one-passes (λ v. innermost (view_variable shown v).of_type.item)
+    (λ n. is_none (type_named (view_schema shown c.args.schema.now) n)) c.deref-variable-items.result.now c.loop-variable.variable-index
+    c.variable-item.result c.loop-variable-test.true c.variable-item.is
+    (ap (λ n. is_none (type_named (view_schema shown c.args.schema.now) n)) (sym c.innermost_name-name.ensures) ∙ sym c.if-is_unknown.ensures)
+    c.loop-variable.invariant
+    ∙ (ap (list_any (λ n. is_none (type_named (view_schema shown c.args.schema.now) n)))
+    (seen-twice (view_variable shown) (λ (v : VariableDefinition). innermost v.of_type.item) c.deref-variable-items.result.now)
+    ∙ (ap (λ l. list_any (λ n. is_none (type_named (view_schema shown c.args.schema.now) n))
+    (map (λ (v : VariableDefinition). innermost v.of_type.item) (map (view_variable shown) l))) c.deref-variable-items.ensures.value
+    ∙ ap (λ o. list_any (λ n. is_none (type_named (view_schema shown c.args.schema.now) n))
+    (map (λ (v : VariableDefinition). innermost v.of_type.item) (view_variables shown o))) (sym c.in-Some.is)))
 
 pub returns-in-None : goal.returns-in-None
 returns-in-None g c =
     let shown = g.S.ScalarValue.shown in
-    ap (λ o. list_any (λ n. is_none (type_named (view_schema shown c.args.schema.now) n)) (map (λ (v : VariableDefinition). innermost v.of_type.item) (view_variables shown o))) (sym c.in-None.is)
+    ap (λ o. list_any (λ n. is_none (type_named (view_schema shown c.args.schema.now) n))
+    (map (λ (v : VariableDefinition). innermost v.of_type.item) (view_variables shown o))) (sym c.in-None.is)

@@ -12,23 +12,30 @@ use Rattle.juniper_type_rules.proofs.provided_non_null_arguments.gives_too_few.G
 pub loop-argument-init : goal.loop-argument-init
 loop-argument-init g c =
     let shown = g.S.ScalarValue.shown in
-    open-first (view_argument shown) (λ d. must_be_written d && not (list_any (λ a. bytes_eq d.name a.name.item) (written (view_arguments shown c.args.call.now.given.now)))) c.args.call.now.declared.now
+    open-first (view_argument shown) (λ d. must_be_written d && not
+    (list_any (λ a. bytes_eq d.name a.name.item) (written (view_arguments shown c.args.call.now.given.now)))) c.args.call.now.declared.now
 
 pub loop-argument-preserved : goal.loop-argument-preserved
 loop-argument-preserved g c =
     let shown = g.S.ScalarValue.shown in
-    open-next (view_argument shown) (λ d. must_be_written d && not (list_any (λ a. bytes_eq d.name a.name.item) (written (view_arguments shown c.args.call.now.given.now)))) c.args.call.now.declared.now c.loop-argument.argument-index c.argument-item.result c.loop-argument-test.true c.argument-item.is
+    open-next (view_argument shown) (λ d. must_be_written d && not
+    (list_any (λ a. bytes_eq d.name a.name.item) (written (view_arguments shown c.args.call.now.given.now)))) c.args.call.now.declared.now
+    c.loop-argument.argument-index c.argument-item.result c.loop-argument-test.true c.argument-item.is
     (sym c.if-is_left_out.ensures) c.loop-argument.invariant
 
 pub returns : goal.returns
 unfolding gives_too_few
 returns g c =
     let shown = g.S.ScalarValue.shown in
-    none-passes (view_argument shown) (λ d. must_be_written d && not (list_any (λ a. bytes_eq d.name a.name.item) (written (view_arguments shown c.args.call.now.given.now)))) c.args.call.now.declared.now c.loop-argument.argument-index c.loop-argument-test.false c.loop-argument.invariant
+    none-passes (view_argument shown) (λ d. must_be_written d && not
+    (list_any (λ a. bytes_eq d.name a.name.item) (written (view_arguments shown c.args.call.now.given.now)))) c.args.call.now.declared.now
+    c.loop-argument.argument-index c.loop-argument-test.false c.loop-argument.invariant
 
 pub returns-then-is_left_out : goal.returns-then-is_left_out
 unfolding gives_too_few
 returns-then-is_left_out g c =
     let shown = g.S.ScalarValue.shown in
-    one-passes (view_argument shown) (λ d. must_be_written d && not (list_any (λ a. bytes_eq d.name a.name.item) (written (view_arguments shown c.args.call.now.given.now)))) c.args.call.now.declared.now c.loop-argument.argument-index c.argument-item.result c.loop-argument-test.true c.argument-item.is
+    one-passes (view_argument shown) (λ d. must_be_written d && not
+    (list_any (λ a. bytes_eq d.name a.name.item) (written (view_arguments shown c.args.call.now.given.now)))) c.args.call.now.declared.now
+    c.loop-argument.argument-index c.argument-item.result c.loop-argument-test.true c.argument-item.is
     (sym c.if-is_left_out.ensures) c.loop-argument.invariant

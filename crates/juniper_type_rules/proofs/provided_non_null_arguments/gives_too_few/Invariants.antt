@@ -11,4 +11,5 @@ use Rattle.juniper_type_rules.proofs.provided_non_null_arguments.gives_too_few.G
 abbrev pub invariant-loop-argument : goal.invariant-loop-argument
 invariant-loop-argument g l =
     let shown = g.S.ScalarValue.shown in
-    IsOpen (view_argument shown) (λ d. must_be_written d && not (list_any (λ a. bytes_eq d.name a.name.item) (written (view_arguments shown l.given)))) l.argument-items l.argument-index
+    IsOpen (view_argument shown) (λ d. must_be_written d && not (list_any (λ a. bytes_eq d.name a.name.item) (written (view_arguments shown l.given))))
+    l.argument-items l.argument-index

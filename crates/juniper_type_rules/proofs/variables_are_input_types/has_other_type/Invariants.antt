@@ -9,4 +9,5 @@ use Rattle.juniper_type_rules.proofs.variables_are_input_types.has_other_type.Gi
 abbrev pub invariant-loop-variable : goal.invariant-loop-variable
 invariant-loop-variable g l =
     let shown = g.S.ScalarValue.shown in
-    IsOpen (λ v. innermost (view_variable shown v).of_type.item) (λ n. not (is_input (type_named (view_schema shown l.schema) n))) l.variable-items l.variable-index
+    IsOpen (λ v. innermost (view_variable shown v).of_type.item) (λ n. not (is_input (type_named (view_schema shown l.schema) n))) l.variable-items
+    l.variable-index

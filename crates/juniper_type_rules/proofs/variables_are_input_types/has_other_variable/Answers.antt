@@ -17,7 +17,8 @@ returns-in-Operation g c =
     let s = view_schema shown c.args.schema.now in
     let o = c.in-Operation.operation in
     c.has_other_type.ensures
-    ∙ (ap (λ vs. list_any (λ n. not (is_input (type_named s n))) (map (λ (v : VariableDefinition). innermost v.of_type.item) vs)) (variables-seen shown o.item.variable_definitions (view_operation shown o) refl)
+    ∙ (ap (λ vs. list_any (λ n. not (is_input (type_named s n))) (map (λ (v : VariableDefinition). innermost v.of_type.item) vs))
+    (variables-seen shown o.item.variable_definitions (view_operation shown o) refl)
     ∙ ap (λ x. has_other_variable s (view_definition shown x)) (sym c.in-Operation.is))
 
 pub returns-in-Fragment : goal.returns-in-Fragment

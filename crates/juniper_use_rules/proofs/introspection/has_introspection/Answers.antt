@@ -11,7 +11,8 @@ pub loop-index-preserved : goal.loop-index-preserved
 loop-index-preserved g c =
     let fs = c.args.written.now.fields in
     let below : c.loop-index.index < length fs.items = omega (arith, c.loop-index-test.true, c.len-index-end.ensures, fs.ok.0) in
-    open-next (λ f. view_field g.S.ScalarValue.shown f.now) (λ h. is_introspection h.name.item) fs.items c.loop-index.index c.index-field.result.now below c.index-field.ensures
+    open-next (λ f. view_field g.S.ScalarValue.shown f.now) (λ h. is_introspection h.name.item) fs.items c.loop-index.index c.index-field.result.now below
+    c.index-field.ensures
     (sym c.is_introspection.ensures ∙ c.if-is_introspection.false) c.loop-index.invariant
 
 pub returns : goal.returns
@@ -24,5 +25,6 @@ pub returns-then-is_introspection : goal.returns-then-is_introspection
 returns-then-is_introspection g c =
     let fs = c.args.written.now.fields in
     let below : c.loop-index.index < length fs.items = omega (arith, c.loop-index-test.true, c.len-index-end.ensures, fs.ok.0) in
-    one-passes (λ f. view_field g.S.ScalarValue.shown f.now) (λ h. is_introspection h.name.item) fs.items c.loop-index.index c.index-field.result.now below c.index-field.ensures
+    one-passes (λ f. view_field g.S.ScalarValue.shown f.now) (λ h. is_introspection h.name.item) fs.items c.loop-index.index c.index-field.result.now below
+    c.index-field.ensures
     (sym c.is_introspection.ensures ∙ c.if-is_introspection.true) c.loop-index.invariant

@@ -65,7 +65,8 @@ push_of_items-loop-item-init g t c = refl
 pub push_of_items-loop-item-preserved : goal.push_of_items-loop-item-preserved
 push_of_items-loop-item-preserved g t c =
     let l = c.loop-item in
-    flat-next (names_of_item g.S.ScalarValue.shown) c.args.items.now (view_names c.args.names.now.items) l.item-index c.item-item.result (view_names l.names.items) (view_names c.push_of_value.new.names.items)
+    flat-next (names_of_item g.S.ScalarValue.shown) c.args.items.now (view_names c.args.names.now.items) l.item-index c.item-item.result
+    (view_names l.names.items) (view_names c.push_of_value.new.names.items)
     c.loop-item-test.true c.item-item.is l.invariant c.in_ok-push_of_value.ensures
 
 pub push_of_items-returns : goal.push_of_items-returns
@@ -81,7 +82,8 @@ push_of_fields-loop-field-init g t c = refl
 pub push_of_fields-loop-field-preserved : goal.push_of_fields-loop-field-preserved
 push_of_fields-loop-field-preserved g t c =
     let l = c.loop-field in
-    flat-next (names_of_field g.S.ScalarValue.shown) c.args.fields.now (view_names c.args.names.now.items) l.field-index c.field-item.result (view_names l.names.items) (view_names c.push_of_value.new.names.items)
+    flat-next (names_of_field g.S.ScalarValue.shown) c.args.fields.now (view_names c.args.names.now.items) l.field-index c.field-item.result
+    (view_names l.names.items) (view_names c.push_of_value.new.names.items)
     c.loop-field-test.true c.field-item.is l.invariant
     (c.in_ok-push_of_value.ensures ∙ ap (λ v. view_names l.names.items ++ variables_in (view_input g.S.ScalarValue.shown v)) c.value_of.ensures)
 
@@ -89,7 +91,8 @@ pub push_of_fields-returns : goal.push_of_fields-returns
 push_of_fields-returns g t c =
     let shown = g.S.ScalarValue.shown in
     let old = view_names c.args.names.now.items in
-    flat-all (names_of_field shown) c.args.fields.now old c.loop-field.field-index (view_names c.loop-field.names.items) c.loop-field-test.false c.loop-field.invariant
+    flat-all (names_of_field shown) c.args.fields.now old c.loop-field.field-index
+    (view_names c.loop-field.names.items) c.loop-field-test.false c.loop-field.invariant
     ∙ ap (λ l. old ++ l) (fields-are shown c.args.fields.now)
 
 pub push_of_fields-push_of_value-requires : goal.push_of_fields-push_of_value-requires

@@ -10,7 +10,8 @@ use Rattle.juniper_use_rules.proofs.names.names_in_lists.Goals as goal
 pub loop-index-init : goal.loop-index-init
 loop-index-init g c =
     let shown = g.S.ScalarValue.shown in
-    ap (λ l. view_names l ++ flat_map (λ x. flat_map (λ a. variables_in a.value.item) (written (view_arguments shown x.now))) c.args.arguments.now.lists.items) c.new-names.ensures.items
+    ap (λ l. view_names l ++ flat_map (λ x. flat_map (λ a. variables_in a.value.item) (written (view_arguments shown x.now))) c.args.arguments.now.lists.items)
+    c.new-names.ensures.items
 
 pub loop-index-preserved : goal.loop-index-preserved
 loop-index-preserved g c =
@@ -26,5 +27,6 @@ returns g c =
     let shown = g.S.ScalarValue.shown in
     let xs = c.args.arguments.now.lists in
     let past : length xs.items ≤ c.loop-index.index = omega (arith, c.loop-index-test.false, c.len-index-end.ensures, xs.ok.0) in
-    flat-all (λ x. flat_map (λ a. variables_in a.value.item) (written (view_arguments shown x.now))) xs.items [] c.loop-index.index (view_names c.loop-index.names.items) past c.loop-index.invariant
+    flat-all (λ x. flat_map (λ a. variables_in a.value.item) (written (view_arguments shown x.now))) xs.items [] c.loop-index.index
+    (view_names c.loop-index.names.items) past c.loop-index.invariant
     ∙ flat-seen (λ x. written (view_arguments shown x.now)) (flat_map (λ a. variables_in a.value.item)) xs.items

@@ -10,4 +10,5 @@ use Rattle.juniper_use_rules.proofs.names.names_in_lists.Given as goal
 abbrev pub invariant-loop-index : goal.invariant-loop-index
 invariant-loop-index g l =
     let shown = g.S.ScalarValue.shown in
-    IsFlatSoFar (λ x. flat_map (λ a. variables_in a.value.item) (written (view_arguments shown x.now))) l.arguments.lists.items [] l.index (view_names l.names.items)
+    IsFlatSoFar (λ x. flat_map (λ a. variables_in a.value.item) (written (view_arguments shown x.now))) l.arguments.lists.items [] l.index
+    (view_names l.names.items)

@@ -10,14 +10,16 @@ pub loop-index-preserved : goal.loop-index-preserved
 loop-index-preserved g c =
     let ns = c.args.names.now in
     let below : c.loop-index.index < length ns.items = omega (arith, c.loop-index-test.true, c.len-index-end.ensures, ns.ok.0) in
-    open-next (λ n. n.now) (is_unknown (definition_at g.S.ScalarValue.shown c.args.defined.now)) ns.items c.loop-index.index c.index.result.now below c.index.ensures
+    open-next (λ n. n.now) (is_unknown (definition_at g.S.ScalarValue.shown c.args.defined.now)) ns.items c.loop-index.index c.index.result.now below
+    c.index.ensures
     (sym c.is_undefined.ensures ∙ c.if-is_undefined.false) c.loop-index.invariant
 
 pub returns-then-is_undefined : goal.returns-then-is_undefined
 returns-then-is_undefined g c =
     let ns = c.args.names.now in
     let below : c.loop-index.index < length ns.items = omega (arith, c.loop-index-test.true, c.len-index-end.ensures, ns.ok.0) in
-    one-passes (λ n. n.now) (is_unknown (definition_at g.S.ScalarValue.shown c.args.defined.now)) ns.items c.loop-index.index c.index.result.now below c.index.ensures
+    one-passes (λ n. n.now) (is_unknown (definition_at g.S.ScalarValue.shown c.args.defined.now)) ns.items c.loop-index.index c.index.result.now below
+    c.index.ensures
     (sym c.is_undefined.ensures ∙ c.if-is_undefined.true) c.loop-index.invariant
 
 pub returns : goal.returns

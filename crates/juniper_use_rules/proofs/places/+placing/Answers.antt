@@ -42,21 +42,24 @@ unfolding uses_at
 push_of_value-returns-in-Null g t c =
     let shown = g.S.ScalarValue.shown in
     let old = view_uses c.args.uses.now.items in
-    sym (append-nil old) ∙ ap (λ v. old ++ uses_at (view_schema shown c.args.schema.now) v (view_type c.args.place.now) c.args.has_default) (sym (ap (view_input shown) c.in-Null.is ∙ view-Null shown))
+    sym (append-nil old) ∙ ap (λ v. old ++ uses_at (view_schema shown c.args.schema.now) v (view_type c.args.place.now) c.args.has_default)
+    (sym (ap (view_input shown) c.in-Null.is ∙ view-Null shown))
 
 pub push_of_value-returns-in-Scalar : goal.push_of_value-returns-in-Scalar
 unfolding uses_at
 push_of_value-returns-in-Scalar g t c =
     let shown = g.S.ScalarValue.shown in
     let old = view_uses c.args.uses.now.items in
-    sym (append-nil old) ∙ ap (λ v. old ++ uses_at (view_schema shown c.args.schema.now) v (view_type c.args.place.now) c.args.has_default) (sym (ap (view_input shown) c.in-Scalar.is ∙ view-Scalar shown c.in-Scalar.field-0))
+    sym (append-nil old) ∙ ap (λ v. old ++ uses_at (view_schema shown c.args.schema.now) v (view_type c.args.place.now) c.args.has_default)
+    (sym (ap (view_input shown) c.in-Scalar.is ∙ view-Scalar shown c.in-Scalar.field-0))
 
 pub push_of_value-returns-in-Enum : goal.push_of_value-returns-in-Enum
 unfolding uses_at
 push_of_value-returns-in-Enum g t c =
     let shown = g.S.ScalarValue.shown in
     let old = view_uses c.args.uses.now.items in
-    sym (append-nil old) ∙ ap (λ v. old ++ uses_at (view_schema shown c.args.schema.now) v (view_type c.args.place.now) c.args.has_default) (sym (ap (view_input shown) c.in-Enum.is ∙ view-Enum shown c.in-Enum.field-0))
+    sym (append-nil old) ∙ ap (λ v. old ++ uses_at (view_schema shown c.args.schema.now) v (view_type c.args.place.now) c.args.has_default)
+    (sym (ap (view_input shown) c.in-Enum.is ∙ view-Enum shown c.in-Enum.field-0))
 
 pub push_of_value-returns-in_ok-push_use-in-Variable : goal.push_of_value-returns-in_ok-push_use-in-Variable
 unfolding uses_at
@@ -100,7 +103,8 @@ pub push_of_items-loop-item-preserved : goal.push_of_items-loop-item-preserved
 push_of_items-loop-item-preserved g t c =
     let shown = g.S.ScalarValue.shown in
     let l = c.loop-item in
-    flat-next (uses_of_item shown (view_schema shown c.args.schema.now) (view_type c.args.place.now)) c.args.items.now (view_uses c.args.uses.now.items) l.item-index c.item-item.result
+    flat-next (uses_of_item shown (view_schema shown c.args.schema.now) (view_type c.args.place.now)) c.args.items.now
+    (view_uses c.args.uses.now.items) l.item-index c.item-item.result
     (view_uses l.uses.items) (view_uses c.push_of_value.new.uses.items) c.loop-item-test.true c.item-item.is l.invariant c.in_ok-push_of_value.ensures
 
 pub push_of_items-returns : goal.push_of_items-returns
@@ -109,7 +113,8 @@ push_of_items-returns g t c =
     let s = view_schema shown c.args.schema.now in
     let place = view_type c.args.place.now in
     let old = view_uses c.args.uses.now.items in
-    flat-all (uses_of_item shown s place) c.args.items.now old c.loop-item.item-index (view_uses c.loop-item.uses.items) c.loop-item-test.false c.loop-item.invariant
+    flat-all (uses_of_item shown s place) c.args.items.now old c.loop-item.item-index
+    (view_uses c.loop-item.uses.items) c.loop-item-test.false c.loop-item.invariant
     ∙ ap (λ l. old ++ l) (items-are shown s place c.args.items.now)
 
 pub push_of_fields-loop-field-init : goal.push_of_fields-loop-field-init
@@ -123,9 +128,11 @@ push_of_fields-loop-field-preserved g t c =
     let l = c.loop-field in
     let x = c.field-item.result in
     let before = view_uses l.uses.items in
-    flat-next (uses_of_field shown s ds) c.args.fields.now (view_uses c.args.uses.now.items) l.field-index x before (view_uses c.push_declared.new.uses.items) c.loop-field-test.true c.field-item.is l.invariant
+    flat-next (uses_of_field shown s ds) c.args.fields.now (view_uses c.args.uses.now.items) l.field-index x before
+    (view_uses c.push_declared.new.uses.items) c.loop-field-test.true c.field-item.is l.invariant
     (c.in_ok-push_declared.ensures
-    ∙ (ap (λ o. before ++ at_declared o (λ p b. uses_at s (view_input shown c.value_of.result.now) p b)) (c.find_argument-found.ensures ∙ ap (declaration_in ds) c.as_str.ensures.value)
+    ∙ (ap (λ o. before ++ at_declared o (λ p b. uses_at s (view_input shown c.value_of.result.now) p b))
+    (c.find_argument-found.ensures ∙ ap (declaration_in ds) c.as_str.ensures.value)
     ∙ ap (λ v. before ++ at_declared (declaration_in ds (string_bytes x.0.item)) (λ p b. uses_at s (view_input shown v) p b)) c.value_of.ensures))
 
 pub push_of_fields-returns : goal.push_of_fields-returns
@@ -134,7 +141,8 @@ push_of_fields-returns g t c =
     let s = view_schema shown c.args.schema.now in
     let ds = map (view_argument shown) c.args.declared.now in
     let old = view_uses c.args.uses.now.items in
-    flat-all (uses_of_field shown s ds) c.args.fields.now old c.loop-field.field-index (view_uses c.loop-field.uses.items) c.loop-field-test.false c.loop-field.invariant
+    flat-all (uses_of_field shown s ds) c.args.fields.now old c.loop-field.field-index
+    (view_uses c.loop-field.uses.items) c.loop-field-test.false c.loop-field.invariant
     ∙ ap (λ l. old ++ l) (fields-are shown s ds c.args.fields.now)
 
 pub push_of_fields-push_declared-requires : goal.push_of_fields-push_declared-requires

@@ -9,9 +9,11 @@ use Rattle.juniper_use_rules.proofs.places.+placing.Given as goal
 abbrev pub invariant-push_of_items-loop-item : goal.invariant-push_of_items-loop-item
 invariant-push_of_items-loop-item g l =
     let shown = g.S.ScalarValue.shown in
-    IsFlatSoFar (uses_of_item shown (view_schema shown l.schema) (view_type l.place)) l.items (view_uses l.initial.uses.items) l.item-index (view_uses l.uses.items)
+    IsFlatSoFar (uses_of_item shown (view_schema shown l.schema) (view_type l.place)) l.items (view_uses l.initial.uses.items) l.item-index
+    (view_uses l.uses.items)
 
 abbrev pub invariant-push_of_fields-loop-field : goal.invariant-push_of_fields-loop-field
 invariant-push_of_fields-loop-field g l =
     let shown = g.S.ScalarValue.shown in
-    IsFlatSoFar (uses_of_field shown (view_schema shown l.schema) (map (view_argument shown) l.declared)) l.fields (view_uses l.initial.uses.items) l.field-index (view_uses l.uses.items)
+    IsFlatSoFar (uses_of_field shown (view_schema shown l.schema) (map (view_argument shown) l.declared)) l.fields
+    (view_uses l.initial.uses.items) l.field-index (view_uses l.uses.items)

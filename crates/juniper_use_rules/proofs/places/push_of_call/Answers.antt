@@ -35,7 +35,8 @@ returns-after-loop-argument g c =
     let s = view_schema shown c.args.schema.now in
     let ds = map (view_argument shown) c.args.call.now.declared.now in
     let old = view_uses c.args.uses.now.items in
-    flat-all (λ a. uses_given s ds (code.view_argument shown a)) c.deref-argument-items.result.now old c.loop-argument.argument-index (view_uses c.loop-argument.uses.items) c.loop-argument-test.false c.loop-argument.invariant
+    flat-all (λ a. uses_given s ds (code.view_argument shown a)) c.deref-argument-items.result.now old c.loop-argument.argument-index
+    (view_uses c.loop-argument.uses.items) c.loop-argument-test.false c.loop-argument.invariant
     ∙ ap (λ l. old ++ l) (flat-seen (code.view_argument shown) (uses_given s ds) c.deref-argument-items.result.now
     ∙ (ap (λ l. flat_map (uses_given s ds) (map (code.view_argument shown) l)) c.deref-argument-items.ensures.value
     ∙ ap (λ o. flat_map (uses_given s ds) (written (view_arguments shown o))) (sym c.in-Some.is)))

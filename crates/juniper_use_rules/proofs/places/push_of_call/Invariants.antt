@@ -10,4 +10,5 @@ use Rattle.juniper_use_rules.proofs.places.push_of_call.Given as goal
 abbrev pub invariant-loop-argument : goal.invariant-loop-argument
 invariant-loop-argument g l =
     let shown = g.S.ScalarValue.shown in
-    IsFlatSoFar (λ a. uses_given (view_schema shown l.schema) (map (view_argument shown) l.declared) (code.view_argument shown a)) l.argument-items (view_uses l.initial.uses.items) l.argument-index (view_uses l.uses.items)
+    IsFlatSoFar (λ a. uses_given (view_schema shown l.schema) (map (view_argument shown) l.declared) (code.view_argument shown a)) l.argument-items
+    (view_uses l.initial.uses.items) l.argument-index (view_uses l.uses.items)

@@ -23,5 +23,6 @@ pub returns : goal.returns
 returns g c =
     let shown = g.S.ScalarValue.shown in
     let s = view_schema shown c.args.schema.now in
-    flat-all (λ x. uses_in_call s (view_call shown x)) c.args.calls.now [] c.loop-call.call-index (view_uses c.loop-call.uses.items) c.loop-call-test.false c.loop-call.invariant
+    flat-all (λ x. uses_in_call s (view_call shown x)) c.args.calls.now [] c.loop-call.call-index
+    (view_uses c.loop-call.uses.items) c.loop-call-test.false c.loop-call.invariant
     ∙ flat-seen (view_call shown) (uses_in_call s) c.args.calls.now

@@ -8,14 +8,17 @@ loop-used-init g c = open-first view_use (is_misused (definition_at g.S.ScalarVa
 
 pub loop-used-preserved : goal.loop-used-preserved
 loop-used-preserved g c =
-    open-next view_use (is_misused (definition_at g.S.ScalarValue.shown c.args.defined.now)) c.args.uses.now c.loop-used.used-index c.used-item.result c.loop-used-test.true c.used-item.is
+    open-next view_use (is_misused (definition_at g.S.ScalarValue.shown c.args.defined.now)) c.args.uses.now c.loop-used.used-index c.used-item.result
+    c.loop-used-test.true c.used-item.is
     (ap not (sym c.is_allowed.ensures ∙ c.if-not-is_allowed.false)) c.loop-used.invariant
 
 pub returns-then-not-is_allowed : goal.returns-then-not-is_allowed
 returns-then-not-is_allowed g c =
-    one-passes view_use (is_misused (definition_at g.S.ScalarValue.shown c.args.defined.now)) c.args.uses.now c.loop-used.used-index c.used-item.result c.loop-used-test.true c.used-item.is
+    one-passes view_use (is_misused (definition_at g.S.ScalarValue.shown c.args.defined.now)) c.args.uses.now c.loop-used.used-index c.used-item.result
+    c.loop-used-test.true c.used-item.is
     (ap not (sym c.is_allowed.ensures ∙ c.if-not-is_allowed.true)) c.loop-used.invariant
 
 pub returns : goal.returns
 returns g c =
-    none-passes view_use (is_misused (definition_at g.S.ScalarValue.shown c.args.defined.now)) c.args.uses.now c.loop-used.used-index c.loop-used-test.false c.loop-used.invariant
+    none-passes view_use (is_misused (definition_at g.S.ScalarValue.shown c.args.defined.now)) c.args.uses.now c.loop-used.used-index c.loop-used-test.false
+    c.loop-used.invariant

@@ -26,11 +26,15 @@ returns-then-misuses_one g c = λ d own us reach.
     let s = view_schema shown c.args.schema.now in
     let x = view_definition shown c.args.definition.now in
     let o = view_operation shown c.in-Operation.operation in
-    ap (λ b. b || list_any (reaches_misused (has_name c.args.reached.now) (definition_at shown c.in_ok-defined-in-Operation.defined)) (view_used_at c.args.fragments.now.items))
-    (sym c.if-misuses_one.true ∙ (c.misuses_one.ensures ∙ ap (λ l. list_any (is_misused (definition_at shown c.in_ok-defined-in-Operation.defined)) (view_uses l)) c.deref.ensures.value))
-    ∙ misused-is s d x o (ap (view_definition shown) c.in-Operation.is) (view_used c.args.own.now) (view_used_at c.args.fragments.now.items) (has_name c.args.reached.now) (definition_at shown c.in_ok-defined-in-Operation.defined)
+    ap (λ b. b || list_any (reaches_misused (has_name c.args.reached.now) (definition_at shown c.in_ok-defined-in-Operation.defined))
+    (view_used_at c.args.fragments.now.items))
+    (sym c.if-misuses_one.true ∙ (c.misuses_one.ensures ∙ ap (λ l. list_any (is_misused (definition_at shown c.in_ok-defined-in-Operation.defined))
+    (view_uses l)) c.deref.ensures.value))
+    ∙ misused-is s d x o (ap (view_definition shown) c.in-Operation.is) (view_used c.args.own.now) (view_used_at c.args.fragments.now.items)
+    (has_name c.args.reached.now) (definition_at shown c.in_ok-defined-in-Operation.defined)
     (sym c.has_root.ensures ∙ c.if-not-has_root.false) own us (reach o (ap (view_definition shown) c.in-Operation.is))
-    (λ n. c.in_ok-defined-in-Operation.ensures n ∙ ap (λ vs. definition_of vs n) (variables-seen shown c.in-Operation.operation.item.variable_definitions o refl))
+    (λ n. c.in_ok-defined-in-Operation.ensures n ∙ ap (λ vs. definition_of vs n)
+    (variables-seen shown c.in-Operation.operation.item.variable_definitions o refl))
 
 pub returns-else-misuses_one : goal.returns-else-misuses_one
 unfolding has_root
@@ -39,14 +43,19 @@ returns-else-misuses_one g c = λ d own us reach.
     let s = view_schema shown c.args.schema.now in
     let x = view_definition shown c.args.definition.now in
     let o = view_operation shown c.in-Operation.operation in
-    let more = list_any (reaches_misused (has_name c.args.reached.now) (definition_at shown c.in_ok-defined-in-Operation.defined)) (view_used_at c.args.fragments.now.items) in
+    let more = list_any (reaches_misused (has_name c.args.reached.now) (definition_at shown c.in_ok-defined-in-Operation.defined))
+    (view_used_at c.args.fragments.now.items) in
     c.misuses_reached.ensures
-    ∙ (ap (λ b. b || more) (sym c.if-misuses_one.false ∙ (c.misuses_one.ensures ∙ ap (λ l. list_any (is_misused (definition_at shown c.in_ok-defined-in-Operation.defined)) (view_uses l)) c.deref.ensures.value))
-    ∙ misused-is s d x o (ap (view_definition shown) c.in-Operation.is) (view_used c.args.own.now) (view_used_at c.args.fragments.now.items) (has_name c.args.reached.now) (definition_at shown c.in_ok-defined-in-Operation.defined)
+    ∙ (ap (λ b. b || more) (sym c.if-misuses_one.false ∙ (c.misuses_one.ensures
+    ∙ ap (λ l. list_any (is_misused (definition_at shown c.in_ok-defined-in-Operation.defined)) (view_uses l)) c.deref.ensures.value))
+    ∙ misused-is s d x o (ap (view_definition shown) c.in-Operation.is) (view_used c.args.own.now) (view_used_at c.args.fragments.now.items)
+    (has_name c.args.reached.now) (definition_at shown c.in_ok-defined-in-Operation.defined)
     (sym c.has_root.ensures ∙ c.if-not-has_root.false) own us (reach o (ap (view_definition shown) c.in-Operation.is))
-    (λ n. c.in_ok-defined-in-Operation.ensures n ∙ ap (λ vs. definition_of vs n) (variables-seen shown c.in-Operation.operation.item.variable_definitions o refl)))
+    (λ n. c.in_ok-defined-in-Operation.ensures n ∙ ap (λ vs. definition_of vs n)
+    (variables-seen shown c.in-Operation.operation.item.variable_definitions o refl)))
 
 pub returns-in-Fragment : goal.returns-in-Fragment
 returns-in-Fragment g c = λ d own us reach.
     let shown = g.S.ScalarValue.shown in
-    fragment-misused (view_schema shown c.args.schema.now) d (view_definition shown c.args.definition.now) (view_fragment shown c.in-Fragment.field-0) (ap (view_definition shown) c.in-Fragment.is)
+    fragment-misused (view_schema shown c.args.schema.now) d (view_definition shown c.args.definition.now) (view_fragment shown c.in-Fragment.field-0)
+    (ap (view_definition shown) c.in-Fragment.is)

@@ -6,4 +6,5 @@ use Rattle.juniper_values.proofs.arguments.fill_defaults.Given as goal
 
 abbrev pub invariant-loop-argument : goal.invariant-loop-argument
 invariant-loop-argument g l =
-    members_of g.S.ScalarValue.shown l.items.entries ≡ with_defaults (map (view_argument g.S.ScalarValue.shown) (take l.argument-index l.declared)) (members_of g.S.ScalarValue.shown l.initial.items.entries)
+    members_of g.S.ScalarValue.shown l.items.entries ≡ with_defaults (map (view_argument g.S.ScalarValue.shown) (take l.argument-index l.declared))
+    (members_of g.S.ScalarValue.shown l.initial.items.entries)

@@ -23,5 +23,6 @@ returns-in_ok-insert-in-Some g c =
     let absent = sym c.contains_key.ensures ∙ c.if-contains_key.false in
     rw (c.in-Some.is, ← c.as_str-name.ensures.value)
     (ap (members_of shown) c.in_ok-insert-in-Some.ensures.entries ∙ (put_new shown m k c.unlocated-value.result absent
-    ∙ (ap (λ v. insert k.now (meaning v) (members_of shown m.entries)) (ap (view_input shown) c.unlocated-value.ensures.item ∙ c.in_ok-try_clone-in-Some.ensures)
+    ∙ (ap (λ v. insert k.now (meaning v) (members_of shown m.entries))
+    (ap (view_input shown) c.unlocated-value.ensures.item ∙ c.in_ok-try_clone-in-Some.ensures)
     ∙ sym (default-new k.now (view_input shown c.in-Some.value) (members_of shown m.entries) (there shown m k.now ∙ absent)))))

@@ -6,7 +6,9 @@ use Rattle.juniper_variables.proofs.numbers.+all_numbers.Given as goal
 
 -- what is left decides
 abbrev pub invariant-all_items-loop-item : goal.invariant-all_items-loop-item
-invariant-all_items-loop-item l = all_items (is_wanted l.wanted) (items_view (drop l.item-index l.item-items)) ≡ all_items (is_wanted l.wanted) (items_view l.items.items)
+invariant-all_items-loop-item l =
+    all_items (is_wanted l.wanted) (items_view (drop l.item-index l.item-items)) ≡ all_items (is_wanted l.wanted) (items_view l.items.items)
 
 abbrev pub invariant-all_members-loop-name : goal.invariant-all_members-loop-name
-invariant-all_members-loop-name l = all_members (is_wanted l.wanted) (members_view l._name-iterator) ≡ all_members (is_wanted l.wanted) (members_view l.members.entries)
+invariant-all_members-loop-name l =
+    all_members (is_wanted l.wanted) (members_view l._name-iterator) ≡ all_members (is_wanted l.wanted) (members_view l.members.entries)

@@ -21,5 +21,6 @@ loop-name-preserved c =
       done ++ e ∷ [],
       all ∙ sym (append_assoc done (e ∷ []) left),
       put_next done e left (view_variables default_shown l.made) (view_variables default_shown c.put.new.made) sorted l.invariant.2
-          (subst (λ k. (n : Name) → view_variables default_shown c.put.new.made n ≡ put_value k (view c.in-Some.value.now) (view_variables default_shown l.made) n) c.as_str.ensures.value c.in_ok-put.ensures),
+          (subst (λ k. (n : Name) → view_variables default_shown c.put.new.made n
+          ≡ put_value k (view c.in-Some.value.now) (view_variables default_shown l.made) n) c.as_str.ensures.value c.in_ok-put.ensures),
     )

@@ -12,7 +12,8 @@ use Rattle.juniper_walk.proofs.preparing.prepare.Goals as goal
 
 pub ask-answer-requires-clause-selected : goal.ask-answer-requires-clause-selected
 ask-answer-requires-clause-selected g c =
-    selected-at g.S.ScalarValue.shown c.args.walk.now.collector c.by_name.result.now c.by_name.ensures.alike (g.R.Conditions.possible c.args.walk.now.collector.possible) (g.R.Resolver.values c.args.walk.now.collector.possible)
+    selected-at g.S.ScalarValue.shown c.args.walk.now.collector c.by_name.result.now c.by_name.ensures.alike
+    (g.R.Conditions.possible c.args.walk.now.collector.possible) (g.R.Resolver.values c.args.walk.now.collector.possible)
     c.args.concrete.now c.args.enclosing.now c.args.field.now c.requires.ready.variables c.requires.among
 
 pub returns : goal.returns

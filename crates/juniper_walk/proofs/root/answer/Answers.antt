@@ -11,7 +11,8 @@ object-requires-clause-agree g c =
     let W = g.R.Completer.world c.args.walk.now.collector.possible in
     let s = expansion shown c.args.walk.now.collector (view_selections shown c.args.selections.now) in
     let T = c.args.concrete.now in
-    let fields = ap (view_all shown c.args.walk.now.collector) c.deref.ensures.value ∙ (c.in_ok-fields.ensures ∙ ap (λ p. occurrences p T s) c.requires.ready.same) in
+    let fields = ap (view_all shown c.args.walk.now.collector) c.deref.ensures.value
+    ∙ (c.in_ok-fields.ensures ∙ ap (λ p. occurrences p T s) c.requires.ready.same) in
     root-agrees W s c.args.root.now T _ fields c.requires.agree
 
 pub object-requires-clause-collected : goal.object-requires-clause-collected
@@ -23,5 +24,7 @@ returns g c =
     let W = g.R.Completer.world c.args.walk.now.collector.possible in
     let s = expansion shown c.args.walk.now.collector (view_selections shown c.args.selections.now) in
     let T = c.args.concrete.now in
-    let fields = ap (view_all shown c.args.walk.now.collector) c.deref.ensures.value ∙ (c.in_ok-fields.ensures ∙ ap (λ p. occurrences p T s) c.requires.ready.same) in
-    walk-is-answer W s c.args.root.now T _ _ _ _ _ c.in_ok-path.ensures fields c.in_ok-walked.ensures c.in_ok-sort_errors.ensures.counted c.in_ok-sort_errors.ensures.sorted
+    let fields = ap (view_all shown c.args.walk.now.collector) c.deref.ensures.value
+    ∙ (c.in_ok-fields.ensures ∙ ap (λ p. occurrences p T s) c.requires.ready.same) in
+    walk-is-answer W s c.args.root.now T _ _ _ _ _ c.in_ok-path.ensures fields c.in_ok-walked.ensures c.in_ok-sort_errors.ensures.counted
+    c.in_ok-sort_errors.ensures.sorted

@@ -42,7 +42,8 @@ object-objects_of-requires g t c κs within =
     let less : depth (view x).below < deepest (map view os) = shallower-than (map view os) (map view (take i os)) (map view (drop (i + 1) os)) (view x) split in
     let agree : AllAgree W T (map view os) = c.requires.1.1.1.1.1.1.0 in
     let reached : AreReached W c.deref.result.now (view x).below =
-    reached-at W (view x).below _ _ c.deref.ensures.value (reached-agree W _ T c.args.node.now (map view os) agree _ _ (view x) split _ _ _ _ _ c.in_ok-prepared.ensures) in
+    reached-at W (view x).below _ _ c.deref.ensures.value (reached-agree W _ T c.args.node.now (map view os) agree _ _
+    (view x) split _ _ _ _ _ c.in_ok-prepared.ensures) in
     (omega (arith, less), search (rules, reached))
 
 pub object-add_field-requires : goal.object-add_field-requires
@@ -62,7 +63,8 @@ object-loop-occurrence-preserved g t c =
     let nodes = nodes-at W _ _ _ _ _ _ _ refl c.deref.ensures.value c.in_ok-walked.ensures in
     let head = same-head shown c.args.walk.now.collector x.field.now in
     let added = added-for _ _ _ _ _ _ _ _ _ _ _ (ap response_key (sym head)) c.in_ok-rises.ensures in
-    walking-on W _ T c.args.node.now (map view os) agree _ _ (view x) split _ _ _ _ c.loop-occurrence.invariant _ _ _ _ _ _ _ c.in_ok-prepared.ensures nodes _ added _ (taken-one view os i x c.loop-occurrence-test.true c.occurrence-item.is) c.if-rises.false
+    walking-on W _ T c.args.node.now (map view os) agree _ _ (view x) split _ _ _ _ c.loop-occurrence.invariant _ _ _ _ _ _ _ c.in_ok-prepared.ensures nodes _
+    added _ (taken-one view os i x c.loop-occurrence-test.true c.occurrence-item.is) c.if-rises.false
 
 pub object-returns-then-rises : goal.object-returns-then-rises
 object-returns-then-rises g t c =
@@ -79,12 +81,14 @@ object-returns-then-rises g t c =
     let head = same-head shown c.args.walk.now.collector x.field.now in
     let added = added-for _ _ _ _ _ _ _ _ _ _ _ (ap response_key (sym head)) c.in_ok-rises.ensures in
     through-null W _ _ _ _ _ _ (view-Null shown)
-    (walking-stops W _ T c.args.node.now (map view os) agree _ _ (view x) split _ _ _ _ c.loop-occurrence.invariant _ _ _ _ _ _ _ c.in_ok-prepared.ensures nodes _ added c.if-rises.true)
+    (walking-stops W _ T c.args.node.now (map view os) agree _ _ (view x) split _ _ _ _ c.loop-occurrence.invariant _ _ _ _ _ _ _ c.in_ok-prepared.ensures nodes
+    _ added c.if-rises.true)
 
 pub object-returns : goal.object-returns
 object-returns g t c =
     let shown = g.S.ScalarValue.shown in
-    walking-ends _ _ _ _ _ _ _ _ _ (taken-all (λ o. view_collected shown c.args.walk.now.collector o.field.now) c.args.fields.now c.loop-occurrence.occurrence-index c.loop-occurrence-test.false)
+    walking-ends _ _ _ _ _ _ _ _ _ (taken-all (λ o. view_collected shown c.args.walk.now.collector o.field.now) c.args.fields.now
+    c.loop-occurrence.occurrence-index c.loop-occurrence-test.false)
     (view-Object shown c.loop-occurrence.entries) c.loop-occurrence.invariant
 
 pub objects_of-loop-node-init : goal.objects_of-loop-node-init
@@ -99,11 +103,16 @@ objects_of-object-requires g t c κs within =
     let below = (view_collected shown c.args.walk.now.collector c.args.field.now).below in
     let T = c.concrete_type_name-concrete.result.now in
     let fields : view_all shown c.args.walk.now.collector c.deref.result.now ≡ occurrences W.possible T below =
-    ap (view_all shown c.args.walk.now.collector) c.deref.ensures.value ∙ collected-below shown c.args.walk.now.collector c.args.field.now _ _ W.possible T _ c.requires.ready.same c.selections_of-selections.ensures c.in_ok-fields.ensures in
+    ap (view_all shown c.args.walk.now.collector) c.deref.ensures.value
+    ∙ collected-below shown c.args.walk.now.collector c.args.field.now _ _ W.possible T _ c.requires.ready.same c.selections_of-selections.ensures
+    c.in_ok-fields.ensures in
     let shallow : deepest (view_all shown c.args.walk.now.collector c.deref.result.now) ≤ depth below = shallow-at W below T _ fields in
     let agree : AllAgree W T (view_all shown c.args.walk.now.collector c.deref.result.now) =
-    agree-at W below c.args.nodes.now c.node-item.result T _ c.requires.agree (is-in c.args.nodes.now c.loop-node.node-index c.node-item.result c.loop-node-test.true c.node-item.is) c.concrete_type_name-concrete.ensures fields in
-    let collected : view_all shown c.args.walk.now.collector c.deref.result.now ≡ occurrences (g.R.Conditions.possible c.args.walk.now.collector.possible) T (expansion shown c.args.walk.now.collector (view_selections shown c.selections_of-selections.result.now)) =
+    agree-at W below c.args.nodes.now c.node-item.result T _ c.requires.agree
+    (is-in c.args.nodes.now c.loop-node.node-index c.node-item.result c.loop-node-test.true c.node-item.is) c.concrete_type_name-concrete.ensures fields in
+    let collected : view_all shown c.args.walk.now.collector c.deref.result.now
+    ≡ occurrences (g.R.Conditions.possible c.args.walk.now.collector.possible) T
+    (expansion shown c.args.walk.now.collector (view_selections shown c.selections_of-selections.result.now)) =
     ap (view_all shown c.args.walk.now.collector) c.deref.ensures.value ∙ c.in_ok-fields.ensures in
     (omega (arith, c.decreases, shallow), search (rules, agree, collected))
 
@@ -113,10 +122,13 @@ objects_of-loop-node-preserved g t c =
     let W = g.R.Completer.world c.args.walk.now.collector.possible in
     let below = (view_collected shown c.args.walk.now.collector c.args.field.now).below in
     let T = c.concrete_type_name-concrete.result.now in
-    let fields = ap (view_all shown c.args.walk.now.collector) c.deref.ensures.value ∙ collected-below shown c.args.walk.now.collector c.args.field.now _ _ W.possible T _ c.requires.ready.same c.selections_of-selections.ensures c.in_ok-fields.ensures in
+    let fields = ap (view_all shown c.args.walk.now.collector) c.deref.ensures.value
+    ∙ collected-below shown c.args.walk.now.collector c.args.field.now _ _ W.possible T _ c.requires.ready.same c.selections_of-selections.ensures
+    c.in_ok-fields.ensures in
     one-more W _ below _ _ _ _ _ _ _ c.node-item.result _ c.loop-node.invariant
     (walked-at W _ below c.node-item.result T _ _ _ c.concrete_type_name-concrete.ensures fields c.in_ok-walked.ensures) c.in_ok-walked.ensures.keyed
-    (next-one c.args.nodes.now c.loop-node.node-index c.node-item.result c.loop-node-test.true c.node-item.is) c.in_ok-add_object.ensures.values c.in_ok-add_object.ensures.errors
+    (next-one c.args.nodes.now c.loop-node.node-index c.node-item.result c.loop-node-test.true c.node-item.is) c.in_ok-add_object.ensures.values
+    c.in_ok-add_object.ensures.errors
 
 pub objects_of-returns : goal.objects_of-returns
 objects_of-returns g t c =

@@ -19,11 +19,13 @@ abbrev pub invariant-object-loop-occurrence : goal.invariant-object-loop-occurre
 invariant-object-loop-occurrence g l =
     let shown = g.S.ScalarValue.shown in
     let view = view_all shown l.walk.collector in
-    IsWalking (g.R.Completer.world l.walk.collector.possible) (path_place l.path.value) l.concrete l.node (view l.fields) (view (take l.occurrence-index l.fields)) (view_object shown l.entries) (map (view_listed shown) l.errors.items)
+    IsWalking (g.R.Completer.world l.walk.collector.possible) (path_place l.path.value) l.concrete l.node (view l.fields)
+    (view (take l.occurrence-index l.fields)) (view_object shown l.entries) (map (view_listed shown) l.errors.items)
 
 -- and the nodes so far
 abbrev pub invariant-objects_of-loop-node : goal.invariant-objects_of-loop-node
 invariant-objects_of-loop-node g l =
     let shown = g.S.ScalarValue.shown in
-    AreAllWalked (g.R.Completer.world l.walk.collector.possible) (path_place l.path.value) (view_collected shown l.walk.collector l.field).below (take l.node-index l.nodes)
+    AreAllWalked (g.R.Completer.world l.walk.collector.possible) (path_place l.path.value) (view_collected shown l.walk.collector l.field).below
+    (take l.node-index l.nodes)
     (map (view_value shown) l.values.items) (map (view_listed shown) l.errors.items)

@@ -10,4 +10,5 @@ returns g c =
     let shown = g.S.ScalarValue.shown in
     let of_fields = map (λ h. written h.arguments) (view_fields shown c.args.written.now.fields.items) in
     let of_directives = map (λ d. written d.arguments) (view_directives_at shown c.args.written.now.directives.items) in
-    c.in_ok-push_of_directives.ensures ∙ ap (λ l. l ++ of_directives) (c.in_ok-push_of_fields.ensures ∙ ap (λ l. view_list shown l ++ of_fields) c.new-lists.ensures.items)
+    c.in_ok-push_of_directives.ensures ∙ ap (λ l. l ++ of_directives)
+    (c.in_ok-push_of_fields.ensures ∙ ap (λ l. view_list shown l ++ of_fields) c.new-lists.ensures.items)

@@ -12,8 +12,10 @@ loop-index-init g c = refl
 pub loop-index-preserved : goal.loop-index-preserved
 loop-index-preserved g c =
     let shown = g.S.ScalarValue.shown in
-    let below : c.loop-index.index < length c.args.directives.now.items = omega (arith, c.loop-index-test.true, c.len-index-end.ensures, c.args.directives.now.ok.0) in
-    seen-next (λ x. written (view_directive shown x.now).arguments) c.args.directives.now.items (view_list shown c.args.lists.now.items) c.loop-index.index c.index-directive.result.now
+    let below : c.loop-index.index < length c.args.directives.now.items = omega
+    (arith, c.loop-index-test.true, c.len-index-end.ensures, c.args.directives.now.ok.0) in
+    seen-next (λ x. written (view_directive shown x.now).arguments) c.args.directives.now.items
+    (view_list shown c.args.lists.now.items) c.loop-index.index c.index-directive.result.now
     (view_list shown c.loop-index.lists.items) (view_list shown c.push.new.self.items) below c.index-directive.ensures c.loop-index.invariant
     (seen-push (λ a. written (view_arguments shown a.now)) c.loop-index.lists.items c.push.new.self.items _ c.in_ok-push.ensures.items)
 
@@ -21,6 +23,8 @@ pub returns : goal.returns
 returns g c =
     let shown = g.S.ScalarValue.shown in
     let old = view_list shown c.args.lists.now.items in
-    let past : length c.args.directives.now.items ≤ c.loop-index.index = omega (arith, c.loop-index-test.false, c.len-index-end.ensures, c.args.directives.now.ok.0) in
-    seen-all (λ x. written (view_directive shown x.now).arguments) c.args.directives.now.items old c.loop-index.index (view_list shown c.loop-index.lists.items) past c.loop-index.invariant
+    let past : length c.args.directives.now.items ≤ c.loop-index.index = omega
+    (arith, c.loop-index-test.false, c.len-index-end.ensures, c.args.directives.now.ok.0) in
+    seen-all (λ x. written (view_directive shown x.now).arguments) c.args.directives.now.items old c.loop-index.index
+    (view_list shown c.loop-index.lists.items) past c.loop-index.invariant
     ∙ ap (λ l. old ++ l) (seen-twice (λ x. view_directive shown x.now) (λ d. written d.arguments) c.args.directives.now.items)

@@ -7,4 +7,5 @@ use Rattle.juniper_written.proofs.arguments.push_of_directives.Given as goal
 abbrev pub invariant-loop-index : goal.invariant-loop-index
 invariant-loop-index g l =
     let shown = g.S.ScalarValue.shown in
-    IsSeenSoFar (λ x. written (view_directive shown x.now).arguments) l.directives.items (view_list shown l.initial.lists.items) l.index (view_list shown l.lists.items)
+    IsSeenSoFar (λ x. written (view_directive shown x.now).arguments) l.directives.items (view_list shown l.initial.lists.items) l.index
+    (view_list shown l.lists.items)

@@ -8,13 +8,17 @@ loop-left-init c = left-first (view_names c.args.names.now) c.new-seen.result c.
 
 pub loop-left-preserved : goal.loop-left-preserved
 loop-left-preserved c =
-    left-next (view_names c.args.names.now) (view_names c.loop-left.left.now) (view_names (take (length c.loop-left.left.now - 1) (drop 1 c.loop-left.left.now))) _ (has_name c.loop-left.seen) (has_name c.is_seen.new.seen)
-    (front-is c.loop-left.left.now _ c.in-len1-up.len_at_least) (sym c.in_ok-is_seen.ensures.found ∙ c.if-branch.false) c.in_ok-is_seen.ensures.added c.loop-left.invariant
+    left-next (view_names c.args.names.now) (view_names c.loop-left.left.now)
+    (view_names (take (length c.loop-left.left.now - 1) (drop 1 c.loop-left.left.now))) _ (has_name c.loop-left.seen) (has_name c.is_seen.new.seen)
+    (front-is c.loop-left.left.now _ c.in-len1-up.len_at_least) (sym c.in_ok-is_seen.ensures.found ∙ c.if-branch.false) c.in_ok-is_seen.ensures.added
+    c.loop-left.invariant
 
 pub returns : goal.returns
-returns c = left-none (view_names c.args.names.now) (view_names c.loop-left.left.now) (has_name c.loop-left.seen) (none-left c.loop-left.left.now c.in_default.len_below) c.loop-left.invariant
+returns c = left-none (view_names c.args.names.now) (view_names c.loop-left.left.now) (has_name c.loop-left.seen)
+    (none-left c.loop-left.left.now c.in_default.len_below) c.loop-left.invariant
 
 pub returns-then-branch : goal.returns-then-branch
 returns-then-branch c =
-    left-seen (view_names c.args.names.now) (view_names c.loop-left.left.now) (view_names (take (length c.loop-left.left.now - 1) (drop 1 c.loop-left.left.now))) _ (has_name c.loop-left.seen)
+    left-seen (view_names c.args.names.now) (view_names c.loop-left.left.now)
+    (view_names (take (length c.loop-left.left.now - 1) (drop 1 c.loop-left.left.now))) _ (has_name c.loop-left.seen)
     (front-is c.loop-left.left.now _ c.in-len1-up.len_at_least) (sym c.in_ok-is_seen.ensures.found ∙ c.if-branch.true) c.loop-left.invariant

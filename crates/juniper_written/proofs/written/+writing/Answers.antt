@@ -26,12 +26,14 @@ write_selection-returns-in_ok-write_selections-in-InlineFragment g t c =
     let shown = g.S.ScalarValue.shown in
     adds-inline shown c.args.selection.now (view_written shown c.args.written.now) (view_written shown c.write_selections-in-InlineFragment.new.written)
     c.in-InlineFragment.inline c.deref-in-InlineFragment.result.now (view_written shown c.write_inline.new.written)
-    c.in-InlineFragment.is c.deref-in-InlineFragment.ensures.value c.in_ok-write_inline-in-InlineFragment.ensures c.in_ok-write_selections-in-InlineFragment.ensures
+    c.in-InlineFragment.is c.deref-in-InlineFragment.ensures.value c.in_ok-write_inline-in-InlineFragment.ensures
+    c.in_ok-write_selections-in-InlineFragment.ensures
 
 pub write_selections-returns : goal.write_selections-returns
 write_selections-returns g t c =
     let shown = g.S.ScalarValue.shown in
-    adds-all shown c.args.selections.now (view_written shown c.args.written.now) c.loop-selection.selection-index (view_written shown c.loop-selection.written) c.loop-selection-test.false c.loop-selection.invariant
+    adds-all shown c.args.selections.now (view_written shown c.args.written.now) c.loop-selection.selection-index
+    (view_written shown c.loop-selection.written) c.loop-selection-test.false c.loop-selection.invariant
 
 pub write_selections-loop-selection-preserved : goal.write_selections-loop-selection-preserved
 write_selections-loop-selection-preserved g t c =

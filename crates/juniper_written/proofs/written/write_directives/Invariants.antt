@@ -6,4 +6,5 @@ use Rattle.juniper_written.proofs.written.write_directives.Given as goal
 abbrev pub invariant-loop-directive : goal.invariant-loop-directive
 invariant-loop-directive g l =
     let shown = g.S.ScalarValue.shown in
-    IsSeenSoFar (view_directive shown) l.directive-items (view_directives_at shown l.initial.into.items) l.directive-index (view_directives_at shown l.into.items)
+    IsSeenSoFar (view_directive shown) l.directive-items (view_directives_at shown l.initial.into.items) l.directive-index
+    (view_directives_at shown l.into.items)

@@ -16,12 +16,15 @@ returns g c =
     let x = view_inline shown c.args.inline.now in
     elim c.match-inline.branch [
       | in-Some+in_ok-push-in-Some w ↦
-          adds-inline-head (view_written shown old) (view_written shown c.match-inline.written) x _ (ap (λ v. (view_written shown v).fields) w.written-is) (ap (λ v. (view_written shown v).spreads) w.written-is)
-          (ap (λ v. (view_written shown v).conditions) w.written-is ∙ (seen-push (λ n. n.now) old.conditions.items w.push.new.self.items w.in-Some.condition.item w.in_ok-push-in-Some.ensures.items
+          adds-inline-head (view_written shown old) (view_written shown c.match-inline.written) x _ (ap (λ v. (view_written shown v).fields) w.written-is)
+          (ap (λ v. (view_written shown v).spreads) w.written-is)
+          (ap (λ v. (view_written shown v).conditions) w.written-is ∙ (seen-push
+          (λ n. n.now) old.conditions.items w.push.new.self.items w.in-Some.condition.item w.in_ok-push-in-Some.ensures.items
           ∙ ap (λ o. view_names old.conditions.items ++ condition_names (option_map view_word o)) (sym w.in-Some.is)))
           (c.in_ok-write_directives.ensures ∙ ap (λ v. (view_written shown v).directives ++ x.directives) w.written-is)
       | in-None w ↦
-          adds-inline-head (view_written shown old) (view_written shown c.match-inline.written) x _ (ap (λ v. (view_written shown v).fields) w.written-is) (ap (λ v. (view_written shown v).spreads) w.written-is)
+          adds-inline-head (view_written shown old) (view_written shown c.match-inline.written) x _ (ap (λ v. (view_written shown v).fields) w.written-is)
+          (ap (λ v. (view_written shown v).spreads) w.written-is)
           (ap (λ v. (view_written shown v).conditions) w.written-is ∙ (sym (append-nil (view_names old.conditions.items))
           ∙ ap (λ o. view_names old.conditions.items ++ condition_names (option_map view_word o)) (sym w.in-None.is)))
           (c.in_ok-write_directives.ensures ∙ ap (λ v. (view_written shown v).directives ++ x.directives) w.written-is)

@@ -13,5 +13,6 @@ returns g c =
     let ns = view_names c.push.new.self.items in
     let ds = view_directives_at shown c.write_directives.new.into.items in
     fragment-parts (view_fragment shown c.args.fragment.now) none (view_written shown c.write_selections.new.written) ns ds
-    c.nothing_written-written.ensures (seen-push (λ n. n.now) c.nothing_written-written.result.conditions.items c.push.new.self.items c.args.fragment.now.item.type_condition.item c.in_ok-push.ensures.items) c.in_ok-write_directives.ensures
+    c.nothing_written-written.ensures (seen-push (λ n. n.now) c.nothing_written-written.result.conditions.items c.push.new.self.items
+    c.args.fragment.now.item.type_condition.item c.in_ok-push.ensures.items) c.in_ok-write_directives.ensures
     (c.in_ok-write_selections.ensures ∙ ap (λ l. joined (made none.fields none.spreads ns ds) (parts_in (view_selections shown l))) c.as_slice.ensures.value)

@@ -27,4 +27,5 @@ returns g c =
     let answer = g.Q.GraphQLValue.answer service.resolver.now service.info.now in
     subst (λ as'. Answers shown c.resolve_field.result (answer service.context.now c.args.node.now h.name.item as'))
     c.in_ok-arguments.ensures
-    (subst (λ context. Answers shown c.resolve_field.result (answer context c.args.node.now h.name.item (view_arguments shown c.in_ok-arguments.arguments))) c.at_field-executor.ensures.context c.resolve_field.ensures)
+    (subst (λ context. Answers shown c.resolve_field.result (answer context c.args.node.now h.name.item (view_arguments shown c.in_ok-arguments.arguments)))
+    c.at_field-executor.ensures.context c.resolve_field.ensures)

@@ -15,8 +15,10 @@ returns-in-Ok g c =
     elim c.match-list_of.branch [
       | in-Some+else-items+in_ok-converted-in-Some w ↦
           by_list _ _ _ v (map (λ x. meaning (view x.item)) w.in-Some.items.now) w.in-Some.ensures
-          (counted g.row.N gives _ c.in-Ok.items.items (rw (← w.converted-is, c.in-Ok.is) at w.in_ok-converted-in-Some.ensures) (rw length-map w.if-items.false) c.into_array.result c.into_array.ensures)
+          (counted g.row.N gives _ c.in-Ok.items.items (rw (← w.converted-is, c.in-Ok.is) at w.in_ok-converted-in-Some.ensures)
+          (rw length-map w.if-items.false) c.into_array.result c.into_array.ensures)
       | in-None+in_ok-converted-in-None w ↦
           by_other _ _ _ v (sym c.is_null.ensures ∙ c.if-is_null.false) w.in-None.ensures
-          (single g.row.N gives v c.in-Ok.items.items (rw (← w.converted-is, c.in-Ok.is) at w.in_ok-converted-in-None.ensures) c.into_array.result c.into_array.ensures)
+          (single g.row.N gives v c.in-Ok.items.items (rw (← w.converted-is, c.in-Ok.is) at w.in_ok-converted-in-None.ensures) c.into_array.result
+          c.into_array.ensures)
     ]

@@ -14,8 +14,10 @@ returns-in-Ok g c =
     let v = meaning (view c.args.value.now) in
     elim c.match-list_of.branch [
       | in-Some+in_ok-answer-in-Some w ↦
-          by_list _ _ _ v (map (λ x. meaning (view x.item)) w.in-Some.items.now) w.in-Some.ensures (rw (← w.answer-is, c.in-Ok.is) at w.in_ok-answer-in-Some.ensures)
-      | in-None+in_ok-answer-in-None w ↦ by_other _ _ _ v (sym c.is_null.ensures ∙ c.if-is_null.false) w.in-None.ensures (rw (← w.answer-is, c.in-Ok.is) at w.in_ok-answer-in-None.ensures)
+          by_list _ _ _ v (map (λ x. meaning (view x.item)) w.in-Some.items.now) w.in-Some.ensures
+          (rw (← w.answer-is, c.in-Ok.is) at w.in_ok-answer-in-Some.ensures)
+      | in-None+in_ok-answer-in-None w ↦ by_other _ _ _ v (sym c.is_null.ensures ∙ c.if-is_null.false) w.in-None.ensures
+          (rw (← w.answer-is, c.in-Ok.is) at w.in_ok-answer-in-None.ensures)
     ]
 
 pub returns-in-Err : goal.returns-in-Err
@@ -24,6 +26,8 @@ returns-in-Err g c =
     let v = meaning (view c.args.value.now) in
     elim c.match-list_of.branch [
       | in-Some+in_ok-answer-in-Some w ↦
-          by_list _ _ _ v (map (λ x. meaning (view x.item)) w.in-Some.items.now) w.in-Some.ensures (rw (← w.answer-is, c.in-Err.is) at w.in_ok-answer-in-Some.ensures)
-      | in-None+in_ok-answer-in-None w ↦ by_other _ _ _ v (sym c.is_null.ensures ∙ c.if-is_null.false) w.in-None.ensures (rw (← w.answer-is, c.in-Err.is) at w.in_ok-answer-in-None.ensures)
+          by_list _ _ _ v (map (λ x. meaning (view x.item)) w.in-Some.items.now) w.in-Some.ensures
+          (rw (← w.answer-is, c.in-Err.is) at w.in_ok-answer-in-Some.ensures)
+      | in-None+in_ok-answer-in-None w ↦ by_other _ _ _ v (sym c.is_null.ensures ∙ c.if-is_null.false) w.in-None.ensures
+          (rw (← w.answer-is, c.in-Err.is) at w.in_ok-answer-in-None.ensures)
     ]

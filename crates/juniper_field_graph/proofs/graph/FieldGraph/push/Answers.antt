@@ -40,12 +40,16 @@ returns g c graph typed once =
       below = c.args.below;
     } in
     let shape : v.shape ≡ number_among (λ w. w.shape) vs (λ r. has_type s t (slice_get (types_in shown old.fields.items) r)) (group_in old.kinds key) =
-    among-same (λ w. w.shape) (has_type s t) (map view_vertex c.deref.result.now) vs (types_in shown c.deref-2.result.now) (types_in shown old.fields.items) c.deref-3.result.now ks
-    (group_in old.kinds key) c.shape_among-shape.result (ap (map view_vertex) c.deref.ensures.value) (ap (types_in shown) c.deref-2.ensures.value) c.deref-3.ensures.value c.take_group-kinds.ensures.numbers c.shape_among-shape.ensures
+    among-same (λ w. w.shape) (has_type s t) (map view_vertex c.deref.result.now) vs (types_in shown c.deref-2.result.now)
+    (types_in shown old.fields.items) c.deref-3.result.now ks
+    (group_in old.kinds key) c.shape_among-shape.result (ap (map view_vertex) c.deref.ensures.value)
+    (ap (types_in shown) c.deref-2.ensures.value) c.deref-3.ensures.value c.take_group-kinds.ensures.numbers c.shape_among-shape.ensures
     in
     let call : v.call ≡ number_among (λ w. w.call) vs (λ r. has_call h (slice_get (heads_in shown old.fields.items) r)) (group_in old.kinds key) =
-    among-same (λ w. w.call) (has_call h) (map view_vertex c.deref-4.result.now) vs (heads_in shown c.deref-5.result.now) (heads_in shown old.fields.items) c.deref-6.result.now ks
-    (group_in old.kinds key) c.call_among-call.result (ap (map view_vertex) c.deref-4.ensures.value) (ap (heads_in shown) c.deref-5.ensures.value) c.deref-6.ensures.value c.take_group-kinds.ensures.numbers
+    among-same (λ w. w.call) (has_call h) (map view_vertex c.deref-4.result.now) vs (heads_in shown c.deref-5.result.now)
+    (heads_in shown old.fields.items) c.deref-6.result.now ks
+    (group_in old.kinds key) c.call_among-call.result (ap (map view_vertex) c.deref-4.ensures.value)
+    (ap (heads_in shown) c.deref-5.ensures.value) c.deref-6.ensures.value c.take_group-kinds.ensures.numbers
     (c.call_among-call.ensures (λ i f e. graph.kept.once i f (subst (λ fs. slice_get (heads_in shown fs) i ≡ Some f) c.deref-5.ensures.value e)) once)
     in
     let made : IsMade shown s old v (record { field = c.args.field; declared_type = c.args.declared_type }) = record {
@@ -57,7 +61,10 @@ returns g c graph typed once =
       call = call;
     } in
     let added : ((ls ≡ ks ++ n ∷ []) × IsOwn n (view_vertex v)) ⊎ (ls ≡ ks) = elim c.if-is_own.branch [
-      | then-is_own+in_ok-push w ↦ inl (ap (λ z. z.items) w.kinds-is ∙ w.in_ok-push.ensures.items, is-own (view_vertex v) n c.is_own.result c.is_own.ensures w.if-is_own.true)
+      | then-is_own+in_ok-push w ↦ inl (
+        ap (λ z. z.items) w.kinds-is ∙ w.in_ok-push.ensures.items,
+        is-own (view_vertex v) n c.is_own.result c.is_own.ensures w.if-is_own.true,
+      )
       | else-is_own w ↦ inr (ap (λ z. z.items) w.kinds-is)
     ] in
     let own : IsOwn n (view_vertex v) → In n (now key) = λ o. elim c.if-is_own.branch [
@@ -66,5 +73,7 @@ returns g c graph typed once =
     ] in
     pushed shown s old _ v (record { field = c.args.field; declared_type = c.args.declared_type }) graph made n count
     c.in_ok-push-2.ensures.items c.in_ok-push-3.ensures.items
-    (put-back (group_in old.kinds) mid now key ks ls n c.take_group-kinds.ensures.numbers c.take_group-kinds.ensures.taken c.in_ok-put_group.ensures added) (λ e. own (inl e)) (λ e. own (inr e))
-    c.in_ok-first.first (subst (λ vs. slice_get (map view_vertex vs) c.in_ok-first.first ≡ slice_get (map view_vertex vs) n) c.deref-7.ensures.value c.in_ok-first.ensures)
+    (put-back (group_in old.kinds) mid now key ks ls n c.take_group-kinds.ensures.numbers c.take_group-kinds.ensures.taken c.in_ok-put_group.ensures added)
+    (λ e. own (inl e)) (λ e. own (inr e))
+    c.in_ok-first.first (subst (λ vs. slice_get (map view_vertex vs) c.in_ok-first.first ≡ slice_get (map view_vertex vs) n) c.deref-7.ensures.value
+    c.in_ok-first.ensures)

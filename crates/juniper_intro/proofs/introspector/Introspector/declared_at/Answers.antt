@@ -13,4 +13,5 @@ unfolding shape_at declaration_of
 returns g c =
     let shown = g.S.ScalarValue.shown in
     let s = view_schema shown (schema_of c.args.self.now) in
-    shape-looked (λ m. view_meta shown m.now) c.concrete_type_by_name.result (declaration_of s c.name.result.now) c.concrete_type_by_name.ensures.meta ∙ ap (λ n. shape_of (declaration_of s n)) c.name.ensures
+    shape-looked (λ m. view_meta shown m.now) c.concrete_type_by_name.result (declaration_of s c.name.result.now) c.concrete_type_by_name.ensures.meta
+    ∙ ap (λ n. shape_of (declaration_of s n)) c.name.ensures

@@ -13,7 +13,8 @@ returns-in-OfField g c =
     let shown = g.S.ScalarValue.shown in
     let s = view_schema shown (schema_of c.args.self.now) in
     looked (view_argument shown) c.declared_arguments.result.now c.args.self.now.absent.input c.nth_or.result.now c.in-OfField.number no_input
-    (field_at s (names_of c.args.self.now) c.in-OfField.of_type c.in-OfField.field).arguments c.nth_or.ensures (c.declared_arguments.ensures ∙ ap (λ f. f.arguments) c.field.ensures) c.args.self.now.absent.no_input
+    (field_at s (names_of c.args.self.now) c.in-OfField.of_type c.in-OfField.field).arguments c.nth_or.ensures
+    (c.declared_arguments.ensures ∙ ap (λ f. f.arguments) c.field.ensures) c.args.self.now.absent.no_input
     ∙ ap (λ p. input_at s (names_of c.args.self.now) (view_input_place p)) (sym c.in-OfField.is)
 
 pub returns-in-OfDirective : goal.returns-in-OfDirective
@@ -21,6 +22,8 @@ unfolding input_at
 returns-in-OfDirective g c =
     let shown = g.S.ScalarValue.shown in
     let s = view_schema shown (schema_of c.args.self.now) in
-    looked (view_argument shown) c.directive.result.now.arguments.items c.args.self.now.absent.input c.nth_or-in-OfDirective.result.now c.in-OfDirective.number no_input
-    (directive_at c.in-OfDirective.directive).arguments (rw (sym c.as_slice.ensures.value) c.nth_or-in-OfDirective.ensures) (ap (λ d. d.arguments) c.directive.ensures) c.args.self.now.absent.no_input
+    looked (view_argument shown) c.directive.result.now.arguments.items c.args.self.now.absent.input c.nth_or-in-OfDirective.result.now c.in-OfDirective.number
+    no_input
+    (directive_at c.in-OfDirective.directive).arguments (rw (sym c.as_slice.ensures.value) c.nth_or-in-OfDirective.ensures)
+    (ap (λ d. d.arguments) c.directive.ensures) c.args.self.now.absent.no_input
     ∙ ap (λ p. input_at s (names_of c.args.self.now) (view_input_place p)) (sym c.in-OfDirective.is)

@@ -10,4 +10,5 @@ pub returns : goal.returns
 unfolding declaration_of
 returns g c =
     let shown = g.S.ScalarValue.shown in
-    c.is_some.ensures ∙ known-looked (λ m. view_meta shown m.now) c.concrete_type_by_name.result (declaration_of (view_schema shown (schema_of c.args.self.now)) c.args.name.now) c.concrete_type_by_name.ensures.meta
+    c.is_some.ensures ∙ known-looked (λ m. view_meta shown m.now) c.concrete_type_by_name.result
+    (declaration_of (view_schema shown (schema_of c.args.self.now)) c.args.name.now) c.concrete_type_by_name.ensures.meta

@@ -17,6 +17,7 @@ returns-in-types g c =
     let shown = g.S.ScalarValue.shown in
     let s = view_schema shown (schema_of c.args.self.now) in
     let number = number_of c.args.self.now in
-    subst (λ f. Answers shown c.types.result (answered (map_tree of_handle (answer_at f (schema_held s (names_of c.args.self.now) number))))) (sym c.in-types.is)
+    subst (λ f. Answers shown c.types.result (answered (map_tree of_handle (answer_at f (schema_held s (names_of c.args.self.now) number)))))
+    (sym c.in-types.is)
     (subst (λ a. Answers shown c.types.result (answered (map_tree of_handle a)))
     (ap (all_of (called number)) (c.listed.ensures ∙ c.args.self.now.listed) ∙ all-keys (called number) (λ e. e.key) (type_list s)) c.types.ensures)

@@ -15,4 +15,7 @@ use Rattle.juniper_intro.proofs.introspector.Introspector.possible_types.Goals a
 pub returns-in-None : goal.returns-in-None
 unfolding if_any
 returns-in-None g c =
-    subst (λ o. Answers g.S.ScalarValue.shown c.null.result (answered (map_tree of_handle (if_any (all_of (called (number_of c.args.self.now))) (option_and_then (λ n. possible_types (view_schema g.S.ScalarValue.shown (schema_of c.args.self.now)) n (shape_in g.S.ScalarValue.shown c.args.declared)) o))))) (sym (ap (option_map (λ n. n.now)) c.in-None.is) ∙ c.own_name.ensures) c.null.ensures
+    subst (λ o. Answers g.S.ScalarValue.shown c.null.result (answered
+    (map_tree of_handle (if_any (all_of (called (number_of c.args.self.now)))
+    (option_and_then (λ n. possible_types (view_schema g.S.ScalarValue.shown (schema_of c.args.self.now)) n
+    (shape_in g.S.ScalarValue.shown c.args.declared)) o))))) (sym (ap (option_map (λ n. n.now)) c.in-None.is) ∙ c.own_name.ensures) c.null.ensures

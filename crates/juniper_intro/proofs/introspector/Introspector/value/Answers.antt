@@ -11,7 +11,8 @@ pub returns-in-Some : goal.returns-in-Some
 unfolding value_at
 returns-in-Some g c =
     let shown = g.S.ScalarValue.shown in
-    looked (view_enum_value) c.values.result.now c.args.self.now.absent.value c.nth_or.result.now c.args.number (value_named []) (unwrap_or (own_values (Some (view_meta shown c.in-Some.meta.now).shape)) []) c.nth_or.ensures
+    looked (view_enum_value) c.values.result.now c.args.self.now.absent.value c.nth_or.result.now c.args.number (value_named [])
+    (unwrap_or (own_values (Some (view_meta shown c.in-Some.meta.now).shape)) []) c.nth_or.ensures
     (c.values.ensures ∙ values-own (view_meta shown c.in-Some.meta.now).shape) c.args.self.now.absent.no_value
     ∙ ap (λ o. get_or (unwrap_or (own_values o) []) c.args.number (value_named [])) (sym (ap (shape_in shown) c.in-Some.is) ∙ c.declared_at.ensures)
 
@@ -19,4 +20,5 @@ pub returns-in-None : goal.returns-in-None
 unfolding value_at own_values
 returns-in-None g c =
     let shown = g.S.ScalarValue.shown in
-    c.args.self.now.absent.no_value ∙ ap (λ o. get_or (unwrap_or (own_values o) []) c.args.number (value_named [])) (sym (ap (shape_in shown) c.in-None.is) ∙ c.declared_at.ensures)
+    c.args.self.now.absent.no_value ∙ ap (λ o. get_or (unwrap_or (own_values o) []) c.args.number (value_named []))
+    (sym (ap (shape_in shown) c.in-None.is) ∙ c.declared_at.ensures)

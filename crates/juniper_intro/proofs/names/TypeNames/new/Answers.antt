@@ -13,7 +13,8 @@ invariant_of-result g c =
     let same = ap length c.as_slice.ensures.value in
     record {
       within = omega (arith, whole, bytes, two, each, same, c.in_ok-listed.listed.ok.0, c.len.ensures);
-      numbered = subst (λ l. StandAt (map (λ n. string_bytes n) l) (map (λ n. string_bytes n) l) c.in_ok-numbers.numbers) c.as_slice-2.ensures.value c.in_ok-numbers.ensures;
+      numbered = subst (λ l. StandAt (map (λ n. string_bytes n) l) (map (λ n. string_bytes n) l) c.in_ok-numbers.numbers) c.as_slice-2.ensures.value
+          c.in_ok-numbers.ensures;
     }
 
 pub returns-clause-all : goal.returns-clause-all

@@ -12,4 +12,5 @@ pub loop-turn-preserved : goal.loop-turn-preserved
 loop-turn-preserved c = off-next _ _ _ _ (sym (ap (option_map view_reference) c.in-Some.is) ∙ c.of_type.ensures) c.loop-turn.invariant
 
 pub returns-in-None : goal.returns-in-None
-returns-in-None c = off-end _ _ _ _ (omega (arith, c.loop-turn-test.true)) (sym (ap (option_map view_reference) c.in-None.is) ∙ c.of_type.ensures) c.loop-turn.invariant
+returns-in-None c =
+    off-end _ _ _ _ (omega (arith, c.loop-turn-test.true)) (sym (ap (option_map view_reference) c.in-None.is) ∙ c.of_type.ensures) c.loop-turn.invariant

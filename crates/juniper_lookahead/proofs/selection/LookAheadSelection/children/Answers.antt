@@ -17,5 +17,6 @@ returns g c =
       | in-Some+in_ok-add_children-in-Some w ↦ rw w.items-is
           (some-below g.S.ScalarValue.shown s.variables.now s.fragments.now s.field.now _ w.in-Some.selections w.deref.result.now _ _ w.in-Some.is
           w.deref.ensures.value (ap (map view_selection) c.new-items.ensures.items) w.in_ok-add_children-in-Some.ensures)
-      | in-None w ↦ rw w.items-is (none-below g.S.ScalarValue.shown s.variables.now s.fragments.now s.field.now _ _ w.in-None.is (ap (map view_selection) c.new-items.ensures.items))
+      | in-None w ↦ rw w.items-is (none-below g.S.ScalarValue.shown s.variables.now s.fragments.now s.field.now _ _ w.in-None.is
+          (ap (map view_selection) c.new-items.ensures.items))
     ]

@@ -28,7 +28,8 @@ returns-in-None g c = λ ds e.
     let shown = g.S.ScalarValue.shown in
     let o = view_operation shown c.in-Operation.operation in
     let is = ap (view_definition shown) c.in-Operation.is in (
-      λ n. e.0 n ∙ (sym (names-nameless ds n o (ap (λ w. word_name (option_map view_word w)) c.in-None.is)) ∙ ap (λ x. names_operation (ds ++ x ∷ []) n) (sym is)),
+      λ n. e.0 n ∙ (sym (names-nameless ds n o (ap (λ w. word_name (option_map view_word w)) c.in-None.is))
+          ∙ ap (λ x. names_operation (ds ++ x ∷ []) n) (sym is)),
       λ n. e.1 n ∙ (sym (found-operation ds n o) ∙ ap (λ x. is_some (fragment_of (fragments (ds ++ x ∷ [])) n)) (sym is)),
     )
 

@@ -11,4 +11,5 @@ returns-in-Operation g c = λ ds e. ap (λ x. repeats_fragment ds (view_definiti
 pub returns-in-Fragment : goal.returns-in-Fragment
 unfolding repeats_fragment has_name
 returns-in-Fragment g c = λ ds e.
-    c.contains.ensures ∙ (e.1 c.in-Fragment.fragment.item.name.item.now ∙ ap (λ x. repeats_fragment ds (view_definition g.S.ScalarValue.shown x)) (sym c.in-Fragment.is))
+    c.contains.ensures ∙ (e.1 c.in-Fragment.fragment.item.name.item.now
+    ∙ ap (λ x. repeats_fragment ds (view_definition g.S.ScalarValue.shown x)) (sym c.in-Fragment.is))

@@ -8,10 +8,12 @@ use Rattle.juniper_registry.proofs.registry.Registry.await_composite.Goals as go
 pub returns-clause-awaited : goal.returns-clause-awaited
 returns-clause-awaited g c =
     let shown = g.S.ScalarValue.shown in
-    each_behind c.await_names.result (fields_refer (map (view_field shown) c.args.fields.now)) (view_names c.args.interfaces.now) _ (view_registry shown c.args.self.now) (view_registry shown c.await_fields.new.self)
+    each_behind c.await_names.result (fields_refer (map (view_field shown) c.args.fields.now)) (view_names c.args.interfaces.now) _
+    (view_registry shown c.args.self.now) (view_registry shown c.await_fields.new.self)
     (view_registry shown c.await_names.new.self) refl c.in_ok-await_fields.ensures.awaited c.await_names.ensures.awaited
 
 pub returns-clause-added : goal.returns-clause-added
 returns-clause-added g c =
     let shown = g.S.ScalarValue.shown in
-    keeps_on (view_registry shown c.args.self.now) (view_registry shown c.await_fields.new.self) (view_registry shown c.await_names.new.self) c.await_fields.ensures.added c.await_names.ensures.added
+    keeps_on (view_registry shown c.args.self.now) (view_registry shown c.await_fields.new.self)
+    (view_registry shown c.await_names.new.self) c.await_fields.ensures.added c.await_names.ensures.added

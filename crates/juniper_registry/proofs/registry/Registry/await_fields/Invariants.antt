@@ -10,5 +10,6 @@ use Rattle.juniper_registry.proofs.registry.Registry.await_fields.Given as goal
 abbrev pub invariant-loop-field : goal.invariant-loop-field
 invariant-loop-field g l =
     let shown = g.S.ScalarValue.shown in
-    ((n : Name) → awaiting_each (fields_refer (map (view_field shown) (drop l.field-index l.fields))) (view_registry shown l.self) n ≡ awaiting_each (fields_refer (map (view_field shown) l.fields)) (view_registry shown l.initial.self) n)
+    ((n : Name) → awaiting_each (fields_refer (map (view_field shown) (drop l.field-index l.fields))) (view_registry shown l.self) n
+    ≡ awaiting_each (fields_refer (map (view_field shown) l.fields)) (view_registry shown l.initial.self) n)
     × KeepsAdding (view_registry shown l.initial.self) (view_registry shown l.self)

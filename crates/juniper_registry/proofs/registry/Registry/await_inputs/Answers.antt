@@ -13,8 +13,11 @@ pub loop-input-preserved : goal.loop-input-preserved
 loop-input-preserved g c =
     let shown = g.S.ScalarValue.shown in
     let l = c.loop-input in let xs = c.args.inputs.now in (
-      turn (λ inputs. inputs_refer (map (view_argument shown) inputs)) (c.innermost_name.result.now ∷ []) xs l.input-index c.input-item.result (view_registry shown l.self) (view_registry shown c.await_type.new.self)
+      turn (λ inputs. inputs_refer (map (view_argument shown) inputs)) (c.innermost_name.result.now ∷ []) xs l.input-index c.input-item.result
+          (view_registry shown l.self) (view_registry shown c.await_type.new.self)
           (awaiting_each (inputs_refer (map (view_argument shown) xs)) (view_registry shown c.args.self.now))
-          (ap (λ b. b ∷ inputs_refer (map (view_argument shown) (drop (l.input-index + 1) xs))) (sym c.innermost_name.ensures)) c.loop-input-test.true c.input-item.is c.in_ok-await_type.ensures.awaited l.invariant.0,
-      keeps_on (view_registry shown c.args.self.now) (view_registry shown l.self) (view_registry shown c.await_type.new.self) l.invariant.1 c.in_ok-await_type.ensures.added,
+          (ap (λ b. b ∷ inputs_refer (map (view_argument shown) (drop (l.input-index + 1) xs))) (sym c.innermost_name.ensures)) c.loop-input-test.true
+          c.input-item.is c.in_ok-await_type.ensures.awaited l.invariant.0,
+      keeps_on (view_registry shown c.args.self.now) (view_registry shown l.self)
+          (view_registry shown c.await_type.new.self) l.invariant.1 c.in_ok-await_type.ensures.added,
     )

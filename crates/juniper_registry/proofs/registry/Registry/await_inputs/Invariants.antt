@@ -10,5 +10,6 @@ use Rattle.juniper_registry.proofs.registry.Registry.await_inputs.Given as goal
 abbrev pub invariant-loop-input : goal.invariant-loop-input
 invariant-loop-input g l =
     let shown = g.S.ScalarValue.shown in
-    ((n : Name) → awaiting_each (inputs_refer (map (view_argument shown) (drop l.input-index l.inputs))) (view_registry shown l.self) n ≡ awaiting_each (inputs_refer (map (view_argument shown) l.inputs)) (view_registry shown l.initial.self) n)
+    ((n : Name) → awaiting_each (inputs_refer (map (view_argument shown) (drop l.input-index l.inputs))) (view_registry shown l.self) n
+    ≡ awaiting_each (inputs_refer (map (view_argument shown) l.inputs)) (view_registry shown l.initial.self) n)
     × KeepsAdding (view_registry shown l.initial.self) (view_registry shown l.self)

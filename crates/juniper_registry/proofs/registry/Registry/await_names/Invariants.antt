@@ -9,5 +9,6 @@ use Rattle.juniper_registry.proofs.registry.Registry.await_names.Given as goal
 abbrev pub invariant-loop-name : goal.invariant-loop-name
 invariant-loop-name g l =
     let shown = g.S.ScalarValue.shown in
-    ((n : Name) → awaiting_each (view_names (drop l.name-index l.names)) (view_registry shown l.self) n ≡ awaiting_each (view_names l.names) (view_registry shown l.initial.self) n)
+    ((n : Name) → awaiting_each (view_names (drop l.name-index l.names)) (view_registry shown l.self) n
+    ≡ awaiting_each (view_names l.names) (view_registry shown l.initial.self) n)
     × KeepsAdding (view_registry shown l.initial.self) (view_registry shown l.self)

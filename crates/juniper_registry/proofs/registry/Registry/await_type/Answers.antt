@@ -13,7 +13,8 @@ invariant_of-self g c =
     let shown = g.S.ScalarValue.shown in
     let made : view_meta shown c.into_meta.result ≡ unnamed_meta placeholder = c.into_meta.ensures ∙ c.new.ensures.shown in
     record {
-      keyed = own_put c.put.result (string_bytes c.in_ok-key.key) (view_meta shown c.into_meta.result) (table shown c.args.self.now.types) (table shown c.put.new.types) c.args.self.now.keyed
+      keyed = own_put c.put.result (string_bytes c.in_ok-key.key) (view_meta shown c.into_meta.result) (table shown c.args.self.now.types)
+          (table shown c.put.new.types) c.args.self.now.keyed
           (λ n y. own_placeholder n (view_meta shown c.into_meta.result) made) c.put.ensures.put c.put.ensures.kept;
     }
 
@@ -24,7 +25,9 @@ returns-clause-awaited g c =
     let key : string_bytes c.in_ok-key.key ≡ c.args.name.now = c.in_ok-key.ensures.ok in
     let free : is_some (old c.args.name.now) ≡ false = cc in
     subst (λ b. Awaits c.put.result b old new) key
-    (put_awaits c.put.result (string_bytes c.in_ok-key.key) (view_meta shown c.into_meta.result) old new (subst (λ b. is_some (old b) ≡ false) (sym key) free) made c.put.ensures.put)
+    (put_awaits c.put.result (string_bytes c.in_ok-key.key) (view_meta shown c.into_meta.result) old new
+    (subst (λ b. is_some (old b) ≡ false) (sym key) free) made c.put.ensures.put)
 
 pub returns-clause-added : goal.returns-clause-added
-returns-clause-added g c = put_keeps c.put.result c.args.name.now (table g.S.ScalarValue.shown c.args.self.now.types) (table g.S.ScalarValue.shown c.put.new.types) (returns-clause-awaited g c) c.put.ensures.kept
+returns-clause-added g c = put_keeps c.put.result c.args.name.now (table g.S.ScalarValue.shown c.args.self.now.types)
+    (table g.S.ScalarValue.shown c.put.new.types) (returns-clause-awaited g c) c.put.ensures.kept

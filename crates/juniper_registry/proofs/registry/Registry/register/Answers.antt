@@ -15,4 +15,5 @@ returns g c =
     rw c.name_of-name.ensures
     (registered c.name_of-name.result.now m (g.T.GraphQLType.declaration c.args.info.now) old between (view_registry shown c.declare.new.self)
     (sym c.declares.ensures ∙ c.if-declares.false) c.in_ok-meta.ensures
-    (subst (λ (d : Meta). (n : Name) → between n ≡ awaiting_each (referred d.shape) old n) c.in_ok-meta.ensures c.in_ok-await_referred.ensures.awaited) c.in_ok-declare.ensures.put)
+    (subst (λ (d : Meta). (n : Name) → between n ≡ awaiting_each (referred d.shape) old n) c.in_ok-meta.ensures c.in_ok-await_referred.ensures.awaited)
+    c.in_ok-declare.ensures.put)

@@ -10,4 +10,5 @@ returns-clause-awaited g c = c.in_ok-typename.ensures.awaited
 
 pub returns-clause-made : goal.returns-clause-made
 unfolding typename_field
-returns-clause-made g c = seen_last (view_field g.S.ScalarValue.shown) c.push.new.self.items c.args.fields.items c.in_ok-typename.typename typename_field c.in_ok-push.ensures.items c.in_ok-typename.ensures.made
+returns-clause-made g c = seen_last (view_field g.S.ScalarValue.shown) c.push.new.self.items c.args.fields.items c.in_ok-typename.typename typename_field
+    c.in_ok-push.ensures.items c.in_ok-typename.ensures.made

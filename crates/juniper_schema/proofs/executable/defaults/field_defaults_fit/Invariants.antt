@@ -9,4 +9,5 @@ use Rattle.juniper_schema.proofs.executable.defaults.field_defaults_fit.Given as
 abbrev pub invariant-loop-field : goal.invariant-loop-field
 invariant-loop-field g l =
     let shown = g.S.ScalarValue.shown in
-    list_all (λ f. list_all (default_is_right (view_schema shown l.schema)) f.arguments) (map (view_field shown) (drop l.field-index l.fields)) ≡ list_all (λ f. list_all (default_is_right (view_schema shown l.schema)) f.arguments) (map (view_field shown) l.fields)
+    list_all (λ f. list_all (default_is_right (view_schema shown l.schema)) f.arguments) (map (view_field shown) (drop l.field-index l.fields))
+    ≡ list_all (λ f. list_all (default_is_right (view_schema shown l.schema)) f.arguments) (map (view_field shown) l.fields)

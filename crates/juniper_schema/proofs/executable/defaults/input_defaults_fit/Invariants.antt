@@ -9,4 +9,5 @@ use Rattle.juniper_schema.proofs.executable.defaults.input_defaults_fit.Given as
 abbrev pub invariant-loop-argument : goal.invariant-loop-argument
 invariant-loop-argument g l =
     let shown = g.S.ScalarValue.shown in
-    list_all (default_is_right (view_schema shown l.schema)) (map (view_argument shown) (drop l.argument-index l.declared)) ≡ list_all (default_is_right (view_schema shown l.schema)) (map (view_argument shown) l.declared)
+    list_all (default_is_right (view_schema shown l.schema)) (map (view_argument shown) (drop l.argument-index l.declared))
+    ≡ list_all (default_is_right (view_schema shown l.schema)) (map (view_argument shown) l.declared)

@@ -11,4 +11,5 @@ invariant-loop-meta g l =
     let shown = g.S.ScalarValue.shown in let s = view_schema shown l.schema in
     (goal.iterator-loop-meta g).can_next l.meta-iterator ×
     (goal.iterator-loop-meta g).is_finite l.meta-iterator ×
-    (list_all (λ e. entry_names_differ s e.shape) (map (λ e. entry_at (string_bytes e.0) (view_meta shown e.1)) l.meta-iterator) ≡ list_all (λ e. entry_names_differ s e.shape) s.entries)
+    (list_all (λ e. entry_names_differ s e.shape) (map (λ e. entry_at (string_bytes e.0) (view_meta shown e.1)) l.meta-iterator)
+    ≡ list_all (λ e. entry_names_differ s e.shape) s.entries)

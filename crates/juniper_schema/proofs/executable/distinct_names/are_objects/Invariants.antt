@@ -8,4 +8,5 @@ use Rattle.juniper_schema.proofs.executable.distinct_names.are_objects.Given as 
 abbrev pub invariant-loop-name : goal.invariant-loop-name
 invariant-loop-name g l =
     let shown = g.S.ScalarValue.shown in
-    list_all (λ m. is_object (entry_named (view_schema shown l.schema) m)) (map (λ n. string_bytes n) (drop l.name-index l.names)) ≡ list_all (λ m. is_object (entry_named (view_schema shown l.schema) m)) (map (λ n. string_bytes n) l.names)
+    list_all (λ m. is_object (entry_named (view_schema shown l.schema) m)) (map (λ n. string_bytes n) (drop l.name-index l.names))
+    ≡ list_all (λ m. is_object (entry_named (view_schema shown l.schema) m)) (map (λ n. string_bytes n) l.names)

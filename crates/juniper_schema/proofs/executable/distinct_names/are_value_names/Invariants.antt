@@ -7,4 +7,5 @@ use Rattle.juniper_schema.proofs.executable.distinct_names.are_value_names.Given
 -- what is left decides
 abbrev pub invariant-loop-value : goal.invariant-loop-value
 invariant-loop-value l =
-    list_all (λ v. is_value_name v.name) (map view_enum_value (drop l.value-index l.values)) ≡ list_all (λ v. is_value_name v.name) (map view_enum_value l.values)
+    list_all (λ v. is_value_name v.name) (map view_enum_value (drop l.value-index l.values))
+    ≡ list_all (λ v. is_value_name v.name) (map view_enum_value l.values)

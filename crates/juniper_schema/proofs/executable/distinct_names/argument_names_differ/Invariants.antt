@@ -8,4 +8,5 @@ use Rattle.juniper_schema.proofs.executable.distinct_names.argument_names_differ
 abbrev pub invariant-loop-field : goal.invariant-loop-field
 invariant-loop-field g l =
     let shown = g.S.ScalarValue.shown in
-    list_all (λ f. input_names_differ f.arguments) (map (view_field shown) (drop l.field-index l.fields)) ≡ list_all (λ f. input_names_differ f.arguments) (map (view_field shown) l.fields)
+    list_all (λ f. input_names_differ f.arguments) (map (view_field shown) (drop l.field-index l.fields))
+    ≡ list_all (λ f. input_names_differ f.arguments) (map (view_field shown) l.fields)

@@ -5,7 +5,8 @@ use Rattle.juniper_schema.proofs.executable.distinct_names.field_names_differ.Gi
 
 -- what is left decides
 abbrev pub invariant-loop-left : goal.invariant-loop-left
-invariant-loop-left g l = names_differ (map (λ f. f.name) (map (view_field g.S.ScalarValue.shown) l.left)) ≡ names_differ (map (λ f. f.name) (map (view_field g.S.ScalarValue.shown) l.fields))
+invariant-loop-left g l = names_differ (map (λ f. f.name) (map (view_field g.S.ScalarValue.shown) l.left))
+    ≡ names_differ (map (λ f. f.name) (map (view_field g.S.ScalarValue.shown) l.fields))
 
 abbrev pub decreases-loop-left : goal.decreases-loop-left
 decreases-loop-left g l = length l.left

@@ -5,7 +5,8 @@ use Rattle.juniper_schema.proofs.executable.distinct_names.input_names_differ.Gi
 
 -- what is left decides
 abbrev pub invariant-loop-left : goal.invariant-loop-left
-invariant-loop-left g l = input_names_differ (map (view_argument g.S.ScalarValue.shown) l.left) ≡ input_names_differ (map (view_argument g.S.ScalarValue.shown) l.declared)
+invariant-loop-left g l =
+    input_names_differ (map (view_argument g.S.ScalarValue.shown) l.left) ≡ input_names_differ (map (view_argument g.S.ScalarValue.shown) l.declared)
 
 abbrev pub decreases-loop-left : goal.decreases-loop-left
 decreases-loop-left g l = length l.left

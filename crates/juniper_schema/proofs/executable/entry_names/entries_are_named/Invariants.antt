@@ -11,4 +11,5 @@ invariant-loop-key g l =
     let shown = g.S.ScalarValue.shown in
     (goal.iterator-loop-key g).can_next l.key-iterator ×
     (goal.iterator-loop-key g).is_finite l.key-iterator ×
-    (list_all entry_is_named (map (λ e. entry_at (string_bytes e.0) (view_meta shown e.1)) l.key-iterator) ≡ list_all entry_is_named (view_schema shown l.schema).entries)
+    (list_all entry_is_named (map (λ e. entry_at (string_bytes e.0) (view_meta shown e.1)) l.key-iterator)
+    ≡ list_all entry_is_named (view_schema shown l.schema).entries)

@@ -7,4 +7,5 @@ use Rattle.juniper_schema.proofs.executable.entry_names.values_are_free.Given as
 -- what is left decides
 abbrev pub invariant-loop-value : goal.invariant-loop-value
 invariant-loop-value l =
-    list_all (λ v. not (is_reserved v.name)) (map view_enum_value (drop l.value-index l.values)) ≡ list_all (λ v. not (is_reserved v.name)) (map view_enum_value l.values)
+    list_all (λ v. not (is_reserved v.name)) (map view_enum_value (drop l.value-index l.values))
+    ≡ list_all (λ v. not (is_reserved v.name)) (map view_enum_value l.values)

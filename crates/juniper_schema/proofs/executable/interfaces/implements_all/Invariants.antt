@@ -9,4 +9,5 @@ use Rattle.juniper_schema.proofs.executable.interfaces.implements_all.Given as g
 abbrev pub invariant-loop-interface : goal.invariant-loop-interface
 invariant-loop-interface g l =
     let shown = g.S.ScalarValue.shown in
-    list_all (implements (view_schema shown l.schema) l.key (view_meta shown l.meta).shape) (map (λ n. string_bytes n) (drop l.interface-index l.interfaces)) ≡ list_all (implements (view_schema shown l.schema) l.key (view_meta shown l.meta).shape) (map (λ n. string_bytes n) l.interfaces)
+    list_all (implements (view_schema shown l.schema) l.key (view_meta shown l.meta).shape) (map (λ n. string_bytes n) (drop l.interface-index l.interfaces))
+    ≡ list_all (implements (view_schema shown l.schema) l.key (view_meta shown l.meta).shape) (map (λ n. string_bytes n) l.interfaces)

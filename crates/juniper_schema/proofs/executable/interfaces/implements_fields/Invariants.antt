@@ -10,4 +10,6 @@ use Rattle.juniper_schema.proofs.executable.interfaces.implements_fields.Given a
 abbrev pub invariant-loop-field : goal.invariant-loop-field
 invariant-loop-field g l =
     let shown = g.S.ScalarValue.shown in
-    list_all (λ g. implements_field (view_schema shown l.schema) (field_in (map (view_field shown) l.fields) g.name) g) (map (view_field shown) (drop l.field-index l.wanted)) ≡ list_all (λ g. implements_field (view_schema shown l.schema) (field_in (map (view_field shown) l.fields) g.name) g) (map (view_field shown) l.wanted)
+    list_all (λ g. implements_field (view_schema shown l.schema) (field_in (map (view_field shown) l.fields) g.name) g)
+    (map (view_field shown) (drop l.field-index l.wanted)) ≡ list_all
+    (λ g. implements_field (view_schema shown l.schema) (field_in (map (view_field shown) l.fields) g.name) g) (map (view_field shown) l.wanted)

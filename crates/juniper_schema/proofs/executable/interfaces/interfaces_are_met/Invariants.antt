@@ -13,4 +13,6 @@ invariant-loop-key g l =
     let shown = g.S.ScalarValue.shown in let s = view_schema shown l.schema in
     (goal.iterator-loop-key g).can_next l.key-iterator ×
     (goal.iterator-loop-key g).is_finite l.key-iterator ×
-    (list_all (λ e. list_all (implements s e.key e.shape) (interfaces_of (Some e.shape))) (map (λ e. entry_at (string_bytes e.0) (view_meta shown e.1)) l.key-iterator) ≡ list_all (λ e. list_all (implements s e.key e.shape) (interfaces_of (Some e.shape))) s.entries)
+    (list_all (λ e. list_all (implements s e.key e.shape) (interfaces_of (Some e.shape)))
+    (map (λ e. entry_at (string_bytes e.0) (view_meta shown e.1)) l.key-iterator)
+    ≡ list_all (λ e. list_all (implements s e.key e.shape) (interfaces_of (Some e.shape))) s.entries)

@@ -6,4 +6,5 @@ use Rattle.juniper_schema.proofs.executable.interfaces.lists_all.Given as goal
 -- what is left decides
 abbrev pub invariant-loop-name : goal.invariant-loop-name
 invariant-loop-name l =
-    list_all (λ j. list_any (bytes_eq j) (view_names l.names)) (map (λ n. string_bytes n) (drop l.name-index l.wanted)) ≡ list_all (λ j. list_any (bytes_eq j) (view_names l.names)) (map (λ n. string_bytes n) l.wanted)
+    list_all (λ j. list_any (bytes_eq j) (view_names l.names)) (map (λ n. string_bytes n) (drop l.name-index l.wanted))
+    ≡ list_all (λ j. list_any (bytes_eq j) (view_names l.names)) (map (λ n. string_bytes n) l.wanted)

@@ -8,4 +8,5 @@ use Rattle.juniper_schema.proofs.executable.interfaces.others_may_be_left_out.Gi
 abbrev pub invariant-loop-argument : goal.invariant-loop-argument
 invariant-loop-argument g l =
     let shown = g.S.ScalarValue.shown in
-    list_all (may_be_left_out (map (view_argument shown) l.wanted)) (map (view_argument shown) (drop l.argument-index l.declared)) ≡ list_all (may_be_left_out (map (view_argument shown) l.wanted)) (map (view_argument shown) l.declared)
+    list_all (may_be_left_out (map (view_argument shown) l.wanted)) (map (view_argument shown) (drop l.argument-index l.declared))
+    ≡ list_all (may_be_left_out (map (view_argument shown) l.wanted)) (map (view_argument shown) l.declared)

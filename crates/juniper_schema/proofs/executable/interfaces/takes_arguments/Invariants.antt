@@ -8,4 +8,5 @@ use Rattle.juniper_schema.proofs.executable.interfaces.takes_arguments.Given as 
 abbrev pub invariant-loop-argument : goal.invariant-loop-argument
 invariant-loop-argument g l =
     let shown = g.S.ScalarValue.shown in
-    list_all (takes_argument (map (view_argument shown) l.declared)) (map (view_argument shown) (drop l.argument-index l.wanted)) ≡ list_all (takes_argument (map (view_argument shown) l.declared)) (map (view_argument shown) l.wanted)
+    list_all (takes_argument (map (view_argument shown) l.declared)) (map (view_argument shown) (drop l.argument-index l.wanted))
+    ≡ list_all (takes_argument (map (view_argument shown) l.declared)) (map (view_argument shown) l.wanted)

@@ -9,4 +9,5 @@ use Rattle.juniper_schema.proofs.executable.known_types.fields_are_known.Given a
 abbrev pub invariant-loop-field : goal.invariant-loop-field
 invariant-loop-field g l =
     let shown = g.S.ScalarValue.shown in
-    list_all (field_is_known (view_schema shown l.schema)) (map (view_field shown) (drop l.field-index l.fields)) ≡ list_all (field_is_known (view_schema shown l.schema)) (map (view_field shown) l.fields)
+    list_all (field_is_known (view_schema shown l.schema)) (map (view_field shown) (drop l.field-index l.fields))
+    ≡ list_all (field_is_known (view_schema shown l.schema)) (map (view_field shown) l.fields)

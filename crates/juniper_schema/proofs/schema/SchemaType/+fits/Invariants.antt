@@ -11,11 +11,13 @@ use Rattle.juniper_schema.proofs.schema.SchemaType.+fits.Given as goal
 abbrev pub invariant-all_fit-loop-item : goal.invariant-all_fit-loop-item
 invariant-all_fit-loop-item g l =
     let shown = g.S.ScalarValue.shown in
-    all_fit (view_schema shown l.self) l.given (view_items shown (drop l.item-index l.items)) (view_type l.reference) ≡ all_fit (view_schema shown l.self) l.given (view_items shown l.items) (view_type l.reference)
+    all_fit (view_schema shown l.self) l.given (view_items shown (drop l.item-index l.items)) (view_type l.reference)
+    ≡ all_fit (view_schema shown l.self) l.given (view_items shown l.items) (view_type l.reference)
 
 -- what is left decides
 abbrev pub invariant-each_fits-loop-name : goal.invariant-each_fits-loop-name
 invariant-each_fits-loop-name g l =
     let shown = g.S.ScalarValue.shown in
-    each_fits (view_schema shown l.self) l.given (view_fields shown (drop l.name-index l.fields)) (declared_of (type_named (view_schema shown l.self) l.type_name))
+    each_fits (view_schema shown l.self) l.given (view_fields shown (drop l.name-index l.fields))
+    (declared_of (type_named (view_schema shown l.self) l.type_name))
     ≡ each_fits (view_schema shown l.self) l.given (view_fields shown l.fields) (declared_of (type_named (view_schema shown l.self) l.type_name))

@@ -10,13 +10,15 @@ use Rattle.juniper_schema.proofs.schema.SchemaType.concrete_type_by_name.Goals a
 pub returns-in-Some-clause-meta : goal.returns-in-Some-clause-meta
 returns-in-Some-clause-meta g c =
     let shown = g.S.ScalarValue.shown in
-    (found_first (entry_in (view_entries shown c.args.self.now.types) c.args.name.now) (entry_in introspection_types c.args.name.now) (view_meta shown c.in-Some.meta.now) c.in-Some.ensures.meta).0
+    (found_first (entry_in (view_entries shown c.args.self.now.types) c.args.name.now) (entry_in introspection_types c.args.name.now)
+    (view_meta shown c.in-Some.meta.now) c.in-Some.ensures.meta).0
 
 pub returns-in-Some-clause-shape : goal.returns-in-Some-clause-shape
 unfolding type_named
 returns-in-Some-clause-shape g c =
     let shown = g.S.ScalarValue.shown in
-    (found_first (entry_in (view_entries shown c.args.self.now.types) c.args.name.now) (entry_in introspection_types c.args.name.now) (view_meta shown c.in-Some.meta.now) c.in-Some.ensures.meta).1
+    (found_first (entry_in (view_entries shown c.args.self.now.types) c.args.name.now) (entry_in introspection_types c.args.name.now)
+    (view_meta shown c.in-Some.meta.now) c.in-Some.ensures.meta).1
 
 pub returns-in-None-clause-meta : goal.returns-in-None-clause-meta
 returns-in-None-clause-meta g c =

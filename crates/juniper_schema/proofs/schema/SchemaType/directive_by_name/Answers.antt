@@ -5,4 +5,5 @@ use Rattle.juniper_schema.proofs.schema.SchemaType.directive_by_name.Goals as go
 
 pub returns : goal.returns
 unfolding directive_named
-returns g c = c.find_directive.ensures ∙ ap (λ ds. directive_in ds c.args.name.now) (ap (map (view_directive g.S.ScalarValue.shown)) c.deref.ensures.value ∙ c.args.self.now.directed)
+returns g c = c.find_directive.ensures ∙ ap (λ ds. directive_in ds c.args.name.now)
+    (ap (map (view_directive g.S.ScalarValue.shown)) c.deref.ensures.value ∙ c.args.self.now.directed)

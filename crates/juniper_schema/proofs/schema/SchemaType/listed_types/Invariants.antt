@@ -12,7 +12,8 @@ invariant-loop-name g l =
     let shown = g.S.ScalarValue.shown in
     (goal.iterator-loop-name g).can_next l.name-iterator ×
     (goal.iterator-loop-name g).is_finite l.name-iterator ×
-    (map (view_named shown) l.types.items ++ filter has_listed_name (map (λ e. entry_at (string_bytes e.0) (view_meta shown e.1)) l.name-iterator) ≡ filter has_listed_name (view_schema shown l.self).entries)
+    (map (view_named shown) l.types.items ++ filter has_listed_name (map (λ e. entry_at (string_bytes e.0) (view_meta shown e.1)) l.name-iterator)
+    ≡ filter has_listed_name (view_schema shown l.self).entries)
 
 -- what is put in, and then what is left, are the entries and the types of introspection
 abbrev pub invariant-loop-meta : goal.invariant-loop-meta

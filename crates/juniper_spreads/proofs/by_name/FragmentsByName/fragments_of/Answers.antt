@@ -20,11 +20,13 @@ loop-name-preserved g c = λ d are.
     let x = get_or c.args.names.now i none in
     let rest = view_names (drop (i + 1) c.args.names.now) in
     let old = c.loop-name.fragments.items in
-    let so_far = ap (λ l. map (λ f. view_fragment shown f.now) old ++ found (fragments d) (view_names l)) (sym (drop_more c.args.names.now i none c.loop-name-test.true)) ∙ c.loop-name.invariant d are in
+    let so_far = ap (λ l. map (λ f. view_fragment shown f.now) old ++ found (fragments d) (view_names l))
+    (sym (drop_more c.args.names.now i none c.loop-name-test.true)) ∙ c.loop-name.invariant d are in
     elim c.match-fragment.branch [
       | in-Some+in_ok-push-in-Some w ↦
           let more : c.match-fragment.fragments.items ≡ old ++ w.in-Some.fragment ∷ [] = search rules in
-          find-next (fragments d) (λ f. view_fragment shown f.now) old c.match-fragment.fragments.items c.fragment.result w.in-Some.fragment x.now rest more w.in-Some.is (c.fragment.ensures d are) ∙ so_far
+          find-next (fragments d) (λ f. view_fragment shown f.now) old c.match-fragment.fragments.items c.fragment.result w.in-Some.fragment x.now rest more
+          w.in-Some.is (c.fragment.ensures d are) ∙ so_far
       | in-None w ↦
           ap (λ l. map (λ f. view_fragment shown f.now) l.items ++ found (fragments d) rest) w.fragments-is
           ∙ (find-none (fragments d) (λ f. view_fragment shown f.now) old c.fragment.result x.now rest w.in-None.is (c.fragment.ensures d are) ∙ so_far)
@@ -32,5 +34,6 @@ loop-name-preserved g c = λ d are.
 
 pub returns : goal.returns
 returns g c = λ d are.
-    find-ends (fragments d) (λ f. view_fragment g.S.ScalarValue.shown f.now) c.loop-name.fragments.items c.args.names.now c.loop-name.name-index (found (fragments d) (view_names c.args.names.now))
+    find-ends (fragments d) (λ f. view_fragment g.S.ScalarValue.shown f.now) c.loop-name.fragments.items c.args.names.now c.loop-name.name-index
+    (found (fragments d) (view_names c.args.names.now))
     c.loop-name-test.false (c.loop-name.invariant d are)

@@ -8,4 +8,5 @@ use Rattle.juniper_spreads.proofs.by_name.FragmentsByName.fragments_of.Given as 
 
 abbrev pub invariant-loop-name : goal.invariant-loop-name
 invariant-loop-name g l = (d : Document) → AreFragmentsOf g.S.ScalarValue.shown l.self d →
-    map (λ f. view_fragment g.S.ScalarValue.shown f.now) l.fragments.items ++ found (fragments d) (view_names (drop l.name-index l.names)) ≡ found (fragments d) (view_names l.names)
+    map (λ f. view_fragment g.S.ScalarValue.shown f.now) l.fragments.items ++ found (fragments d) (view_names (drop l.name-index l.names))
+    ≡ found (fragments d) (view_names l.names)

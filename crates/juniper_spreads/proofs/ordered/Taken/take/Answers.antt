@@ -23,5 +23,7 @@ unfolding has_name
 returns-clause-taken c = λ fs are t.
     let more : c.push.new.self.items ≡ c.args.self.now.order.items ++ c.args.name ∷ [] = search rules in
     subst (λ l. IsTaken fs (has_name c.is_new.new.seen) l) (sym (seen-push (λ n. n.now) c.args.self.now.order.items c.push.new.self.items c.args.name more))
-    (taken-next fs (has_name c.args.self.now.names) (has_name c.is_new.new.seen) c.args.name.now (view_names c.args.self.now.order.items) t c.in_ok-is_new.ensures.added
-    (sym c.contains.ensures ∙ c.if-contains.false) (all-ready c.args.spreads.now fs are (has_name c.args.self.now.names) c.args.name.now (sym c.are_done.ensures ∙ c.if-not-are_done.false)))
+    (taken-next fs (has_name c.args.self.now.names) (has_name c.is_new.new.seen) c.args.name.now
+    (view_names c.args.self.now.order.items) t c.in_ok-is_new.ensures.added
+    (sym c.contains.ensures ∙ c.if-contains.false) (all-ready c.args.spreads.now fs are (has_name c.args.self.now.names) c.args.name.now
+    (sym c.are_done.ensures ∙ c.if-not-are_done.false)))

@@ -17,8 +17,11 @@ pub loop-name-init : goal.loop-name-init
 unfolding taken
 loop-name-init c =
     let ready = is_ready c.args.spreads.now in
-    let names = view_names c.args.names.now in
-    (λ fs are t. t, subst (λ l. IsRound taken ready c.args.self.now names c.args.self.now l names 0) (sym (ap view_names c.new-left.ensures.items)) (round-first taken ready c.args.self.now names))
+    let names = view_names c.args.names.now in (
+      λ fs are t. t,
+      subst (λ l. IsRound taken ready c.args.self.now names c.args.self.now l names 0) (sym (ap view_names c.new-left.ensures.items))
+          (round-first taken ready c.args.self.now names),
+    )
 
 pub loop-name-preserved : goal.loop-name-preserved
 unfolding taken
@@ -39,10 +42,13 @@ loop-name-preserved c =
         | then-not-branch+in_ok-push w ↦
             let more : c.if-not-branch.left.items ≡ c.loop-name.left.items ++ x ∷ [] = search rules in
             let out = c.in_ok-take.ensures.not_ready w.if-not-branch.true in
-            subst (λ l. IsRound taken ready start names new l rest (i + 1)) (sym (seen-push (λ n. n.now) c.loop-name.left.items c.if-not-branch.left.items x more)) (round-left taken ready start names now new left rest i x.now round out.0 out.1)
+            subst (λ l. IsRound taken ready start names new l rest (i + 1))
+            (sym (seen-push (λ n. n.now) c.loop-name.left.items c.if-not-branch.left.items x more))
+            (round-left taken ready start names now new left rest i x.now round out.0 out.1)
         | else-not-branch w ↦
             subst (λ l. IsRound taken ready start names new (view_names l.items) rest (i + 1)) (sym w.left-is)
-            (round-taken taken ready start names now new left rest i x.now round c.in_ok-take.ensures.stays (sym c.in_ok-take.ensures.is ∙ w.if-not-branch.false))
+            (round-taken taken ready start names now new left rest i x.now round c.in_ok-take.ensures.stays
+            (sym c.in_ok-take.ensures.is ∙ w.if-not-branch.false))
       ],
     )
 
@@ -78,4 +84,5 @@ returns-clause-stuck c = λ same.
     let e = c.loop-name.auto.name-index-end in
     let f = c.loop-name-test.false in
     round-stuck taken ready c.args.self.now names c.loop-name.self left c.loop-name.name-index
-    (round-ends taken ready c.args.self.now names c.loop-name.self left c.args.names.now c.loop-name.name-index c.loop-name-test.false c.loop-name.invariant.1) (omega (arith, n, e, f, same))
+    (round-ends taken ready c.args.self.now names c.loop-name.self left c.args.names.now c.loop-name.name-index c.loop-name-test.false c.loop-name.invariant.1)
+    (omega (arith, n, e, f, same))

@@ -9,5 +9,7 @@ use Rattle.juniper_spreads.proofs.ordered.Taken.take_ready.Given as goal
 
 abbrev pub invariant-loop-name : goal.invariant-loop-name
 invariant-loop-name l =
-    ((fs : List Fragment) → AreSpreadsOf l.spreads fs → IsTaken fs (has_name l.fn.self.names) (view_names l.fn.self.order.items) → IsTaken fs (has_name l.self.names) (view_names l.self.order.items))
-    × IsRound (λ (t : Taken). has_name t.names) (is_ready l.spreads) l.fn.self (view_names l.names) l.self (view_names l.left.items) (view_names (drop l.name-index l.names)) l.name-index
+    ((fs : List Fragment) → AreSpreadsOf l.spreads fs → IsTaken fs (has_name l.fn.self.names) (view_names l.fn.self.order.items) →
+    IsTaken fs (has_name l.self.names) (view_names l.self.order.items))
+    × IsRound (λ (t : Taken). has_name t.names) (is_ready l.spreads) l.fn.self (view_names l.names) l.self (view_names l.left.items)
+    (view_names (drop l.name-index l.names)) l.name-index

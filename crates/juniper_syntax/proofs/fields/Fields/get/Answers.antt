@@ -20,4 +20,5 @@ returns g c =
     let i = c.in_ok-place.place in
     let at = place_of test ks i (sym c.in_ok-place.ensures.index) in
     let below : i < length vs = omega (arith, c.in_ok-place.ensures.within, c.self.invariant) in
-    ap Some c.index.ensures ∙ sym (slice_get-get_or vs i c.index.result.now below) ∙ ap (slice_get vs) (sym at) ∙ sym (found test ks vs c.self.invariant) ∙ ap (lookup test) c.self.view_is
+    ap Some c.index.ensures ∙ sym (slice_get-get_or vs i c.index.result.now below) ∙ ap (slice_get vs) (sym at) ∙ sym (found test ks vs c.self.invariant)
+    ∙ ap (lookup test) c.self.view_is

@@ -30,7 +30,8 @@ returns-else-is_new-clause-old g c =
     let ks = c.self.inside.keys.keys in
     let vs = c.self.inside.values.items in
     let test = is_key (string_bytes c.args.key) in
-    sym c.put_at.ensures.old ∙ ap₂ slice_get c.in_ok-reserve.ensures.items c.in_ok-place.ensures.index ∙ sym (found test ks vs c.self.invariant) ∙ ap (lookup test) c.self.view_is
+    sym c.put_at.ensures.old ∙ ap₂ slice_get c.in_ok-reserve.ensures.items c.in_ok-place.ensures.index ∙ sym (found test ks vs c.self.invariant)
+    ∙ ap (lookup test) c.self.view_is
 
 pub returns-else-is_new-clause-ok : goal.returns-else-is_new-clause-ok
 returns-else-is_new-clause-ok g c =
@@ -40,5 +41,7 @@ returns-else-is_new-clause-ok g c =
     let w = c.args.value in
     let there : list_any (string_eq k) ks ≡ true = was_there _ (sym c.in_ok-place.ensures.added ∙ c.if-is_new.false) in
     let keys : c.insert_full.new.self.keys ≡ ks = c.in_ok-place.ensures.keys ∙ ap (λ b. if b then ks else ks ++ k ∷ []) there in
-    let values : c.put_at.new.values.items ≡ slice_set vs (position_or_len (string_eq k) ks) w = c.put_at.ensures.new ∙ ap₂ (λ xs i. slice_set xs i w) c.in_ok-reserve.ensures.items c.in_ok-place.ensures.index in
-    ap₂ zip keys values ∙ put (string_eq k) ks vs w c.self.invariant ∙ sym (insert-found string_eq k w ks vs c.self.invariant there) ∙ ap (λ es. insert_entry string_eq es k w) c.self.view_is
+    let values : c.put_at.new.values.items ≡ slice_set vs (position_or_len (string_eq k) ks) w = c.put_at.ensures.new
+    ∙ ap₂ (λ xs i. slice_set xs i w) c.in_ok-reserve.ensures.items c.in_ok-place.ensures.index in
+    ap₂ zip keys values ∙ put (string_eq k) ks vs w c.self.invariant ∙ sym (insert-found string_eq k w ks vs c.self.invariant there)
+    ∙ ap (λ es. insert_entry string_eq es k w) c.self.view_is

@@ -30,4 +30,5 @@ returns-clause-new g c =
     let vs = c.self.inside.values.items in
     let test = is_key c.args.key.now in
     let at = place_of test ks c.in_ok-place.place (sym c.in_ok-place.ensures.index) in
-    ap (zip ks) (c.put_at.ensures.new ∙ ap (λ i. slice_set vs i c.args.value) (sym at)) ∙ put test ks vs c.args.value c.self.invariant ∙ ap (λ es. set_value test es c.args.value) c.self.view_is
+    ap (zip ks) (c.put_at.ensures.new ∙ ap (λ i. slice_set vs i c.args.value) (sym at)) ∙ put test ks vs c.args.value c.self.invariant
+    ∙ ap (λ es. set_value test es c.args.value) c.self.view_is

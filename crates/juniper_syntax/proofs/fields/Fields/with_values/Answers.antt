@@ -15,7 +15,8 @@ returns-clause-keys g c =
     let seen : length c.args.self.now ≡ min (length c.self.inside.keys.keys) (length c.self.inside.values.items)
     = ap length (sym c.self.view_is) ∙ length-zip c.self.inside.keys.keys c.self.inside.values.items in
     let long = cloned_length c.self.inside.keys.keys c.in_ok-keys.keys.keys c.in_ok-keys.ensures.cases in
-    cloned_names c.self.inside.keys.keys c.in_ok-keys.keys.keys c.self.inside.values.items c.args.values.items c.in_ok-keys.ensures.cases c.self.invariant (omega (arith, seen, c.self.invariant, c.requires, long)) ∙ ap names c.self.view_is
+    cloned_names c.self.inside.keys.keys c.in_ok-keys.keys.keys c.self.inside.values.items c.args.values.items c.in_ok-keys.ensures.cases c.self.invariant
+    (omega (arith, seen, c.self.invariant, c.requires, long)) ∙ ap names c.self.view_is
 
 pub returns-clause-values : goal.returns-clause-values
 returns-clause-values g c =

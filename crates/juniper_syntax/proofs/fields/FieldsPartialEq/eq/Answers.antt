@@ -14,7 +14,8 @@ returns-then-eq g c =
     let E = g.V.PartialEq.eq in
     let each = pointwise-zip string_eq E ks ls vs ws (sym c.self.invariant) (sym c.other.invariant) in
     let keys = (λ j. pointwise string_eq (sym c.as_slice.ensures.keys j) (sym c.as_slice-2.ensures.keys j)) ∙ sym c.eq.ensures ∙ c.if-eq.true in
-    c.eq-then-eq.ensures ∙ (λ j. pointwise E (c.as_slice-then-eq.ensures.value j) (c.as_slice-then-eq-2.ensures.value j)) ∙ sym (ap (λ b. b && pointwise E vs ws) keys)
+    c.eq-then-eq.ensures ∙ (λ j. pointwise E (c.as_slice-then-eq.ensures.value j) (c.as_slice-then-eq-2.ensures.value j))
+    ∙ sym (ap (λ b. b && pointwise E vs ws) keys)
     ∙ sym each ∙ (λ j. fields_eq E (c.self.view_is j) (c.other.view_is j))
 
 pub returns-else-eq : goal.returns-else-eq

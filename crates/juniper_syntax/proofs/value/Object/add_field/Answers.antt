@@ -12,7 +12,8 @@ returns-clause-old g c =
     let key = string_bytes c.args.key in
     let fields = (out-Object g.row.S.Denot c.args.self.now).fields in
     let at = sym (ap (look_up key) (view-out shown c.args.self.now) ∙ look_up-view shown key fields) in
-    if_ok_weaker c.insert.result _ (λ o. option_map (view_value shown) o ≡ look_up key (view_object shown c.args.self.now)) (λ o e. ap (option_map (view_value shown)) e ∙ at) c.insert.ensures.old
+    if_ok_weaker c.insert.result _ (λ o. option_map (view_value shown) o ≡ look_up key (view_object shown c.args.self.now))
+    (λ o e. ap (option_map (view_value shown)) e ∙ at) c.insert.ensures.old
 
 pub returns-clause-ok : goal.returns-clause-ok
 returns-clause-ok g c =

@@ -27,4 +27,5 @@ returns-clause-none g c none =
     let shown = g.S.ScalarValue.shown in
     let key = c.args.key.now in
     let fields = (out-Object g.row.S.Denot c.args.self.now).fields in
-    view-roll shown c.replace.new.self ∙ ap (view_entries shown) (c.replace.ensures.new ∙ set-none shown key fields Null (sym c.replace.ensures.old ∙ none)) ∙ sym (view-out shown c.args.self.now)
+    view-roll shown c.replace.new.self ∙ ap (view_entries shown) (c.replace.ensures.new ∙ set-none shown key fields Null (sym c.replace.ensures.old ∙ none))
+    ∙ sym (view-out shown c.args.self.now)
