@@ -1,9 +1,9 @@
 -- Nodes that are held by numbers answer what the nodes that they mean answer.
-use Rattle.std.proofs.Common.{not, ◌≡◌, ◌⊎◌, ◌++◌, ◌+◌, ℕ, suc, Bool, true, false, cond, codes, map, length, List, [], ◌∷◌, Option, Some, None, get_or, refl, sym, ap, ap₂, ◌∙◌, inl, inr, subst, append_assoc}
+use Rattle.std.proofs.Common.{◌≡◌, ◌⊎◌, ◌++◌, ◌+◌, ℕ, suc, Bool, true, false, cond, codes, length, List, [], ◌∷◌, Option, Some, None, get_or, refl, sym, ap, ap₂, ◌∙◌, inl, inr, subst, append_assoc}
 use Rattle.std.specs.Prelude.{option_map, unwrap_or}
-use Rattle.std.proofs.lemmas.Bool.{cases_Bool, both_ways, and_parts, not-true}
+use Rattle.std.proofs.lemmas.Bool.{cases_Bool}
 use Rattle.std.proofs.lemmas.List.{get_or_at, length-append}
-use Rattle.std.specs.List.{list_all, list_any, filter, enumerate_from}
+use Rattle.std.specs.List.{list_all, filter, enumerate_from}
 use Rattle.std.specs.Option.{is_some, option_and_then}
 use Rattle.std.specs.Str.{bytes_eq}
 use Rattle.graphql_spec.specs.Shown.{Text, Name}
@@ -14,18 +14,16 @@ use Rattle.graphql_spec.specs.Display.{display}
 use Rattle.graphql_spec.specs.Schema.{InputDeclaration, FieldDeclaration, EnumValue, DirectiveDeclaration, Shape, scalar_type, enum_type, object_type, interface_type, union_type, input_object_type, list_type, nullable_type, placeholder, Entry, Schema}
 use Rattle.graphql_spec.specs.BuiltIns.{value_named, directives}
 use Rattle.graphql_spec.specs.Fields.{shape_of, interfaces_of, members_of}
-use Rattle.graphql_spec.specs.Executable.{names_differ}
 use Rattle.graphql_spec.specs.Resolvers.{Tree, nothing, leaf, items, node, Trees, no_trees, tree, Reply, answered, failed}
 use Rattle.graphql_spec.specs.Rules.{is_introspection}
 use Rattle.graphql_spec.specs.Laws.{In}
-use Rattle.graphql_spec.proofs.Lists.{same_true, same_refl, same_sym}
 use Rattle.graphql_spec.proofs.Keeping.{options}
 use Rattle.graphql_spec.specs.TypeList.{type_list}
 use Rattle.graphql_spec.specs.SeenNodes.{map_tree, map_trees, map_reply}
 use Rattle.graphql_spec.specs.Introspected.{reason_of, own_name, of_type, declaration_of, declared_as, declared_kind, kind_of, description_of, url_of, lists_field, own_fields, listed_fields, listed_interfaces, implementers, possible_types, lists_value, own_values, listed_values, listed_inputs}
 use Rattle.graphql_spec.specs.Introspection.{Introspected, type_node, field_node, input_node, value_node, directive_node, introspection_type, says, tells, each, all_of, if_any, answer_at, a_type, type_called, an_input, includes_deprecated, schema_answers, type_answers, field_answers, input_answers, value_answers, directive_answers, answers_of, introspect, given_text, type_if_known, root_answers, RootedNode, introspected, user_reply}
 use Rattle.graphql_spec.specs.IntrospectionLaws.{knows, introspection_world}
-use Rattle.juniper_intro.specs.Handles.{InputPlace, of_field, of_input_object, of_directive, TypePlace, by_name, Handle, schema_handle, type_handle, field_handle, input_handle, value_handle, directive_handle, handle_type, no_field, no_input, no_directive, numbered, taken_off, shape_at, field_at, value_at, directive_at, input_at, reference_at, meant, called, inputs_at, schema_held, type_held, field_held, input_held, value_held, directive_held, held_answers, held_answer, AllAreNamed, held_world, NumbersServe, root_held, held_user_reply, held_reply, HeldNodesServe}
+use Rattle.juniper_intro.specs.Handles.{InputPlace, of_field, of_input_object, of_directive, TypePlace, Handle, schema_handle, type_handle, field_handle, input_handle, value_handle, directive_handle, handle_type, no_field, no_input, no_directive, numbered, taken_off, shape_at, field_at, value_at, directive_at, input_at, reference_at, meant, called, inputs_at, schema_held, type_held, field_held, input_held, value_held, directive_held, held_answers, held_answer, AllAreNamed, held_world, NumbersServe, root_held, held_user_reply, held_reply, HeldNodesServe}
 use Rattle.graphql_spec.proofs.IntrospectionFits.{types-known, implementers-known, declared-speaks}
 use Rattle.graphql_spec.proofs.KnownTypes.{declared-known, Executable, executable, all-in, query-known, mutation-known}
 use Rattle.graphql_spec.proofs.SeenNodes.{selects-any, seen_alike}

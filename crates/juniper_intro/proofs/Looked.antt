@@ -1,5 +1,5 @@
 -- What is looked up in a schema.
-use Rattle.std.proofs.Common.{◌≡◌, ◌+◌, ◌-◌, ◌≤◌, ◌<◌, ℕ, zero, suc, true, false, List, [], ◌∷◌, Option, Some, None, get_or, map, unwrap_or, option_map, refl, sym, ap, ◌∙◌, arith, subst}
+use Rattle.std.proofs.Common.{◌≡◌, ◌+◌, ◌-◌, ◌≤◌, ℕ, zero, suc, true, false, List, [], ◌∷◌, Option, Some, None, get_or, map, unwrap_or, option_map, refl, sym, ap, ◌∙◌, arith, subst}
 use Rattle.std.proofs.Math.ListN as lists
 use Rattle.std.specs.Option.{is_some, option_and_then}
 use Rattle.graphql_spec.specs.Executable.{input_fields_of, values_of}
@@ -8,7 +8,6 @@ use Rattle.graphql_spec.specs.Introspected.{declared_as, declared_kind, descript
 use Rattle.graphql_spec.specs.Introspection.{all_of, each}
 use Rattle.graphql_spec.specs.Resolvers.{Tree, items, tree}
 use Rattle.graphql_spec.specs.Schema.{Entry, Schema, Shape, scalar_type, enum_type, object_type, interface_type, union_type, input_object_type, list_type, nullable_type, placeholder}
-use Rattle.graphql_spec.specs.Shown.{Text}
 use Rattle.graphql_spec.specs.Types.{TypeRef, named, list_of}
 use Rattle.juniper_intro.specs.Handles.{taken_off}
 use Rattle.juniper_intro.specs.Kinds.{kind_in}

@@ -1,14 +1,13 @@
 -- Names and their numbers.
-use Rattle.std.proofs.Common.{◌≡◌, ◌++◌, ◌||◌, ℕ, ◌+◌, ◌<◌, Bool, true, false, cond, codes, map, List, [], ◌∷◌, length, take, Option, Some, None, get_or, unwrap_or, IsTrue, String, Global, string_bytes, refl, sym, ap, ap₂, ◌∙◌, inl, inr, subst, not, ◌⊎◌, arith}
-use Rattle.std.proofs.lemmas.Bool.{cases_Bool, both_ways}
+use Rattle.std.proofs.Common.{◌≡◌, ◌++◌, ◌||◌, ℕ, ◌+◌, ◌<◌, Bool, true, false, cond, codes, map, List, [], ◌∷◌, length, take, Option, Some, None, get_or, unwrap_or, String, Global, refl, sym, ap, ◌∙◌, inl, inr, subst, ◌⊎◌}
+use Rattle.std.proofs.lemmas.Bool.{cases_Bool}
 use Rattle.std.proofs.lemmas.List.{map-append, take_more}
 use Rattle.std.proofs.lemmas.List.Folds.{list_any-append}
-use Rattle.std.proofs.lemmas.Map.Text.{hash_map_updates_text}
 use Rattle.std.specs.HashMap.{HashMap, get_by_text}
 use Rattle.std.specs.List.{filter, list_any}
 use Rattle.std.specs.Option.{is_some}
 use Rattle.std.specs.Str.{bytes_eq}
-use Rattle.graphql_spec.proofs.Lists.{same_true, same_refl, same_sym}
+use Rattle.graphql_spec.proofs.Lists.{same_true, same_sym}
 use Rattle.graphql_spec.specs.BuiltIns.{introspection_types}
 use Rattle.graphql_spec.specs.Fields.{entry_in, or_else}
 use Rattle.graphql_spec.specs.Introspected.{declaration_of}

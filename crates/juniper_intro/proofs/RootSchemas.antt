@@ -1,5 +1,5 @@
 -- A root's schema, and what its nodes reply.
-use Rattle.std.proofs.Common.{◌≡◌, Bool, true, false, Option, Some, map, option_map, refl, sym, ap, ◌∙◌, inl, inr, subst}
+use Rattle.std.proofs.Common.{◌≡◌, true, false, Option, Some, sym, ◌∙◌, inl, inr, subst}
 use Rattle.std.proofs.lemmas.Bool.{cases_Bool}
 use Rattle.std.proofs.lemmas.Option.{same_Some}
 use Rattle.graphql_spec.proofs.Reordered.{order_is_open}
@@ -7,7 +7,7 @@ use Rattle.graphql_spec.specs.Executable.{IsSameSchema, is_executable}
 use Rattle.graphql_spec.specs.Schema.{Schema}
 use Rattle.graphql_spec.specs.Shown.{Name}
 use Rattle.juniper_registry.specs.Entries.{Table}
-use Rattle.juniper_intro.specs.Roots.{IsSchemaOf, mutation_type}
+use Rattle.juniper_intro.specs.Roots.{IsSchemaOf}
 
 -- two schemas of one registry and the same names are the same
 pub same-schema : (types : Table) (query mutation : Option Name) (s z : Schema) → IsSchemaOf types query mutation s → IsSchemaOf types query mutation z →

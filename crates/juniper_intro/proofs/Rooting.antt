@@ -1,6 +1,6 @@
 -- A list of answers, item by item, among the root's nodes.
-use Rattle.std.proofs.Common.{◌≡◌, ◌≤◌, ◌<◌, ◌++◌, ℕ, List, [], ◌∷◌, length, map, refl, sym, ap, ap₂, ◌∙◌, arith}
-use Rattle.graphql_spec.specs.Resolvers.{Tree, items, Trees, no_trees, tree}
+use Rattle.std.proofs.Common.{◌≡◌, ◌≤◌, ◌<◌, ◌++◌, ℕ, List, [], ◌∷◌, length, map, refl, sym, ap, ◌∙◌, arith}
+use Rattle.graphql_spec.specs.Resolvers.{Tree, items, tree}
 use Rattle.graphql_spec.specs.SeenNodes.{map_tree, map_trees}
 use Rattle.juniper_intro.specs.Rooting.{layers_of, layers_of_all}
 use Rattle.juniper_resolvable.specs.ResolvedView.{trees_of}

@@ -1,5 +1,5 @@
 -- The code's nodes are what they are seen as.
-use Rattle.std.proofs.Common.{◌≡◌, refl, ap, ap₂}
+use Rattle.std.proofs.Common.{◌≡◌, refl, ap}
 use Rattle.juniper_intro.specs.HandleView.{code_handle, code_input, code_type, view_handle, view_input_place, view_type_place}
 use Rattle.juniper_intro.specs.declared.handle.InputPlace.{InputPlace}
 use Rattle.juniper_intro.specs.declared.handle.InputPlace.TheVariants as place

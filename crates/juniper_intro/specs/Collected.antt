@@ -3,7 +3,6 @@ use Rattle.std.specs.Prelude.{ℕ, List, map}
 use Rattle.graphql_spec.specs.Resolvers.{Tree, node}
 use Rattle.juniper_intro.specs.Handles as spec
 use Rattle.juniper_intro.specs.HandleView.{of_handle}
-use Rattle.juniper_intro.specs.declared.handle.InputPlace.TheVariants as place
 use Rattle.juniper_intro.specs.declared.nodes.InputOwner.{InputOwner}
 use Rattle.juniper_intro.specs.declared.nodes.InputOwner.TheVariants as owner
 use Rattle.juniper_intro.specs.declared.node.RootedNode.{RootedNode}

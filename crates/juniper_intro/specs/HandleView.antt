@@ -1,5 +1,4 @@
 -- How the code's nodes are seen.
-use Rattle.std.specs.Prelude.{ℕ}
 use Rattle.graphql_spec.specs.Introspection as rooted
 use Rattle.graphql_spec.specs.Schema.{Schema}
 use Rattle.graphql_spec.specs.Shown.{Name}

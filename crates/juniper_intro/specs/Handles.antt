@@ -1,8 +1,7 @@
 -- How code may hold the nodes of introspection (4.2): by numbers in the lists of a schema, without its declarations.
-use Rattle.std.specs.Prelude.{ℕ, zero, suc, Bool, false, ◌||◌, ◌≡◌, codes, cond, List, [], ◌∷◌, Option, option_map, unwrap_or, get_or, IsTrue, map, ◌++◌}
-use Rattle.std.specs.List.{filter, enumerate_from, list_any}
+use Rattle.std.specs.Prelude.{ℕ, zero, suc, Bool, false, ◌||◌, ◌≡◌, codes, cond, List, [], ◌∷◌, Option, option_map, unwrap_or, get_or, IsTrue}
+use Rattle.std.specs.List.{filter, enumerate_from}
 use Rattle.std.specs.Option.{is_some, option_and_then}
-use Rattle.std.specs.Str.{bytes_eq}
 use Rattle.graphql_spec.specs.Shown.{Name}
 use Rattle.graphql_spec.specs.Types.{TypeRef, named}
 use Rattle.graphql_spec.specs.Inputs.{Variables}
@@ -11,7 +10,7 @@ use Rattle.graphql_spec.specs.Display.{display}
 use Rattle.graphql_spec.specs.Schema.{InputDeclaration, FieldDeclaration, EnumValue, DirectiveDeclaration, Shape, Schema, plain_field, plain_input}
 use Rattle.graphql_spec.specs.BuiltIns.{value_named, directives}
 use Rattle.graphql_spec.specs.Fields.{shape_of}
-use Rattle.graphql_spec.specs.Executable.{names_differ, is_executable}
+use Rattle.graphql_spec.specs.Executable.{is_executable}
 use Rattle.graphql_spec.specs.Selections.{Forest}
 use Rattle.graphql_spec.specs.Resolvers.{Tree, nothing, node, Reply, answered, World, world_of}
 use Rattle.graphql_spec.specs.Rules.{is_introspection}

@@ -1,5 +1,5 @@
 -- How the code's references to types are seen (4.2.2).
-use Rattle.std.specs.Prelude.{Bool, true, false, Option, Some, None, codes}
+use Rattle.std.specs.Prelude.{true, false, Option, Some, None, codes}
 use Rattle.graphql_spec.specs.Shown.{Name}
 use Rattle.graphql_spec.specs.Types.{TypeRef, named, list_of, nullable}
 use Rattle.juniper_meta.specs.MetaView.{view_type}

@@ -1,5 +1,5 @@
 -- The schema of a root, by a registry and the names of two root types (3.3).
-use Rattle.std.specs.Prelude.{◌≡◌, Bool, true, false, codes, cond, map, Option, Some, None, option_map, IsTrue, Result, Ok, Err}
+use Rattle.std.specs.Prelude.{◌≡◌, true, false, codes, cond, map, Option, Some, None, option_map, IsTrue, Result, Ok, Err}
 use Rattle.std.specs.Str.{bytes_eq}
 use Rattle.graphql_spec.specs.Executable.{is_executable, names_differ}
 use Rattle.graphql_spec.specs.Fields.{entry_in}

@@ -1,4 +1,4 @@
-use Rattle.std.proofs.Common.{◌≡◌, ◌+◌, ◌<◌, [], arith, get_or, length, map, take, string_bytes, sym, ap, ◌∙◌, subst, Some}
+use Rattle.std.proofs.Common.{◌≡◌, ◌+◌, ◌<◌, [], arith, get_or, length, map, string_bytes, sym, ap, ◌∙◌, subst, Some}
 use Rattle.std.proofs.lemmas.List.{get_or-map, length-map, take_all, take-map}
 use Rattle.std.proofs.lemmas.Map.Text.{hash_map_updates_text}
 use Rattle.juniper_intro.specs.Numbers.{StandAt}

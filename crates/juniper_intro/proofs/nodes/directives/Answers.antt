@@ -1,8 +1,8 @@
-use Rattle.std.proofs.Common.{◌≡◌, arith, sym, ap, ◌∙◌, length, map, refl}
+use Rattle.std.proofs.Common.{◌≡◌, arith, ap, ◌∙◌, length, map}
 use Rattle.std.proofs.lemmas.List.{length-map}
 use Rattle.graphql_spec.specs.Resolvers.{answered, node}
 use Rattle.juniper_resolvable.proofs.Resolutions.{view-Node}
-use Rattle.juniper_intro.specs.HandleView.{code_handle, of_handle}
+use Rattle.juniper_intro.specs.HandleView.{of_handle}
 use Rattle.juniper_meta.specs.MetaView.{view_directive}
 use Rattle.juniper_intro.specs.Handles.{directive_handle}
 use Rattle.juniper_intro.proofs.Collected.{nodes-more, turn-all, turn-more}

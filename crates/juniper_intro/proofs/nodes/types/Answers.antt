@@ -1,4 +1,4 @@
-use Rattle.std.proofs.Common.{arith, map, sym, ap, ◌∙◌}
+use Rattle.std.proofs.Common.{map, ap, ◌∙◌}
 use Rattle.std.proofs.lemmas.List.{take_all}
 use Rattle.graphql_spec.specs.Resolvers.{answered, node}
 use Rattle.juniper_intro.specs.HandleView.{of_handle}

@@ -5,7 +5,7 @@ use Rattle.std.specs.Vec.Iter.{into_iter_items}
 use Rattle.juniper_intro.specs.HandleView.{of_user}
 use Rattle.juniper_intro.specs.Rooting.{layers_of}
 use Rattle.juniper_intro.proofs.Collected.{seen-more}
-use Rattle.juniper_intro.proofs.Rooting.{none_left, seen-all, seen-falls, seen-start, seen-turn}
+use Rattle.juniper_intro.proofs.Rooting.{none_left, seen-all, seen-falls, seen-turn}
 use Rattle.juniper_resolvable.specs.ResolvedView.{trees_of, view_resolved}
 use Rattle.juniper_resolvable.proofs.Resolutions.{view-Null, view-Scalar, view-List, view-Node}
 use Rattle.juniper_intro.proofs.rooted.+rooted.Goals as goal

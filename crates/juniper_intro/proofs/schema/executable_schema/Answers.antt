@@ -1,7 +1,6 @@
-use Rattle.std.proofs.Common.{◌≡◌, Some, option_map, sym, ap, ◌∙◌}
+use Rattle.std.proofs.Common.{option_map, sym, ap, ◌∙◌}
 use Rattle.juniper_registry.specs.RegistryView.{view_registry}
 use Rattle.juniper_schema.specs.SchemaView.{view_schema}
-use Rattle.juniper_intro.specs.Roots.{IsSchemaOf}
 use Rattle.juniper_intro.proofs.RootSchemas.{never-executable}
 use Rattle.juniper_intro.proofs.schema.executable_schema.Goals as goal
 

@@ -1,8 +1,7 @@
-use Rattle.std.proofs.Common.{◌≡◌, [], Some, get_or, unwrap_or, sym, ap, ◌∙◌}
-use Rattle.graphql_spec.specs.BuiltIns.{value_named}
+use Rattle.std.proofs.Common.{[], Some, get_or, unwrap_or, sym, ap, ◌∙◌}
 use Rattle.graphql_spec.specs.Introspected.{own_fields}
 use Rattle.juniper_meta.specs.MetaView.{view_field, view_meta}
-use Rattle.juniper_intro.specs.Handles.{no_field, no_input, field_at}
+use Rattle.juniper_intro.specs.Handles.{no_field, field_at}
 use Rattle.juniper_intro.specs.Shapes.{shape_in}
 use Rattle.juniper_intro.proofs.Looked.{fields-own, looked}
 use Rattle.juniper_intro.proofs.introspector.Introspector.field.Goals as goal

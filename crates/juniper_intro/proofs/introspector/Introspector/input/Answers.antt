@@ -1,5 +1,5 @@
-use Rattle.std.proofs.Common.{◌≡◌, sym, ap, ◌∙◌}
-use Rattle.juniper_meta.specs.MetaView.{view_argument, view_directive, view_field}
+use Rattle.std.proofs.Common.{sym, ap, ◌∙◌}
+use Rattle.juniper_meta.specs.MetaView.{view_argument}
 use Rattle.juniper_schema.specs.SchemaView.{view_schema}
 use Rattle.juniper_intro.specs.HandleView.{view_input_place}
 use Rattle.juniper_intro.specs.Handles.{directive_at, field_at, input_at, no_input}

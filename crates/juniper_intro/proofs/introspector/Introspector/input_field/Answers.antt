@@ -1,8 +1,7 @@
-use Rattle.std.proofs.Common.{◌≡◌, [], Some, get_or, unwrap_or, sym, ap, ◌∙◌}
-use Rattle.graphql_spec.specs.BuiltIns.{value_named}
+use Rattle.std.proofs.Common.{[], Some, get_or, unwrap_or, sym, ap, ◌∙◌}
 use Rattle.graphql_spec.specs.Introspected.{listed_inputs}
 use Rattle.juniper_meta.specs.MetaView.{view_argument, view_meta}
-use Rattle.juniper_intro.specs.Handles.{no_field, no_input, input_at}
+use Rattle.juniper_intro.specs.Handles.{no_input, input_at}
 use Rattle.juniper_intro.specs.Shapes.{shape_in}
 use Rattle.juniper_intro.proofs.Looked.{inputs-own, looked}
 use Rattle.juniper_intro.proofs.introspector.Introspector.input_field.Goals as goal

@@ -1,4 +1,4 @@
-use Rattle.std.proofs.Common.{◌≡◌, ℕ, Option, [], unwrap_or, subst, sym, ap, ◌∙◌}
+use Rattle.std.proofs.Common.{◌≡◌, ℕ, Option, [], unwrap_or, subst, ap, ◌∙◌}
 use Rattle.graphql_spec.specs.Fields.{shape_of}
 use Rattle.graphql_spec.specs.Introspected.{declared_as, own_name}
 use Rattle.graphql_spec.specs.Introspection.{answer_at}

@@ -1,8 +1,8 @@
-use Rattle.std.proofs.Common.{◌≡◌, [], Some, get_or, unwrap_or, sym, ap, ◌∙◌}
+use Rattle.std.proofs.Common.{[], Some, get_or, unwrap_or, sym, ap, ◌∙◌}
 use Rattle.graphql_spec.specs.BuiltIns.{value_named}
 use Rattle.graphql_spec.specs.Introspected.{own_values}
 use Rattle.juniper_meta.specs.MetaView.{view_enum_value, view_meta}
-use Rattle.juniper_intro.specs.Handles.{no_field, no_input, value_at}
+use Rattle.juniper_intro.specs.Handles.{value_at}
 use Rattle.juniper_intro.specs.Shapes.{shape_in}
 use Rattle.juniper_intro.proofs.Looked.{values-own, looked}
 use Rattle.juniper_intro.proofs.introspector.Introspector.value.Goals as goal

@@ -1,4 +1,4 @@
-use Rattle.std.proofs.Common.{◌≡◌, ◌++◌, arith, length, map, string_bytes, subst, sym, ap, ◌∙◌}
+use Rattle.std.proofs.Common.{◌++◌, arith, length, map, string_bytes, subst, ap, ◌∙◌}
 use Rattle.std.proofs.lemmas.List.{length-append, length-map}
 use Rattle.juniper_intro.specs.Numbers.{StandAt, all_names, hidden_names}
 use Rattle.juniper_intro.proofs.names.TypeNames.new.Goals as goal

@@ -1,4 +1,4 @@
-use Rattle.std.proofs.Common.{◌≤◌, refl, sym, ap, ◌∙◌, arith, option_map}
+use Rattle.std.proofs.Common.{refl, sym, ap, ◌∙◌, arith, option_map}
 use Rattle.juniper_intro.specs.Handles.{taken_off}
 use Rattle.juniper_intro.specs.References.{view_reference}
 use Rattle.juniper_intro.proofs.Looked.{off-end, off-next}
