@@ -10,7 +10,7 @@ use Rattle.graphql_spec.specs.Values.{Value}
 use Rattle.graphql_spec.specs.Documents.{Document, Operation, query, mutation, subscription, variables_of}
 use Rattle.graphql_spec.specs.Inputs.{Variables}
 use Rattle.graphql_spec.specs.Errors.{Listed, keys_only}
-use Rattle.graphql_spec.specs.Rules.{RuleError, rule_errors}
+use Rattle.graphql_spec.specs.Rules.{RuleError}
 use Rattle.graphql_spec.specs.Schema.{Schema}
 use Rattle.graphql_spec.specs.Requests as spec
 use Rattle.graphql_spec.specs.Requests.{Choice, Refusal, refused, runs, choose, chosen, many, unknown, of_kind, selected, coerced_variables, variable_errors}

@@ -1,5 +1,5 @@
 -- A query of a valid document, on an executable schema.
-use Rattle.std.proofs.Common.{◌≡◌, Bool, true, false, List, [], None, Some, IsTrue, refl, sym, ap, inl, subst, ◌∙◌}
+use Rattle.std.proofs.Common.{◌≡◌, Bool, false, List, [], None, Some, IsTrue, refl, sym, ap, inl, subst, ◌∙◌}
 use Rattle.std.proofs.lemmas.Bool.{and_parts, both_ways}
 use Rattle.graphql_spec.specs.Shown.{Name}
 use Rattle.graphql_spec.specs.Values.{Value}

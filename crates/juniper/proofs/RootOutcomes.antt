@@ -1,5 +1,5 @@
 -- What is an outcome with the nodes that code holds is one with the nodes that they mean.
-use Rattle.std.proofs.Common.{◌≡◌, Bool, true, List, Option, Some, None, option_map, refl, ap, ap₂, ◌∙◌, subst}
+use Rattle.std.proofs.Common.{◌≡◌, Bool, true, List, Option, Some, None, option_map, refl, ap, ap₂, subst}
 use Rattle.std.specs.declared.cmp.PartialEq.{Ghosts as Equality}
 use Rattle.std.specs.declared.fmt.Debug.{Ghosts as Shows}
 use Rattle.graphql_spec.proofs.SeenServices.{seen_outcomes}
@@ -11,7 +11,6 @@ use Rattle.graphql_spec.specs.Outcomes.{IsOutcomeOf, Response, Service, Steps}
 use Rattle.graphql_spec.specs.Requests.{Outcome}
 use Rattle.graphql_spec.specs.Resolvers.{Reply}
 use Rattle.graphql_spec.specs.Schema.{Schema}
-use Rattle.graphql_spec.specs.SeenNodes.{map_reply}
 use Rattle.graphql_spec.specs.SeenServices.{seen_steps, service}
 use Rattle.graphql_spec.specs.Shown.{Name, Shown}
 use Rattle.juniper_intro.proofs.Held.{map-reply_twice}
@@ -31,7 +30,7 @@ use Rattle.juniper_schema.specs.SchemaView.{view_schema}
 use Rattle.juniper_syntax.specs.declared.scalar.ScalarValue.{Ghosts as Scalars}
 use Rattle.juniper_types.specs.declared.resolver.GraphQLValue.{Ghosts as Values}
 use Rattle.juniper.specs.RootView.{service_of}
-use Rattle.juniper.specs.Services.{rooted_steps, service_in, steps_at}
+use Rattle.juniper.specs.Services.{rooted_steps, steps_at}
 
 -- the root is seen as the root
 top-seen : {N : Type 0} (s : Schema) (names : List Name) (n : RootedNode N) → is_top n ≡ true → view_node s names n ≡ rooted.root

@@ -1,6 +1,5 @@
-use Rattle.std.proofs.Common.{refl, ap, sym}
+use Rattle.std.proofs.Common.{refl}
 use Rattle.graphql_spec.specs.IntrospectionQueries.{query_lines, word_of, asks_description, ended, all_text, text_without_descriptions}
-use Rattle.juniper.specs.Formats.{text_of}
 use Rattle.juniper.proofs.introspection.query_text.Goals as goal
 
 pub returns-in-All : goal.returns-in-All

@@ -1,4 +1,4 @@
-use Rattle.std.proofs.Common.{◌≡◌, [], option_map, map, refl, subst, sym, ap}
+use Rattle.std.proofs.Common.{◌≡◌, [], option_map, map, refl, subst, ap}
 use Rattle.graphql_spec.specs.Errors.{keys_only}
 use Rattle.graphql_spec.specs.Introspection.{rooted_service}
 use Rattle.graphql_spec.specs.Outcomes.{Request, IsOutcome, IsOutcomeOf, IsReadAsValid, responds}
