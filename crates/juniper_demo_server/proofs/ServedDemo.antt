@@ -3,7 +3,7 @@ use Rattle.std.specs.Option.{option_and_then}
 use Rattle.std.proofs.Common.{◌≡◌, true, codes, true≢false, [], Option, None, Some, Err, refl, ap, ◌∙◌, sym, subst, bytes_eq, inl, inr}
 use Rattle.std.proofs.lemmas.Bool.{cases_Bool}
 use Rattle.graphql_spec.specs.BuiltIns.{value_named}
-use Rattle.graphql_spec.specs.Schema.{Schema, Entry, plain_field, plain_input}
+use Rattle.graphql_spec.specs.Schema.{Schema, plain_field, plain_input}
 use Rattle.graphql_spec.specs.Fits.{fits, through, scalar_fits}
 use Rattle.graphql_spec.specs.Inputs.{is_const}
 use Rattle.graphql_spec.specs.Types.{innermost, nullable, same_type, required}
