@@ -1,2 +1,2 @@
 pub mod BuiltInScalars
-pub mod Lists
+pub mod Rows

@@ -1,9 +1,9 @@
-//! The forms of fields and arguments that the types of introspection have.
+//! The forms of fields and arguments that the types of introspection and the directives have.
 
-ghost use Rattle.std.specs.Prelude.{◌≡◌, IfOk, [], ◌∷◌, ◌++◌};
+ghost use Rattle.std.specs.Prelude.{◌≡◌, IfOk, map, [], ◌∷◌};
 ghost use Rattle.graphql_spec.specs.BuiltIns.{maybe, must, maybe_all, must_all, field_without, include_deprecated, old_flag};
-ghost use Rattle.graphql_spec.specs.Schema.{plain_field};
-ghost use Rattle.juniper_builtins.specs.Lists.{view_list};
+ghost use Rattle.graphql_spec.specs.Schema.{plain_field, plain_input};
+ghost use Rattle.juniper_builtins.specs.Rows.{row_field};
 ghost use Rattle.juniper_meta.specs.MetaView.{view_type, view_argument, view_field};
 
 use juniper_meta::Argument;
@@ -11,36 +11,49 @@ use juniper_meta::meta::Field;
 use juniper_syntax::{InputValue, ScalarValue, Type};
 use std::alloc::{AllocError, Global};
 
-/// `name`
-#[tactic(auto, unfolding(graphql_spec::specs::BuiltIns::maybe))]
-pub(crate) fn maybe(alloc: Global, name: &str) -> Result<Type<String>, AllocError>
-    ensures { IfOk result (λ t. view_type t ≡ maybe name.now) }
-{
-    Ok(Type::Named(String::from_str(alloc, name)?))
+/// A field of a type of introspection as a row of a table: its name and the name in its type, whose form the variant says.
+#[derive(Clone, Copy)]
+pub(crate) enum FieldRow<'a> {
+    /// `name: of_type`
+    Maybe(&'a str, &'a str),
+    /// `name: of_type!`
+    Must(&'a str, &'a str),
+    /// `name: [of_type!]`
+    MaybeAll(&'a str, &'a str),
+    /// `name: [of_type!]!`
+    MustAll(&'a str, &'a str),
+    /// `name(includeDeprecated: Boolean = false): [of_type!]`
+    MaybeDeprecated(&'a str, &'a str),
+    /// A deprecated flag of this name.
+    OldFlag(&'a str),
 }
 
-/// `name!`
-#[tactic(auto, unfolding(graphql_spec::specs::BuiltIns::must))]
-pub(crate) fn must(alloc: Global, name: &str) -> Result<Type<String>, AllocError>
-    ensures { IfOk result (λ t. view_type t ≡ must name.now) }
+/// The fields that the rows say, in order; an error where memory is refused.
+pub(crate) fn fields_of<S: ScalarValue>(
+    alloc: Global,
+    rows: &[FieldRow],
+) -> Result<Vec<Field<S>>, AllocError>
+    ensures { IfOk result (λ made. map (view_field S.shown) made.items ≡ map row_field rows.now) }
 {
-    Ok(Type::NonNullNamed(String::from_str(alloc, name)?))
+    let mut fields = Vec::new(alloc);
+    for row in rows {
+        fields.push(field_of(alloc, row)?)?;
+    }
+    Ok(fields)
 }
 
-/// `[name!]`
-#[tactic(auto, unfolding(graphql_spec::specs::BuiltIns::must, graphql_spec::specs::BuiltIns::maybe_all))]
-fn maybe_all(alloc: Global, name: &str) -> Result<Type<String>, AllocError>
-    ensures { IfOk result (λ t. view_type t ≡ maybe_all name.now) }
+/// The field that the row says.
+fn field_of<S: ScalarValue>(alloc: Global, row: &FieldRow) -> Result<Field<S>, AllocError>
+    ensures { IfOk result (λ f. view_field S.shown f ≡ row_field row.now) }
 {
-    Ok(must(alloc, name)?.wrap_list(alloc, None)?)
-}
-
-/// `[name!]!`
-#[tactic(auto, unfolding(graphql_spec::specs::BuiltIns::maybe_all, graphql_spec::specs::BuiltIns::must_all))]
-fn must_all(alloc: Global, name: &str) -> Result<Type<String>, AllocError>
-    ensures { IfOk result (λ t. view_type t ≡ must_all name.now) }
-{
-    Ok(maybe_all(alloc, name)?.wrap_non_null())
+    match *row {
+        FieldRow::Maybe(name, of_type) => field_without(alloc, name, maybe(alloc, of_type)?),
+        FieldRow::Must(name, of_type) => field_without(alloc, name, must(alloc, of_type)?),
+        FieldRow::MaybeAll(name, of_type) => field_without(alloc, name, maybe_all(alloc, of_type)?),
+        FieldRow::MustAll(name, of_type) => field_without(alloc, name, must_all(alloc, of_type)?),
+        FieldRow::MaybeDeprecated(name, of_type) => maybe_deprecated(alloc, name, of_type),
+        FieldRow::OldFlag(name) => old_flag(alloc, name),
+    }
 }
 
 /// A field without arguments.
@@ -55,13 +68,37 @@ fn field_without<S: ScalarValue>(
     Ok(Field::new(String::from_str(alloc, name)?, of_type))
 }
 
+/// A field with this argument alone.
+#[tactic(auto, unfolding(graphql_spec::specs::BuiltIns::field_without, graphql_spec::specs::Schema::plain_field))]
+pub(crate) fn field_with<S: ScalarValue>(
+    alloc: Global,
+    name: &str,
+    argument: Argument<S>,
+    of_type: Type<String>,
+) -> Result<Field<S>, AllocError>
+    ensures { IfOk result (λ f. view_field S.shown f ≡ plain_field name.now (view_argument S.shown argument ∷ []) (view_type of_type)) }
+{
+    field_without(alloc, name, of_type)?.argument(alloc, argument)
+}
+
+/// `name(includeDeprecated: Boolean = false): [of_type!]`
+fn maybe_deprecated<S: ScalarValue>(
+    alloc: Global,
+    name: &str,
+    of_type: &str,
+) -> Result<Field<S>, AllocError>
+    ensures { IfOk result (λ f. view_field S.shown f ≡ plain_field name.now include_deprecated (maybe_all of_type.now)) }
+{
+    let argument = include_deprecated(alloc)?;
+    field_with(alloc, name, argument, maybe_all(alloc, of_type)?)
+}
+
 /// `includeDeprecated: Boolean = false`
 #[tactic(auto, unfolding(graphql_spec::specs::BuiltIns::include_deprecated, graphql_spec::specs::Schema::plain_input))]
 fn include_deprecated<S: ScalarValue>(alloc: Global) -> Result<Argument<S>, AllocError>
     ensures { IfOk result (λ a. view_argument S.shown a ∷ [] ≡ include_deprecated) }
 {
-    let name = String::from_str(alloc, "includeDeprecated")?;
-    let argument = Argument::new(name, maybe(alloc, "Boolean")?);
+    let argument = maybe_argument(alloc, "includeDeprecated", "Boolean")?;
     Ok(argument.default_value(InputValue::Scalar(S::from_bool(false))))
 }
 
@@ -75,89 +112,67 @@ fn old_flag<S: ScalarValue>(alloc: Global, name: &str) -> Result<Field<S>, Alloc
     Ok(field.deprecated(Some(reason)))
 }
 
-/// Fields in order, and where memory for more of them comes from.
-#[derive(Drop)]
-pub(crate) struct FieldList<S> {
+/// `name: of_type`
+pub(crate) fn maybe_argument<S: ScalarValue>(
     alloc: Global,
-    items: Vec<Field<S>>,
+    name: &str,
+    of_type: &str,
+) -> Result<Argument<S>, AllocError>
+    ensures { IfOk result (λ a. view_argument S.shown a ≡ plain_input name.now (maybe of_type.now)) }
+{
+    argument_of(alloc, name, maybe(alloc, of_type)?)
 }
 
-/// Each call adds one field behind those that are there; an error where memory is refused.
-impl<S: ScalarValue> FieldList<S> {
-    /// No fields.
-    pub(crate) fn new(alloc: Global) -> Self
-        ensures { view_list S.shown result ≡ [] }
-    {
-        FieldList {
-            alloc,
-            items: Vec::new(alloc),
-        }
-    }
+/// `name: of_type!`
+pub(crate) fn must_argument<S: ScalarValue>(
+    alloc: Global,
+    name: &str,
+    of_type: &str,
+) -> Result<Argument<S>, AllocError>
+    ensures { IfOk result (λ a. view_argument S.shown a ≡ plain_input name.now (must of_type.now)) }
+{
+    argument_of(alloc, name, must(alloc, of_type)?)
+}
 
-    /// The fields.
-    pub(crate) fn into_items(self) -> Vec<Field<S>>
-        ensures { result.items ≡ self.items.items }
-    {
-        let FieldList { alloc: _, items } = self;
-        items
-    }
+/// An argument without description and default value.
+fn argument_of<S: ScalarValue>(
+    alloc: Global,
+    name: &str,
+    of_type: Type<String>,
+) -> Result<Argument<S>, AllocError>
+    ensures { IfOk result (λ a. view_argument S.shown a ≡ plain_input name.now (view_type of_type)) }
+{
+    Ok(Argument::new(String::from_str(alloc, name)?, of_type))
+}
 
-    /// This field.
-    pub(crate) fn and(self, field: Field<S>) -> Result<Self, AllocError>
-        ensures { IfOk result (λ l. view_list S.shown l ≡ view_list S.shown self ++ view_field S.shown field ∷ []) }
-    {
-        let FieldList { alloc, mut items } = self;
-        items.push(field)?;
-        Ok(FieldList { alloc, items })
-    }
+/// `name`
+#[tactic(auto, unfolding(graphql_spec::specs::BuiltIns::maybe))]
+pub(crate) fn maybe(alloc: Global, name: &str) -> Result<Type<String>, AllocError>
+    ensures { IfOk result (λ t. view_type t ≡ maybe name.now) }
+{
+    Ok(Type::Named(String::from_str(alloc, name)?))
+}
 
-    /// `name: of_type`
-    pub(crate) fn maybe(self, name: &str, of_type: &str) -> Result<Self, AllocError>
-        ensures { IfOk result (λ l. view_list S.shown l ≡ view_list S.shown self ++ field_without name.now (maybe of_type.now) ∷ []) }
-    {
-        let field = field_without(self.alloc, name, maybe(self.alloc, of_type)?)?;
-        self.and(field)
-    }
+/// `name!`
+#[tactic(auto, unfolding(graphql_spec::specs::BuiltIns::must))]
+fn must(alloc: Global, name: &str) -> Result<Type<String>, AllocError>
+    ensures { IfOk result (λ t. view_type t ≡ must name.now) }
+{
+    Ok(Type::NonNullNamed(String::from_str(alloc, name)?))
+}
 
-    /// `name: of_type!`
-    pub(crate) fn must(self, name: &str, of_type: &str) -> Result<Self, AllocError>
-        ensures { IfOk result (λ l. view_list S.shown l ≡ view_list S.shown self ++ field_without name.now (must of_type.now) ∷ []) }
-    {
-        let field = field_without(self.alloc, name, must(self.alloc, of_type)?)?;
-        self.and(field)
-    }
+/// `[name!]`
+#[tactic(auto, unfolding(graphql_spec::specs::BuiltIns::must, graphql_spec::specs::BuiltIns::maybe_all))]
+fn maybe_all(alloc: Global, name: &str) -> Result<Type<String>, AllocError>
+    ensures { IfOk result (λ t. view_type t ≡ maybe_all name.now) }
+{
+    must(alloc, name)?.wrap_list(alloc, None)
+}
 
-    /// `name: [of_type!]`
-    pub(crate) fn maybe_all(self, name: &str, of_type: &str) -> Result<Self, AllocError>
-        ensures { IfOk result (λ l. view_list S.shown l ≡ view_list S.shown self ++ field_without name.now (maybe_all of_type.now) ∷ []) }
-    {
-        let field = field_without(self.alloc, name, maybe_all(self.alloc, of_type)?)?;
-        self.and(field)
-    }
-
-    /// `name: [of_type!]!`
-    pub(crate) fn must_all(self, name: &str, of_type: &str) -> Result<Self, AllocError>
-        ensures { IfOk result (λ l. view_list S.shown l ≡ view_list S.shown self ++ field_without name.now (must_all of_type.now) ∷ []) }
-    {
-        let field = field_without(self.alloc, name, must_all(self.alloc, of_type)?)?;
-        self.and(field)
-    }
-
-    /// `name(includeDeprecated: Boolean = false): [of_type!]`
-    #[tactic(auto, unfolding(graphql_spec::specs::BuiltIns::field_without, graphql_spec::specs::Schema::plain_field))]
-    pub(crate) fn maybe_deprecated(self, name: &str, of_type: &str) -> Result<Self, AllocError>
-        ensures { IfOk result (λ l. view_list S.shown l ≡ view_list S.shown self ++ plain_field name.now include_deprecated (maybe_all of_type.now) ∷ []) }
-    {
-        let field = field_without(self.alloc, name, maybe_all(self.alloc, of_type)?)?;
-        let field = field.argument(self.alloc, include_deprecated(self.alloc)?)?;
-        self.and(field)
-    }
-
-    /// A deprecated flag of this name.
-    pub(crate) fn old_flag(self, name: &str) -> Result<Self, AllocError>
-        ensures { IfOk result (λ l. view_list S.shown l ≡ view_list S.shown self ++ old_flag name.now ∷ []) }
-    {
-        let field = old_flag(self.alloc, name)?;
-        self.and(field)
-    }
+/// `[name!]!`
+#[tactic(auto, unfolding(graphql_spec::specs::BuiltIns::maybe_all, graphql_spec::specs::BuiltIns::must_all))]
+fn must_all(alloc: Global, name: &str) -> Result<Type<String>, AllocError>
+    ensures { IfOk result (λ t. view_type t ≡ must_all name.now) }
+{
+    Ok(maybe_all(alloc, name)?.wrap_non_null())
 }

@@ -6,32 +6,31 @@ ghost use Rattle.graphql_spec.specs.BuiltIns.{maybe, must};
 ghost use Rattle.graphql_spec.specs.Schema.{plain_field, plain_input};
 ghost use Rattle.juniper_meta.specs.MetaView.{view_field};
 
-use crate::fields::{FieldList, maybe, must};
-use juniper_meta::Argument;
+use crate::fields::{FieldRow, field_with, fields_of, maybe, must_argument};
 use juniper_meta::meta::Field;
 use juniper_syntax::ScalarValue;
 use std::alloc::{AllocError, Global};
 
 /// `__typename`, which each object, interface and union has (4.1), then `__schema` and `__type`, which the query type has
 /// (4.2); an error where memory is refused.
+#[tactic(auto, unfolding(graphql_spec::specs::BuiltIns::must, graphql_spec::specs::BuiltIns::maybe, graphql_spec::specs::BuiltIns::field_without, graphql_spec::specs::Fields::typename_field, graphql_spec::specs::Fields::root_fields))]
 pub fn meta_fields<S: ScalarValue>(alloc: Global) -> Result<Vec<Field<S>>, AllocError>
     ensures { IfOk result (λ made. map (view_field S.shown) made.items ≡ typename_field ∷ root_fields) }
 {
-    let fields = FieldList::new(alloc)
-        .must("__typename", "String")?
-        .must("__schema", "__Schema")?
-        .and(type_field(alloc)?)?;
-    Ok(fields.into_items())
+    let rows = [
+        FieldRow::Must("__typename", "String"),
+        FieldRow::Must("__schema", "__Schema"),
+    ];
+    let mut fields = fields_of(alloc, &rows)?;
+    fields.push(type_field(alloc)?)?;
+    Ok(fields)
 }
 
 /// `__type(name: String!): __Type` (4.2).
-#[tactic(auto, unfolding(graphql_spec::specs::BuiltIns::must, graphql_spec::specs::BuiltIns::maybe, graphql_spec::specs::Schema::plain_field, graphql_spec::specs::Schema::plain_input))]
 fn type_field<S: ScalarValue>(alloc: Global) -> Result<Field<S>, AllocError>
     ensures { IfOk result (λ f. view_field S.shown f ≡ plain_field (codes "__type") (plain_input (codes "name") (must (codes "String")) ∷ [])
         (maybe (codes "__Type"))) }
 {
-    let name = String::from_str(alloc, "__type")?;
-    let field = Field::new(name, maybe(alloc, "__Type")?);
-    let name = String::from_str(alloc, "name")?;
-    Ok(field.argument(alloc, Argument::new(name, must(alloc, "String")?))?)
+    let argument = must_argument(alloc, "name", "String")?;
+    field_with(alloc, "__type", argument, maybe(alloc, "__Type")?)
 }

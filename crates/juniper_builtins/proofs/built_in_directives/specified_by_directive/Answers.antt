@@ -1,5 +1,0 @@
-use Rattle.juniper_builtins.proofs.built_in_directives.specified_by_directive.Goals as goal
-
-pub returns : goal.returns
-returns g c =
-    rw (c.in_ok-name.ensures.ok, c.in_ok-locations.ensures.items, c.in_ok-arguments.ensures, c.in_ok-argument_of.ensures, c.in_ok-must.ensures) at c.new.ensures
