@@ -1,5 +1,5 @@
 -- What stands at a type through its lists.
-use Rattle.std.proofs.Common.{◌≡◌, ℕ, suc, Bool, true, false, not, ◌&&◌, ◌||◌, List, [], ◌∷◌, length, Option, Some, None, is_some, option_map, refl, sym, ap, ◌∙◌}
+use Rattle.std.proofs.Common.{◌≡◌, ℕ, suc, ◌+◌, ◌<◌, ◌≤◌, Bool, true, false, not, ◌&&◌, ◌||◌, List, [], ◌∷◌, length, get_or, drop, string_bytes, bytes_eq, Option, Some, None, is_some, option_map, refl, sym, ap, ◌∙◌}
 use Rattle.graphql_spec.specs.Shown.{Name, Shown}
 use Rattle.graphql_spec.specs.Inputs.{InputFields, InputItems, no_fields, input_field, count_items}
 use Rattle.graphql_spec.specs.Schema.{InputDeclaration, Schema, Shape, scalar_type, enum_type, object_type, interface_type, union_type, input_object_type, list_type, nullable_type, placeholder}
@@ -7,7 +7,10 @@ use Rattle.graphql_spec.specs.Executable.{values_of}
 use Rattle.graphql_spec.specs.Fields.{declaration_in, declares_value, leaf_accepts}
 use Rattle.graphql_spec.specs.Types.{TypeRef, named, list_of, innermost}
 use Rattle.graphql_spec.specs.Fits.{all_fit, all_written, enum_fits, fields_fit, fits, fits_declared, has_field, input_object_fits, scalar_fits, size_met, through}
-use Rattle.juniper_syntax.specs.InputView.{view_items}
+use Rattle.std.proofs.lemmas.List.{drop_all}
+use Rattle.juniper_syntax.specs.InputView.{view_input, view_items, view_fields}
+use Rattle.juniper_syntax.proofs.InputLists.{Item, Field}
+use Rattle.juniper_syntax.proofs.Lists.{left-is}
 use Rattle.juniper_syntax.specs.declared.input.InputValue.{InputValue}
 use Rattle.juniper_position.specs.declared.position.Span.{Span}
 use Rattle.juniper_position.specs.declared.position.Spanning.{Spanning}
@@ -117,3 +120,54 @@ object_is s given fs (Some (union_type ms)) = refl
 object_is s given fs (Some (list_type n t)) = refl
 object_is s given fs (Some (nullable_type t)) = refl
 object_is s given fs (Some placeholder) = refl
+
+-- ## Loops over items and fields: what is left decides
+
+module _ {S : Type 0} (shown : S → Shown) where
+  pub names_pass : (n : Name) (xs : List (Field S)) (i : ℕ) (x : Field S) → i < length xs → x ≡ get_or xs i x → bytes_eq n (string_bytes x.0.item) ≡ false
+      → has_field n (view_fields shown (drop i xs)) ≡ has_field n (view_fields shown (drop (i + 1) xs))
+  unfolding has_field
+  names_pass n xs i x below at_i one = rw (left-is xs i x below at_i, one) refl
+
+  pub names_stop : (n : Name) (xs : List (Field S)) (i : ℕ) (x : Field S) → i < length xs → x ≡ get_or xs i x → bytes_eq n (string_bytes x.0.item) ≡ true
+      → has_field n (view_fields shown (drop i xs)) ≡ true
+  unfolding has_field
+  names_stop n xs i x below at_i one = rw (left-is xs i x below at_i, one) refl
+
+  pub names_done : (n : Name) (xs : List (Field S)) (i : ℕ) → length xs ≤ i → has_field n (view_fields shown (drop i xs)) ≡ false
+  unfolding has_field
+  names_done n xs i past = let empty : drop i xs ≡ [] = drop_all i xs past in rw empty refl
+
+module _ {S : Type 0} (shown : S → Shown) (s : Schema) (given : Bool) where
+  pub items_pass : (xs : List (Item S)) (i : ℕ) (x : Item S) (t : TypeRef) → i < length xs → x ≡ get_or xs i x → fits s given (view_input shown x.item) t ≡ true
+      → all_fit s given (view_items shown (drop (i + 1) xs)) t ≡ all_fit s given (view_items shown (drop i xs)) t
+  unfolding fits
+  items_pass xs i x t below at_i one = rw (left-is xs i x below at_i, one) refl
+
+  pub items_stop : (xs : List (Item S)) (i : ℕ) (x : Item S) (t : TypeRef) → i < length xs → x ≡ get_or xs i x
+      → fits s given (view_input shown x.item) t ≡ false
+      → false ≡ all_fit s given (view_items shown (drop i xs)) t
+  unfolding fits
+  items_stop xs i x t below at_i one = rw (left-is xs i x below at_i, one) refl
+
+  pub items_done : (xs : List (Item S)) (i : ℕ) (t : TypeRef) → length xs ≤ i → true ≡ all_fit s given (view_items shown (drop i xs)) t
+  unfolding fits
+  items_done xs i t past = let empty : drop i xs ≡ [] = drop_all i xs past in rw empty refl
+
+  -- whether the value of a field fits what is declared at its name
+  abbrev pub field_fits : Field S → List InputDeclaration → Bool
+  field_fits x ds = fits_some (fits s given (view_input shown x.1.item)) (option_map (λ d. d.of_type) (declaration_in ds (string_bytes x.0.item)))
+
+  pub fields_pass : (xs : List (Field S)) (i : ℕ) (x : Field S) (ds : List InputDeclaration) → i < length xs → x ≡ get_or xs i x → field_fits x ds ≡ true
+      → each_fits s given (view_fields shown (drop (i + 1) xs)) ds ≡ each_fits s given (view_fields shown (drop i xs)) ds
+  unfolding each_fits
+  fields_pass xs i x ds below at_i one = rw (left-is xs i x below at_i, one) refl
+
+  pub fields_stop : (xs : List (Field S)) (i : ℕ) (x : Field S) (ds : List InputDeclaration) → i < length xs → x ≡ get_or xs i x → field_fits x ds ≡ false
+      → false ≡ each_fits s given (view_fields shown (drop i xs)) ds
+  unfolding each_fits
+  fields_stop xs i x ds below at_i one = rw (left-is xs i x below at_i, one) refl
+
+  pub fields_done : (xs : List (Field S)) (i : ℕ) (ds : List InputDeclaration) → length xs ≤ i → true ≡ each_fits s given (view_fields shown (drop i xs)) ds
+  unfolding each_fits
+  fields_done xs i ds past = let empty : drop i xs ≡ [] = drop_all i xs past in rw empty refl

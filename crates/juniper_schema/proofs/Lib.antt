@@ -5,4 +5,5 @@ pub mod Executables
 pub mod TypeLevels
 pub mod Sorting
 pub mod Pushing
+pub mod Tested
 pub mod MetaFields

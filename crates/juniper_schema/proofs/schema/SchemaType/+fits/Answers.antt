@@ -1,13 +1,19 @@
-use Rattle.std.proofs.Common.{not, ◌&&◌, true, false, sym, ap, ◌∙◌}
+use Rattle.std.proofs.Common.{◌≡◌, get_or, refl, Bool, not, ◌&&◌, true, false, List, Option, option_map, sym, ap, ◌∙◌, arith, rules}
+use denote.Param.Weighed.{at_most}
+use Rattle.juniper_syntax.proofs.input.InputValue.TheLaws.{the_size}
+use Rattle.juniper_syntax.specs.declared.input.InputValue.TheShapes.{weighed-InputValue-List-0-at-2, weighed-InputValue-Object-0-at-4}
+use Rattle.graphql_spec.specs.Shown.{Name}
+use Rattle.graphql_spec.specs.Schema.{InputDeclaration}
+use Rattle.graphql_spec.specs.Types.{TypeRef}
 use Rattle.graphql_spec.specs.Inputs.{object}
-use Rattle.graphql_spec.specs.Fields.{type_named}
+use Rattle.graphql_spec.specs.Fields.{declaration_in, type_named}
 use Rattle.graphql_spec.specs.Fits.{all_fit, all_written, fields_fit, fits, input_object_fits, size_met}
 use Rattle.juniper_meta.specs.MetaView.{view_type}
 use Rattle.juniper_syntax.specs.InputView.{view_fields, view_input, view_items}
 use Rattle.juniper_syntax.proofs.Inputs.{view-Null, view-Object}
-use Rattle.juniper_schema.specs.Fitting.{list_fits}
+use Rattle.juniper_schema.specs.Fitting.{declared_of, fits_some, list_fits}
 use Rattle.juniper_schema.specs.SchemaView.{view_schema}
-use Rattle.juniper_schema.proofs.Fitting.{count_is, list_met, object_is, through_no, through_yes}
+use Rattle.juniper_schema.proofs.Fitting.{count_is, fields_done, fields_pass, fields_stop, items_done, items_pass, items_stop, list_met, object_is, through_no, through_yes}
 use Rattle.juniper_schema.proofs.TypeLevels.{view-List, view-NonNullList}
 use Rattle.juniper_schema.proofs.schema.SchemaType.+fits.Goals as goal
 
@@ -74,3 +80,73 @@ fits-returns-in-Null g t c =
     let shown = g.S.ScalarValue.shown in
     ap not c.is_non_null.ensures ∙ sym (ap (λ v. fits (view_schema shown c.args.self.now) c.args.given v (view_type c.args.reference.now))
     (ap (view_input shown) c.in-Null.is ∙ view-Null shown))
+
+pub all_fit-loop-item-init : goal.all_fit-loop-item-init
+all_fit-loop-item-init g t c = refl
+
+pub all_fit-fits-requires : goal.all_fit-fits-requires
+all_fit-fits-requires g t c κs within = (
+  let size = the_size g.row.S g.S.laws in
+      let most_of = (weighed-InputValue-List-0-at-2 g.row.S.Denot).weight _ size in
+      let at = at_most most_of c.args.items.now c.loop-item.item-index c.item-item.result (omega arith) in
+      let same : most_of c.item-item.result ≡ most_of (get_or c.args.items.now c.loop-item.item-index c.item-item.result) = ap most_of c.item-item.is in
+      omega (arith, c.decreases, at, same),
+  search rules,
+)
+
+pub all_fit-returns-then-not-fits : goal.all_fit-returns-then-not-fits
+all_fit-returns-then-not-fits g t c =
+    let shown = g.S.ScalarValue.shown in let l = c.loop-item in
+    items_stop shown (view_schema shown c.args.self.now) c.args.given c.args.items.now l.item-index c.item-item.result (view_type c.args.reference.now)
+    c.loop-item-test.true c.item-item.is (sym c.fits.ensures ∙ c.if-not-fits.true) ∙ l.invariant
+
+pub all_fit-loop-item-preserved : goal.all_fit-loop-item-preserved
+all_fit-loop-item-preserved g t c =
+    let shown = g.S.ScalarValue.shown in let l = c.loop-item in
+    items_pass shown (view_schema shown c.args.self.now) c.args.given c.args.items.now l.item-index c.item-item.result (view_type c.args.reference.now)
+    c.loop-item-test.true c.item-item.is (sym c.fits.ensures ∙ c.if-not-fits.false) ∙ l.invariant
+
+pub all_fit-returns : goal.all_fit-returns
+all_fit-returns g t c =
+    let shown = g.S.ScalarValue.shown in let l = c.loop-item in
+    items_done shown (view_schema shown c.args.self.now) c.args.given c.args.items.now l.item-index (view_type c.args.reference.now) c.loop-item-test.false
+    ∙ l.invariant
+
+pub each_fits-loop-name-init : goal.each_fits-loop-name-init
+each_fits-loop-name-init g t c = refl
+
+pub each_fits-fits_some-requires : goal.each_fits-fits_some-requires
+each_fits-fits_some-requires g t c κs within = (
+  let size = the_size g.row.S g.S.laws in
+      let most_of = (weighed-InputValue-Object-0-at-4 g.row.S.Denot).weight _ size in
+      let at = at_most most_of c.args.fields.now c.loop-name.name-index c.loop-name-item.result (omega arith) in
+      let same : most_of c.loop-name-item.result ≡ most_of (get_or c.args.fields.now c.loop-name.name-index c.loop-name-item.result) =
+      ap most_of c.loop-name-item.is in
+      omega (arith, at, same),
+  search rules,
+)
+
+-- what the test of a field answers
+field_as : {b : Bool} (f : TypeRef → Bool) (ds : List InputDeclaration) (n m : Name) (o : Option TypeRef) (r : Bool) → r ≡ fits_some f o →
+    o ≡ option_map (λ d. d.of_type) (declaration_in ds n) → n ≡ m → r ≡ b → fits_some f (option_map (λ d. d.of_type) (declaration_in ds m)) ≡ b
+field_as f ds n m o r tested found named is =
+    sym (tested ∙ (ap (fits_some f) found ∙ ap (λ k. fits_some f (option_map (λ d. d.of_type) (declaration_in ds k))) named)) ∙ is
+
+pub each_fits-returns-then-not-fits_some : goal.each_fits-returns-then-not-fits_some
+each_fits-returns-then-not-fits_some g t c =
+    let shown = g.S.ScalarValue.shown in let l = c.loop-name in let s = view_schema shown c.args.self.now in
+    let ds = declared_of (type_named s c.args.type_name.now) in
+    fields_stop shown s c.args.given c.args.fields.now l.name-index c.loop-name-item.result ds c.loop-name-test.true c.loop-name-item.is
+    (field_as _ ds _ _ _ _ c.fits_some.ensures c.declared_type-reference.ensures c.as_str.ensures.value c.if-not-fits_some.true) ∙ l.invariant
+
+pub each_fits-loop-name-preserved : goal.each_fits-loop-name-preserved
+each_fits-loop-name-preserved g t c =
+    let shown = g.S.ScalarValue.shown in let l = c.loop-name in let s = view_schema shown c.args.self.now in
+    let ds = declared_of (type_named s c.args.type_name.now) in
+    fields_pass shown s c.args.given c.args.fields.now l.name-index c.loop-name-item.result ds c.loop-name-test.true c.loop-name-item.is
+    (field_as _ ds _ _ _ _ c.fits_some.ensures c.declared_type-reference.ensures c.as_str.ensures.value c.if-not-fits_some.false) ∙ l.invariant
+
+pub each_fits-returns : goal.each_fits-returns
+each_fits-returns g t c =
+    let shown = g.S.ScalarValue.shown in let l = c.loop-name in let s = view_schema shown c.args.self.now in
+    fields_done shown s c.args.given c.args.fields.now l.name-index (declared_of (type_named s c.args.type_name.now)) c.loop-name-test.false ∙ l.invariant
