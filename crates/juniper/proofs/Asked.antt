@@ -1,35 +1,73 @@
 -- What a resolver is asked for at a field.
-use Rattle.std.proofs.Common.{◌≡◌, List}
+use Rattle.std.proofs.Common.{◌≡◌, ◌<◌, Bool, List, [], ◌∷◌, length, sym, ap, ◌∙◌, arith}
 use Rattle.std.specs.declared.cmp.PartialEq.{Ghosts as Equality}
 use Rattle.std.specs.declared.fmt.Debug.{Ghosts as Shows}
 use Rattle.graphql_spec.specs.Shown.{Shown, Name}
 use Rattle.graphql_spec.specs.Arguments.{coerced_arguments}
 use Rattle.graphql_spec.specs.Constants.{Members}
 use Rattle.graphql_spec.specs.Documents.{written}
+use Rattle.graphql_spec.specs.Execution.{reply_of, reply_to, type_of}
 use Rattle.graphql_spec.specs.Fields.{declared_arguments, field_of, is_possible}
+use Rattle.graphql_spec.specs.Resolvers.{World}
 use Rattle.juniper_position.specs.declared.position.Span.{Span}
 use Rattle.juniper_position.specs.declared.position.Spanning.{Spanning}
 use Rattle.juniper_syntax.specs.InputView.{view_variables}
 use Rattle.juniper_syntax.specs.declared.ast.Field.{Field}
-use Rattle.juniper_syntax.specs.declared.ast.Selection.{Selection}
 use Rattle.juniper_syntax.specs.declared.scalar.ScalarValue.{Ghosts as Scalars}
 use Rattle.juniper_lookahead.specs.Expansion.{FragmentsByName, VariableMap, occurrence_at}
-use Rattle.juniper_lookahead.specs.Selected.{IsSelected}
+use Rattle.juniper_lookahead.specs.Sites.{IsFirstOf, IsWholeGroup, view_fields}
+use Rattle.juniper_lookahead.specs.declared.occurrences.Enclosing.{Enclosing}
+use Rattle.juniper_lookahead.specs.declared.occurrences.Occurrence.{Occurrence as CodeOccurrence}
 use Rattle.juniper_schema.specs.SchemaView.{view_schema}
 use Rattle.juniper_schema.specs.declared.schema.SchemaType.{SchemaType}
-use Rattle.juniper_types.specs.ExecutorView.{IsAskedFor, concrete_of, enclosing_of, fragments_of, occurrence_of, schema_of, variables_of}
+use Rattle.juniper_types.specs.ExecutorView.{IsAskedFor, concrete_of, enclosing_of, fragments_of, occurrence_of, occurrences_of, schema_of, variables_of}
 use Rattle.juniper_types.specs.declared.executor.Executor.{Executor}
+use Rattle.juniper_walk.specs.FieldWords.{head_of}
+
+-- a list with a first has one at least
+pub first-bound : {S : Type 0} (os : List (CodeOccurrence S)) (f : Spanning (Field S) Span) → IsFirstOf f os → 0 < length os
+first-bound [] f first = absurd first
+first-bound (o ∷ os) f first = omega arith
+
+-- and one first alone
+pub first-same : {S : Type 0} (os : List (CodeOccurrence S)) (f g : Spanning (Field S) Span) → IsFirstOf f os → IsFirstOf g os → f ≡ g
+first-same [] f g first other = absurd first
+first-same (o ∷ os) f g first other = sym first ∙ other
+
+module _ {S : Type 0} (shown : S → Shown) (vars : VariableMap S) (m : FragmentsByName S) where
+  -- a whole group has one field at least
+  pub whole-bound : (possible : Name → Name → Bool) (T : Name) (es : List (Enclosing S)) (os : List (CodeOccurrence S)) →
+      IsWholeGroup shown possible vars m T es os → 0 < length os
+  whole-bound possible T es [] whole = let e = whole.some in absurd cc
+  whole-bound possible T es (o ∷ os) whole = omega arith
+
+  module _ {N : Type 0} (W : World N) (T : Name) (n : N) where
+    -- the type and the reply of a group are those of its first (6.4.2)
+    pub first-type : (os : List (CodeOccurrence S)) (f : Spanning (Field S) Span) → IsFirstOf f os →
+        W.field_type T (head_of shown f).name.item ≡ type_of W T (view_fields shown vars m os)
+    unfolding occurrence_at type_of
+    first-type [] f first = absurd first
+    first-type (o ∷ os) f first = ap (λ (x : Spanning (Field S) Span). W.field_type T (head_of shown x).name.item) (sym first)
+
+    pub first-reply : (os : List (CodeOccurrence S)) (f : Spanning (Field S) Span) → IsFirstOf f os →
+        reply_to W T n (head_of shown f) ≡ reply_of W T n (view_fields shown vars m os)
+    unfolding occurrence_at reply_of
+    first-reply [] f first = absurd first
+    first-reply (o ∷ os) f first = ap (λ (x : Spanning (Field S) Span). reply_to W T n (head_of shown x)) (sym first)
 
 module _ {C S : Type 0} {scalar : Scalars S} {equality : Equality S} {shows : Shows S} (shown : S → Shown) (e : Executor C S scalar equality shows) where
-  pub asked-at : (s : SchemaType S scalar equality shows) (vars : VariableMap S) (m : FragmentsByName S) (T : Name) (ss : List (Selection S))
-      (f : Spanning (Field S) Span) (name : Name) (given : Members) →
-      schema_of e ≡ s → variables_of e ≡ vars → fragments_of e ≡ m → concrete_of e ≡ T → enclosing_of e ≡ ss → occurrence_of e ≡ f →
+  pub asked-at : (s : SchemaType S scalar equality shows) (vars : VariableMap S) (m : FragmentsByName S) (T : Name) (es : List (Enclosing S))
+      (os : List (CodeOccurrence S)) (f : Spanning (Field S) Span) (name : Name) (given : Members) →
+      schema_of e ≡ s → variables_of e ≡ vars → fragments_of e ≡ m → concrete_of e ≡ T → enclosing_of e ≡ es → occurrences_of e ≡ os →
+      occurrence_of e ≡ f → IsFirstOf f os →
       (occurrence_at shown vars m f).head.name.item ≡ name →
       given ≡ coerced_arguments (declared_arguments (field_of (view_schema shown s) T name)) (view_variables shown vars)
       (written (occurrence_at shown vars m f).head.arguments) →
-      IsSelected shown (is_possible (view_schema shown s)) vars m T ss f → IsAskedFor shown e name given
-  asked-at s vars m T ss f name given of_schema of_variables of_fragments of_concrete of_enclosing of_occurrence is_named is_given selected = record {
-    is_named = rw (of_variables, of_fragments, of_occurrence) is_named;
-    is_given = rw (of_schema, of_variables, of_fragments, of_concrete, of_occurrence) is_given;
-    selected = rw (of_schema, of_variables, of_fragments, of_concrete, of_enclosing, of_occurrence) selected;
-  }
+      IsWholeGroup shown (is_possible (view_schema shown s)) vars m T es os → IsAskedFor shown e name given
+  asked-at s vars m T es os f name given of_schema of_variables of_fragments of_concrete of_enclosing of_occurrences of_occurrence first is_named is_given whole =
+      record {
+        is_named = rw (of_variables, of_fragments, of_occurrence) is_named;
+        is_given = rw (of_schema, of_variables, of_fragments, of_concrete, of_occurrence) is_given;
+        first = rw (of_occurrence, of_occurrences) first;
+        whole = rw (of_schema, of_variables, of_fragments, of_concrete, of_enclosing, of_occurrences) whole;
+      }

@@ -1,8 +1,8 @@
 -- What a request is answered that asks a schema about itself.
 use Rattle.std.proofs.Common.{◌≡◌, None, Result, Vec, Global, subst}
-use Rattle.graphql_spec.specs.Errors.{keys_only}
+use Rattle.graphql_spec.specs.ExactAnswers.{IsExactOutcome}
 use Rattle.graphql_spec.specs.Inputs.{Variables}
-use Rattle.graphql_spec.specs.Outcomes.{IsOutcome, Request, Service}
+use Rattle.graphql_spec.specs.Outcomes.{Request, Service}
 use Rattle.graphql_spec.specs.Shown.{Shown, Text}
 use Rattle.juniper_errors.specs.declared.execution_error.ExecutionError.{ExecutionError}
 use Rattle.juniper_syntax.specs.declared.value.Value.{Value}
@@ -14,7 +14,7 @@ use Rattle.juniper.specs.declared.introspection.IntrospectionFormat.{Introspecti
 module _ {A C N : Type 0} (shown : A → Shown) (S : Service C N) (c after : C) (o : Result (Value A × Vec (ExecutionError A) Global) GraphQLError) where
   -- the answer is an outcome of the request
   abbrev Comes : Request → Type 0
-  Comes q = AnswersAs shown (λ r. IsOutcome S keys_only q c r after) o
+  Comes q = AnswersAs shown (λ r. IsExactOutcome S q c r after) o
 
   -- the request of a text that is the format's, where no variable has a value
   pub asked-as : (f : IntrospectionFormat) (t : Text) (given : Variables) → t ≡ text_of f → given ≡ (λ name. None) →

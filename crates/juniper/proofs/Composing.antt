@@ -9,7 +9,8 @@ use Rattle.graphql_spec.specs.Shown.{Name, Shown}
 use Rattle.graphql_spec.specs.Values.{Value}
 use Rattle.graphql_spec.specs.Documents.{Document, Operation, query, mutation, subscription, variables_of}
 use Rattle.graphql_spec.specs.Inputs.{Variables}
-use Rattle.graphql_spec.specs.Errors.{Listed, keys_only}
+use Rattle.graphql_spec.specs.Errors.{Listed}
+use Rattle.graphql_spec.specs.ExactAnswers.{ListsOnce, whole}
 use Rattle.graphql_spec.specs.Rules.{RuleError}
 use Rattle.graphql_spec.specs.Schema.{Schema}
 use Rattle.graphql_spec.specs.Requests as spec
@@ -67,11 +68,11 @@ module _ (es : List CodeError) (b : Bool) (tested : b ≡ (length es == 0)) (fou
 -- ## By the kind of the operation
 
 module _ {C N : Type 0} (S : Service C N) (s : Schema) (d : Document) (o : Operation) (given : Variables) (c : C) where
-  pub subscription-ends : o.kind ≡ subscription → IsOutcomeOf S keys_only (outcome_of s d o given) c (refuses spec.is_subscription) c
+  pub subscription-ends : o.kind ≡ subscription → IsOutcomeOf S whole (outcome_of s d o given) c (refuses spec.is_subscription) c
   unfolding of_kind
   subscription-ends k = (ap (λ z. of_kind s z (runs d o (coerced_variables (variables_of o) given))) k, refl)
 
-  pub mutation-ends : o.kind ≡ mutation → s.mutation ≡ None → IsOutcomeOf S keys_only (outcome_of s d o given) c (refuses spec.no_mutation_type) c
+  pub mutation-ends : o.kind ≡ mutation → s.mutation ≡ None → IsOutcomeOf S whole (outcome_of s d o given) c (refuses spec.no_mutation_type) c
   unfolding of_kind
   mutation-ends k none =
       let run = runs d o (coerced_variables (variables_of o) given) in
@@ -86,19 +87,19 @@ module _ {C N : Type 0} (S : Service C N) (s : Schema) (d : Document) (o : Opera
   -- a mutation that ran, and one for which memory was wanting
   module _ (k : o.kind ≡ mutation) (T : Name) (is : s.mutation ≡ Some T) (m : Steps C N) (has : HasMutation S m T) (vars : Variables)
       (e : vars ≡ coerced_variables (variables_of o) given) (after : C) where
-    pub mutation-answers : (v : Value) (es : List Listed) → IsMutationAnswerFor (mutation_in S m vars) T keys_only (selected d o vars) c v es after →
-        IsOutcomeOf S keys_only (outcome_of s d o given) c (responds v es) after
+    pub mutation-answers : (v : Value) (es : List Listed) → IsMutationAnswerFor (mutation_in S m vars) T whole (selected d o vars) c v es after →
+        IsOutcomeOf S whole (outcome_of s d o given) c (responds v es) after
     mutation-answers v es answer = (
       d,
       o,
       vars,
       mutation-runs k T is ∙ ap (runs d o) (sym e),
-      subst (λ z. IsExecuted S keys_only z vars (selected d o vars) c v es after) (sym k)
+      subst (λ z. IsExecuted S whole z vars (selected d o vars) c v es after) (sym k)
           (m, T, has, answer),
     )
 
     pub mutation-left : IsLeftOf (mutation_in S m vars) T (selected d o vars) c after →
-        IsOutcomeOf S keys_only (outcome_of s d o given) c outcome.out_of_memory after
+        IsOutcomeOf S whole (outcome_of s d o given) c outcome.out_of_memory after
     mutation-left left = inr (d, o, vars, mutation-runs k T is ∙ ap (runs d o) (sym e), k, (m, T, has, left))
 
   query-runs : o.kind ≡ query → outcome_of s d o given ≡ runs d o (coerced_variables (variables_of o) given)
@@ -106,16 +107,16 @@ module _ {C N : Type 0} (S : Service C N) (s : Schema) (d : Document) (o : Opera
   query-runs k = ap (λ z. of_kind s z (runs d o (coerced_variables (variables_of o) given))) k
 
   pub query-ends : o.kind ≡ query → (vars : Variables) → vars ≡ coerced_variables (variables_of o) given → (v : Value) (es : List Listed) →
-      IsAnswerFor keys_only (world_in S vars c) S.schema.query S.root (selected d o vars) v es →
-      IsOutcomeOf S keys_only (outcome_of s d o given) c (responds v es) c
+      IsAnswerFor whole (world_in S vars c) S.schema.query S.root (selected d o vars) v es →
+      IsOutcomeOf S whole (outcome_of s d o given) c (responds v es) c
   query-ends k vars e v es answer =
-      (d, o, vars, query-runs k ∙ ap (runs d o) (sym e), subst (λ z. IsExecuted S keys_only z vars (selected d o vars) c v es c) (sym k) (answer, refl))
+      (d, o, vars, query-runs k ∙ ap (runs d o) (sym e), subst (λ z. IsExecuted S whole z vars (selected d o vars) c v es c) (sym k) (answer, refl))
 
 -- ## The steps of a request
 
 module _ {C N : Type 0} (S : Service C N) (q : Request) (c : C) where
   abbrev pub Ends : RequestError → Type 0
-  Ends e = Responds (λ r. IsOutcome S keys_only q c r c) e
+  Ends e = Responds (λ r. IsOutcome S whole q c r c) e
 
   -- an error that stands for refusals of which each ends the request
   pub stands-for : (P : Refusal → Type 0) → ((r : Refusal) → P r → Becomes S q (refused r)) → (e : RequestError) → StandsFor P e → Ends e
@@ -152,11 +153,24 @@ module _ {C N : Type 0} (S : Service C N) (q : Request) (c : C) where
         at-coerce e m = stands-for _ refuse-values e m
 
         pub at-execute : AreCoercible S.schema o q.variables → (x : Response) (after : C) →
-            IsOutcomeOf S keys_only (outcome_of S.schema d o q.variables) c x after → IsOutcome S keys_only q c x after
+            IsOutcomeOf S whole (outcome_of S.schema d o q.variables) c x after → IsOutcome S whole q c x after
         at-execute a x after i =
-            known-outcome S keys_only q (outcome_of S.schema d o q.variables) ((steps-decide S).kind q d o v choice a.fitting a.constant) c x after i
+            known-outcome S whole q (outcome_of S.schema d o q.variables) ((steps-decide S).kind q d o v choice a.fitting a.constant) c x after i
 
 -- an error's response under another reading
+-- a refusal lists nothing
+pub refused-once : (P : Response → Type 0) (e : RequestError) → Responds P e → Responds (λ r. P r × ListsOnce r) e
+refused-once P out_of_memory p = (p, tt)
+refused-once P (not_parsed e) (r, is, p) = (r, is, (p, tt))
+refused-once P (not_valid es) (r, is, p) = (r, is, (p, tt))
+refused-once P no_operation (r, is, p) = (r, is, (p, tt))
+refused-once P multiple_operations (r, is, p) = (r, is, (p, tt))
+refused-once P unknown_operation (r, is, p) = (r, is, (p, tt))
+refused-once P is_subscription (r, is, p) = (r, is, (p, tt))
+refused-once P not_subscription (r, is, p) = (r, is, (p, tt))
+refused-once P no_mutation_type (r, is, p) = (r, is, (p, tt))
+refused-once P (variable_not_constant n) (r, is, p) = (r, is, (p, tt))
+
 pub responds-so : (P Q : Response → Type 0) → ((r : Response) → P r → Q r) → (e : RequestError) → Responds P e → Responds Q e
 responds-so P Q f out_of_memory p = f outcome.out_of_memory p
 responds-so P Q f (not_parsed e) (r, is, p) = (r, is, f (refuses r) p)
@@ -174,3 +188,12 @@ pub answers-so : {S : Type 0} (shown : S → Shown) (P Q : Response → Type 0) 
     (a : Result (Value' S × Vec (ExecutionError S) Global) GraphQLError) → AnswersAs shown P a → AnswersAs shown Q a
 answers-so shown P Q f (Ok p) x = f (responds (view_value shown p.0) (map (view_listed shown) p.1.items)) x
 answers-so shown P Q f (Err e) x = responds-so P Q f (view_request_error e) x
+
+-- and so where more is said of it, which may be left unsaid
+module _ {S : Type 0} (shown : S → Shown) (P R : Response → Type 0) (a : Result (Value' S × Vec (ExecutionError S) Global) GraphQLError)
+    (x : AnswersAs shown (λ r. P r × R r) a) where
+  pub answers-beside : (Q : Response → Type 0) → ((r : Response) → P r → Q r) → AnswersAs shown (λ r. Q r × R r) a
+  answers-beside Q f = answers-so shown (λ r. P r × R r) (λ r. Q r × R r) (λ r p. (f r p.0, p.1)) a x
+
+  pub answers-alone : AnswersAs shown P a
+  answers-alone = answers-so shown (λ r. P r × R r) P (λ r p. p.0) a x

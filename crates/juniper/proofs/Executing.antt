@@ -11,10 +11,13 @@ use Rattle.graphql_spec.specs.Fields.{is_object, is_possible, type_named}
 use Rattle.graphql_spec.specs.Fragments.{HasNoCycle, expand}
 use Rattle.graphql_spec.specs.Schema.{Schema}
 use Rattle.graphql_spec.specs.Executable.{is_executable}
-use Rattle.graphql_spec.specs.Errors.{Listed, is_sorted, keys_only}
+use Rattle.graphql_spec.specs.Errors.{Listed, is_sorted}
+use Rattle.graphql_spec.specs.ExactAnswers.{whole}
 use Rattle.graphql_spec.specs.Selections.{Forest, keys, occurrences}
 use Rattle.graphql_spec.specs.Resolvers.{Reply, World, world_of}
+use Rattle.graphql_spec.specs.Outcomes.{responds}
 use Rattle.graphql_spec.specs.Placed.{root_type}
+use Rattle.graphql_spec.specs.Positions.{Position}
 use Rattle.graphql_spec.specs.Rules.{rule_errors}
 use Rattle.graphql_spec.specs.Laws.{In}
 use Rattle.graphql_spec.specs.Walk.{IsAnswerFor, IsMutationAnswerFor, count_listed}
@@ -22,11 +25,15 @@ use Rattle.graphql_spec.proofs.Found.{phases-hold}
 use Rattle.graphql_spec.proofs.KnownSpreads.{names_end_spreads}
 use Rattle.graphql_spec.proofs.ValidSets.{valid_operations_merge}
 use Rattle.graphql_spec.proofs.ValidRuns.{roots_are_possible}
-use Rattle.graphql_spec.specs.GroupLaws.{all_starts}
+use Rattle.graphql_spec.specs.GroupLaws.{all_starts, first_start}
 use Rattle.graphql_spec.specs.Mutation.{IsLeft, Mutation, root_fields}
 use Rattle.graphql_spec.specs.MutationLaws.{HasRun}
+use Rattle.graphql_spec.proofs.Exact.{runs-exact-answer}
 use Rattle.graphql_spec.proofs.Running.{may-stop-after, run-answers}
 use Rattle.juniper.specs.Stepping.{IsLeftOf}
+use Rattle.juniper.specs.Walkings.{Lists, starts_by}
+use Rattle.juniper.specs.declared.walking.Walking.{Walking}
+use Rattle.juniper.specs.declared.walking.Walking.TheVariants.{Grouped, Joined}
 use Rattle.juniper_walk.specs.Walking.{SelectionsAgree}
 
 -- something is declared as the query type
@@ -61,9 +68,9 @@ module _ {N : Type 0} (s : Schema) (disabled : Bool) (executable : IsTrue (is_ex
 
 -- an answer, by other names for its parts
 pub answer-moves : {N : Type 0} (W : World N) (T U : Name) (m n : N) (x y : Forest) (v : Value) (es : List Listed) → T ≡ U → m ≡ n → x ≡ y →
-    IsAnswerFor keys_only W T m x v es → IsAnswerFor keys_only W U n y v es
+    IsAnswerFor whole W T m x v es → IsAnswerFor whole W U n y v es
 answer-moves W T U m n x y v es t e f a =
-    subst (λ z. IsAnswerFor keys_only W U n z v es) f (subst (λ z. IsAnswerFor keys_only W U z x v es) e (subst (λ z. IsAnswerFor keys_only W z m x v es) t a))
+    subst (λ z. IsAnswerFor whole W U n z v es) f (subst (λ z. IsAnswerFor whole W U z x v es) e (subst (λ z. IsAnswerFor whole W z m x v es) t a))
 
 module _ {N : Type 0} (s : Schema) (disabled : Bool) (executable : IsTrue (is_executable s)) (d : Document) (valid : rule_errors s disabled d ≡ [])
     (o : Operation)
@@ -96,12 +103,15 @@ module _ {C N : Type 0} (M : Mutation C N) (T : Name) (c after : C) (possible : 
   left-moves l = subst (λ os. IsLeft M T (keys os) os c after) fields-are l
 
   -- a run that was sorted is an answer
-  pub run-is-answer : (v : Value) (es ds : List Listed) →
-      HasRun keys_only all_starts M T (keys (occurrences possible T x)) (occurrences possible T x) c v es after →
-      ((p : Listed → Bool) → count_listed p ds ≡ count_listed p es) → IsTrue (is_sorted ds) → IsMutationAnswerFor M T keys_only y c v ds after
-  run-is-answer v es ds r same_count sorted =
-      run-answers keys_only M T y c after v es ds (inl (subst (λ os. HasRun keys_only all_starts M T (keys os) os c v es after) fields-are r)) same_count sorted
+  pub run-is-answer : (w : Walking) (v : Value) (es ds : List Listed) →
+      HasRun whole (starts_by w) M T (keys (occurrences possible T x)) (occurrences possible T x) c v es after →
+      ((p : Listed → Bool) → count_listed p ds ≡ count_listed p es) → IsTrue (is_sorted ds) →
+      IsMutationAnswerFor M T whole y c v ds after × Lists w (responds v ds)
+  run-is-answer Grouped v es ds r same_count sorted =
+      runs-exact-answer M T y c after v es ds (subst (λ os. HasRun whole first_start M T (keys os) os c v es after) fields-are r) same_count sorted
+  run-is-answer Joined v es ds r same_count sorted =
+      (run-answers whole M T y c after v es ds (inl (subst (λ os. HasRun whole all_starts M T (keys os) os c v es after) fields-are r)) same_count sorted, tt)
 
-  pub run-left : (v : Value) (es : List Listed) →
-      HasRun keys_only all_starts M T (keys (occurrences possible T x)) (occurrences possible T x) c v es after → IsLeftOf M T y c after
-  run-left v es r = left-moves (may-stop-after M T keys_only all_starts (keys (occurrences possible T x)) (occurrences possible T x) c after v es r)
+  pub run-left : (pick : List Position → List Position) (v : Value) (es : List Listed) →
+      HasRun whole pick M T (keys (occurrences possible T x)) (occurrences possible T x) c v es after → IsLeftOf M T y c after
+  run-left pick v es r = left-moves (may-stop-after M T whole pick (keys (occurrences possible T x)) (occurrences possible T x) c after v es r)

@@ -1,8 +1,9 @@
 mod Choosing
 mod Composing
 mod Executing
-mod GroupLoop
+mod Joining
 mod RootGroups
+mod RootPlans
 pub mod Messages
 mod Undeclared
 mod VariableValues

@@ -1,20 +1,18 @@
 -- The root groups of a mutation, over plain variables (6.2.2).
-use Rattle.std.proofs.Common.{◌≡◌, ◌&&◌, Bool, List, [], ◌∷◌, Result, Ok, Err, IsTrue, refl, sym, ap, ◌∙◌, inl, inr, subst}
-use Rattle.std.proofs.lemmas.Bool.{cases_Bool}
+use Rattle.std.proofs.Common.{◌≡◌, ◌&&◌, Bool, List, [], ◌∷◌, ◌++◌, Result, Ok, Err, IsTrue, refl, sym, ap, ◌∙◌, inl, inr, subst}
 use Rattle.std.proofs.lemmas.List.{append-nil}
-use Rattle.std.specs.Str.{bytes_eq}
+use Rattle.graphql_spec.specs.Positions.{Position}
 use Rattle.graphql_spec.specs.Shown.{Shown, Name}
 use Rattle.graphql_spec.specs.Documents.{response_key}
 use Rattle.graphql_spec.specs.Directives.{passes}
 use Rattle.graphql_spec.specs.Fragments.{HasNoCycle, expand}
-use Rattle.graphql_spec.specs.Errors.{Listed, Place, key, keys_only}
+use Rattle.graphql_spec.specs.Errors.{Listed, Place, key}
+use Rattle.graphql_spec.specs.ExactAnswers.{whole}
 use Rattle.graphql_spec.specs.Execution.{type_of}
-use Rattle.graphql_spec.specs.GroupLaws.{GroupCompleted, all_starts}
-use Rattle.graphql_spec.specs.Laws.{In, Merges}
+use Rattle.graphql_spec.specs.GroupLaws.{GroupCompleted}
+use Rattle.graphql_spec.specs.Laws.{Merges}
 use Rattle.graphql_spec.specs.Mutation.{Mutation, step_of, torn_of}
 use Rattle.graphql_spec.specs.Resolvers.{Reply, World}
-use Rattle.graphql_spec.specs.Fields.{is_possible}
-use Rattle.graphql_spec.specs.Schema.{Schema}
 use Rattle.graphql_spec.specs.Selections.{Forest, Occurrence, all_below, occurrences, with_key}
 use Rattle.graphql_spec.specs.Types.{TypeRef, innermost, required}
 use Rattle.graphql_spec.specs.Values.{Entries, Value, is_null}
@@ -22,23 +20,27 @@ use Rattle.graphql_spec.proofs.Completing.{keys-merge}
 use Rattle.juniper_collect.specs.Collected.{IsReady, expansion, view_all, view_collected}
 use Rattle.juniper_collect.specs.FragmentView.{ExpandAlike, IsMade, fragments_in}
 use Rattle.juniper_collect.specs.declared.collecting.Collector.{Collector}
-use Rattle.juniper_collect.specs.declared.collecting.Occurrence.{Occurrence as CodeOccurrence}
+use Rattle.juniper_lookahead.specs.declared.occurrences.Occurrence.{Occurrence as CodeOccurrence}
 use Rattle.juniper_errors.specs.declared.field_error.ResolveError.{ResolveError}
 use Rattle.juniper_errors.specs.declared.field_error.ResolveError.TheVariants.{Field, Memory}
 use Rattle.juniper_lookahead.specs.Expansion.{FragmentsByName, fragments_among}
-use Rattle.juniper_lookahead.specs.Selected.{IsSelected}
 use Rattle.juniper_position.specs.declared.position.Span.{Span}
 use Rattle.juniper_position.specs.declared.position.Spanning.{Spanning}
 use Rattle.juniper_syntax.specs.DocumentView.{view_set}
 use Rattle.juniper_syntax.specs.InputView.{view_variables}
 use Rattle.juniper_syntax.specs.declared.ast.Field.{Field as FieldType, out-Field}
 use Rattle.juniper_types.specs.Stepping.{Leaves}
-use Rattle.juniper_walk.specs.Completing.{IsGroupAt, IsTold, view_group}
-use Rattle.juniper_walk.specs.declared.grouping.Group.{Group}
+use Rattle.juniper_walk.specs.Completing.{IsTold}
 use Rattle.juniper_walk.specs.FieldWords.{head_of}
 use Rattle.juniper_walk.specs.Walking.{SelectionsAgree}
-use Rattle.juniper_walk.proofs.Preparation.{selected-at}
-use Rattle.juniper.specs.RootFields.{IsReadyRoot, all_fields, field_in, fields_in, group_in}
+use Rattle.juniper_lookahead.specs.Sites.{IsFirstOf, IsWholeGroup}
+use Rattle.juniper_lookahead.specs.declared.occurrences.Enclosing.{Enclosing}
+use Rattle.juniper_plan.specs.PlanWalks.{HasFirst, IsGroupOf}
+use Rattle.juniper_plan.specs.Plans.{IsStep, all_expanded}
+use Rattle.juniper_plan.proofs.Whole.{first-field, whole-at}
+use Rattle.juniper_plan.specs.declared.plan.Plan.{Plan}
+use Rattle.juniper_plan.proofs.Elsewhere.{same-all, standing-elsewhere}
+use Rattle.juniper.specs.RootFields.{IsReadyRoot, collector_in, field_in}
 use Rattle.juniper.specs.Stepping.{GroupRan, GroupStopped, IsGiven, StepLeaves}
 use Rattle.juniper.specs.declared.root_walk.RootWalk.{RootWalk}
 
@@ -62,30 +64,63 @@ module _ {S P : Type 0} (shown : S → Shown) (w : RootWalk S) (c : Collector S 
             expand (passes (view_variables shown vs)) (fragments_in shown w.fragments.now) (view_set shown (out-Field S x.item).selection_set);
       }) v
 
-  pub fields-same : (os : List (CodeOccurrence S)) → view_all shown c os ≡ fields_in shown w os
-  fields-same [] = refl
-  fields-same (o ∷ os) = ap (λ x. x ∷ view_all shown c os) (field-same o.field.now) ∙ ap (λ l. field_in shown w o.field.now ∷ l) (fields-same os)
+-- ## A plan, as another collector sees it
 
-  pub group-same : (g : Group S) → view_group shown c g ≡ group_in shown w g
-  group-same g = ap (λ x. x ∷ view_all shown c g.others.now) (field-same g.first.now) ∙ ap (λ l. field_in shown w g.first.now ∷ l) (fields-same g.others.now)
+module _ {S P Q : Type 0} (shown : S → Shown) (c : Collector S P) (d : Collector S Q) (f : c.fragments.now ≡ d.fragments.now)
+    (v : c.variables.now ≡ d.variables.now) where
+  pub same-fields-elsewhere : (os : List (CodeOccurrence S)) → view_all shown c os ≡ view_all shown d os
+  same-fields-elsewhere os = same-all shown c d f v os
 
-  pub merges-same : {N : Type 0} (W : World N) (n : Name) (g : Group S) → Merges W n (all_below (group_in shown w g)) →
-      Merges W n (all_below (view_group shown c g))
-  merges-same W n g m = subst (λ l. Merges W n (all_below l)) (sym (group-same g)) m
+  pub step-elsewhere : (possible : Name → Name → Bool) (p q : Plan S) → IsStep shown c possible p q → IsStep shown d possible p q
+  step-elsewhere possible p q s = record { standing = standing-elsewhere shown c d f v possible q s.standing; grown = s.grown }
 
-  pub at-group : {N : Type 0} (W : World N) (at : Place) (t : TypeRef) (r : Reply N) (g : Group S) (v : Value) (es : List Listed) →
-      IsGroupAt W at t r (view_group shown c g) v es →
-      IsGroupAt W at t r (group_in shown w g) v es
-  at-group W at t r g v es p = subst (λ l. IsGroupAt W at t r l v es) (group-same g) p
+  pub completed-elsewhere : (pick : List Position → List Position) {N : Type 0} (W : World N) (at : Place) (t : TypeRef) (r : Reply N)
+      (os : List (CodeOccurrence S)) (x : Value) (es : List Listed) →
+      GroupCompleted whole pick W at [] t r (view_all shown c os) x es → GroupCompleted whole pick W at [] t r (view_all shown d os) x es
+  completed-elsewhere pick W at t r os x es p = subst (λ l. GroupCompleted whole pick W at [] t r l x es) (same-all shown c d f v os) p
 
--- a field is selected where the fragments are found by their names
-pub root-selected : {S : Type 0} (shown : S → Shown) (w : RootWalk S) (m : FragmentsByName S) →
-    ExpandAlike (fragments_among shown m) (fragments_in shown w.fragments.now) → (s : Schema) (f : Spanning (FieldType S) Span) →
-    In (field_in shown w f) (all_fields shown w s) → IsSelected shown (is_possible s) w.variables.now m w.concrete.now w.selections.now f
-unfolding view_collected expansion
-root-selected {S} shown w m alike s f among =
-    let c : Collector S (Unit {0}) = record { fragments = w.fragments; variables = w.variables; possible = tt } in
-    selected-at shown c m alike (is_possible s) w.variables.now w.concrete.now w.selections.now f refl among
+  pub merges-elsewhere : {N : Type 0} (W : World N) (n : Name) (os : List (CodeOccurrence S)) → Merges W n (all_below (view_all shown d os)) →
+      Merges W n (all_below (view_all shown c os))
+  merges-elsewhere W n os m = subst (λ l. Merges W n (all_below l)) (sym (same-all shown c d f v os)) m
+
+-- ## A group, as the plan has it
+
+pub place-at : (root here : Place) (j k : Name) → here ≡ root ++ key j ∷ [] → root ≡ [] → j ≡ k → here ≡ key k ∷ []
+place-at root here j k is empty same = is ∙ (ap (λ (p : Place). p ++ key j ∷ []) empty ∙ ap (λ (n : Name). key n ∷ []) same)
+
+pub completed-for : (pick : List Position → List Position) {N : Type 0} (W : World N) (at : Place) (t : TypeRef) (r : Reply N) (l os : List Occurrence)
+    (v : Value) (es : List Listed) → l ≡ os → GroupCompleted whole pick W at [] t r l v es → GroupCompleted whole pick W at [] t r os v es
+completed-for pick W at t r l os v es e p = subst (λ x. GroupCompleted whole pick W at [] t r x v es) e p
+
+module _ {S : Type 0} (shown : S → Shown) (w : RootWalk S) where
+  pub has-first : (k : Name) (all os : List Occurrence) → IsGroupOf k all os → HasFirst os
+  has-first k all os g = record { first = g.first; others = g.others; some = g.some }
+
+  -- the occurrences of a response key are those of its first field and others
+  pub group-others : (fs : List (CodeOccurrence S)) (f : Spanning (FieldType S) Span) (k : Name) (os : List Occurrence) → IsFirstOf f fs →
+      IsGroupOf k os (view_all shown (collector_in shown w) fs) → (others : List Occurrence) × (with_key k os ≡ field_in shown w f ∷ others)
+  group-others [] f k os first g = absurd first
+  group-others (o ∷ fs) f k os first g =
+      let e : view_collected shown (collector_in shown w) o.field.now ≡ field_in shown w f =
+      field-same shown w (collector_in shown w) refl refl o.field.now ∙ ap (field_in shown w) first in
+      (view_all shown (collector_in shown w) fs, sym g.whole ∙ ap (λ (x : Occurrence). x ∷ view_all shown (collector_in shown w) fs) e)
+
+  -- its first field has the response key
+  pub group-key : (fs : List (CodeOccurrence S)) (f : Spanning (FieldType S) Span) (k : Name) (os : List Occurrence) → IsFirstOf f fs →
+      IsGroupOf k os (view_all shown (collector_in shown w) fs) → response_key (head_of shown f) ≡ k
+  group-key [] f k os first g = absurd first
+  group-key (o ∷ fs) f k os first g =
+      sym ((first-field shown (collector_in shown w) (o ∷ fs) o k os g).1 ∙ ap (λ (x : Spanning (FieldType S) Span). response_key (head_of shown x)) first)
+
+  -- the fields are all that the selections hold of it, where the fragments are found by their names
+  pub root-whole : (m : FragmentsByName S) → ExpandAlike (fragments_among shown m) (fragments_in shown w.fragments.now) → (possible : Name → Name → Bool)
+      (es : List (Enclosing S)) (fs gs : List (CodeOccurrence S)) (k : Name) (s : Forest) → all_expanded shown (collector_in shown w) es ≡ s → gs ≡ fs →
+      IsGroupOf k (occurrences possible w.concrete.now s) (view_all shown (collector_in shown w) fs) →
+      IsWholeGroup shown possible w.variables.now m w.concrete.now es gs
+  root-whole m alike possible es fs gs k s expanded is group =
+      whole-at shown (collector_in shown w) m alike possible w.variables.now w.concrete.now es gs k refl
+      (subst (λ x. IsGroupOf k (occurrences possible w.concrete.now x) (view_all shown (collector_in shown w) gs)) (sym expanded)
+      (subst (λ l. IsGroupOf k (occurrences possible w.concrete.now s) (view_all shown (collector_in shown w) l)) (sym is) group))
 
 -- ## What a step leaves
 
@@ -115,22 +150,6 @@ module _ {C N : Type 0} (M : Mutation C N) (T : Name) (group : List Occurrence) 
 
 -- ## A group
 
-key-kept : (k : Name) → keys_only (key k ∷ []) ≡ key k ∷ []
-unfolding keys_only
-key-kept k = refl
-
--- a field among those of a key is among all
-with-key-in : (k : Name) (os : List Occurrence) (x : Occurrence) → In x (with_key k os) → In x os
-unfolding with_key
-with-key-in k [] x i = i
-with-key-in k (o ∷ os) x i = elim (cases_Bool (bytes_eq k (response_key o.head))) [
-  | inl e ↦ elim (rw e at i) [ inl j ↦ inl j | inr j ↦ inr (with-key-in k os x j) ]
-  | inr e ↦ inr (with-key-in k os x (rw e at i))
-]
-
-pub first-among : (k : Name) (os group : List Occurrence) (o : Occurrence) → with_key k os ≡ o ∷ group → In o os
-first-among k os group o is = with-key-in k os o (subst (λ l. In o l) (sym is) (inl refl))
-
 module _ {N : Type 0} (W : World N) (T : Name) (o : Occurrence) (group : List Occurrence) (t : TypeRef) (declared : t ≡ W.field_type T o.head.name.item) where
   pub group-type : t ≡ type_of W T (o ∷ group)
   unfolding type_of
@@ -138,10 +157,11 @@ module _ {N : Type 0} (W : World N) (T : Name) (o : Occurrence) (group : List Oc
 
   -- what the fields of a key select merges
   pub group-merges : (s : Forest) → SelectionsAgree W T s → (k : Name) → with_key k (occurrences W.possible T s) ≡ o ∷ group →
-      Merges W (innermost t) (all_below (o ∷ group))
-  group-merges s agree k is =
-      subst (λ u. Merges W (innermost u) (all_below (o ∷ group))) (sym (group-type ∙ ap (type_of W T) (sym is)))
-      (keys-merge W T (occurrences W.possible T s) agree k (o ∷ group) [] (is ∙ sym (append-nil (o ∷ group))))
+      (os : List Occurrence) → os ≡ o ∷ group → Merges W (innermost t) (all_below os)
+  group-merges s agree k is os e =
+      subst (λ l. Merges W (innermost t) (all_below l)) (sym e)
+      (subst (λ u. Merges W (innermost u) (all_below (o ∷ group))) (sym (group-type ∙ ap (type_of W T) (sym is)))
+      (keys-merge W T (occurrences W.possible T s) agree k (o ∷ group) [] (is ∙ sym (append-nil (o ∷ group)))))
 
 module _ {C N : Type 0} (M : Mutation C N) (T k : Name) (os group : List Occurrence) (is : with_key k os ≡ group) (before after : C) where
   abbrev next : List Occurrence → C × Reply N
@@ -150,23 +170,23 @@ module _ {C N : Type 0} (M : Mutation C N) (T k : Name) (os group : List Occurre
   abbrev type_in : List Occurrence → TypeRef
   type_in g = type_of (M.world (next g).0) T g
 
-  pub group-ran : after ≡ (next group).0 → (t : TypeRef) → t ≡ type_of (M.world after) T group → (at : Place) → at ≡ key k ∷ [] →
+  pub group-ran : (pick : List Position → List Position) → after ≡ (next group).0 → (t : TypeRef) → t ≡ type_of (M.world after) T group → (at : Place) → at ≡ key k ∷ [] →
       (v : Value) (es : List Listed) →
-      IsGroupAt (M.world after) at t (next group).1 group v es → (r rises : Bool) → r ≡ required t → (held put_in : Entries) (errors listed : List Listed) →
-      IsGiven k r v es rises held put_in errors listed → GroupRan M T k os before held errors rises put_in listed after
-  group-ran stepped t typed at here v es completed r rises non_null held put_in errors listed given =
+      GroupCompleted whole pick (M.world after) at [] t (next group).1 group v es → (r rises : Bool) → r ≡ required t → (held put_in : Entries) (errors listed : List Listed) →
+      IsGiven k r v es rises held put_in errors listed → GroupRan M T pick k os before held errors rises put_in listed after
+  group-ran pick stepped t typed at here v es completed r rises non_null held put_in errors listed given =
       let own : t ≡ type_in (with_key k os) = typed ∙ (ap (λ c. type_of (M.world c) T group) stepped ∙ ap type_in (sym is)) in
-      let one : GroupCompleted keys_only all_starts (M.world after) (key k ∷ []) [] t (next group).1 group v es =
-      completed (key k ∷ []) (key-kept k ∙ sym here) in
-      let two : GroupCompleted keys_only all_starts (M.world after) (key k ∷ []) [] (type_of (M.world after) T group) (next group).1 group v es =
-      subst (λ u. GroupCompleted keys_only all_starts (M.world after) (key k ∷ []) [] u (next group).1 group v es) typed one in
-      let three : GroupCompleted keys_only all_starts (M.world (next group).0) (key k ∷ []) [] (type_in group) (next group).1 group v es =
-      subst (λ c. GroupCompleted keys_only all_starts (M.world c) (key k ∷ []) [] (type_of (M.world c) T group) (next group).1 group v es) stepped two in
+      let one : GroupCompleted whole pick (M.world after) (key k ∷ []) [] t (next group).1 group v es =
+      subst (λ p. GroupCompleted whole pick (M.world after) p [] t (next group).1 group v es) here completed in
+      let two : GroupCompleted whole pick (M.world after) (key k ∷ []) [] (type_of (M.world after) T group) (next group).1 group v es =
+      subst (λ u. GroupCompleted whole pick (M.world after) (key k ∷ []) [] u (next group).1 group v es) typed one in
+      let three : GroupCompleted whole pick (M.world (next group).0) (key k ∷ []) [] (type_in group) (next group).1 group v es =
+      subst (λ c. GroupCompleted whole pick (M.world c) (key k ∷ []) [] (type_of (M.world c) T group) (next group).1 group v es) stepped two in
       record {
         value = v;
         more = es;
         context = stepped ∙ ap (λ g. (next g).0) (sym is);
-        completed = subst (λ g. GroupCompleted keys_only all_starts (M.world (next g).0) (key k ∷ []) [] (type_in g) (next g).1 g v es) (sym is) three;
+        completed = subst (λ g. GroupCompleted whole pick (M.world (next g).0) (key k ∷ []) [] (type_in g) (next g).1 g v es) (sym is) three;
         loses = given.loses ∙ ap (λ b. is_null v && b) (non_null ∙ ap required own);
         lists = given.lists;
         puts = given.puts;

@@ -4,7 +4,7 @@ use Rattle.std.specs.declared.cmp.PartialEq.{Ghosts as Equality}
 use Rattle.std.specs.declared.fmt.Debug.{Ghosts as Shows}
 use Rattle.graphql_spec.proofs.SeenServices.{seen_outcomes}
 use Rattle.graphql_spec.specs.Constants.{Members}
-use Rattle.graphql_spec.specs.Errors.{keys_only}
+use Rattle.graphql_spec.specs.ExactAnswers.{whole}
 use Rattle.graphql_spec.specs.Introspection as rooted
 use Rattle.graphql_spec.specs.Introspection.{rooted_answer, rooted_concrete, rooted_service}
 use Rattle.graphql_spec.specs.Outcomes.{IsOutcomeOf, Response, Service, Steps}
@@ -63,8 +63,8 @@ module _ {Q M Sub S C N I J K : Type 0} {values : Values Q S C N I} {query : Typ
 
   pub outcome-rooted : (y : Outcome) (c : C) (x : Response) (after : C) →
       IsOutcomeOf (held_service scalar.shown (view_schema scalar.shown (schema_of r)) (is_disabled r) (info_of r) (mutation_of r) (mutation_info_of r))
-      keys_only y c x after →
-      IsOutcomeOf (service_of concrete answer root step torn scalar.shown r) keys_only y c x after
+      whole y c x after →
+      IsOutcomeOf (service_of concrete answer root step torn scalar.shown r) whole y c x after
   unfolding rooted_service
   outcome-rooted y c x after o =
       let s = view_schema scalar.shown (schema_of r) in
@@ -77,8 +77,8 @@ module _ {Q M Sub S C N I J K : Type 0} {values : Values Q S C N I} {query : Typ
       (λ d. rooted_concrete (root q) (concrete q i d)) (λ d. rooted_answer (root q) s (answer q i d))
       (λ d n. types-rooted s names (concrete q i d) (root q) n) (λ d n f args. replies-rooted s r.introspector.executable names (number_of r.introspector) all
       (answer q i d) (root q) n f args)
-      r.top (option_map (λ (T : Name). rooted_steps step torn (mutation_of r) (mutation_info_of r)) s.mutation) keys_only).1 y c x after o in
-      subst (λ (V : Service C (rooted.RootedNode N)). IsOutcomeOf V keys_only y c x after)
+      r.top (option_map (λ (T : Name). rooted_steps step torn (mutation_of r) (mutation_info_of r)) s.mutation) whole).1 y c x after o in
+      subst (λ (V : Service C (rooted.RootedNode N)). IsOutcomeOf V whole y c x after)
       (ap₂ (λ (top : rooted.RootedNode N) (m : Option (Steps C (rooted.RootedNode N))). service s (is_disabled r)
       (λ d. rooted_concrete (root q) (concrete q i d)) (λ d. rooted_answer (root q) s (answer q i d)) top m)
       (top-seen s names r.top r.at_top) (steps-seen step torn (mutation_of r) (mutation_info_of r) s names s.mutation)) seen
@@ -86,13 +86,13 @@ module _ {Q M Sub S C N I J K : Type 0} {values : Values Q S C N I} {query : Typ
   -- the same where the parts of the root come by other names
   pub outcome-moved : (x : Schema) (b : Bool) (i : I) (m : M) (j : J) → x ≡ view_schema scalar.shown (schema_of r) → b ≡ is_disabled r → i ≡ info_of r →
       m ≡ mutation_of r → j ≡ mutation_info_of r →
-      (y : Schema → Outcome) (c : C) (z : Response) (after : C) → IsOutcomeOf (held_service scalar.shown x b i m j) keys_only (y x) c z after →
-      IsOutcomeOf (service_of concrete answer root step torn scalar.shown r) keys_only (y (view_schema scalar.shown (schema_of r))) c z after
+      (y : Schema → Outcome) (c : C) (z : Response) (after : C) → IsOutcomeOf (held_service scalar.shown x b i m j) whole (y x) c z after →
+      IsOutcomeOf (service_of concrete answer root step torn scalar.shown r) whole (y (view_schema scalar.shown (schema_of r))) c z after
   outcome-moved x b i m j ex eb ei em ej y c z after o =
       let s = view_schema scalar.shown (schema_of r) in
       outcome-rooted (y s) c z after
-      (subst (λ k. IsOutcomeOf (held_service scalar.shown s (is_disabled r) (info_of r) (mutation_of r) k) keys_only (y s) c z after) ej
-      (subst (λ n. IsOutcomeOf (held_service scalar.shown s (is_disabled r) (info_of r) n j) keys_only (y s) c z after) em
-      (subst (λ h. IsOutcomeOf (held_service scalar.shown s (is_disabled r) h m j) keys_only (y s) c z after) ei
-      (subst (λ d. IsOutcomeOf (held_service scalar.shown s d i m j) keys_only (y s) c z after) eb
-      (subst (λ w. IsOutcomeOf (held_service scalar.shown w b i m j) keys_only (y w) c z after) ex o)))))
+      (subst (λ k. IsOutcomeOf (held_service scalar.shown s (is_disabled r) (info_of r) (mutation_of r) k) whole (y s) c z after) ej
+      (subst (λ n. IsOutcomeOf (held_service scalar.shown s (is_disabled r) (info_of r) n j) whole (y s) c z after) em
+      (subst (λ h. IsOutcomeOf (held_service scalar.shown s (is_disabled r) h m j) whole (y s) c z after) ei
+      (subst (λ d. IsOutcomeOf (held_service scalar.shown s d i m j) whole (y s) c z after) eb
+      (subst (λ w. IsOutcomeOf (held_service scalar.shown w b i m j) whole (y w) c z after) ex o)))))

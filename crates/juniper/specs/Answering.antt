@@ -20,14 +20,26 @@ use Rattle.juniper_syntax.specs.ValueView.{view_value}
 use Rattle.juniper_syntax.specs.declared.input.InputValue.{InputValue}
 use Rattle.juniper_syntax.specs.declared.value.Value.{Value}
 use Rattle.juniper_errors.specs.ErrorView.{view_listed}
+use Rattle.juniper_position.specs.Refusals as parser
+use Rattle.juniper_position.specs.Refusals.{Refusal as ParseRefusal}
 use Rattle.juniper_errors.specs.declared.execution_error.ExecutionError.{ExecutionError}
 use Rattle.juniper.specs.declared.error.GraphQLError.{GraphQLError}
 use Rattle.juniper.specs.RequestErrors.{RequestError, view_request_error, not_parsed, not_valid, no_operation, multiple_operations, unknown_operation}
 use Rattle.juniper.specs.RequestErrors.{is_subscription, not_subscription, no_mutation_type, variable_not_constant, out_of_memory}
 
+-- the refusal that an error of the parser stands for: none where memory was wanting
+abbrev pub parse_refusal : ParseRefusal → Option Refusal
+parse_refusal (parser.lexical f) = Some spec.not_parsed
+parse_refusal parser.unexpected_token = Some spec.not_parsed
+parse_refusal parser.unexpected_end = Some spec.not_parsed
+parse_refusal parser.float_literal = Some spec.not_parsed
+parse_refusal parser.block_string = Some spec.not_parsed
+parse_refusal parser.too_deep = Some spec.not_parsed
+parse_refusal parser.out_of_memory = None
+
 -- the refusal that an error stands for; two are never made
 abbrev pub refusal_of : RequestError → Option Refusal
-refusal_of (not_parsed e) = Some spec.not_parsed
+refusal_of (not_parsed e) = parse_refusal e.item
 refusal_of (not_valid es) = Some (spec.not_valid es)
 refusal_of no_operation = None
 refusal_of multiple_operations = Some spec.multiple_operations
@@ -72,15 +84,15 @@ pub record AreCoercible (s : Schema) (o : Operation) (given : Variables) : Type 
   pub fitting : variable_errors s (variables_of o) given ≡ []
   pub constant : first_not_constant (variables_of o) given ≡ None
 
--- ## Only private clauses cite what follows
-
--- why a document is not valid (5)
-abbrev pub IsInvalid : Schema → Bool → Document → Refusal → Type 0
-IsInvalid s disabled d r = (e : RuleError) × (es : List RuleError) × (r ≡ spec.not_valid (e ∷ es)) × (rule_errors s disabled d ≡ e ∷ es)
-
 -- why the given values are refused (6.1.2)
 abbrev pub AreRefused : Schema → Operation → Variables → Refusal → Type 0
 AreRefused s o given r =
     ((e : RuleError) × (es : List RuleError) × (r ≡ spec.not_valid (e ∷ es)) × (variable_errors s (variables_of o) given ≡ e ∷ es))
     ⊎ ((variable_errors s (variables_of o) given ≡ [])
     × ((n : Name) × (r ≡ spec.variable_not_constant n) × (first_not_constant (variables_of o) given ≡ Some n)))
+
+-- ## Only private clauses cite what follows
+
+-- why a document is not valid (5)
+abbrev pub IsInvalid : Schema → Bool → Document → Refusal → Type 0
+IsInvalid s disabled d r = (e : RuleError) × (es : List RuleError) × (r ≡ spec.not_valid (e ∷ es)) × (rule_errors s disabled d ≡ e ∷ es)

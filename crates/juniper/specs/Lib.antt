@@ -7,3 +7,4 @@ pub mod RootView
 pub mod ServedView
 pub mod Services
 pub mod Stepping
+pub mod Walkings

@@ -1,5 +1,5 @@
 -- The root fields of a mutation, as its walk has them (6.2.2, 6.3.2).
-use Rattle.std.specs.Prelude.{◌≡◌, List, [], ◌∷◌, map, string_bytes, IsTrue}
+use Rattle.std.specs.Prelude.{◌≡◌, List, [], string_bytes, IsTrue}
 use Rattle.graphql_spec.specs.Shown.{Shown}
 use Rattle.graphql_spec.specs.Directives.{passes}
 use Rattle.graphql_spec.specs.Fields.{is_possible}
@@ -8,7 +8,7 @@ use Rattle.graphql_spec.specs.Inputs.{Variables}
 use Rattle.graphql_spec.specs.Schema.{Schema}
 use Rattle.graphql_spec.specs.Selections.{Forest, Occurrence, occurrences}
 use Rattle.juniper_collect.specs.FragmentView.{IsMade, fragments_in}
-use Rattle.juniper_collect.specs.declared.collecting.Occurrence.{Occurrence as CodeOccurrence}
+use Rattle.juniper_collect.specs.declared.collecting.Collector.{Collector}
 use Rattle.juniper_errors.specs.PathView.{path_place}
 use Rattle.juniper_position.specs.declared.position.Span.{Span}
 use Rattle.juniper_position.specs.declared.position.Spanning.{Spanning}
@@ -17,7 +17,6 @@ use Rattle.juniper_syntax.specs.InputView.{view_variables}
 use Rattle.juniper_syntax.specs.TypeView.{view_type}
 use Rattle.juniper_syntax.specs.declared.ast.Field.{Field, out-Field}
 use Rattle.juniper_walk.specs.FieldWords.{head_of}
-use Rattle.juniper_walk.specs.declared.grouping.Group.{Group}
 use Rattle.juniper.specs.Services.{is_undeclared}
 use Rattle.juniper.specs.declared.root_walk.RootWalk.{RootWalk}
 
@@ -36,12 +35,9 @@ module _ {S : Type 0} (shown : S → Shown) (w : RootWalk S) where
         expand (passes values_in) (fragments_in shown w.fragments.now) (view_set shown (out-Field S f.item).selection_set);
   }
 
-  -- fields, and those of one response key
-  abbrev pub fields_in : List (CodeOccurrence S) → List Occurrence
-  fields_in fs = map (λ o. field_in o.field.now) fs
-
-  abbrev pub group_in : Group S → List Occurrence
-  group_in g = field_in g.first.now ∷ fields_in g.others.now
+  -- what collects the root's fields
+  abbrev pub collector_in : Collector S (Unit {0})
+  collector_in = record { fragments = w.fragments; variables = w.variables; possible = tt }
 
   -- what the operation selects, expanded
   abbrev pub selected_in : Forest

@@ -1,10 +1,12 @@
 -- What is known of the root groups of a mutation that were run (6.2.2).
 use Rattle.std.specs.Prelude.{◌≡◌, ◌⊎◌, ◌&&◌, ◌++◌, Bool, List, [], ◌∷◌, IsTrue, cond, Result, Ok, Err}
 use Rattle.graphql_spec.specs.Shown.{Name}
+use Rattle.graphql_spec.specs.Positions.{Position}
 use Rattle.graphql_spec.specs.Values.{Value, Entries, is_null, put}
 use Rattle.graphql_spec.specs.Types.{required}
-use Rattle.graphql_spec.specs.Errors.{key, Listed, keys_only}
-use Rattle.graphql_spec.specs.GroupLaws.{all_starts, GroupCompleted}
+use Rattle.graphql_spec.specs.Errors.{key, Listed}
+use Rattle.graphql_spec.specs.ExactAnswers.{whole}
+use Rattle.graphql_spec.specs.GroupLaws.{GroupCompleted}
 use Rattle.graphql_spec.specs.Selections.{Forest, Occurrence, keys, with_key}
 use Rattle.graphql_spec.specs.Execution.{type_of}
 use Rattle.graphql_spec.specs.Mutation.{IsLeft, Mutation, root_fields, step_of, torn_of}
@@ -30,12 +32,12 @@ module _ {C N : Type 0} (M : Mutation C N) (T : Name) where
   IsLeftOf s c after = IsLeft M T (keys (root_fields M T s c)) (root_fields M T s c) c after
 
   -- a group took its step, its reply was completed under the context that the step left, and its value put in, unless its null rises
-  pub record GroupRan (k : Name) (os : List Occurrence) (before : C) (entries : Entries) (errors : List Listed) (rises : Bool) (put_in : Entries)
+  pub record GroupRan (pick : List Position → List Position) (k : Name) (os : List Occurrence) (before : C) (entries : Entries) (errors : List Listed) (rises : Bool) (put_in : Entries)
       (listed : List Listed) (after : C) : Type 0 where
     pub value : Value
     pub more : List Listed
     pub context : after ≡ (step_of M T before (with_key k os)).0
-    pub completed : GroupCompleted keys_only all_starts (M.world (step_of M T before (with_key k os)).0) (key k ∷ []) []
+    pub completed : GroupCompleted whole pick (M.world (step_of M T before (with_key k os)).0) (key k ∷ []) []
         (type_of (M.world (step_of M T before (with_key k os)).0) T (with_key k os)) (step_of M T before (with_key k os)).1 (with_key k os) value more
     pub loses : rises ≡ (is_null value && required (type_of (M.world (step_of M T before (with_key k os)).0) T (with_key k os)))
     pub lists : listed ≡ errors ++ more

@@ -2,9 +2,9 @@
 
 ghost use Rattle.std.specs.Prelude.{◌≡◌, IfOk, MatchResult, Some, [], map};
 ghost use Rattle.graphql_spec.specs.Documents as documents;
-ghost use Rattle.graphql_spec.specs.Errors.{keys_only};
+ghost use Rattle.graphql_spec.specs.ExactAnswers.{ListsOnce, whole};
 ghost use Rattle.graphql_spec.specs.Laws.{In};
-ghost use Rattle.graphql_spec.specs.Outcomes.{IsOutcomeOf};
+ghost use Rattle.graphql_spec.specs.Outcomes.{IsOutcomeOf, responds};
 ghost use Rattle.graphql_spec.specs.Requests.{selected};
 ghost use Rattle.graphql_spec.specs.Rules.{rule_errors};
 ghost use Rattle.graphql_spec.specs.Walk.{IsAnswerFor, IsMutationAnswerFor};
@@ -20,13 +20,15 @@ ghost use Rattle.juniper.specs.ServedView.{mutation_root};
 ghost use Rattle.juniper_intro.specs.RootView.{is_disabled, schema_of};
 ghost use Rattle.juniper.specs.Services.{world_in};
 ghost use Rattle.juniper.specs.Stepping.{IsLeftOf};
+ghost use Rattle.juniper.specs.Walkings.{Lists};
 
 use crate::error::GraphQLError;
-use crate::mutation::{root_fields, run_groups};
+use crate::mutation::run_groups;
 use crate::root_walk::RootWalk;
 use crate::served::Served;
 use crate::service::{Service, undeclared_type};
 use crate::variables::coerce_variables;
+use crate::walking::Walking;
 use juniper_collect::{Collector, fragments_of};
 use juniper_intro::{RootNode, RootedNode};
 use juniper_language::{
@@ -34,7 +36,7 @@ use juniper_language::{
 };
 use juniper_types::{GraphQLMutationValue, GraphQLType, GraphQLValue};
 use juniper_values::ExecutionError;
-use juniper_walk::{Walk, answer, root_path, sort_errors};
+use juniper_walk::{Walk, root_path, sort_errors};
 use std::alloc::{AllocError, Global};
 
 /// Executes an operation of a valid document with given values of its variables, which fit and hold no variables (6.1). A
@@ -66,9 +68,46 @@ pub fn execute_validated_query<
     requires coercible { AreCoercible (view_schema S.shown (schema_of root_node.now)) (view_operation S.shown operation.now)
         (view_variables S.shown variables.now) }
     ensures { AnswersAs S.shown
-        (λ r. IsOutcomeOf (service_of Q.concrete Q.answer Q.root M.step M.torn S.shown root_node.now) keys_only
+        (λ r. IsOutcomeOf (service_of Q.concrete Q.answer Q.root M.step M.torn S.shown root_node.now) whole
         (outcome_of (view_schema S.shown (schema_of root_node.now)) (view_document S.shown document.now) (view_operation S.shown operation.now)
-        (view_variables S.shown variables.now)) context.old r context.new) result }
+        (view_variables S.shown variables.now)) context.old r context.new × ListsOnce r) result }
+{
+    execute_walked(
+        alloc,
+        Walking::Grouped,
+        document,
+        operation,
+        root_node,
+        variables,
+        context,
+    )
+}
+
+/// Executes an operation of a valid document, walked in one of the ways (6.1).
+pub(crate) fn execute_walked<
+    'd,
+    'a,
+    Q: GraphQLValue<S>,
+    M: GraphQLMutationValue<S, Context = Q::Context, Node = Q::Node>,
+    Sub: GraphQLType<S>,
+    S: ScalarValue,
+>(
+    alloc: Global,
+    walking: Walking,
+    document: &'d Document<'a, S>,
+    operation: &'d Spanning<Operation<'a, S>, Span>,
+    root_node: &RootNode<Q, M, Sub, S>,
+    variables: &Variables<S>,
+    context: &mut Q::Context,
+) -> Result<(Value<S>, Vec<ExecutionError<S>>), GraphQLError>
+    requires valid { rule_errors (view_schema S.shown (schema_of root_node.now)) (is_disabled root_node.now) (view_document S.shown document.now) ≡ [] }
+    requires member { In (documents.operation (view_operation S.shown operation.now)) (view_document S.shown document.now) }
+    requires coercible { AreCoercible (view_schema S.shown (schema_of root_node.now)) (view_operation S.shown operation.now)
+        (view_variables S.shown variables.now) }
+    ensures { AnswersAs S.shown
+        (λ r. IsOutcomeOf (service_of Q.concrete Q.answer Q.root M.step M.torn S.shown root_node.now) whole
+        (outcome_of (view_schema S.shown (schema_of root_node.now)) (view_document S.shown document.now) (view_operation S.shown operation.now)
+        (view_variables S.shown variables.now)) context.old r context.new × Lists walking r) result }
 {
     let served = Served {
         query: root_node,
@@ -77,6 +116,7 @@ pub fn execute_validated_query<
         mutation_info: root_node.mutation_info(),
         schema: root_node.schema(),
         is_introspection_disabled: root_node.is_introspection_disabled(),
+        walking,
     };
     execute_operation(alloc, document, operation, &served, variables, context)
 }
@@ -103,9 +143,9 @@ fn execute_operation<
     requires coercible { AreCoercible (view_schema S.shown (serving.schema_of served.now)) (view_operation S.shown operation.now)
         (view_variables S.shown variables.now) }
     ensures { AnswersAs S.shown
-        (λ r. IsOutcomeOf (serving.service_of Q.concrete Q.answer Q.root M.step M.torn S.shown served.now) keys_only
+        (λ r. IsOutcomeOf (serving.service_of Q.concrete Q.answer Q.root M.step M.torn S.shown served.now) whole
         (outcome_of (view_schema S.shown (serving.schema_of served.now)) (view_document S.shown document.now) (view_operation S.shown operation.now)
-        (view_variables S.shown variables.now)) context.old r context.new) result }
+        (view_variables S.shown variables.now)) context.old r context.new × Lists served.now.walking r) result }
 {
     match operation.item.operation_type {
         OperationType::Subscription => Err(GraphQLError::IsSubscription),
@@ -149,12 +189,13 @@ fn execute_query<
         ≡ [] }
     requires member { In (documents.operation (view_operation S.shown operation.now)) (view_document S.shown document.now) }
     requires query { (view_operation S.shown operation.now).kind ≡ documents.query }
-    ensures { IfOk result (λ p. IsAnswerFor keys_only
+    ensures { IfOk result (λ p. IsAnswerFor whole
         (world_in Q.concrete Q.answer (serving.resolver_of served.now) (serving.info_of served.now) context.now
         (view_schema S.shown (serving.schema_of served.now))
         (view_variables S.shown variables.now)) (view_schema S.shown (serving.schema_of served.now)).query (Q.root (serving.resolver_of served.now))
         (selected (view_document S.shown document.now) (view_operation S.shown operation.now) (view_variables S.shown variables.now))
-        (view_value S.shown p.0) (map (view_listed S.shown) p.1.items)) }
+        (view_value S.shown p.0) (map (view_listed S.shown) p.1.items)
+        × Lists served.now.walking (responds (view_value S.shown p.0) (map (view_listed S.shown) p.1.items))) }
 {
     let fragments = fragments_of(alloc, document.as_slice())?;
     let service = Service {
@@ -174,7 +215,7 @@ fn execute_query<
             possible: service,
         },
     };
-    let walked = answer(
+    let walked = served.walking.answer(
         &walk,
         served.schema.query_name(),
         served.query.root_node(),
@@ -208,9 +249,10 @@ fn execute_mutation<
     requires root { (view_schema S.shown (serving.schema_of served.now)).mutation ≡ Some concrete.now }
     ensures { MatchResult result
         (λ p. IsMutationAnswerFor (mutation_root Q.concrete Q.answer M.step M.torn S.shown served.now (view_variables S.shown variables.now))
-        concrete.now keys_only (selected (view_document S.shown document.now) (view_operation S.shown operation.now) (view_variables S.shown variables.now))
+        concrete.now whole (selected (view_document S.shown document.now) (view_operation S.shown operation.now) (view_variables S.shown variables.now))
         context.old
-        (view_value S.shown p.0) (map (view_listed S.shown) p.1.items) context.new)
+        (view_value S.shown p.0) (map (view_listed S.shown) p.1.items) context.new
+        × Lists served.now.walking (responds (view_value S.shown p.0) (map (view_listed S.shown) p.1.items)))
         (λ _. IsLeftOf (mutation_root Q.concrete Q.answer M.step M.torn S.shown served.now (view_variables S.shown variables.now)) concrete.now
         (selected (view_document S.shown document.now) (view_operation S.shown operation.now) (view_variables S.shown variables.now)) context.old context.new) }
 {
@@ -226,8 +268,7 @@ fn execute_mutation<
         path: &path,
         undeclared: &undeclared,
     };
-    let fields = root_fields(served.schema, &walk)?;
-    match run_groups(served, &walk, &fields, context) {
+    match run_groups(served, &walk, context) {
         Err(error) => Err(error),
         Ok(walked) => {
             let mut errors = walked.errors;

@@ -1,55 +1,57 @@
 //! The root groups of a mutation take their steps one after the other (ExecuteMutation, section 6.2.2 of the Specification).
 
-ghost use Rattle.std.specs.Prelude.{◌≡◌, ◌∷◌, IfOk, MatchResult, map, string_bytes};
-ghost use Rattle.graphql_spec.specs.Documents.{response_key as key_of};
-ghost use Rattle.graphql_spec.specs.Errors.{keys_only};
+ghost use Rattle.std.specs.Prelude.{◌≡◌, ◌<◌, [], ◌∷◌, length, IfOk, MatchResult, map, string_bytes};
+ghost use Rattle.graphql_spec.specs.ExactAnswers.{whole};
 ghost use Rattle.graphql_spec.specs.Fields.{declared_arguments, field_of, is_possible};
-ghost use Rattle.graphql_spec.specs.GroupLaws.{all_starts};
+ghost use Rattle.graphql_spec.specs.GroupLaws.{GroupCompleted};
 ghost use Rattle.graphql_spec.specs.Laws.{Merges};
 ghost use Rattle.graphql_spec.specs.Mutation.{IsLeft, step_of};
 ghost use Rattle.graphql_spec.specs.MutationLaws.{HasRun};
 ghost use Rattle.graphql_spec.specs.Selections.{all_below, keys, with_key};
 ghost use Rattle.graphql_spec.specs.Types.{innermost};
+ghost use Rattle.juniper_collect.specs.Collected.{view_all};
+ghost use Rattle.juniper_plan.specs.Plans.{IsStanding, IsStep, all_expanded, fields_at, key_at};
+ghost use Rattle.juniper_plan.specs.PlanWalks.{HasFirst, IsGroupOf};
 ghost use Rattle.juniper_errors.specs.ErrorView.{view_listed};
 ghost use Rattle.juniper_errors.specs.PathView.{path_place};
 ghost use Rattle.juniper_lookahead.specs.Expansion.{IsAcyclic};
-ghost use Rattle.juniper_lookahead.specs.Selected.{IsSelected};
+ghost use Rattle.juniper_lookahead.specs.Sites.{IsFirstOf, IsWholeGroup};
 ghost use Rattle.juniper_meta.specs.MetaView.{view_argument};
 ghost use Rattle.juniper_resolvable.specs.ResolvedView.{Answers};
 ghost use Rattle.juniper_schema.specs.SchemaView.{view_schema};
 ghost use Rattle.juniper_syntax.specs.TypeView.{view_type};
 ghost use Rattle.juniper_syntax.specs.ValueView.{view_object, view_value};
-ghost use Rattle.juniper_walk.specs.Completing.{IsGroupAt, IsTold};
+ghost use Rattle.juniper_walk.specs.Completing.{IsTold};
 ghost use Rattle.juniper_walk.specs.FieldWords.{head_of};
 ghost use Rattle.juniper_walk.specs.Walking.{SelectionsAgree};
-ghost use Rattle.juniper.specs.RootFields.{IsReadyRoot, all_fields, field_in, fields_in, group_in, selected_in, values_in};
+ghost use Rattle.juniper.specs.RootFields.{IsReadyRoot, all_fields, collector_in, field_in, selected_in, values_in};
 ghost use Rattle.juniper.specs.ServedView.{mutation_root, schema_of};
 ghost use Rattle.juniper.specs.Stepping.{GroupRan, GroupStopped, IsGiven, StepLeaves};
+ghost use Rattle.juniper.specs.Walkings.{starts_by};
 
 use crate::coerce::coerce_arguments;
 use crate::root_walk::RootWalk;
 use crate::served::Served;
 use crate::service::{
-    Service, arguments_of, declared_type, shown_type, type_name, undeclared_type,
+    Service, arguments_of, declared_type, first_of, shown_type, type_name, undeclared_type,
 };
-use juniper_collect::{Collected, Collector, Conditions, Occurrence, collect};
+use juniper_collect::{Collector, Conditions};
 use juniper_intro::{RootedNode, rooted_answer};
 use juniper_language::{Field, Object, ScalarValue, Span, Spanning, Type, Value};
+use juniper_lookahead::Enclosing;
 use juniper_meta::meta::Argument;
+use juniper_plan::{GroupNo, Plan, root_groups};
 use juniper_schema::SchemaType;
 use juniper_types::{Executor, FieldPath, GraphQLMutationValue, GraphQLValue, Resolved};
 use juniper_values::{ExecutionError, ResolveError};
-use juniper_walk::{
-    Asked, Group, Site, Walk, Walked, complete_group, group_fields, others_of, path_below,
-    response_key,
-};
+use juniper_walk::{Asked, Site, Walk, Walked, path_below};
 use std::alloc::{AllocError, Global};
 use std::rc::Rc;
 
 /// What the fields of a root are collected by: which object types are possible where.
 #[derive(Drop)]
-struct Possible<'r, S: ScalarValue> {
-    schema: &'r SchemaType<S>,
+pub(crate) struct Possible<'r, S: ScalarValue> {
+    pub(crate) schema: &'r SchemaType<S>,
 }
 
 impl<'r, S: ScalarValue> Conditions for Possible<'r, S> {
@@ -60,26 +62,9 @@ impl<'r, S: ScalarValue> Conditions for Possible<'r, S> {
     }
 }
 
-/// The fields that a mutation selects of its root type (CollectFields, 6.3.2).
-pub(crate) fn root_fields<'d, 'a, S: ScalarValue>(
-    schema: &SchemaType<S>,
-    walk: &RootWalk<'_, 'd, 'a, S>,
-) -> Result<Collected<'d, 'a, S>, AllocError>
-    requires { IsReadyRoot S.shown walk.now }
-    ensures { IfOk result (λ fs. fields_in S.shown walk.now fs.items ≡ all_fields S.shown walk.now (view_schema S.shown schema.now)) }
-{
-    let collector = Collector {
-        fragments: walk.fragments,
-        variables: walk.variables,
-        possible: Possible { schema },
-    };
-    let fields = collect(walk.alloc, &collector, walk.concrete, walk.selections)?;
-    Ok(fields)
-}
-
 /// Takes the step of a root field in the context; `__typename` leaves it (4.1).
 #[tactic(auto, unfolding(graphql_spec::specs::Mutation::step_of, graphql_spec::specs::Mutation::torn_of, graphql_spec::specs::Resolvers::world_of))]
-fn step<
+pub(crate) fn step<
     'd,
     'a,
     Q: GraphQLValue<S, Node = RootedNode<N>>,
@@ -90,28 +75,29 @@ fn step<
     served: &Served<'_, Q, M, S>,
     walk: &RootWalk<'_, 'd, 'a, S>,
     site: &Site<'_, 'd, 'a, S>,
+    written: &Spanning<Field<'a, S>, Span>,
     declared: &Type<String>,
     arguments: &[Argument<S>],
     context: &mut Q::Context,
 ) -> Result<Resolved<Q::Node, S>, ResolveError<S>>
     requires arguments { map (view_argument S.shown) arguments.now ≡ declared_arguments (field_of (view_schema S.shown (schema_of served.now))
-        walk.now.concrete.now (head_of S.shown site.now.field.now).name.item) }
+        walk.now.concrete.now (head_of S.shown written.now).name.item) }
     requires acyclic { IsAcyclic S.shown site.now.fragments.now }
-    requires selected { IsSelected S.shown (is_possible (view_schema S.shown (schema_of served.now))) walk.now.variables.now site.now.fragments.now
-        walk.now.concrete.now site.now.enclosing.now site.now.field.now }
+    requires first { IsFirstOf written.now site.now.occurrences.now }
+    requires whole { IsWholeGroup S.shown (is_possible (view_schema S.shown (schema_of served.now))) walk.now.variables.now site.now.fragments.now
+        walk.now.concrete.now site.now.enclosing.now site.now.occurrences.now }
     ensures answer { (os : _) → Answers S.shown result
         (step_of (mutation_root Q.concrete Q.answer M.step M.torn S.shown served.now (values_in S.shown walk.now)) walk.now.concrete.now
-        context.old (field_in S.shown walk.now site.now.field.now ∷ os)).1 }
+        context.old (field_in S.shown walk.now written.now ∷ os)).1 }
     ensures context { (os : _) → StepLeaves (mutation_root Q.concrete Q.answer M.step M.torn S.shown served.now (values_in S.shown walk.now))
-        walk.now.concrete.now (field_in S.shown walk.now site.now.field.now ∷ os) context.old result context.new }
+        walk.now.concrete.now (field_in S.shown walk.now written.now ∷ os) context.old result context.new }
 {
     let alloc = walk.alloc;
-    let written = site.field;
     let name = written.item.name.item;
     if name == "__typename" {
         return type_name(alloc, walk.concrete);
     }
-    let arguments = coerce_arguments(alloc, arguments, site.field, walk.variables)?;
+    let arguments = coerce_arguments(alloc, arguments, written, walk.variables)?;
     let declared = shown_type(alloc, served.schema, served.query_type(), declared)?;
     let executor = Executor::at_field(
         &(),
@@ -122,7 +108,7 @@ fn step<
         &declared,
         walk.concrete,
         site.enclosing,
-        site.field,
+        site.occurrences,
     );
     let answered = served.mutation.resolve_root(
         alloc,
@@ -146,18 +132,26 @@ fn complete<
 >(
     served: &Served<'_, Q, M, S>,
     walk: &RootWalk<'_, 'd, 'a, S>,
+    plan: &mut Plan<'d, 'a, S>,
     path: &Rc<FieldPath<'a>>,
     asked: Asked<'_, Q::Node, S>,
-    group: &Group<'_, 'd, 'a, S>,
+    group: GroupNo,
     context: &Q::Context,
 ) -> Result<Walked<S>, AllocError>
     requires ready { IsReadyRoot S.shown walk.now }
+    requires standing { IsStanding S.shown (collector_in S.shown walk.now) (is_possible (view_schema S.shown (schema_of served.now))) plan.old }
+    requires bound { group.0 < length plan.old.groups.items }
+    requires some { HasFirst (view_all S.shown (collector_in S.shown walk.now) (fields_at plan.old group.0)) }
     requires merge { Merges ((mutation_root Q.concrete Q.answer M.step M.torn S.shown served.now (values_in S.shown walk.now)).world context.now)
-        (innermost (view_type (λ n. string_bytes n) asked.declared.now)) (all_below (group_in S.shown walk.now group.now)) }
+        (innermost (view_type (λ n. string_bytes n) asked.declared.now))
+        (all_below (view_all S.shown (collector_in S.shown walk.now) (fields_at plan.old group.0))) }
+    ensures plan { IfOk result (λ _. IsStep S.shown (collector_in S.shown walk.now) (is_possible (view_schema S.shown (schema_of served.now)))
+        plan.old plan.new) }
     ensures told { IfOk result (λ _. IsTold asked.entry.answer) }
-    ensures completed { (reply : _) → Answers S.shown asked.entry.answer reply → IfOk result (λ w. IsGroupAt
-        ((mutation_root Q.concrete Q.answer M.step M.torn S.shown served.now (values_in S.shown walk.now)).world context.now) (path_place path.now.value)
-        (view_type (λ n. string_bytes n) asked.entry.declared.now) reply (group_in S.shown walk.now group.now)
+    ensures completed { (reply : _) → Answers S.shown asked.entry.answer reply → IfOk result (λ w. GroupCompleted whole (starts_by served.now.walking)
+        ((mutation_root Q.concrete Q.answer M.step M.torn S.shown served.now (values_in S.shown walk.now)).world context.now) (path_place path.now.value) []
+        (view_type (λ n. string_bytes n) asked.entry.declared.now) reply
+        (view_all S.shown (collector_in S.shown walk.now) (fields_at plan.old group.0))
         (view_value S.shown w.value) (map (view_listed S.shown) w.errors.items)) }
 {
     let service = Service {
@@ -177,12 +171,14 @@ fn complete<
             possible: service,
         },
     };
-    let walked = complete_group(&below, path, asked, group)?;
+    let walked = served
+        .walking
+        .complete_group(&below, plan, path, asked, group)?;
     Ok(walked)
 }
 
 /// Puts the value of a root field into the object, unless its null rises, and lists what fails in it; whether it rises.
-fn give<S: ScalarValue>(
+pub(crate) fn give<S: ScalarValue>(
     alloc: Global,
     key: &str,
     is_non_null: bool,
@@ -216,42 +212,58 @@ fn run_group<
 >(
     served: &'t Served<'_, Q, M, S>,
     walk: &'t RootWalk<'_, 'd, 'a, S>,
-    group: &Group<'_, 'd, 'a, S>,
+    plan: &mut Plan<'d, 'a, S>,
+    enclosing: &[Enclosing<'d, 'a, S>],
+    group: GroupNo,
     context: &mut Q::Context,
     entries: &mut Object<S>,
     errors: &mut Vec<ExecutionError<S>>,
 ) -> Result<bool, AllocError>
     requires ready { IsReadyRoot S.shown walk.now }
+    requires standing { IsStanding S.shown (collector_in S.shown walk.now) (is_possible (view_schema S.shown (schema_of served.now))) plan.old }
     requires agree { (c : _) → SelectionsAgree ((mutation_root Q.concrete Q.answer M.step M.torn S.shown served.now (values_in S.shown walk.now)).world c)
         walk.now.concrete.now (selected_in S.shown walk.now) }
-    requires group { with_key (key_of (head_of S.shown group.now.first.now)) (all_fields S.shown walk.now (view_schema S.shown (schema_of served.now)))
-        ≡ group_in S.shown walk.now group.now }
-    ensures { MatchResult result
+    requires bound { group.0 < length plan.old.groups.items }
+    requires enclosing { all_expanded S.shown (collector_in S.shown walk.now) enclosing.now ≡ selected_in S.shown walk.now }
+    requires group { IsGroupOf (key_at plan.old group.0) (all_fields S.shown walk.now (view_schema S.shown (schema_of served.now)))
+        (view_all S.shown (collector_in S.shown walk.now) (fields_at plan.old group.0)) }
+    ensures plan { IfOk result (λ _. IsStep S.shown (collector_in S.shown walk.now) (is_possible (view_schema S.shown (schema_of served.now)))
+        plan.old plan.new) }
+    ensures ran { MatchResult result
         (λ rises. GroupRan (mutation_root Q.concrete Q.answer M.step M.torn S.shown served.now (values_in S.shown walk.now)) walk.now.concrete.now
-        (key_of (head_of S.shown group.now.first.now)) (all_fields S.shown walk.now (view_schema S.shown (schema_of served.now))) context.old
+        (starts_by served.now.walking) (key_at plan.old group.0) (all_fields S.shown walk.now (view_schema S.shown (schema_of served.now))) context.old
         (view_object S.shown entries.old) (map (view_listed S.shown) errors.old.items) rises
         (view_object S.shown entries.new) (map (view_listed S.shown) errors.new.items) context.new)
         (λ _. GroupStopped (mutation_root Q.concrete Q.answer M.step M.torn S.shown served.now (values_in S.shown walk.now)) walk.now.concrete.now
-        (with_key (key_of (head_of S.shown group.now.first.now)) (all_fields S.shown walk.now (view_schema S.shown (schema_of served.now))))
+        (with_key (key_at plan.old group.0) (all_fields S.shown walk.now (view_schema S.shown (schema_of served.now))))
         context.old context.new) }
 {
-    let path = path_below(walk.alloc, walk.path, group.first)?;
-    let first = group.first;
+    let fields = plan.fields(group);
+    let first = first_of(fields);
+    let path = path_below(walk.alloc, walk.path, first)?;
     let field = served.schema.field_of(walk.concrete, first.item.name.item);
     let declared = declared_type(field, walk.undeclared);
     let site = Site {
         fragments: walk.fragments.by_name(),
         path: path.as_ref(),
-        enclosing: walk.selections,
-        field: group.first,
+        enclosing,
+        occurrences: fields,
     };
-    let answer = step(served, walk, &site, declared, arguments_of(field), context);
+    let answer = step(
+        served,
+        walk,
+        &site,
+        first,
+        declared,
+        arguments_of(field),
+        context,
+    );
+    let key = plan.key(group);
     let asked = Asked { declared, answer };
-    let walked = match complete(served, walk, &path, asked, group, context) {
+    let walked = match complete(served, walk, plan, &path, asked, group, context) {
         Err(error) => return Err(error),
         Ok(walked) => walked,
     };
-    let key = response_key(group.first);
     match give(
         walk.alloc,
         key,
@@ -277,15 +289,13 @@ pub(crate) fn run_groups<
 >(
     served: &'t Served<'_, Q, M, S>,
     walk: &'t RootWalk<'_, 'd, 'a, S>,
-    fields: &[Occurrence<'d, 'a, S>],
     context: &mut Q::Context,
 ) -> Result<Walked<S>, AllocError>
     requires ready { IsReadyRoot S.shown walk.now }
     requires agree { (c : _) → SelectionsAgree ((mutation_root Q.concrete Q.answer M.step M.torn S.shown served.now (values_in S.shown walk.now)).world c)
         walk.now.concrete.now (selected_in S.shown walk.now) }
-    requires fields { fields_in S.shown walk.now fields.now ≡ all_fields S.shown walk.now (view_schema S.shown (schema_of served.now)) }
     ensures { MatchResult result
-        (λ w. HasRun keys_only all_starts (mutation_root Q.concrete Q.answer M.step M.torn S.shown served.now (values_in S.shown walk.now))
+        (λ w. HasRun whole (starts_by served.now.walking) (mutation_root Q.concrete Q.answer M.step M.torn S.shown served.now (values_in S.shown walk.now))
         walk.now.concrete.now (keys (all_fields S.shown walk.now (view_schema S.shown (schema_of served.now))))
         (all_fields S.shown walk.now (view_schema S.shown (schema_of served.now)))
         context.old (view_value S.shown w.value) (map (view_listed S.shown) w.errors.items) context.new)
@@ -294,26 +304,39 @@ pub(crate) fn run_groups<
         (all_fields S.shown walk.now (view_schema S.shown (schema_of served.now)))
         context.old context.new) }
 {
-    let groups = group_fields(walk.alloc, fields)?;
-    let mut entries = Object::with_capacity(walk.alloc, fields.len())?;
+    let collector = Collector {
+        fragments: walk.fragments,
+        variables: walk.variables,
+        possible: Possible {
+            schema: served.schema,
+        },
+    };
+    let mut plan = Plan::new(walk.alloc);
+    let enclosing = [Enclosing {
+        selections: walk.selections,
+    }];
+    let groups = root_groups(walk.alloc, &collector, &mut plan, walk.concrete, &enclosing)?;
+    let mut entries = Object::with_capacity(walk.alloc, groups.end.0 - groups.first.0)?;
     let mut errors = Vec::new(walk.alloc);
-    for occurrence in fields {
-        let first = occurrence.field;
-        let key = response_key(first);
-        if !entries.contains_field(key) {
-            let group = Group {
-                first,
-                others: others_of(&groups, key),
-            };
-            match run_group(served, walk, &group, context, &mut entries, &mut errors) {
-                Err(error) => return Err(error),
-                Ok(rises) => {
-                    if rises {
-                        return Ok(Walked {
-                            value: Value::Null,
-                            errors,
-                        });
-                    }
+    for number in groups.first.0..groups.end.0 {
+        let group = GroupNo(number);
+        match run_group(
+            served,
+            walk,
+            &mut plan,
+            &enclosing,
+            group,
+            context,
+            &mut entries,
+            &mut errors,
+        ) {
+            Err(error) => return Err(error),
+            Ok(rises) => {
+                if rises {
+                    return Ok(Walked {
+                        value: Value::Null,
+                        errors,
+                    });
                 }
             }
         }

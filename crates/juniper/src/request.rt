@@ -1,8 +1,8 @@
 //! Requests: from a query text to data and errors (section 6.1 of the Specification).
 
 ghost use Rattle.std.specs.Prelude.{◌≡◌, MatchResult, None, Some, [], option_map};
-ghost use Rattle.graphql_spec.specs.Errors.{keys_only};
-ghost use Rattle.graphql_spec.specs.Outcomes.{IsOutcome, Reads};
+ghost use Rattle.graphql_spec.specs.ExactAnswers.{IsExactOutcome};
+ghost use Rattle.graphql_spec.specs.Outcomes.{Reads};
 ghost use Rattle.graphql_spec.specs.Requests as requests;
 ghost use Rattle.graphql_spec.specs.Rules.{rule_errors};
 ghost use Rattle.juniper_syntax.specs.DocumentView.{view_document, view_operation};
@@ -76,8 +76,11 @@ fn check_document<S: ScalarValue>(
     }
 }
 
-/// Whether the given values of the operation's variables fit, and hold no variables (CoerceVariableValues, 6.1.2).
-fn check_variables<S: ScalarValue>(
+/// Whether an operation can be executed with these given values of its variables: they fit, and hold no variables (CoerceVariableValues,
+/// 6.1.2). Otherwise [`GraphQLError::ValidationError`] tells each variable without a fitting value, or
+/// [`GraphQLError::VariableNotConstant`] the first whose value holds a variable; [`GraphQLError::OutOfMemory`] may stand in place of each
+/// answer. What it lets pass [`execute_validated_query`] takes, as often as it is executed.
+pub fn check_variables<S: ScalarValue>(
     alloc: Global,
     operation: &Spanning<Operation<'_, S>, Span>,
     variables: &Variables<S>,
@@ -126,7 +129,7 @@ pub fn execute_sync<
     context: &mut Q::Context,
 ) -> Result<(Value<S>, Vec<ExecutionError<S>>), GraphQLError>
     ensures { AnswersAs S.shown
-        (λ r. IsOutcome (service_of Q.concrete Q.answer Q.root M.step M.torn S.shown root_node.now) keys_only
+        (λ r. IsExactOutcome (service_of Q.concrete Q.answer Q.root M.step M.torn S.shown root_node.now)
         (request_of S.shown document_source.now operation_name.entry variables.now) context.old r context.new) result }
 {
     let document = match read(alloc, document_source) {

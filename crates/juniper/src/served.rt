@@ -5,12 +5,14 @@ ghost use Rattle.graphql_spec.specs.Executable.{is_executable};
 ghost use Rattle.juniper_meta.specs.MetaView.{view_meta};
 ghost use Rattle.juniper_schema.specs.SchemaView.{meta_named, view_schema};
 
+use crate::walking::Walking;
 use juniper_language::ScalarValue;
 use juniper_meta::MetaType;
 use juniper_schema::SchemaType;
 use juniper_types::GraphQLType;
 
-/// A schema that can be executed, the resolver of its queries, and that of its mutations, whose nodes are users' nodes of a root.
+/// A schema that can be executed, the resolver of its queries, and that of its mutations, whose nodes are users' nodes of a root; and
+/// how requests are walked.
 #[derive(Drop)]
 pub(crate) struct Served<'r, Q: GraphQLType<S>, M: GraphQLType<S>, S: ScalarValue> {
     pub(crate) query: &'r Q,
@@ -19,6 +21,7 @@ pub(crate) struct Served<'r, Q: GraphQLType<S>, M: GraphQLType<S>, S: ScalarValu
     pub(crate) mutation_info: &'r M::TypeInfo,
     pub(crate) schema: &'r SchemaType<S>,
     pub(crate) is_introspection_disabled: bool,
+    pub(crate) walking: Walking,
     ghost executable: { IsTrue (is_executable (view_schema S.shown schema.now)) },
 }
 

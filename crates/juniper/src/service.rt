@@ -1,6 +1,6 @@
 //! What a request asks of its schema, its variables and its resolver (section 6.4 of the Specification).
 
-ghost use Rattle.std.specs.Prelude.{◌≡◌, [], IsTrue, false, map, option_map, string_bytes};
+ghost use Rattle.std.specs.Prelude.{◌≡◌, ◌<◌, [], length, IsTrue, false, map, option_map, string_bytes};
 ghost use Rattle.graphql_spec.specs.Arguments.{coerced_arguments};
 ghost use Rattle.graphql_spec.specs.Documents.{written};
 ghost use Rattle.graphql_spec.specs.Execution.{reply_to};
@@ -14,14 +14,15 @@ ghost use Rattle.juniper_meta.specs.MetaView.{view_argument, view_field};
 ghost use Rattle.juniper_resolvable.specs.ResolvedView.{Answers};
 ghost use Rattle.juniper_schema.specs.SchemaView.{view_schema};
 ghost use Rattle.juniper_lookahead.specs.Expansion.{IsAcyclic};
-ghost use Rattle.juniper_lookahead.specs.Selected.{IsSelected};
+ghost use Rattle.juniper_lookahead.specs.Sites.{IsFirstOf, IsWholeGroup};
 ghost use Rattle.juniper_walk.specs.FieldWords.{head_of};
 ghost use Rattle.juniper.specs.Services.{is_undeclared, world_in};
 
 use crate::coerce::coerce_arguments;
 use juniper_assemble::Completer;
 use juniper_collect::Conditions;
-use juniper_language::{ScalarValue, Type, Variables};
+use juniper_language::{Field as Written, ScalarValue, Span, Spanning, Type, Variables};
+use juniper_lookahead::Occurrence;
 use juniper_meta::MetaType;
 use juniper_meta::meta::{Argument, Field};
 use juniper_schema::{SchemaType, TypeType};
@@ -89,10 +90,18 @@ impl<'r, Q: GraphQLValue<S>, S: ScalarValue> Resolver<S> for Service<'r, Q, S> {
         node: &Self::Node,
         site: &Site<'_, 'd, 'a, S>,
     ) -> Asked<'t, Self::Node, S> {
-        let written = site.field;
+        let written = first_of(site.occurrences);
         let field = self.schema.field_of(concrete, written.item.name.item);
         let declared = declared_type(field, &self.undeclared);
-        let answer = self.reply(alloc, concrete, node, site, declared, arguments_of(field));
+        let answer = self.reply(
+            alloc,
+            concrete,
+            node,
+            site,
+            written,
+            declared,
+            arguments_of(field),
+        );
         Asked { declared, answer }
     }
 }
@@ -106,24 +115,24 @@ impl<'r, Q: GraphQLValue<S>, S: ScalarValue> Service<'r, Q, S> {
         concrete: &str,
         node: &Q::Node,
         site: &Site<S>,
+        first: &Spanning<Written<S>, Span>,
         declared: &Type<String>,
         arguments: &[Argument<S>],
     ) -> Result<Resolved<Q::Node, S>, ResolveError<S>>
         requires arguments { map (view_argument S.shown) arguments.now
-            ≡ declared_arguments (field_of (view_schema S.shown self.now.schema.now) concrete.now (head_of S.shown site.now.field.now).name.item) }
+            ≡ declared_arguments (field_of (view_schema S.shown self.now.schema.now) concrete.now (head_of S.shown first.now).name.item) }
         requires acyclic { IsAcyclic S.shown site.now.fragments.now }
-        requires selected { IsSelected S.shown (is_possible (view_schema S.shown self.now.schema.now)) self.now.variables.now site.now.fragments.now
-            concrete.now site.now.enclosing.now
-            site.now.field.now }
+        requires first { IsFirstOf first.now site.now.occurrences.now }
+        requires whole { IsWholeGroup S.shown (is_possible (view_schema S.shown self.now.schema.now)) self.now.variables.now site.now.fragments.now
+            concrete.now site.now.enclosing.now site.now.occurrences.now }
         ensures { Answers S.shown result (reply_to (world_in Q.concrete Q.answer self.now.resolver.now self.now.info.now self.now.context.now
             (view_schema S.shown self.now.schema.now)
-            (view_variables S.shown self.now.variables.now)) concrete.now node.now (head_of S.shown site.now.field.now)) }
+            (view_variables S.shown self.now.variables.now)) concrete.now node.now (head_of S.shown first.now)) }
     {
-        let written = site.field;
-        if written.item.name.item == "__typename" {
+        if first.item.name.item == "__typename" {
             type_name(alloc, concrete)
         } else {
-            self.resolve(alloc, concrete, node, site, declared, arguments)
+            self.resolve(alloc, concrete, node, site, first, declared, arguments)
         }
     }
 
@@ -134,21 +143,22 @@ impl<'r, Q: GraphQLValue<S>, S: ScalarValue> Service<'r, Q, S> {
         concrete: &str,
         node: &Q::Node,
         site: &Site<S>,
+        first: &Spanning<Written<S>, Span>,
         declared: &Type<String>,
         arguments: &[Argument<S>],
     ) -> Result<Resolved<Q::Node, S>, ResolveError<S>>
         requires arguments { map (view_argument S.shown) arguments.now
-            ≡ declared_arguments (field_of (view_schema S.shown self.now.schema.now) concrete.now (head_of S.shown site.now.field.now).name.item) }
+            ≡ declared_arguments (field_of (view_schema S.shown self.now.schema.now) concrete.now (head_of S.shown first.now).name.item) }
         requires acyclic { IsAcyclic S.shown site.now.fragments.now }
-        requires selected { IsSelected S.shown (is_possible (view_schema S.shown self.now.schema.now)) self.now.variables.now site.now.fragments.now
-            concrete.now site.now.enclosing.now
-            site.now.field.now }
+        requires first { IsFirstOf first.now site.now.occurrences.now }
+        requires whole { IsWholeGroup S.shown (is_possible (view_schema S.shown self.now.schema.now)) self.now.variables.now site.now.fragments.now
+            concrete.now site.now.enclosing.now site.now.occurrences.now }
         ensures { Answers S.shown result (Q.answer self.now.resolver.now self.now.info.now self.now.context.now node.now
-            (head_of S.shown site.now.field.now).name.item
+            (head_of S.shown first.now).name.item
             (coerced_arguments (map (view_argument S.shown) arguments.now) (view_variables S.shown self.now.variables.now)
-            (written (head_of S.shown site.now.field.now).arguments))) }
+            (written (head_of S.shown first.now).arguments))) }
     {
-        let arguments = coerce_arguments(alloc, arguments, site.field, self.variables)?;
+        let arguments = coerce_arguments(alloc, arguments, first, self.variables)?;
         let declared = shown_type(alloc, self.schema, self.query_type, declared)?;
         let executor = Executor::at_field(
             self.context,
@@ -159,13 +169,23 @@ impl<'r, Q: GraphQLValue<S>, S: ScalarValue> Service<'r, Q, S> {
             &declared,
             concrete,
             site.enclosing,
-            site.field,
+            site.occurrences,
         );
-        let written = site.field;
-        let name = written.item.name.item;
+        let name = first.item.name.item;
         self.resolver
             .resolve_field(alloc, self.info, node, name, &arguments, &executor)
     }
+}
+
+/// The first of a field's occurrences.
+pub(crate) fn first_of<'d, 'a, S>(
+    occurrences: &[Occurrence<'d, 'a, S>],
+) -> &'d Spanning<Written<'a, S>, Span>
+    requires { 0 < length occurrences.now }
+    ensures { IsFirstOf result.now occurrences.now }
+{
+    let first = &occurrences[0];
+    first.field
 }
 
 /// The type that a field declares, or what stands for it where there is no such field.

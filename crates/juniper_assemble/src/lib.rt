@@ -6,8 +6,10 @@ mod apart;
 mod filling;
 mod joining;
 mod skeleton;
+mod spot;
 
 pub use apart::{Completer, Fault, take_apart};
 pub use filling::fill;
 pub use joining::{join, settle};
 pub use skeleton::Skeleton;
+pub use spot::Spot;

@@ -9,7 +9,8 @@ ghost use Rattle.juniper_collect.specs.Collected.{IsReady, IsWithin, expansion, 
 use crate::conditions::Conditions;
 use crate::fragments::FragmentMap;
 use crate::parts::{Part, part_of};
-use juniper_syntax::{Field, ScalarValue, Selection, Span, Spanning, Variables};
+use juniper_lookahead::Occurrence;
+use juniper_syntax::{ScalarValue, Selection, Variables};
 use std::alloc::{AllocError, Global};
 
 /// What one request collects fields with.
@@ -18,12 +19,6 @@ pub struct Collector<'r, 'd, 'a, S, P> {
     pub fragments: &'r FragmentMap<'d, 'a, S>,
     pub variables: &'r Variables<S>,
     pub possible: P,
-}
-
-/// A field that was collected.
-#[derive(Drop)]
-pub struct Occurrence<'d, 'a, S> {
-    pub field: &'d Spanning<Field<'a, S>, Span>,
 }
 
 /// The fields that were collected, in document order.

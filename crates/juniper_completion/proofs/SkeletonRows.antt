@@ -5,11 +5,11 @@ use Rattle.graphql_spec.specs.Shown.{Name, Shown, text}
 use Rattle.graphql_spec.specs.Values.{Value, null, scalar, list, no_items, item, any_null, is_null}
 use Rattle.graphql_spec.specs.Constants.{no_members}
 use Rattle.graphql_spec.specs.Types.{TypeRef, named, list_of, required}
-use Rattle.graphql_spec.specs.Errors.{Place, key, index, keys_only, null_at_non_null, wrong_shape}
+use Rattle.graphql_spec.specs.Errors.{Place, key, index, null_at_non_null, wrong_shape}
 use Rattle.graphql_spec.specs.Resolvers.{World, Tree, nothing, items, node, no_trees, tree, answered}
 use Rattle.graphql_spec.specs.Execution.{whole_list}
 use Rattle.graphql_spec.specs.Failures.{landing, faults, reply_faults}
-use Rattle.juniper_completion.specs.Skeletons.{absent, filled, several, hole, no_skeletons, skeleton, skeleton_of, stops, nodes_of, errors_of, listed_apart, first_of, fill}
+use Rattle.juniper_completion.specs.Skeletons.{absent, filled, several, hole, no_skeletons, skeleton, skeleton_of, stops, node_spots, error_spots, listed_apart, first_of, fill}
 
 -- nodes are named by what they stand for: `Hero` is possible at itself alone, and `Int` takes 7 alone
 world : World Name
@@ -38,20 +38,24 @@ here = key (codes "heroes") ∷ []
 
 -- the hero alone leaves a hole; the items are non-null, so its null lands at the list
 split : (skeleton_of world heroes three ≡ several true (skeleton hole (skeleton absent (skeleton absent no_skeletons))))
-    × (nodes_of world heroes three ≡ codes "Hero" ∷ [])
+    × (node_spots world here heroes three ≡ record { place = key (codes "heroes") ∷ index 0 ∷ []; what = codes "Hero" } ∷ [])
     × (stops world here [] heroes three ≡ record { place = key (codes "heroes") ∷ index 0 ∷ []; lands = here; node = codes "Hero" } ∷ [])
-unfolding world heroes three here skeleton_of nodes_of stops landing required
+unfolding world heroes three here skeleton_of node_spots stops landing required
 split = (refl, refl, refl)
 
--- the two others fail, and are listed by the response keys
-failing : errors_of world heroes three ≡ null_at_non_null ∷ wrong_shape ∷ []
-unfolding world heroes three errors_of
+-- the two others fail, each at its position
+failing : error_spots world here heroes three
+    ≡ record { place = key (codes "heroes") ∷ index 1 ∷ []; what = null_at_non_null }
+    ∷ record { place = key (codes "heroes") ∷ index 2 ∷ []; what = wrong_shape } ∷ []
+unfolding world heroes three here error_spots
 failing = refl
 
-listed : (start : _) → listed_apart world keys_only here start heroes (answered three)
-    ≡ record { path = here; start = start; error = null_at_non_null } ∷ record { path = here; start = start; error = wrong_shape } ∷ []
-unfolding world heroes three here listed_apart faults reply_faults landing required keys_only
-listed start = refl
+-- and are listed as the place is told
+listed : (tell : Place → Place) (start : _) → listed_apart world tell here start heroes (answered three)
+    ≡ record { path = tell (key (codes "heroes") ∷ index 1 ∷ []); start = start; error = null_at_non_null }
+    ∷ record { path = tell (key (codes "heroes") ∷ index 2 ∷ []); start = start; error = wrong_shape } ∷ []
+unfolding world heroes three here listed_apart faults reply_faults landing required
+listed tell start = refl
 
 -- values fill the holes in order, and the last is left
 fills : (u v w : Value) → fill (several false (skeleton hole (skeleton absent (skeleton (filled (text (codes "1"))) (skeleton hole no_skeletons)))))

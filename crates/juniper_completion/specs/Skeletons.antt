@@ -28,6 +28,11 @@ pub record Stop (N : Type 0) : Type 0 where
   pub lands : Place
   pub node : N
 
+-- something at a place of an answer
+pub record Spot (A : Type 0) : Type 0 where
+  pub place : Place
+  pub what : A
+
 module _ {N : Type 0} (W : World N) where
   unfoldable mutual
     -- a resolved tree at a type: a hole for each node whose object type is possible there (6.4.3)
@@ -56,31 +61,31 @@ module _ {N : Type 0} (W : World N) where
     all_stops here i above t (tree a rest) = stops (here ++ index i ∷ []) above t a ++ all_stops here (suc i) above t rest
 
   unfoldable mutual
-    -- these nodes alone
-    pub nodes_of : TypeRef → Tree N → List N
-    nodes_of (named r n) (node m) = cond (W.possible (W.concrete m) n) (m ∷ []) []
-    nodes_of (list_of r size t) (items ts) = all_nodes t ts
-    nodes_of t other = []
+    -- these nodes, each at its place in the answer (7.1.2)
+    pub node_spots : Place → TypeRef → Tree N → List (Spot N)
+    node_spots here (named r n) (node m) = cond (W.possible (W.concrete m) n) (record { place = here; what = m } ∷ []) []
+    node_spots here (list_of r size t) (items ts) = all_node_spots here 0 t ts
+    node_spots here t other = []
 
-    -- item by item
-    pub all_nodes : TypeRef → Trees N → List N
-    all_nodes t no_trees = []
-    all_nodes t (tree a rest) = nodes_of t a ++ all_nodes t rest
+    -- item by item, counted from i
+    pub all_node_spots : Place → ℕ → TypeRef → Trees N → List (Spot N)
+    all_node_spots here i t no_trees = []
+    all_node_spots here i t (tree a rest) = node_spots (here ++ index i ∷ []) t a ++ all_node_spots here (suc i) t rest
 
   unfoldable mutual
-    -- the errors of the failures that are not its nodes' (6.4.4)
-    pub errors_of : TypeRef → Tree N → List Error
-    errors_of (named r n) nothing = cond r (null_at_non_null ∷ []) []
-    errors_of (list_of r size t) nothing = cond r (null_at_non_null ∷ []) []
-    errors_of (named r n) (leaf x) = cond (W.accepts n x) [] (wrong_shape ∷ [])
-    errors_of (named r n) (node m) = cond (W.possible (W.concrete m) n) [] (wrong_shape ∷ [])
-    errors_of (list_of r size t) (items ts) = all_errors t ts
-    errors_of t other = wrong_shape ∷ []
+    -- the errors of the failures that are not its nodes', each at its place in the answer (6.4.4, 7.1.2)
+    pub error_spots : Place → TypeRef → Tree N → List (Spot Error)
+    error_spots here (named r n) nothing = cond r (record { place = here; what = null_at_non_null } ∷ []) []
+    error_spots here (list_of r size t) nothing = cond r (record { place = here; what = null_at_non_null } ∷ []) []
+    error_spots here (named r n) (leaf x) = cond (W.accepts n x) [] (record { place = here; what = wrong_shape } ∷ [])
+    error_spots here (named r n) (node m) = cond (W.possible (W.concrete m) n) [] (record { place = here; what = wrong_shape } ∷ [])
+    error_spots here (list_of r size t) (items ts) = all_error_spots here 0 t ts
+    error_spots here t other = record { place = here; what = wrong_shape } ∷ []
 
-    -- item by item
-    pub all_errors : TypeRef → Trees N → List Error
-    all_errors t no_trees = []
-    all_errors t (tree a rest) = errors_of t a ++ all_errors t rest
+    -- item by item, counted from i
+    pub all_error_spots : Place → ℕ → TypeRef → Trees N → List (Spot Error)
+    all_error_spots here i t no_trees = []
+    all_error_spots here i t (tree a rest) = error_spots (here ++ index i ∷ []) t a ++ all_error_spots here (suc i) t rest
 
   -- the same of a reply (6.4.2); a field error leaves null
   unfoldable pub reply_skeleton : TypeRef → Reply N → Skeleton
@@ -91,13 +96,13 @@ module _ {N : Type 0} (W : World N) where
   reply_stops here above t (answered a) = stops here above t a
   reply_stops here above t (failed e) = []
 
-  unfoldable pub reply_nodes : TypeRef → Reply N → List N
-  reply_nodes t (answered a) = nodes_of t a
-  reply_nodes t (failed e) = []
+  unfoldable pub reply_node_spots : Place → TypeRef → Reply N → List (Spot N)
+  reply_node_spots here t (answered a) = node_spots here t a
+  reply_node_spots here t (failed e) = []
 
-  unfoldable pub reply_errors : TypeRef → Reply N → List Error
-  reply_errors t (answered a) = errors_of t a
-  reply_errors t (failed e) = e ∷ []
+  unfoldable pub reply_error_spots : Place → TypeRef → Reply N → List (Spot Error)
+  reply_error_spots here t (answered a) = error_spots here t a
+  reply_error_spots here t (failed e) = record { place = here; what = e } ∷ []
 
   -- what is listed, for a field that starts there, of the failures that are not its nodes' (6.4.4)
   unfoldable pub listed_apart : (Place → Place) → Place → Position → TypeRef → Reply N → List Listed
@@ -130,6 +135,6 @@ unfoldable mutual
   fill_all no_skeletons vs = record { values = no_items; left = vs }
   fill_all (skeleton s ss) vs = record { values = item (fill s vs).value (fill_all ss (fill s vs).left).values; left = (fill_all ss (fill s vs).left).left }
 
--- errors as they are listed of one place and one start
-unfoldable pub listed_at : Place → Position → List Error → List Listed
-listed_at place start errors = map (λ e. record { path = place; start = start; error = e }) errors
+-- errors as they are listed of one start; `tell` says how a place is listed
+unfoldable pub listed_spots : (Place → Place) → Position → List (Spot Error) → List Listed
+listed_spots tell start xs = map (λ x. record { path = tell x.place; start = start; error = x.what }) xs

@@ -9,7 +9,7 @@ ghost use Rattle.graphql_spec.specs.Shown.{Name};
 ghost use Rattle.graphql_spec.specs.Values.{Value};
 ghost use Rattle.std.specs.Prelude.{List};
 ghost use Rattle.juniper_completion.specs.CompletionLaws.{CompletesApart};
-ghost use Rattle.juniper_completion.specs.NodeLaws.{GroupByNodes, OccurrenceByNodes};
+ghost use Rattle.juniper_completion.specs.NodeLaws.{GroupByNodes, GroupBySpots, OccurrenceByNodes};
 ghost use Rattle.juniper_completion.specs.Walks.{AgreesBelow, FieldsAreShallower, KeysStayApart, NoneWalked, OneMoreWalked, WalkAnswers};
 
 /// A reply whose holes are filled by the objects of its nodes is completed, and what is listed of it and of them meets what
@@ -22,16 +22,17 @@ pub fn completes_apart<N>()
 /// A selection set is walked field by field: an empty one, and one more field, which selects less deep than the set that holds
 /// it (section 6.3). Where its fields agree, so does what they select; and what was walked of a request answers it.
 pub fn walks_by_fields<N>()
-    ensures none { (W : World N) → NoneWalked W }
-    ensures more { (W : World N) → OneMoreWalked W }
+    ensures none { (tell : Place → Place) (W : World N) → NoneWalked tell W }
+    ensures more { (tell : Place → Place) (W : World N) → OneMoreWalked tell W }
     ensures keys { KeysStayApart }
     ensures shallower { FieldsAreShallower }
     ensures agree { (W : World N) → AgreesBelow W }
-    ensures answers { (W : World N) → WalkAnswers W }
+    ensures answers { (tell : Place → Place) (W : World N) → WalkAnswers tell W }
 {}
 
 /// A reply is completed for one occurrence by the objects of its nodes, and for all of them at once (section 6.4.3).
 pub fn completes_by_nodes<N>()
     ensures occurrence { (W : World N) → OccurrenceByNodes W }
     ensures group { (W : World N) → GroupByNodes W }
+    ensures spots { (W : World N) → GroupBySpots W }
 {}

@@ -2,7 +2,8 @@
 
 use crate::tables::{Told, check, unknown};
 use juniper_language::{DefaultScalarValue, SourcePosition, Value};
-use juniper_values::{ExecutionError, FieldError, IntoFieldError, ResolveError};
+use juniper_values::PathPart::{Index, Key};
+use juniper_values::{ExecutionError, FieldError, IntoFieldError, PathPart, ResolveError};
 use std::alloc::{AllocError, AllocFailed, Global};
 use std::fmt::Display;
 
@@ -19,17 +20,21 @@ AllocFailed => Memory";
 
 /// For an error of an execution its location, its path and its message.
 const PLACES: &str = "\
-at a place => 9 0 9 [\"hero\", \"friends\"] no
+at a place => 9 0 9 [Key(\"hero\"), Key(\"friends\"), Index(3)] no
 at the origin => 0 0 0 [] none";
 
 /// For two errors how they are ordered, and whether they are equal: a beginning comes before the whole, the location comes
-/// first and the message last, and the extensions order nothing.
+/// first and the message last, a position comes before a key and goes by its number, and the extensions order nothing.
 const ORDERS: &str = "\
 short | longer => Less, false
 longer | short => Greater, false
 earlier | short => Less, false
 short | louder => Less, false
 short | extended => Equal, false
+short | second => Less, false
+second | tenth => Less, false
+tenth | longer => Less, false
+longer | tenth => Greater, false
 short | short => Equal, true";
 
 /// Whether what is made of an error is equal to it.
@@ -98,7 +103,13 @@ fn reason(alloc: Global, error: ResolveError<DefaultScalarValue>) -> Result<Stri
 /// Where an error of this name is.
 pub fn place_of(alloc: Global, name: &str) -> Result<String, AllocError> {
     match name {
-        "at a place" => place(alloc, &listed(alloc, (9, &["hero", "friends"], "no", 1))?),
+        "at a place" => place(
+            alloc,
+            &listed(
+                alloc,
+                (9, &[Key("hero"), Key("friends"), Index(3)], "no", 1),
+            )?,
+        ),
         "at the origin" => place(alloc, &at_origin(alloc)?),
         _ => unknown(alloc),
     }
@@ -120,7 +131,7 @@ fn at_origin(alloc: Global) -> Result<ExecutionError<DefaultScalarValue>, AllocE
 }
 
 /// An error's place in the first line, its path, its message, and a number for its extensions.
-type Row = (usize, &'static [&'static str], &'static str, i32);
+type Row = (usize, &'static [PathPart<'static>], &'static str, i32);
 
 /// The error of a row.
 fn listed(alloc: Global, row: Row) -> Result<ExecutionError<DefaultScalarValue>, AllocError> {
@@ -132,11 +143,13 @@ fn listed(alloc: Global, row: Row) -> Result<ExecutionError<DefaultScalarValue>,
 /// The row of an error of this name.
 fn row_of(name: &str) -> Option<Row> {
     match name {
-        "short" => Some((2, &["a"], "x", 1)),
-        "longer" => Some((2, &["a", "b"], "a", 1)),
-        "earlier" => Some((1, &["z"], "z", 1)),
-        "louder" => Some((2, &["a"], "y", 1)),
-        "extended" => Some((2, &["a"], "x", 2)),
+        "short" => Some((2, &[Key("a")], "x", 1)),
+        "longer" => Some((2, &[Key("a"), Key("b")], "a", 1)),
+        "earlier" => Some((1, &[Key("z")], "z", 1)),
+        "louder" => Some((2, &[Key("a")], "y", 1)),
+        "second" => Some((2, &[Key("a"), Index(2)], "x", 1)),
+        "tenth" => Some((2, &[Key("a"), Index(10)], "x", 1)),
+        "extended" => Some((2, &[Key("a")], "x", 2)),
         _ => None,
     }
 }
@@ -183,7 +196,7 @@ fn equal<T: Eq>(a: &T, b: &T) -> bool {
 
 /// Whether a copy of an error is equal to it.
 fn is_copied(alloc: Global) -> Result<bool, AllocError> {
-    let error = listed(alloc, (9, &["hero", "name"], "no", 1))?;
+    let error = listed(alloc, (9, &[Key("hero"), Key("name")], "no", 1))?;
     Ok(equal(&error.try_clone(alloc)?, &error))
 }
 

@@ -74,11 +74,22 @@ Option<Vec<i32>> | null => Ok(None)
 Option<Vec<i32>> | 1 => Ok(Some([1]))
 Option<Vec<i32>> | [1, 2, 3] => Ok(Some([1, 2, 3]))
 Option<Vec<i32>> | [1, 2, null] => Err(Item(\"Expected GraphQL scalar, found: null\"))
+Option<Vec<Option<i32>>> | null => Ok(None)
+Option<Vec<Option<i32>>> | 1 => Ok(Some([Some(1)]))
+Option<Vec<Option<i32>>> | [1, 2, 3] => Ok(Some([Some(1), Some(2), Some(3)]))
+Option<Vec<Option<i32>>> | [1, 2, null] => Ok(Some([Some(1), Some(2), None]))
 Option<Vec<Vec<i32>>> | null => Ok(None)
+Option<Vec<Vec<i32>>> | 1 => Ok(Some([[1]]))
+Option<Vec<Vec<i32>>> | [1, 2, 3] => Ok(Some([[1], [2], [3]]))
 Option<Vec<Vec<i32>>> | [1, 2, null] => Err(Item(Null))
 Option<[i32; 3]> | null => Ok(None)
 Option<[i32; 3]> | 1 => Err(WrongCount { actual: 1, expected: 3 })
 Option<[i32; 3]> | [1, 2, 3] => Ok(Some([1, 2, 3]))
+Option<[i32; 3]> | [1, 2, null] => Err(Item(\"Expected GraphQL scalar, found: null\"))
+Option<[Option<i32>; 3]> | null => Ok(None)
+Option<[Option<i32>; 3]> | 1 => Err(WrongCount { actual: 1, expected: 3 })
+Option<[Option<i32>; 3]> | [1, 2, 3] => Ok(Some([Some(1), Some(2), Some(3)]))
+Option<[Option<i32>; 3]> | [1, 2, null] => Ok(Some([Some(1), Some(2), None]))
 Vec<Vec<Vec<i32>>> | [[[1, 2], []], [], 3] => Ok([[[1, 2], []], [], [[3]]])
 Vec<Vec<Vec<i32>>> | [[[1], [2, true]]] => Err(Item(Item(Item(\"Expected `Int`, found another scalar\"))))
 Vec<Vec<Vec<i32>>> | [[[1], null]] => Err(Item(Item(Null)))";
@@ -196,6 +207,12 @@ fn told_at_wrapper(
             told_around::<Vec<i32>>(alloc, question, kind, value)
         }
         "Option<[i32; 3]>" => told_around::<[i32; 3]>(alloc, question, kind, value),
+        "Option<[Option<i32>; 3]>" => {
+            told_around::<[Option<i32>; 3]>(alloc, question, kind, value)
+        }
+        "Option<Vec<Option<i32>>>" => {
+            told_around_vector::<Option<i32>>(alloc, question, kind, value)
+        }
         "Option<Vec<Vec<i32>>>" | "Vec<Vec<Vec<i32>>>" => {
             told_around_vector::<Vec<i32>>(alloc, question, kind, value)
         }

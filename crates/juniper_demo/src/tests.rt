@@ -14,7 +14,7 @@ const TEXTS: &str =
 { number(plus: 2147483607) } => 0 {"data":{"number":null},"errors":[{"message":"Too large","locations":[{"line":1,"column":3}],"path":["number"]}]}
 { number(plus: 2147483606) } => 0 {"data":{"number":2147483647}}
 { odd } => 0 {"data":{"odd":null},"errors":[{"message":"Answer of a wrong shape","locations":[{"line":1,"column":3}],"path":["odd"]}]}
-{ ids } => 0 {"data":{"ids":null},"errors":[{"message":"Null at a non-null place","locations":[{"line":1,"column":3}],"path":["ids"]}]}
+{ ids } => 0 {"data":{"ids":null},"errors":[{"message":"Null at a non-null place","locations":[{"line":1,"column":3}],"path":["ids",1]}]}
 { x } => 1 refused: Unknown field
 { __schema { types { name } } } => 0 {"data":{"__schema":{"types":[{"name":"Boolean"},{"name":"Cell"},{"name":"Character"},{"name":"Droid"},{"name":"Episode"},{"name":"Human"},{"name":"ID"},{"name":"Int"},{"name":"Mutation"},{"name":"Query"},{"name":"String"},{"name":"Tally"},{"name":"__Directive"},{"name":"__DirectiveLocation"},{"name":"__EnumValue"},{"name":"__Field"},{"name":"__InputValue"},{"name":"__Schema"},{"name":"__Type"},{"name":"__TypeKind"}]}}}
 { __schema { mutationType { name } directives { name } } } => 0 {"data":{"__schema":{"mutationType":{"name":"Mutation"},"directives":[{"name":"deprecated"},{"name":"include"},{"name":"skip"},{"name":"specifiedBy"}]}}}
@@ -54,7 +54,8 @@ const OBJECTS: &str =
 { hero(episode: OTHER) { id } } => 1 refused: Argument does not fit its type
 { hero(episode: EMPIRE) { id ... on Human { height } } } => 0 {"data":{"hero":{"id":"1000","height":172}}}
 { hero { friends { id } } } => 0 {"data":{"hero":{"friends":[{"id":"1000"},null]}}}
-{ hero { friends { secret } } } => 0 {"data":{"hero":{"friends":[null,null]}},"errors":[{"message":"secret is secret","locations":[{"line":1,"column":20}],"path":["hero","friends","secret"]}]}
+{ hero { friends { secret } } } => 0 {"data":{"hero":{"friends":[null,null]}},"errors":[{"message":"secret is secret","locations":[{"line":1,"column":20}],"path":["hero","friends",0,"secret"]}]}
+{ mustHero { friends { friends { secret } } } } => 0 {"data":{"mustHero":{"friends":[{"friends":[null]},null]}},"errors":[{"message":"secret is secret","locations":[{"line":1,"column":34}],"path":["mustHero","friends",0,"friends",0,"secret"]}]}
 { hero { appearsIn } } => 0 {"data":{"hero":{"appearsIn":["NEWHOPE","EMPIRE","JEDI"]}}}"#;
 
 /// The same of mutations; where the context is changed, it stands behind the line.

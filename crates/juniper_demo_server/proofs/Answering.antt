@@ -2,13 +2,13 @@
 use Rattle.std.proofs.Common.{◌≡◌, Bool, false, Option, Some, map, Vec, Global, Result, Ok, Err, inl, inr, subst}
 use Rattle.std.specs.Prelude.{MatchResult}
 use Rattle.graphql_spec.specs.Shown.{Text, Name}
-use Rattle.graphql_spec.specs.Errors.{keys_only}
+use Rattle.graphql_spec.specs.ExactAnswers.{IsExactOutcome}
 use Rattle.graphql_spec.specs.Inputs.{Variables}
 use Rattle.graphql_spec.specs.Schema.{Schema}
 use Rattle.graphql_spec.specs.Executable.{IsSameSchema}
 use Rattle.graphql_spec.specs.Introspection.{RootedNode, rooted_service}
 use Rattle.graphql_spec.specs.Outcomes as outcome
-use Rattle.graphql_spec.specs.Outcomes.{IsOutcome, Request, Response, Service, Steps, refuses, responds}
+use Rattle.graphql_spec.specs.Outcomes.{Request, Response, Service, Steps, refuses, responds}
 use Rattle.juniper.specs.Answering.{AnswersAs, Responds}
 use Rattle.juniper.specs.RequestErrors.{RequestError, view_request_error, not_parsed, not_valid, no_operation, multiple_operations, unknown_operation}
 use Rattle.juniper.specs.RequestErrors.{is_subscription, not_subscription, no_mutation_type, variable_not_constant, out_of_memory}
@@ -39,7 +39,7 @@ service_from m x b s = rooted_service (record { schema = s; introspection_disabl
 
 -- how the outcome of a request comes about
 abbrev pub Comes : DemoNode → Option (Steps DemoContext DemoNode) → Bool → Schema → Request → DemoContext → DemoContext → Outcome → Type 0
-Comes m x b s q c after o = AnswersAs default_shown (λ r. IsOutcome (service_from m x b s) keys_only q c r after) o
+Comes m x b s q c after o = AnswersAs default_shown (λ r. IsExactOutcome (service_from m x b s) q c r after) o
 
 -- what is shown of it
 abbrev pub IsShown : Outcome → Answer → Type 0
@@ -90,7 +90,7 @@ module _ (t : Text) (c after : DemoContext) where
       → MayLeave t n vars c after
   left n vars s same (Ok p) comes = inr (s, same, (responds (view_value default_shown p.0) (map (view_listed default_shown) p.1.items), comes))
   left n vars s same (Err e) comes =
-      inr (s, same, responded (λ r. IsOutcome (service_from Query (Some demo_steps) false s) keys_only (asked n vars) c r after) (view_request_error e) comes)
+      inr (s, same, responded (λ r. IsExactOutcome (service_from Query (Some demo_steps) false s) (asked n vars) c r after) (view_request_error e) comes)
 
   -- and where it cannot be shown, the context is that after an outcome
   pub request_left : (n l : Option Name) (vars : Variables) (m : DemoNode) (x : Option (Steps DemoContext DemoNode)) (b : Bool) (s : Schema) (o : Outcome) →

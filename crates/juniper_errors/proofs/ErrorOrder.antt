@@ -1,13 +1,16 @@
 -- Which errors compare as equal, and the order of the code's parts is the order of what they are seen as.
-use Rattle.std.proofs.Common.{◌≡◌, List, [], ◌∷◌, map, String, Global, string_bytes, refl, ap, ap₂}
+use Rattle.std.proofs.Common.{◌≡◌, List, [], ◌∷◌, map, refl, ap, ap₂}
 use Rattle.std.specs.Cmp.{IsTotalOrder}
 use Rattle.std.specs.Cmp.Lexicographic.{slice_cmp, lists_total}
 use Rattle.std.specs.Ordering.{nat_cmp, ordering_then, ordering_reverse}
-use Rattle.std.specs.String.{string_cmp}
 use Rattle.std.specs.declared.cmp.Ordering.{Ordering}
 use Rattle.std.specs.declared.cmp.Ordering.TheVariants.{Less, Equal, Greater}
 use Rattle.std.proofs.lemmas.Map.Lookups.{CmpEqualImpliesEq, exact_unsigned, exact_bytes}
 use Rattle.graphql_spec.specs.Errors.{key, index, Listed, compare_positions, compare_steps, compare}
+use Rattle.juniper_errors.specs.SegmentView.{view_segment}
+use Rattle.juniper_errors.specs.declared.segment.PathSegment.{PathSegment}
+use Rattle.juniper_errors.specs.declared.segment.PathSegment.TheVariants.{Index, Key}
+use Rattle.juniper_errors.specs.contracts.segment.PathSegmentOrd.TheImpl as segments
 use Rattle.graphql_spec.proofs.ErrorOrder.{names_total, positions_total, steps_total}
 
 -- ## What compares equal
@@ -70,19 +73,24 @@ then_assoc Less b c = refl
 then_assoc Equal b c = refl
 then_assoc Greater b c = refl
 
--- texts go as the keys that they are
-keys_compare : (xs ys : List (String Global)) → slice_cmp string_cmp xs ys
-    ≡ slice_cmp compare_steps (map (λ k. key (string_bytes k)) xs) (map (λ k. key (string_bytes k)) ys)
+-- segments go as the steps that they are
+segment_compare : (x y : PathSegment) → (segments.ghosts).cmp x y ≡ compare_steps (view_segment x) (view_segment y)
 unfolding compare_steps
-keys_compare [] [] = refl
-keys_compare [] (y ∷ ys) = refl
-keys_compare (x ∷ xs) [] = refl
-keys_compare (x ∷ xs) (y ∷ ys) = ap (λ o. ordering_then (string_cmp x y) o) (keys_compare xs ys)
+segment_compare (Index n) (Index m) = refl
+segment_compare (Index n) (Key k) = refl
+segment_compare (Key k) (Index m) = refl
+segment_compare (Key k) (Key j) = refl
 
--- by place, then by keys, then by message
-pub compares : (a b : Listed) (xs ys : List (String Global)) → a.path ≡ map (λ k. key (string_bytes k)) xs → b.path ≡ map (λ k. key (string_bytes k)) ys
+path_compare : (xs ys : List PathSegment) → slice_cmp (segments.ghosts).cmp xs ys ≡ slice_cmp compare_steps (map view_segment xs) (map view_segment ys)
+path_compare [] [] = refl
+path_compare [] (y ∷ ys) = refl
+path_compare (x ∷ xs) [] = refl
+path_compare (x ∷ xs) (y ∷ ys) = ap₂ ordering_then (segment_compare x y) (path_compare xs ys)
+
+-- by place, then by segments, then by message
+pub compares : (a b : Listed) (xs ys : List PathSegment) → a.path ≡ map view_segment xs → b.path ≡ map view_segment ys
     → ordering_then (ordering_then (ordering_then (nat_cmp a.start.index b.start.index)
-    (ordering_then (nat_cmp a.start.line b.start.line) (nat_cmp a.start.column b.start.column))) (slice_cmp string_cmp xs ys))
+    (ordering_then (nat_cmp a.start.line b.start.line) (nat_cmp a.start.column b.start.column))) (slice_cmp (segments.ghosts).cmp xs ys))
     (slice_cmp nat_cmp a.error.message b.error.message) ≡ compare a b
 unfolding compare compare_positions
-compares a b xs ys p q = rw (p, q, keys_compare xs ys) (simp then_assoc)
+compares a b xs ys p q = rw (p, q, path_compare xs ys) (simp then_assoc)

@@ -2,9 +2,10 @@
 use Rattle.std.specs.Prelude.{map, string_bytes}
 use Rattle.graphql_spec.specs.Shown.{Shown}
 use Rattle.graphql_spec.specs.Resolvers.{Error}
-use Rattle.graphql_spec.specs.Errors.{Listed, key}
+use Rattle.graphql_spec.specs.Errors.{Listed}
 use Rattle.juniper_position.specs.Positions.{view_position}
 use Rattle.juniper_syntax.specs.ValueView.{view_value}
+use Rattle.juniper_errors.specs.SegmentView.{view_segment}
 use Rattle.juniper_errors.specs.declared.field_error.FieldError.{FieldError}
 use Rattle.juniper_errors.specs.declared.execution_error.ExecutionError.{ExecutionError}
 
@@ -14,4 +15,4 @@ view_error shown e = record { message = string_bytes e.message; extensions = vie
 
 -- an error as an answer lists it
 abbrev pub view_listed : {S : Type 0} → (S → Shown) → ExecutionError S → Listed
-view_listed shown e = record { path = map (λ k. key (string_bytes k)) e.path.items; start = view_position e.location; error = view_error shown e.error }
+view_listed shown e = record { path = map view_segment e.path.items; start = view_position e.location; error = view_error shown e.error }

@@ -1,3 +1,4 @@
+pub mod SegmentView
 pub mod ErrorView
 pub mod Messages
 pub mod PathView

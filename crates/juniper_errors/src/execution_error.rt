@@ -1,38 +1,38 @@
 //! Errors of an execution as an answer lists them (section 7.1.2 of the Specification).
 
-ghost use Rattle.std.specs.Prelude.{◌≡◌, IfOk, map, [], string_bytes};
-ghost use Rattle.graphql_spec.specs.Errors.{key, compare};
+ghost use Rattle.std.specs.Prelude.{◌≡◌, IfOk, map, []};
+ghost use Rattle.graphql_spec.specs.Errors.{compare};
 ghost use Rattle.graphql_spec.specs.Positions.{origin};
 ghost use Rattle.juniper_position.specs.Positions.{view_position};
 ghost use Rattle.juniper_errors.specs.ErrorView.{view_error, view_listed};
+ghost use Rattle.juniper_errors.specs.SegmentView.{view_part, view_segment};
 
 use crate::field_error::FieldError;
+use crate::segment::{PathPart, PathSegment, clone_path, own_path};
 use juniper_syntax::{ScalarValue, SourcePosition};
 use std::alloc::{AllocError, Global};
 use std::cmp::Ordering;
 
-/// An error of an execution: the start of the field that it belongs to, the response keys from the root to it, and the
-/// field error.
+/// An error of an execution: the start of the field that it belongs to, the path from the root to it, and the field error.
 #[derive(Debug, PartialEq, Eq, Drop)]
 pub struct ExecutionError<S> {
     location: SourcePosition,
-    path: Vec<String>,
+    path: Vec<PathSegment>,
     error: FieldError<S>,
 }
 
 impl<S: ScalarValue> ExecutionError<S> {
-    /// The error of the field at this place of the text, under these response keys from the root; an error where memory
-    /// is refused.
+    /// The error of the field at this place of the text, at this path from the root; an error where memory is refused.
     pub fn new(
         alloc: Global,
         location: SourcePosition,
-        path: &[&str],
+        path: &[PathPart<'_>],
         error: FieldError<S>,
     ) -> Result<Self, AllocError>
         ensures { IfOk result (λ made. view_listed S.shown made ≡ record
-            { path = map (λ k. key k.now) path.now; start = view_position location; error = view_error S.shown error }) }
+            { path = map view_part path.now; start = view_position location; error = view_error S.shown error }) }
     {
-        let path = own_keys(alloc, path)?;
+        let path = own_path(alloc, path)?;
         Ok(ExecutionError {
             location,
             path,
@@ -40,7 +40,7 @@ impl<S: ScalarValue> ExecutionError<S> {
         })
     }
 
-    /// The error of no field: at the beginning of the text, under no response keys.
+    /// The error of no field: at the beginning of the text and the root of the answer.
     pub fn at_origin(alloc: Global, error: FieldError<S>) -> Self
         ensures { view_listed S.shown result ≡ record { path = []; start = origin; error = view_error S.shown error } }
     {
@@ -58,9 +58,9 @@ impl<S: ScalarValue> ExecutionError<S> {
         &self.location
     }
 
-    /// The response keys from the root to the field.
-    pub fn path(&self) -> &[String]
-        ensures { map (λ k. key (string_bytes k)) result.now ≡ (view_listed S.shown self.now).path }
+    /// The response keys and the positions in lists, from 0, that lead from the root to what fails.
+    pub fn path(&self) -> &[PathSegment]
+        ensures { map view_segment result.now ≡ (view_listed S.shown self.now).path }
     {
         self.path.as_slice()
     }
@@ -72,9 +72,9 @@ impl<S: ScalarValue> ExecutionError<S> {
         &self.error
     }
 
-    /// The order in which errors are listed: by location, then by path, key by key and a beginning first, then by message;
-    /// keys and messages go by their bytes. Errors that differ in their extensions alone compare equal, while `==` tells
-    /// them apart.
+    /// The order in which errors are listed: by location, then by path, segment by segment and a beginning first, then by
+    /// message. A position comes before a key; positions go by number, keys and messages by their bytes. Errors that differ
+    /// in their extensions alone compare equal, while `==` tells them apart.
     pub fn compare(&self, other: &ExecutionError<S>) -> Ordering
         ensures { result ≡ compare (view_listed S.shown self.now) (view_listed S.shown other.now) }
     {
@@ -90,30 +90,8 @@ impl<S: ScalarValue> ExecutionError<S> {
     {
         Ok(ExecutionError {
             location: self.location,
-            path: clone_keys(alloc, self.path.as_slice())?,
+            path: clone_path(alloc, self.path.as_slice())?,
             error: self.error.try_clone(alloc)?,
         })
     }
-}
-
-/// The keys, each in memory of its own.
-fn clone_keys(alloc: Global, keys: &[String]) -> Result<Vec<String>, AllocError>
-    ensures { IfOk result (λ made. map (λ k. key (string_bytes k)) made.items ≡ map (λ k. key (string_bytes k)) keys.now) }
-{
-    let mut made = Vec::with_capacity(alloc, keys.len())?;
-    for key in keys {
-        made.push(String::from_str(alloc, key.as_str())?)?;
-    }
-    Ok(made)
-}
-
-/// The keys, each in memory of its own.
-fn own_keys(alloc: Global, keys: &[&str]) -> Result<Vec<String>, AllocError>
-    ensures { IfOk result (λ owned. map (λ k. key (string_bytes k)) owned.items ≡ map (λ k. key k.now) keys.now) }
-{
-    let mut owned = Vec::with_capacity(alloc, keys.len())?;
-    for key in keys {
-        owned.push(String::from_str(alloc, key)?)?;
-    }
-    Ok(owned)
 }

@@ -6,8 +6,10 @@ mod field_error;
 mod field_path;
 mod into_field_error;
 pub mod laws;
+mod segment;
 
 pub use execution_error::ExecutionError;
 pub use field_error::{ExecutionResult, FieldError, FieldResult, ResolveError, error_of_message};
 pub use field_path::FieldPath;
 pub use into_field_error::IntoFieldError;
+pub use segment::{PathPart, PathSegment};

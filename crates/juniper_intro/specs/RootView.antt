@@ -33,6 +33,15 @@ module _ {Q M Sub S C N I J K : Type 0} {values : Values Q S C N I} {query : Typ
       J
   mutation_info_of r = r.mutation_info
 
+  -- the value of the subscription's type, and what it is told about that type
+  abbrev pub subscription_of : RootNode Q M Sub S C N I J K values query query_ref mutation mutation_ref subscription subscription_ref scalar equality shows →
+      Sub
+  subscription_of r = r.subscription
+
+  abbrev pub subscription_info_of : RootNode Q M Sub S C N I J K values query query_ref mutation mutation_ref subscription subscription_ref scalar equality
+      shows → K
+  subscription_info_of r = r.subscription_info
+
   -- whether introspection is disabled
   abbrev pub is_disabled : RootNode Q M Sub S C N I J K values query query_ref mutation mutation_ref subscription subscription_ref scalar equality shows → Bool
   is_disabled r = r.is_introspection_disabled

@@ -43,7 +43,7 @@ where
     M::TypeInfo: Drop,
     Sub::TypeInfo: Drop,
 {
-    ghost use Rattle.juniper_intro.specs.RootView.{info_of, is_disabled, mutation_info_of, mutation_of, resolver_of, schema_of};
+    ghost use Rattle.juniper_intro.specs.RootView.{info_of, is_disabled, mutation_info_of, mutation_of, resolver_of, schema_of, subscription_info_of, subscription_of};
 
     /// The root of these resolvers over the types of a registry, and the built-in ones, under the names of the query's and the
     /// mutation's types; there is no mutation type where that is the type of [`juniper_types::EmptyMutation`].
@@ -65,6 +65,8 @@ where
         ensures info { IfOk result (λ r. info_of r ≡ query_info) }
         ensures mutation { IfOk result (λ r. mutation_of r ≡ mutation) }
         ensures mutation_info { IfOk result (λ r. mutation_info_of r ≡ mutation_info) }
+        ensures subscription { IfOk result (λ r. subscription_of r ≡ subscription) }
+        ensures subscription_info { IfOk result (λ r. subscription_info_of r ≡ subscription_info) }
         ensures introspection { IfOk result (λ r. is_disabled r ≡ false) }
     {
         let schema = match executable_schema(
@@ -99,7 +101,7 @@ impl<Q: GraphQLValue<S>, M: GraphQLType<S>, Sub: GraphQLType<S>, S: ScalarValue>
     Sub,
     S,
 > {
-    ghost use Rattle.juniper_intro.specs.RootView.{info_of, is_disabled, mutation_info_of, mutation_of, resolver_of, schema_of};
+    ghost use Rattle.juniper_intro.specs.RootView.{info_of, is_disabled, mutation_info_of, mutation_of, resolver_of, schema_of, subscription_info_of, subscription_of};
 
     /// The same root with introspection disabled: a document that asks for `__schema` or `__type` is refused.
     pub fn disable_introspection(self) -> Self
@@ -109,6 +111,8 @@ impl<Q: GraphQLValue<S>, M: GraphQLType<S>, Sub: GraphQLType<S>, S: ScalarValue>
         ensures info { info_of result ≡ info_of self }
         ensures mutation { mutation_of result ≡ mutation_of self }
         ensures mutation_info { mutation_info_of result ≡ mutation_info_of self }
+        ensures subscription { subscription_of result ≡ subscription_of self }
+        ensures subscription_info { subscription_info_of result ≡ subscription_info_of self }
     {
         let mut root = self;
         root.is_introspection_disabled = true;
@@ -155,5 +159,19 @@ impl<Q: GraphQLValue<S>, M: GraphQLType<S>, Sub: GraphQLType<S>, S: ScalarValue>
         ensures { result.now ≡ mutation_info_of self.now }
     {
         &self.mutation_info
+    }
+
+    /// The value that was given for subscriptions, which is kept and not asked.
+    pub fn subscription(&self) -> &Sub
+        ensures { result.now ≡ subscription_of self.now }
+    {
+        &self.subscription
+    }
+
+    /// What was given to tell it about its type.
+    pub fn subscription_info(&self) -> &Sub::TypeInfo
+        ensures { result.now ≡ subscription_info_of self.now }
+    {
+        &self.subscription_info
     }
 }

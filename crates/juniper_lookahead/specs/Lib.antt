@@ -9,3 +9,5 @@ pub mod InputEquality
 pub mod ShownValues
 pub mod ValueView
 pub mod Selected
+pub mod Sites
+pub mod OccurrencesView

@@ -1,8 +1,8 @@
 //! Responses as lines of JSON (sections 7.1 and 7.2.2 of the Specification).
 
 ghost use Rattle.std.specs.Prelude.{◌≡◌, ◌+◌, IfOk, OnOk, map, string_bytes, [], ◌∷◌};
-ghost use Rattle.graphql_spec.specs.Errors.{key};
 ghost use Rattle.juniper_errors.specs.ErrorView.{view_listed};
+ghost use Rattle.juniper_errors.specs.SegmentView.{view_segment};
 ghost use Rattle.juniper_position.specs.Positions.{view_position};
 ghost use Rattle.juniper_syntax.specs.ValueView.{view_value, view_object, view_values};
 ghost use Rattle.serde_json.specs.Data.{array, object};
@@ -10,7 +10,7 @@ ghost use Rattle.serde_json.specs.Events.{SendsValue, SendsMembers, members_len}
 ghost use Rattle.juniper_response.specs.AnswerText.{answer_data, answer_text, scalar_data, value_data, values_data, entries_data, items_data, location_data, step_data, extensions_data, error_data, errors_data};
 
 use juniper_syntax::{Object, ScalarValue, SourcePosition, Value};
-use juniper_values::ExecutionError;
+use juniper_values::{ExecutionError, PathSegment};
 use serde::{Described, Serialize, Serializer};
 use serde_json::Number;
 use std::alloc::{AllocError, Global};
@@ -126,14 +126,25 @@ fn send_locations<W: Serializer>(location: &SourcePosition, out: &mut W) -> Resu
 }
 
 #[tactic(auto, unfolding(crate::specs::AnswerText::items_data, crate::specs::AnswerText::step_data))]
-fn send_path<W: Serializer>(path: &[String], out: &mut W) -> Result<(), W::Error>
-    ensures { OnOk result (SendsValue (array (items_data step_data (map (λ k. key (string_bytes k)) path.now))) (W.written out.old) (W.written out.new)) }
+fn send_path<W: Serializer>(path: &[PathSegment], out: &mut W) -> Result<(), W::Error>
+    ensures { OnOk result (SendsValue (array (items_data step_data (map view_segment path.now))) (W.written out.old) (W.written out.new)) }
 {
     out.begin_seq(Some(path.len()))?;
-    for key in path {
-        out.str(key.as_str())?;
+    for segment in path {
+        send_segment(segment, out)?;
     }
     out.end_seq()
+}
+
+/// Sends a step of a path: a position as a number, from 0, or a response key as a text (7.1.2).
+#[tactic(auto, unfolding(crate::specs::AnswerText::step_data))]
+fn send_segment<W: Serializer>(segment: &PathSegment, out: &mut W) -> Result<(), W::Error>
+    ensures { OnOk result (SendsValue (step_data (view_segment segment.now)) (W.written out.old) (W.written out.new)) }
+{
+    match segment {
+        PathSegment::Index(position) => out.u128(*position as u128),
+        PathSegment::Key(key) => out.str(key.as_str()),
+    }
 }
 
 /// How many members an error has: three, and its extensions where they are not null.

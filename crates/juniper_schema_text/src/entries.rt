@@ -127,10 +127,11 @@ impl<'t> Reader<'t> {
             self.put_placeholder(&mut types, "ID");
         }
         for _turn in 0..self.left() {
-            if !self.ends() {
-                let kind = self.word();
-                self.read_entry(kind, &mut types);
+            if self.ends() {
+                break;
             }
+            let kind = self.word();
+            self.read_entry(kind, &mut types);
         }
         types
     }

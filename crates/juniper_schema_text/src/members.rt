@@ -111,10 +111,11 @@ impl<'t> Reader<'t> {
     pub(crate) fn read_names(&mut self, mark: &str) -> Vec<Type<String>> {
         let mut names = Vec::new(self.alloc);
         for _turn in 0..self.left() {
-            if self.eats(mark) {
-                let name = Type::Named(self.name());
-                self.push(&mut names, name);
+            if !self.eats(mark) {
+                break;
             }
+            let name = Type::Named(self.name());
+            self.push(&mut names, name);
         }
         names
     }

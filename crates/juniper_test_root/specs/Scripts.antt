@@ -75,7 +75,7 @@ reply s c n field arguments = line_reply (answer_of s.lines.items n field) c.ste
 
 -- the context after one more step; they are counted modulo 256
 abbrev pub stepped : Notes → Notes
-stepped c = record { sights = c.sights; steps = (c.steps + 1) % 2 ^ 8 }
+stepped c = record { sights = c.sights; seen = c.seen; steps = (c.steps + 1) % 2 ^ 8 }
 
 -- the step of a root field: one more is counted, and the field answers as it does of the root's node
 abbrev pub step : Script → Notes → Name → Members → Notes × Reply Node

@@ -3,9 +3,10 @@
 use crate::reader::read_script;
 use crate::registry::registry_of;
 use crate::script::{Notes, RootType, Script};
+use crate::sights::{push_seen, saw_as_told};
 use crate::table::Request;
 use crate::variables::variables_of;
-use juniper::{EmptySubscription, GraphQLError, RootError, RootNode, execute_sync};
+use juniper::{EmptySubscription, GraphQLError, RootError, RootNode, Variables, execute_sync};
 use juniper_response::answer_line;
 use juniper_schema_text::{Declarations, Scalar, read_declarations};
 use std::alloc::{AllocError, Global};
@@ -84,43 +85,65 @@ pub fn read_root(
     }
 }
 
-/// What a request is answered: a line of JSON with its data and errors, `refused: ` and why it is refused, or `unread: ` and what of
-/// it cannot be read; behind it ` steps: ` and their number, where a mutation took some. An error where memory is refused.
-pub fn printed(alloc: Global, request: &Request) -> Result<String, AllocError> {
-    let root = match read_root(alloc, request.schema, request.answers) {
-        Ok(root) => root,
-        Err(unread) => return format!(in alloc; "unread: {unread}"),
-    };
-    let Some(variables) = variables_of(alloc, request.variables) else {
-        let unread = Unread::Variables;
-        return format!(in alloc; "unread: {unread}");
-    };
-    let name = match request.operation_name {
+/// What of a request's schema, answers and variables is read.
+#[derive(Drop)]
+pub(crate) struct Ready {
+    pub(crate) root: ScriptRoot,
+    pub(crate) variables: Variables<Scalar>,
+}
+
+/// Reads a request's schema, answers and variables.
+pub(crate) fn read_request(alloc: Global, request: &Request) -> Result<Ready, Unread> {
+    let root = read_root(alloc, request.schema, request.answers)?;
+    match variables_of(alloc, request.variables) {
+        Some(variables) => Ok(Ready { root, variables }),
+        None => Err(Unread::Variables),
+    }
+}
+
+/// The name of the operation, if one is given.
+pub(crate) fn operation_name(request: &Request) -> Option<&'static str> {
+    match request.operation_name {
         "" => None,
         name => Some(name),
+    }
+}
+
+/// What a request is answered: a line of JSON with its data and errors, `refused: ` and why it is refused, or `unread: ` and what of
+/// it cannot be read; behind it ` steps: ` and their number, where a mutation took some, and ` sees: ` and what resolvers were shown, where it
+/// is not what the request tells. An error where memory is refused.
+pub fn printed(alloc: Global, request: &Request) -> Result<String, AllocError> {
+    let Ready { root, variables } = match read_request(alloc, request) {
+        Ok(ready) => ready,
+        Err(unread) => return format!(in alloc; "unread: {unread}"),
     };
-    let mut context = Notes::new(String::from_str(alloc, request.sights.as_str())?);
+    let sights = String::from_str(alloc, request.sights.as_str())?;
+    let mut context = Notes::new(alloc, sights);
     let outcome = execute_sync(
         alloc,
         request.document.as_str(),
-        name,
+        operation_name(request),
         &root,
         &variables,
         &mut context,
     );
-    let line = match outcome {
+    let mut line = match outcome {
         Ok((data, errors)) => answer_line(alloc, &data, errors.as_slice())?,
         Err(refusal) => refusal_line(alloc, &refusal)?,
     };
     let steps = context.steps;
-    if steps == 0 {
-        return Ok(line);
+    if steps != 0 {
+        write!(line, " steps: {steps}")?;
     }
-    format!(in alloc; "{line} steps: {steps}")
+    if !saw_as_told(&context) {
+        line.push_str(" sees: ")?;
+        push_seen(&context, &mut line)?;
+    }
+    Ok(line)
 }
 
 /// `refused: `, and why a request is refused, with `; ` in place of line feeds.
-fn refusal_line(alloc: Global, refusal: &GraphQLError) -> Result<String, AllocError> {
+pub(crate) fn refusal_line(alloc: Global, refusal: &GraphQLError) -> Result<String, AllocError> {
     let reasons = format!(in alloc; "{refusal}")?;
     let mut line = String::from_str(alloc, "refused: ")?;
     let mut is_first = true;

@@ -8,12 +8,14 @@ pub fn columns_asked_for<'a, C, S: ScalarValue>(
     alloc: Global,
     executor: &Executor<'_, '_, '_, 'a, C, S>,
 ) -> Result<Vec<&'a str>, AllocError> {
-    let children = executor.look_ahead().children(alloc)?;
-    let mut columns = Vec::with_capacity(alloc, children.len())?;
-    for child in children.iter() {
-        let column = child.field_original_name();
-        if !columns.contains(&column) {
-            columns.push(column)?;
+    let mut columns = Vec::new(alloc);
+    for selection in executor.look_ahead_occurrences() {
+        let children = selection.children(alloc)?;
+        for child in children.iter() {
+            let column = child.field_original_name();
+            if !columns.contains(&column) {
+                columns.push(column)?;
+            }
         }
     }
     Ok(columns)

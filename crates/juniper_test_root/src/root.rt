@@ -6,7 +6,7 @@ ghost use Rattle.juniper_test_root.specs.Scripts.{concrete_type, reply, root_of,
 
 use crate::replies::reply;
 use crate::script::{Node, Notes, RootType, Script};
-use crate::sights::is_as_told;
+use crate::sights::record;
 use juniper_meta::MetaType;
 use juniper_resolvable::Resolved;
 use juniper_syntax::{ScalarValue, Type};
@@ -51,8 +51,8 @@ impl<S: ScalarValue> GraphQLType<S> for Script {
     ghost keeps_name = { λ _ _ e. e };
 }
 
-/// A field of a node answers what the first line of the node says, else the first one of its object type, else null. Where look-ahead shows
-/// at the field something else than the context's lines say, it answers that memory is refused.
+/// A field of a node answers what the first line of the node says, else the first one of its object type, else null. What the executor shows
+/// there is noted in the context.
 impl<S: ScalarValue> GraphQLValue<S> for Script {
     type Context = Notes;
 
@@ -90,9 +90,7 @@ impl<S: ScalarValue> GraphQLValue<S> for Script {
         arguments: &Arguments<'_, S>,
         executor: &Executor<Self::Context, S>,
     ) -> Result<Resolved<Self::Node, S>, ResolveError<S>> {
-        if !is_as_told(alloc, executor)? {
-            return Err(ResolveError::Memory);
-        }
+        record(alloc, executor.context(), executor)?;
         let steps = executor.context().steps;
         reply(alloc, self.answer_of(node, field_name), steps, arguments)
     }
@@ -114,9 +112,10 @@ impl<S: ScalarValue> GraphQLMutationValue<S> for Script {
         _info: &RootType,
         field_name: &str,
         arguments: &Arguments<'_, S>,
-        _executor: &Executor<(), S>,
+        executor: &Executor<(), S>,
         context: &mut Notes,
     ) -> Result<Resolved<Node, S>, ResolveError<S>> {
+        record(alloc, context, executor)?;
         let steps = context.steps.wrapping_add(1);
         let answer = self.answer_of(&self.root, field_name);
         match reply(alloc, answer, steps, arguments) {

@@ -3,6 +3,9 @@
 ghost use Rattle.std.specs.Prelude.{◌≡◌, option_map};
 ghost use Rattle.juniper_test_root.specs.Scripts.{answer_of, find_line, is_for};
 
+use std::alloc::Global;
+use std::cell::RefCell;
+
 /// What stands for an object: a name, by which lines tell what it answers, and its object type.
 #[derive(Clone, Copy, Debug, PartialEq, Eq, Drop)]
 pub struct Node {
@@ -68,18 +71,24 @@ pub struct RootType {
 }
 
 /// What a request brings along.
-#[derive(Debug, Drop)]
+#[derive(Drop)]
 pub struct Notes {
-    /// What look-ahead shows at fields, a line each.
+    /// What resolvers are shown at fields, a line for each call at a response key that is told of.
     pub sights: String,
+    /// What they were shown so far, in lines of the same form.
+    pub seen: RefCell<String>,
     /// How many steps mutations have taken, modulo 256.
     pub steps: u8,
 }
 
 impl Notes {
-    /// These sights, and no step.
-    pub fn new(sights: String) -> Self {
-        Notes { sights, steps: 0 }
+    /// These sights, with nothing seen and no step.
+    pub fn new(alloc: Global, sights: String) -> Self {
+        Notes {
+            sights,
+            seen: RefCell::new(String::new(alloc)),
+            steps: 0,
+        }
     }
 }
 

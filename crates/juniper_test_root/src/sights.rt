@@ -1,77 +1,272 @@
-//! What look-ahead shows at fields, as lines that say it.
+//! What executors show at fields, in lines that tell it.
 //!
-//! A line says `KEY: SELECTION`, `KEY: for TYPE: CHILDREN` or `KEY: columns NAME ..`, for the fields of that response key. A selection is printed as
-//! `NAME` or `ALIAS: NAME`, then `(NAME: VALUE, ..)` where arguments are written, ` on TYPE` where it applies for that type alone, and
-//! its children, if it has any, as ` { SELECTION .. }`.
+//! A line tells one call of a resolver: the response key of the field, `: `, and what is shown there, which is one of these:
+//! - what look-ahead shows: `NAME` or `ALIAS: NAME`, then `(NAME: VALUE, ..)` where arguments are written, ` on TYPE` where it applies for
+//!   that type alone, and its children, if it has any, as ` { SELECTION .. }`;
+//! - `for TYPE:CHILDREN`, the children for that type alone;
+//! - `columns NAME ..`, the columns that are asked for;
+//! - `occurrences SELECTION .. | SELECTION ..`, all occurrences of the field, from the front and then from the back;
+//! - `place TYPE at LINE:COLUMN in KEY.POSITION.KEY`, the declared type of the field, where it starts, counted from 1, and the path of an
+//!   error that is made there;
+//! - `fragment NAME is there`, or `is not there`: whether a fragment has that name;
+//! - `variable NAME is VALUE`, or `has no value`: the value of a variable.
 
 use crate::columns::columns_asked_for;
 use crate::script::Notes;
 use juniper::{
-    LookAheadArgument, LookAheadChildren, LookAheadSelection, LookAheadValue, ScalarValue,
+    LookAheadArgument, LookAheadChildren, LookAheadSelection, LookAheadValue, PathSegment,
+    ScalarValue, TypeType,
 };
+use juniper_errors::error_of_message;
 use juniper_types::Executor;
 use std::alloc::{AllocError, Global};
 
 /// So many selections, lists and objects stand within one another at most.
 const LEVELS: usize = 9;
 
-/// Whether look-ahead shows at a field what one of the context's lines for its response key says; `true` where there is none for it. An
-/// error where memory is refused.
-pub(crate) fn is_as_told<S: ScalarValue>(
+/// Notes what an executor shows at a field whose response key is told of: in the form of the line that tells this call, or, where there is
+/// none, as look-ahead shows it. An error where memory is refused.
+pub(crate) fn record<C, S: ScalarValue>(
     alloc: Global,
-    executor: &Executor<Notes, S>,
-) -> Result<bool, AllocError> {
+    notes: &Notes,
+    executor: &Executor<C, S>,
+) -> Result<(), AllocError> {
     let selection = executor.look_ahead();
-    let mut is_told = false;
-    for line in executor.context().sights.lines() {
-        if let Some((key, said)) = line.split_once(": ") {
-            if key == selection.field_name() {
-                let is_so = match said.strip_prefix("columns") {
-                    Some(names) => are_columns(alloc, executor, names)?,
-                    None => is_shown(alloc, &selection, said)?,
-                };
-                if is_so {
-                    return Ok(true);
-                }
-                is_told = true;
+    let key = selection.field_name();
+    if count_lines(notes.sights.as_str(), key) == 0 {
+        return Ok(());
+    }
+    match notes.seen.try_borrow_mut() {
+        Ok(mut seen) => {
+            let call = count_lines(seen.as_str(), key);
+            let form = line_of(notes.sights.as_str(), key, call);
+            seen.push_str(key)?;
+            seen.push_str(": ")?;
+            show(alloc, executor, form, &mut seen)?;
+            seen.push('\n')
+        }
+        Err(_) => Ok(()),
+    }
+}
+
+/// Whether resolvers were shown what the lines tell: at each call, in order, and no more.
+pub(crate) fn saw_as_told(notes: &Notes) -> bool {
+    match notes.seen.try_borrow() {
+        Ok(seen) => seen.as_str() == notes.sights.as_str(),
+        Err(_) => false,
+    }
+}
+
+/// Adds what resolvers were shown, with `; ` between calls, or `nothing`.
+pub(crate) fn push_seen(notes: &Notes, out: &mut String) -> Result<(), AllocError> {
+    let mut is_first = true;
+    if let Ok(seen) = notes.seen.try_borrow() {
+        for line in seen.lines() {
+            if !is_first {
+                out.push_str("; ")?;
+            }
+            out.push_str(line)?;
+            is_first = false;
+        }
+    }
+    if is_first {
+        out.push_str("nothing")?;
+    }
+    Ok(())
+}
+
+/// How many lines there are for a response key.
+fn count_lines(lines: &str, key: &str) -> usize {
+    let mut count = 0usize;
+    for line in lines.lines() {
+        if let Some((of, _)) = line.split_once(": ") {
+            if of == key {
+                count = count.wrapping_add(1);
             }
         }
     }
-    Ok(!is_told)
+    count
 }
 
-/// Whether these are the columns that are asked for, each behind a blank.
-fn are_columns<S: ScalarValue>(
-    alloc: Global,
-    executor: &Executor<Notes, S>,
-    names: &str,
-) -> Result<bool, AllocError> {
-    let mut found = String::new(alloc);
-    for column in columns_asked_for(alloc, executor)? {
-        found.push(' ')?;
-        found.push_str(column)?;
-    }
-    Ok(found.as_str() == names)
-}
-
-/// Whether look-ahead shows this.
-fn is_shown<S: ScalarValue>(
-    alloc: Global,
-    selection: &LookAheadSelection<S>,
-    said: &str,
-) -> Result<bool, AllocError> {
-    let mut shown = String::new(alloc);
-    if let Some(rest) = said.strip_prefix("for ") {
-        if let Some((name, children)) = rest.split_once(":") {
-            let kept = selection.children_for_explicit_type(alloc, name)?;
-            push_children(alloc, &kept, LEVELS, &mut shown)?;
-            return Ok(shown.as_str() == children);
+/// What the line of this number for a response key tells, counted from 0; nothing where there is none.
+fn line_of<'l>(lines: &'l str, key: &str, number: usize) -> &'l str {
+    let mut count = 0usize;
+    for line in lines.lines() {
+        if let Some((of, told)) = line.split_once(": ") {
+            if of == key {
+                if count == number {
+                    return told;
+                }
+                count = count.wrapping_add(1);
+            }
         }
     }
-    push_words(selection, &mut shown)?;
+    ""
+}
+
+/// Adds what an executor shows, in the form of what a line tells.
+fn show<C, S: ScalarValue>(
+    alloc: Global,
+    executor: &Executor<C, S>,
+    form: &str,
+    out: &mut String,
+) -> Result<(), AllocError> {
+    if let Some(rest) = form.strip_prefix("for ") {
+        if let Some((name, _)) = rest.split_once(':') {
+            return push_children_for(alloc, executor, name, out);
+        }
+    }
+    if let Some(rest) = form.strip_prefix("fragment ") {
+        if let Some((name, _)) = rest.split_once(' ') {
+            return push_fragment(executor, name, out);
+        }
+    }
+    if let Some(rest) = form.strip_prefix("variable ") {
+        if let Some((name, _)) = rest.split_once(' ') {
+            return push_variable(executor, name, out);
+        }
+    }
+    if form.starts_with("columns") {
+        return push_columns(alloc, executor, out);
+    }
+    if form.starts_with("occurrences") {
+        return push_occurrences(alloc, executor, out);
+    }
+    if form.starts_with("place") {
+        return push_place(alloc, executor, out);
+    }
+    push_selection(alloc, &executor.look_ahead(), out)
+}
+
+/// Adds the children for one type.
+fn push_children_for<C, S: ScalarValue>(
+    alloc: Global,
+    executor: &Executor<C, S>,
+    name: &str,
+    out: &mut String,
+) -> Result<(), AllocError> {
+    write!(out, "for {name}:")?;
+    let selection = executor.look_ahead();
+    let kept = selection.children_for_explicit_type(alloc, name)?;
+    push_children(alloc, &kept, LEVELS, out)
+}
+
+/// Adds the columns that are asked for.
+fn push_columns<C, S: ScalarValue>(
+    alloc: Global,
+    executor: &Executor<C, S>,
+    out: &mut String,
+) -> Result<(), AllocError> {
+    out.push_str("columns")?;
+    for column in columns_asked_for(alloc, executor)? {
+        out.push(' ')?;
+        out.push_str(column)?;
+    }
+    Ok(())
+}
+
+/// Adds all occurrences of the field, from the front and from the back.
+fn push_occurrences<C, S: ScalarValue>(
+    alloc: Global,
+    executor: &Executor<C, S>,
+    out: &mut String,
+) -> Result<(), AllocError> {
+    out.push_str("occurrences")?;
+    for selection in executor.look_ahead_occurrences() {
+        out.push(' ')?;
+        push_selection(alloc, &selection, out)?;
+    }
+    out.push_str(" |")?;
+    for selection in executor.look_ahead_occurrences().rev() {
+        out.push(' ')?;
+        push_selection(alloc, &selection, out)?;
+    }
+    Ok(())
+}
+
+/// Adds the declared type of the field, where it starts, and the path of an error that is made there.
+fn push_place<C, S: ScalarValue>(
+    alloc: Global,
+    executor: &Executor<C, S>,
+    out: &mut String,
+) -> Result<(), AllocError> {
+    out.push_str("place ")?;
+    push_type(executor.current_type(), LEVELS, out)?;
+    let start = executor.location();
+    let (line, column) = (start.line().wrapping_add(1), start.column().wrapping_add(1));
+    write!(out, " at {line}:{column} in ")?;
+    let error = executor.new_error(alloc, error_of_message(String::new(alloc)))?;
+    let mut is_first = true;
+    for segment in error.path() {
+        if !is_first {
+            out.push('.')?;
+        }
+        match segment {
+            PathSegment::Key(key) => out.push_str(key.as_str())?,
+            PathSegment::Index(position) => write!(out, "{position}")?,
+        }
+        is_first = false;
+    }
+    Ok(())
+}
+
+/// Adds a type as it is written.
+fn push_type<S: ScalarValue>(
+    shown: &TypeType<S>,
+    levels: usize,
+    out: &mut String,
+) -> Result<(), AllocError> {
+    if levels == 0 {
+        return out.push_str("..");
+    }
+    match shown {
+        TypeType::Concrete(meta) => out.push_str(meta.name().unwrap_or("")),
+        TypeType::List(inner, _) => {
+            out.push('[')?;
+            push_type(inner, levels - 1, out)?;
+            out.push(']')
+        }
+        TypeType::NonNull(inner) => {
+            push_type(inner, levels - 1, out)?;
+            out.push('!')
+        }
+    }
+}
+
+/// Adds whether a fragment has this name.
+fn push_fragment<C, S: ScalarValue>(
+    executor: &Executor<C, S>,
+    name: &str,
+    out: &mut String,
+) -> Result<(), AllocError> {
+    let is = match executor.fragment_by_name(name) {
+        Some(_) => "is there",
+        None => "is not there",
+    };
+    write!(out, "fragment {name} {is}")
+}
+
+/// Adds the value of a variable.
+fn push_variable<C, S: ScalarValue>(
+    executor: &Executor<C, S>,
+    name: &str,
+    out: &mut String,
+) -> Result<(), AllocError> {
+    match executor.variables().get(name) {
+        Some(value) => write!(out, "variable {name} is {value}"),
+        None => write!(out, "variable {name} has no value"),
+    }
+}
+
+/// Adds a selection, with what is below it.
+fn push_selection<S: ScalarValue>(
+    alloc: Global,
+    selection: &LookAheadSelection<S>,
+    out: &mut String,
+) -> Result<(), AllocError> {
+    push_words(selection, out)?;
     let children = selection.children(alloc)?;
-    push_children(alloc, &children, LEVELS, &mut shown)?;
-    Ok(shown.as_str() == said)
+    push_children(alloc, &children, LEVELS, out)
 }
 
 /// Adds children, if there are any, with what is below them.

@@ -31,8 +31,10 @@
 //! - `rows:` is followed by the rows: a request, `=>` and its answer as one line of JSON, or `refused: ` and why it is refused,
 //!   with `; ` between several reasons; where a mutation took steps, ` steps: ` and their number follow. A line behind an answer that begins
 //!   with a blank goes on with it. Before a row may stand the operation's name, the variables' values, and lines `sees: SIGHT` of
-//!   what look-ahead shows at fields (as `sights.rt` reads them), which are for this row alone; where look-ahead shows something
-//!   else, the request is refused: `Out of memory`. Empty lines between rows, and those that begin with `#`, are left out.
+//!   what resolvers are shown at fields (as `sights.rt` tells it), which are for this row alone: one for each call at the response keys that
+//!   they tell of, in order. Where resolvers are shown something else, ` sees: ` and what they are shown follow the answer. Lines
+//!   `twin sees: SIGHT` tell the same of the executor's twin, where it is something else. Empty lines between rows, and those that begin
+//!   with `#`, are left out.
 
 use std::alloc::Global;
 use std::mem;
@@ -50,8 +52,21 @@ pub struct Request {
     pub operation_name: &'static str,
     /// The values of the variables, as an object of JSON; empty where none are given.
     pub variables: &'static str,
-    /// What look-ahead shows at fields, a line each.
+    /// What resolvers are shown at fields, a line for each call.
     pub sights: String,
+    /// What the executor's twin shows them, where it is something else.
+    pub twin_sights: String,
+}
+
+impl Request {
+    /// What the executor's twin shows resolvers.
+    pub(crate) fn joined_sights(&self) -> &str {
+        if self.twin_sights.is_empty() {
+            self.sights.as_str()
+        } else {
+            self.twin_sights.as_str()
+        }
+    }
 }
 
 /// A request, and what it is answered.
@@ -77,6 +92,7 @@ struct TableReader {
     operation_name: &'static str,
     variables: &'static str,
     sights: String,
+    twin_sights: String,
 }
 
 /// The rows of a table; else the number of the first line that cannot be read, from 1.
@@ -91,6 +107,7 @@ pub fn read_table(alloc: Global, table: &'static str) -> Result<Vec<Row>, usize>
         operation_name: "",
         variables: "",
         sights: String::new(alloc),
+        twin_sights: String::new(alloc),
     };
     let mut is_part = false;
     for part in table.split("schema:\n") {
@@ -156,6 +173,10 @@ impl TableReader {
             self.sights.push_str(sight).ok()?;
             return self.sights.push_str("\n").ok();
         }
+        if let Some(sight) = line.strip_prefix("twin sees: ") {
+            self.twin_sights.push_str(sight).ok()?;
+            return self.twin_sights.push_str("\n").ok();
+        }
         if let Some(said) = line.strip_prefix("=> ") {
             return self.end_row("", said);
         }
@@ -182,6 +203,7 @@ impl TableReader {
             operation_name: mem::replace(&mut self.operation_name, ""),
             variables: mem::replace(&mut self.variables, ""),
             sights: mem::replace(&mut self.sights, String::new(self.alloc)),
+            twin_sights: mem::replace(&mut self.twin_sights, String::new(self.alloc)),
         };
         let row = Row {
             number: self.number,

@@ -1,6 +1,7 @@
 //! What of tables is answered otherwise than they say.
 
 use crate::answering::printed;
+use crate::comparing::compared;
 use crate::table::{Row, read_table};
 use std::alloc::{AllocError, Global};
 
@@ -33,9 +34,38 @@ impl Tally {
                 }
                 Ok(())
             }
-            Err(number) => {
+            Err(number) => self.add_unread(name, number),
+        }
+    }
+
+    /// Counts a table that cannot be read at this line.
+    fn add_unread(&mut self, name: &str, number: usize) -> Result<(), AllocError> {
+        self.differing_count = self.differing_count.wrapping_add(1);
+        write!(self.text, "{name}:{number}: cannot be read\n")
+    }
+
+    /// Compares what the executor and its twin answer to the rows of a table of this name, and tells where they differ, and in what.
+    pub fn compare_table(&mut self, name: &str, table: &'static str) -> Result<(), AllocError> {
+        match read_table(self.alloc, table) {
+            Ok(rows) => {
+                for row in &rows {
+                    self.compare_row(name, row)?;
+                }
+                Ok(())
+            }
+            Err(number) => self.add_unread(name, number),
+        }
+    }
+
+    /// Compares what both answer to a row's request.
+    fn compare_row(&mut self, name: &str, row: &Row) -> Result<(), AllocError> {
+        self.row_count = self.row_count.wrapping_add(1);
+        match compared(self.alloc, &row.request)? {
+            None => Ok(()),
+            Some(what) => {
                 self.differing_count = self.differing_count.wrapping_add(1);
-                write!(self.text, "{name}:{number}: cannot be read\n")
+                let number = row.number;
+                write!(self.text, "{name}:{number}: {what}\n")
             }
         }
     }

@@ -1,4 +1,4 @@
-//! What resolvers see ahead: each line `sees:` tells what look-ahead shows at the fields of its response key.
+//! What resolvers are shown: each line `sees:` tells a call of them at a response key, and what the executor shows there.
 
 use juniper::{
     DefaultScalarValue, Definition, Document, InputValue, ScalarValue, Selection, Variables,
@@ -9,7 +9,7 @@ use std::alloc::{AllocError, Global};
 use std::collections::HashMap;
 use std::test::Fail;
 
-const AHEAD: &str = r#"schema:
+pub(crate) const AHEAD: &str = r#"schema:
 type Query { hero(episode: Episode, id: Int): Character, count(of: [Int], in: Size): Int }
 interface Character { id: ID, name(uppercase: Boolean): String, appearsIn: Int, height: Int, mass: Int, friends: [Character] }
 type Human implements & Character { id: ID, name(uppercase: Boolean): String, appearsIn: Int, height: Int, mass: Int, friends: [Character] }
@@ -58,18 +58,60 @@ sees: hero: for does not matter: { id friends { id name } }
 { hero { id friends { id name } } } => {"data":{"hero":{"id":"2001","friends":[{"id":"1000","name":"Luke"}]}}}
 sees: hero: columns name id primaryFunction
 { hero { name other: name id ... on Droid { primaryFunction } } } => {"data":{"hero":{"name":"R2-D2","other":"R2-D2","id":"2001","primaryFunction":null}}}
+sees: hero: columns id name
+twin sees: hero: columns id
+twin sees: hero: columns id name
+{ hero { id } hero { a: id name } } => {"data":{"hero":{"id":"2001","a":"2001","name":"R2-D2"}}}
 sees: id: columns
 { hero { id } } => {"data":{"hero":{"id":"2001"}}}
 sees: hero: hero { name aliasedName: name }
 { hero { name aliasedName: name } } => {"data":{"hero":{"name":"R2-D2","aliasedName":"R2-D2"}}}
 
-# Each occurrence is seen where it is resolved.
+# A key is resolved once, and shows its first occurrence; the twin resolves each occurrence.
 sees: hero: hero { id }
 sees: b: b: hero { name }
 { hero { id } b: hero { name } } => {"data":{"hero":{"id":"2001"},"b":{"name":"R2-D2"}}}
 sees: hero: hero { id }
-sees: hero: hero { name }
+twin sees: hero: hero { id }
+twin sees: hero: hero { name }
 { hero { id } hero { name } } => {"data":{"hero":{"id":"2001","name":"R2-D2"}}}
+sees: friends: friends { id }
+twin sees: friends: friends { id }
+twin sees: friends: friends { name }
+{ hero { friends { id } } hero { friends { name } } } => {"data":{"hero":{"friends":[{"id":"1000","name":"Luke"}]}}}
+
+# All occurrences of a key are shown at once, from both ends; to the twin's resolvers each alone.
+sees: hero: occurrences hero { id } hero { name } hero { friends { id } } | hero { friends { id } } hero { name } hero { id }
+twin sees: hero: occurrences hero { id } | hero { id }
+twin sees: hero: occurrences hero { name } | hero { name }
+twin sees: hero: occurrences hero { friends { id } } | hero { friends { id } }
+{ hero { id } ...F hero { friends { id } } } fragment F on Query { hero { name } }
+=> {"data":{"hero":{"id":"2001","name":"R2-D2","friends":[{"id":"1000"}]}}}
+sees: name: occurrences name name | name name
+sees: name: occurrences name | name
+twin sees: name: occurrences name | name
+twin sees: name: occurrences name | name
+twin sees: name: occurrences name | name
+{ hero { name ... on Droid { name } friends { name } } } => {"data":{"hero":{"name":"R2-D2","friends":[{"name":"Luke"}]}}}
+
+# The declared type, the place and the path of a field; fragments and variables.
+sees: hero: place Character at 1:3 in hero
+sees: friends: place [Character] at 1:10 in hero.friends
+sees: name: place String at 1:20 in hero.friends.0.name
+{ hero { friends { name } } } => {"data":{"hero":{"friends":[{"name":"Luke"}]}}}
+sees: id: fragment I is there
+sees: id: fragment J is not there
+{ hero { ...I } a: hero { id } } fragment I on Character { id } => {"data":{"hero":{"id":"2001"},"a":{"id":"2001"}}}
+variables: {"n": 3}
+sees: hero: variable n is 3
+sees: b: variable m has no value
+query Q($n: Int, $m: Int) { hero(id: $n) { id } b: hero(id: $m) { id } } => {"data":{"hero":{"id":"2001"},"b":{"id":"2001"}}}
+
+# No resolver is called for `__typename`.
+sees: __typename: nothing
+{ __typename hero { __typename } } => {"data":{"__typename":"Query","hero":{"__typename":"Droid"}}} sees: nothing
+
+# One line for each call, in order.
 sees: id: id
 sees: friends: friends { name }
 sees: name: name
@@ -97,14 +139,23 @@ query Q($of: [Int], $in: Size) { count(of: $of, in: $in) } => {"data":{"count":n
 
 # A line that is wrong.
 sees: hero: hero { name }
-{ hero { id } } => refused: Out of memory
+{ hero { id } } => {"data":{"hero":{"id":"2001"}}} sees: hero: hero { id }
 sees: id: name
-{ hero { id } } => refused: Out of memory
+{ hero { id } } => {"data":{"hero":{"id":"2001"}}} sees: id: id
+sees: name: name
+{ hero { id } } => {"data":{"hero":{"id":"2001"}}} sees: nothing
+
+# A request that is refused asks no resolver.
+sees: hero: hero { x }
+{ hero { x } } => refused: Unknown field sees: nothing
+variables: {"n": "x"}
+sees: hero: hero { id }
+query Q($n: Int) { hero(id: $n) { id } } => refused: Variable `$n` has no fitting value sees: nothing
 "#;
 
 #[test]
 fn resolvers_see_ahead(rt: HostRuntime) -> Result<(), Fail> {
-    assert_eq!(rt; report(rt.alloc(), AHEAD)?.as_str(), "25 rows, 0 differ");
+    assert_eq!(rt; report(rt.alloc(), AHEAD)?.as_str(), "36 rows, 0 differ");
     Ok(())
 }
 
@@ -125,6 +176,7 @@ fn wide(alloc: Global, children: usize) -> Result<Request, AllocError> {
         operation_name: "",
         variables: "",
         sights,
+        twin_sights: String::new(alloc),
     })
 }
 

@@ -1,6 +1,6 @@
 //! The errors of requests and rules.
 
-use juniper::{GraphQLError, RuleError};
+use juniper::{GraphQLError, RootError, RuleError};
 use juniper_language::{ParseError, SourcePosition, Span, Spanning};
 use std::alloc::{AllocError, AllocFailed, Global};
 use std::test::Fail;
@@ -68,6 +68,15 @@ fn a_wrong_text_is_found(rt: HostRuntime) -> Result<(), Fail> {
 fn an_error_shows_a_variable_s_name(rt: HostRuntime) -> Result<(), Fail> {
     let error = GraphQLError::VariableNotConstant(String::from_str(rt.alloc(), "id")?);
     assert!(rt; has_text(rt.alloc(), &error, "Variable `$id` holds a variable")?);
+    Ok(())
+}
+
+#[test]
+fn errors_of_roots_have_their_texts(rt: HostRuntime) -> Result<(), Fail> {
+    let text = RootError::NotExecutable.to_string(rt.alloc())?;
+    assert_eq!(rt; text.as_str(), "The schema cannot be executed");
+    let text = RootError::Memory.to_string(rt.alloc())?;
+    assert_eq!(rt; text.as_str(), "Out of memory");
     Ok(())
 }
 

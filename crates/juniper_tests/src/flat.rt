@@ -3,7 +3,7 @@
 use juniper_test_root::report;
 use std::test::Fail;
 
-const FIELDS: &str = r#"schema:
+pub(crate) const FIELDS: &str = r#"schema:
 type Query { id: ID!, name: String!, nothing: String, fail: Int, boom: Int!, flag: Boolean }
 answers:
 Query.id => "q1"
@@ -34,8 +34,7 @@ query { id } => {"data":{"id":"q1"}}
 => {"data":{"fail":null,"b":null},"errors":[{"message":"failed","locations":[{"line":1,"column":3}],"path":["fail"]},
     {"message":"failed","locations":[{"line":1,"column":8}],"path":["b"]}]}
 { fail fail }
-=> {"data":{"fail":null},"errors":[{"message":"failed","locations":[{"line":1,"column":3}],"path":["fail"]},
-    {"message":"failed","locations":[{"line":1,"column":8}],"path":["fail"]}]}
+=> {"data":{"fail":null},"errors":[{"message":"failed","locations":[{"line":1,"column":3}],"path":["fail"]}]}
 { # characters count: 𝄞 é
   id
   fail }
@@ -46,7 +45,7 @@ query { id } => {"data":{"id":"q1"}}
     "errors":[{"message":"failed","locations":[{"line":2,"column":11}],"path":["fail"]}]}
 "#;
 
-const REFUSED: &str = r#"schema:
+pub(crate) const REFUSED: &str = r#"schema:
 type Query { id: ID!, name: String!, number(plus: Int = 1): Int }
 answers:
 rows:
@@ -86,7 +85,7 @@ query { x } => refused: Unknown field
 { id(a: "x) } => refused: Unterminated string literal
 "#;
 
-const OPERATIONS: &str = r#"schema:
+pub(crate) const OPERATIONS: &str = r#"schema:
 type Query { id: ID!, name: String! }
 answers:
 Query.id => "q1"

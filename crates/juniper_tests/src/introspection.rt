@@ -5,7 +5,7 @@ use juniper_test_root::{Notes, ScriptRoot, read_root, report};
 use std::alloc::{AllocError, Global};
 use std::test::Fail;
 
-const SCHEMAS: &str = r#"schema:
+pub(crate) const SCHEMAS: &str = r#"schema:
 mutation Change
 type Query {
   ;id: ID!, gone: Int, ;deep: [[Int!]!]!,
@@ -162,7 +162,7 @@ fn disabled_root(alloc: Global) -> Result<ScriptRoot, AllocError> {
 /// Why it refuses this text; `answered` where it does not.
 fn refusal(alloc: Global, root: &ScriptRoot, text: &str) -> Result<String, AllocError> {
     let variables = Variables::new(alloc);
-    let mut context = Notes::new(String::new(alloc));
+    let mut context = Notes::new(alloc, String::new(alloc));
     match execute_sync(alloc, text, None, root, &variables, &mut context) {
         Ok(_) => String::from_str(alloc, "answered"),
         Err(refusal) => refusal.to_string(alloc),
@@ -185,7 +185,7 @@ fn disabled_introspection_is_refused(rt: HostRuntime) -> Result<(), Fail> {
         refusal(alloc, &root, "{ id __typename }")?.as_str(),
         "answered"
     );
-    let mut context = Notes::new(String::new(alloc));
+    let mut context = Notes::new(alloc, String::new(alloc));
     let answered = introspect(alloc, &root, &mut context, IntrospectionFormat::All);
     assert!(rt; matches!(answered, Err(GraphQLError::ValidationError(_))));
     Ok(())

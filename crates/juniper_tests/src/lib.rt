@@ -25,3 +25,5 @@ mod shapes;
 mod tables;
 #[cfg(test)]
 mod variables;
+#[cfg(test)]
+mod walks;

@@ -5,11 +5,12 @@ use juniper_test_root::report;
 use std::test::Fail;
 
 /// Steps are counted by the context; `steps` answers their number.
-const MUTATIONS: &str = r#"schema:
+pub(crate) const MUTATIONS: &str = r#"schema:
 mutation Mutation
 type Query { id: ID, steps: Int }
 type Mutation {
   add: Tally, must: Tally!, fail: Int, mustFail: Int!, heroes: [Character!], rows: [[Character]!], echo(n: Int): Int, steps: Int
+  ids: [Int!], spies: [[Character!]!]
 }
 type Tally { steps: Int, mustFail: Int!, fail: Int, next: Tally }
 interface Character { id: ID!, secret: String }
@@ -26,6 +27,9 @@ Mutation.heroes => [@Droid, @Human]
 Mutation.rows => [[@Droid, null], [@Human]]
 Mutation.echo => argument n
 Mutation.steps => steps
+Mutation.ids => [1, null]
+Mutation.spies => [[@Droid, @spy:Human]]
+spy.secret => error hidden
 Tally.steps => steps
 Tally.mustFail => error lost
 Tally.fail => error below
@@ -75,12 +79,31 @@ mutation { c: fail b: fail a: fail }
 mutation { a: add { fail } b: fail a: add { fail } }
 => {"data":{"a":{"fail":null},"b":null},
     "errors":[{"message":"below","locations":[{"line":1,"column":21}],"path":["a","fail"]},
-    {"message":"failed","locations":[{"line":1,"column":28}],"path":["b"]},
-    {"message":"below","locations":[{"line":1,"column":45}],"path":["a","fail"]}]} steps: 2
+    {"message":"failed","locations":[{"line":1,"column":28}],"path":["b"]}]} steps: 2
 mutation { fail steps fail }
 => {"data":{"fail":null,"steps":2},
-    "errors":[{"message":"failed","locations":[{"line":1,"column":12}],"path":["fail"]},
-    {"message":"failed","locations":[{"line":1,"column":23}],"path":["fail"]}]} steps: 2
+    "errors":[{"message":"failed","locations":[{"line":1,"column":12}],"path":["fail"]}]} steps: 2
+# A path tells the place in lists.
+mutation { ids steps }
+=> {"data":{"ids":null,"steps":2},"errors":[{"message":"Null at a non-null place","locations":[{"line":1,"column":12}],"path":["ids",1]}]} steps: 2
+mutation { spies { secret } spies { secret } }
+=> {"data":{"spies":[[{"secret":null},{"secret":null}]]},
+    "errors":[{"message":"hidden","locations":[{"line":1,"column":20}],"path":["spies",0,1,"secret"]}]} steps: 1
+# A step is shown its field: all occurrences, its type, place and path, the fragments and the variables.
+sees: add: occurrences add { steps } add { next { steps } } | add { next { steps } } add { steps }
+mutation { add { steps } ...M } fragment M on Mutation { add { next { steps } } }
+=> {"data":{"add":{"steps":1,"next":{"steps":1}}}} steps: 1
+sees: must: place Tally! at 1:12 in must
+sees: a: place [[Character]!] at 1:27 in a
+mutation { must { steps } a: rows { id } }
+=> {"data":{"must":{"steps":1},"a":[[{"id":"2001"},null],[{"id":"1000"}]]}} steps: 2
+variables: {"n": 7}
+sees: echo: variable n is 7
+sees: add: fragment F is there
+sees: b: variable m has no value
+sees: c: fragment G is not there
+mutation M($n: Int, $m: Int) { echo(n: $n) add { ...F } b: echo(n: $m) c: steps } fragment F on Tally { steps }
+=> {"data":{"echo":7,"add":{"steps":2},"b":null,"c":4}} steps: 4
 # What is refused takes no step, and a query takes none.
 mutation { x } => refused: Unknown field
 { id steps } => {"data":{"id":"q1","steps":0}}
@@ -94,7 +117,7 @@ mutation M { steps } query Q { steps } => {"data":{"steps":1}} steps: 1
 fn mutations_step_group_by_group(rt: HostRuntime) -> Result<(), Fail> {
     assert_eq!(rt;
         report(rt.alloc(), MUTATIONS)?.as_str(),
-        "23 rows, 0 differ"
+        "28 rows, 0 differ"
     );
     Ok(())
 }

@@ -1,24 +1,123 @@
 //! All names that a server or a resolver needs come through `juniper`: where one is lost, this file does not compile.
 
+use juniper::Applies;
+use juniper::Argument;
+use juniper::Arguments;
+use juniper::ArgumentsIter;
+use juniper::ChildrenIntoIter;
+use juniper::ChildrenIter;
+use juniper::Context;
+use juniper::DefaultScalarValue;
+use juniper::Definition;
+use juniper::DeprecationStatus;
+use juniper::Directive;
+use juniper::DirectiveLocation;
+use juniper::DirectiveType;
+use juniper::Document;
+use juniper::EmptyMutation;
+use juniper::EmptySubscription;
+use juniper::Enclosing;
+use juniper::EnumMeta;
+use juniper::EnumName;
+use juniper::EnumValue;
+use juniper::ExecutionError;
+use juniper::ExecutionResult;
+use juniper::Executor;
+use juniper::Field;
+use juniper::FieldError;
+use juniper::FieldPath;
+use juniper::FieldResult;
+use juniper::Fragment;
+use juniper::FragmentSpread;
+use juniper::Fragments;
+use juniper::FromContext;
+use juniper::FromInputValue;
+use juniper::FromInputValueArrayError;
+use juniper::FromInputValueVecError;
+use juniper::FromScalarValue;
+use juniper::GraphQLError;
+use juniper::GraphQLMutationValue;
+use juniper::GraphQLReference;
+use juniper::GraphQLType;
+use juniper::GraphQLValue;
+use juniper::ID;
+use juniper::InlineFragment;
+use juniper::InputObjectMeta;
+use juniper::InputValue;
+use juniper::InterfaceMeta;
+use juniper::IntoFieldError;
+use juniper::IntoResolvable;
+use juniper::IntrospectionFormat;
+use juniper::LexerError;
+use juniper::ListMeta;
+use juniper::LookAheadArgument;
+use juniper::LookAheadChildren;
+use juniper::LookAheadList;
+use juniper::LookAheadObject;
+use juniper::LookAheadSelection;
+use juniper::LookAheadValue;
+use juniper::MetaType;
+use juniper::NamedValue;
+use juniper::NamesIter;
+use juniper::Nullable;
+use juniper::NullableMeta;
+use juniper::Object;
+use juniper::ObjectMeta;
+use juniper::Occurrence;
+use juniper::OccurrencesIter;
+use juniper::OfNode;
+use juniper::Operation;
+use juniper::OperationType;
+use juniper::ParseError;
+use juniper::PathPart;
+use juniper::PathSegment;
+use juniper::PlaceholderMeta;
+use juniper::Registry;
+use juniper::RegistryError;
+use juniper::ResolveError;
+use juniper::Resolved;
+use juniper::RootError;
+use juniper::RootNode;
+use juniper::RootedNode;
+use juniper::RuleError;
+use juniper::ScalarKinds;
+use juniper::ScalarMeta;
+use juniper::ScalarToken;
+use juniper::ScalarValue;
+use juniper::SchemaType;
+use juniper::Selection;
+use juniper::SourcePosition;
+use juniper::Span;
+use juniper::Spanning;
+use juniper::ToInputValue;
+use juniper::ToScalarValue;
+use juniper::Type;
+use juniper::TypeKind;
+use juniper::TypeType;
+use juniper::UnionMeta;
+use juniper::Value;
+use juniper::VariableDefinition;
+use juniper::VariableDefinitions;
+use juniper::Variables;
+use juniper::admits;
 use juniper::ast::Arguments as WrittenArguments;
+use juniper::check_variables;
+use juniper::decode_int;
+use juniper::decode_string;
+use juniper::enum_argument;
+use juniper::execute_sync;
+use juniper::execute_validated_query;
+use juniper::get_operation;
+use juniper::int_argument;
+use juniper::introspect;
+use juniper::look_ahead_list::Iter as ItemsIter;
+use juniper::look_ahead_object::Iter as FieldsIter;
 use juniper::meta::Field as DeclaredField;
-use juniper::{
-    Argument, Arguments, Context, DefaultScalarValue, Definition, DeprecationStatus, Directive,
-    DirectiveLocation, DirectiveType, Document, EmptyMutation, EmptySubscription, EnumMeta,
-    EnumValue, ExecutionError, ExecutionResult, Executor, Field, FieldError, FieldPath,
-    FieldResult, Fragment, FragmentSpread, Fragments, FromContext, FromInputValue,
-    FromInputValueArrayError, FromInputValueVecError, FromScalarValue, GraphQLError,
-    GraphQLMutationValue, GraphQLReference, GraphQLType, GraphQLValue, ID, InlineFragment,
-    InputObjectMeta, InputValue, InterfaceMeta, IntoFieldError, IntoResolvable,
-    IntrospectionFormat, LexerError, ListMeta, MetaType, Nullable, NullableMeta, Object,
-    ObjectMeta, OfNode, Operation, OperationType, ParseError, PlaceholderMeta, Registry,
-    RegistryError, ResolveError, Resolved, RootError, RootNode, RootedNode, RuleError, ScalarKinds,
-    ScalarMeta, ScalarToken, ScalarValue, SchemaType, Selection, SourcePosition, Span, Spanning,
-    ToInputValue, ToScalarValue, Type, TypeKind, TypeType, UnionMeta, Value, VariableDefinition,
-    VariableDefinitions, Variables, admits, decode_int, decode_string, execute_sync,
-    execute_validated_query, get_operation, introspect, parse_document_source,
-    schema_is_executable, validate, validate_input_values,
-};
+use juniper::parse_document_source;
+use juniper::schema_is_executable;
+use juniper::twin::execute_by_join;
+use juniper::validate;
+use juniper::validate_input_values;
 use std::test::Fail;
 
 #[test]

@@ -4,7 +4,7 @@ use juniper_test_root::report;
 use std::test::Fail;
 
 /// A null at each place of a type with three marks, and of the types with fewer.
-const LISTS: &str = r#"schema:
+pub(crate) const LISTS: &str = r#"schema:
 type Query { box: Box, boxes: [Box], must: Box! }
 type Box {
   good: [[T!]!]!, outer: [[T!]!]!, row: [[T!]!]!, cell: [[T!]!]!, field: [[T!]!]!
@@ -35,41 +35,41 @@ rows:
     "errors":[{"message":"Null at a non-null place","locations":[{"line":1,"column":9}],"path":["box","outer"]}]}
 { box { row { x } id } }
 => {"data":{"box":null},
-    "errors":[{"message":"Null at a non-null place","locations":[{"line":1,"column":9}],"path":["box","row"]}]}
+    "errors":[{"message":"Null at a non-null place","locations":[{"line":1,"column":9}],"path":["box","row",1]}]}
 { box { cell { x } id } }
 => {"data":{"box":null},
-    "errors":[{"message":"Null at a non-null place","locations":[{"line":1,"column":9}],"path":["box","cell"]}]}
+    "errors":[{"message":"Null at a non-null place","locations":[{"line":1,"column":9}],"path":["box","cell",0,1]}]}
 { box { field { x } id } }
 => {"data":{"box":null},
-    "errors":[{"message":"Null at a non-null place","locations":[{"line":1,"column":17}],"path":["box","field","x"]}]}
+    "errors":[{"message":"Null at a non-null place","locations":[{"line":1,"column":17}],"path":["box","field",1,1,"x"]}]}
 { box { both { x } } }
 => {"data":{"box":null},
-    "errors":[{"message":"Null at a non-null place","locations":[{"line":1,"column":9}],"path":["box","both"]},
-    {"message":"Null at a non-null place","locations":[{"line":1,"column":9}],"path":["box","both"]}]}
+    "errors":[{"message":"Null at a non-null place","locations":[{"line":1,"column":9}],"path":["box","both",0]},
+    {"message":"Null at a non-null place","locations":[{"line":1,"column":9}],"path":["box","both",1,0]}]}
 { must { outer { x } } box { id } }
 => {"data":null,
     "errors":[{"message":"Null at a non-null place","locations":[{"line":1,"column":10}],"path":["must","outer"]}]}
 { boxes { cell { x } } box { id } }
 => {"data":{"boxes":[null,null],"box":{"id":"b"}},
-    "errors":[{"message":"Null at a non-null place","locations":[{"line":1,"column":11}],"path":["boxes","cell"]},
-    {"message":"Null at a non-null place","locations":[{"line":1,"column":11}],"path":["boxes","cell"]}]}
+    "errors":[{"message":"Null at a non-null place","locations":[{"line":1,"column":11}],"path":["boxes",0,"cell",0,1]},
+    {"message":"Null at a non-null place","locations":[{"line":1,"column":11}],"path":["boxes",1,"cell",0,1]}]}
 
 # Fewer marks: the null rises to the nearest place that may be null.
 { box { open { x } id } }
 => {"data":{"box":{"open":null,"id":"b"}},
-    "errors":[{"message":"Null at a non-null place","locations":[{"line":1,"column":9}],"path":["box","open"]}]}
+    "errors":[{"message":"Null at a non-null place","locations":[{"line":1,"column":9}],"path":["box","open",0,1]}]}
 { box { rows { x } id } }
 => {"data":{"box":{"rows":[null,[{"x":1}]],"id":"b"}},
-    "errors":[{"message":"Null at a non-null place","locations":[{"line":1,"column":9}],"path":["box","rows"]}]}
+    "errors":[{"message":"Null at a non-null place","locations":[{"line":1,"column":9}],"path":["box","rows",0,1]}]}
 { box { cells { x } } } => {"data":{"box":{"cells":[[{"x":1},null],null]}}}
 { box { fields { x y } id } }
 => {"data":{"box":{"fields":[[{"x":1,"y":null},null],[null]],"id":"b"}},
-    "errors":[{"message":"Null at a non-null place","locations":[{"line":1,"column":18}],"path":["box","fields","x"]},
-    {"message":"Null at a non-null place","locations":[{"line":1,"column":18}],"path":["box","fields","x"]}]}
+    "errors":[{"message":"Null at a non-null place","locations":[{"line":1,"column":18}],"path":["box","fields",0,1,"x"]},
+    {"message":"Null at a non-null place","locations":[{"line":1,"column":18}],"path":["box","fields",1,0,"x"]}]}
 "#;
 
 /// Nulls that rise through objects, errors in lists, and the order of errors.
-const OBJECTS: &str = r#"schema:
+pub(crate) const OBJECTS: &str = r#"schema:
 type Query { t: T, must: T!, bad: Bad, list: [U], strict: [W!], loose: [W], fail: Int, first: Int, ts: [T!] }
 type T { x: Int!, y: Int, t: T, must: T!, fail: Int, list: [W!]! }
 type Bad { boom: Int!, fail: Int }
@@ -111,9 +111,9 @@ rows:
 => {"data":null,"errors":[{"message":"Null at a non-null place","locations":[{"line":1,"column":3}],"path":["must"]}]}
 { ts { x } t { y } }
 => {"data":{"ts":null,"t":{"y":5}},
-    "errors":[{"message":"Null at a non-null place","locations":[{"line":1,"column":8}],"path":["ts","x"]}]}
+    "errors":[{"message":"Null at a non-null place","locations":[{"line":1,"column":8}],"path":["ts",1,"x"]}]}
 { t { y list { v } } }
-=> {"data":{"t":null},"errors":[{"message":"one","locations":[{"line":1,"column":16}],"path":["t","list","v"]}]}
+=> {"data":{"t":null},"errors":[{"message":"one","locations":[{"line":1,"column":16}],"path":["t","list",1,"v"]}]}
 
 # What stands behind a null that may not be is not walked.
 { bad { fail boom } t { y } }
@@ -122,24 +122,23 @@ rows:
 { bad { boom fail } t { y } }
 => {"data":{"bad":null,"t":{"y":5}},"errors":[{"message":"exploded","locations":[{"line":1,"column":9}],"path":["bad","boom"]}]}
 { bad { boom } bad { fail } t { y } }
-=> {"data":{"bad":null,"t":{"y":5}},"errors":[{"message":"exploded","locations":[{"line":1,"column":9}],"path":["bad","boom"]},
-    {"message":"failed","locations":[{"line":1,"column":22}],"path":["bad","fail"]}]}
+=> {"data":{"bad":null,"t":{"y":5}},"errors":[{"message":"exploded","locations":[{"line":1,"column":9}],"path":["bad","boom"]}]}
 
-# Errors in three places of a list stand at one place of the text, by their messages.
+# Errors in three places of a list stand at one place of the text, by their positions in the list.
 { list { v w } }
 => {"data":{"list":[{"v":null,"w":6},{"v":null,"w":6},{"v":null,"w":6}]},
-    "errors":[{"message":"one","locations":[{"line":1,"column":10}],"path":["list","v"]},
-    {"message":"three","locations":[{"line":1,"column":10}],"path":["list","v"]},
-    {"message":"two","locations":[{"line":1,"column":10}],"path":["list","v"]}]}
+    "errors":[{"message":"one","locations":[{"line":1,"column":10}],"path":["list",0,"v"]},
+    {"message":"two","locations":[{"line":1,"column":10}],"path":["list",1,"v"]},
+    {"message":"three","locations":[{"line":1,"column":10}],"path":["list",2,"v"]}]}
 { loose { v } }
 => {"data":{"loose":[null,{"v":4},null]},
-    "errors":[{"message":"one","locations":[{"line":1,"column":11}],"path":["loose","v"]},
-    {"message":"three","locations":[{"line":1,"column":11}],"path":["loose","v"]}]}
+    "errors":[{"message":"one","locations":[{"line":1,"column":11}],"path":["loose",0,"v"]},
+    {"message":"three","locations":[{"line":1,"column":11}],"path":["loose",2,"v"]}]}
 { strict { v } fail }
 => {"data":{"strict":null,"fail":null},
-    "errors":[{"message":"one","locations":[{"line":1,"column":12}],"path":["strict","v"]},
-    {"message":"three","locations":[{"line":1,"column":12}],"path":["strict","v"]},
-    {"message":"two","locations":[{"line":1,"column":12}],"path":["strict","v"]},
+    "errors":[{"message":"one","locations":[{"line":1,"column":12}],"path":["strict",0,"v"]},
+    {"message":"two","locations":[{"line":1,"column":12}],"path":["strict",1,"v"]},
+    {"message":"three","locations":[{"line":1,"column":12}],"path":["strict",2,"v"]},
     {"message":"failed","locations":[{"line":1,"column":16}],"path":["fail"]}]}
 
 # Errors stand in the order of the text.

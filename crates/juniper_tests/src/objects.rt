@@ -3,8 +3,8 @@
 use juniper_test_root::report;
 use std::test::Fail;
 
-const OBJECTS: &str = r#"schema:
-type Query { hero: Character, must: Character!, heroes: [Character!]!, some: [Character], found: [Found], droid: Droid!, human: Human }
+pub(crate) const OBJECTS: &str = r#"schema:
+type Query { hero: Character, must: Character!, heroes: [Character!]!, some: [Character], found: [Found], droid: Droid!, human: Human, all: [Character] }
 interface Character { id: ID!, name: String, friends: [Character], best: Character }
 type Droid implements & Character { id: ID!, name: String, friends: [Character], best: Character, function: String }
 type Human implements & Character { id: ID!, name: String, friends: [Character], best: Character, height: Int }
@@ -17,6 +17,7 @@ Query.heroes => [@r2:Droid, @luke:Human]
 Query.some => [@r2:Droid, null, @leia:Human]
 Query.found => [@r2:Droid, null, @c:Cell]
 Query.droid => @r2:Droid
+Query.all => [@r2:Droid, @luke:Human, @r2:Droid]
 r2.id => "2001"
 r2.name => "R2-D2"
 r2.friends => [@luke:Human, @leia:Human]
@@ -52,6 +53,11 @@ rows:
 { heroes { name ... on Human { height } ... on Droid { function } } }
 => {"data":{"heroes":[{"name":"R2-D2","function":"Astromech"},{"name":"Luke","height":172}]}}
 { must { ... on Droid { name } } } => {"data":{"must":{}}}
+# What is collected for one object type is not that of another.
+{ all { name ... on Human { height } } }
+=> {"data":{"all":[{"name":"R2-D2"},{"name":"Luke","height":172},{"name":"R2-D2"}]}}
+{ all { name ... on Human { height } } all { ... on Droid { id } } }
+=> {"data":{"all":[{"name":"R2-D2","id":"2001"},{"name":"Luke","height":172},{"name":"R2-D2","id":"2001"}]}}
 { hero { friends { ... on Human { height } } } } => {"data":{"hero":{"friends":[{"height":172},{"height":150}]}}}
 { found { __typename ... on Droid { name } ... on Cell { a b } } }
 => {"data":{"found":[{"__typename":"Droid","name":"R2-D2"},null,{"__typename":"Cell","a":1,"b":null}]}}
@@ -89,6 +95,6 @@ fragment F on Character { name }
 
 #[test]
 fn objects_are_answered(rt: HostRuntime) -> Result<(), Fail> {
-    assert_eq!(rt; report(rt.alloc(), OBJECTS)?.as_str(), "31 rows, 0 differ");
+    assert_eq!(rt; report(rt.alloc(), OBJECTS)?.as_str(), "33 rows, 0 differ");
     Ok(())
 }

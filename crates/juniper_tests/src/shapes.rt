@@ -3,10 +3,10 @@
 use juniper_test_root::report;
 use std::test::Fail;
 
-const SHAPES: &str = r#"schema:
+pub(crate) const SHAPES: &str = r#"schema:
 type Query {
   listForInt: Int, emptyForInt: Int, listForMust: Int!, intForList: [Int], nullForList: [Int], inner: [[Int]], strict: [Int!], must: [Int]!
-  nodeForInt: Int, intForNode: Cell, textForUnion: Found, listForNode: Cell, nodeForList: [Cell], nodeForText: String, cells: [Cell]
+  nodeForInt: Int, intForNode: Cell, textForUnion: Found, listForNode: Cell, nodeForList: [Cell], nodeForText: String, cells: [Cell], eleven: [Int]
   textForInt: Int, flagForInt: Int, intForText: String, flagForText: String, intForFlag: Boolean, textForFlag: Boolean, flagForId: ID
   good: Episode, unknown: Episode, number: Episode, episodes: [Episode!]
   other: Character, stranger: Found, plain: Cell, nowhere: Character, leaf: Character, box: Box
@@ -33,6 +33,7 @@ Query.listForNode => [@Cell]
 Query.nodeForList => @Cell
 Query.nodeForText => @Human
 Query.cells => [@Cell, 1, @Wall, [@Cell], null]
+Query.eleven => [[], [], [], [], [], [], [], [], [], [], []]
 Query.textForInt => "1"
 Query.flagForInt => true
 Query.intForText => 1
@@ -116,24 +117,37 @@ rows:
 { box { right wrong } } => {"data":{"box":null},
     "errors":[{"message":"Answer of a wrong shape","locations":[{"line":1,"column":15}],"path":["box","wrong"]}]}
 { strict } => {"data":{"strict":null},
-    "errors":[{"message":"Answer of a wrong shape","locations":[{"line":1,"column":3}],"path":["strict"]}]}
+    "errors":[{"message":"Answer of a wrong shape","locations":[{"line":1,"column":3}],"path":["strict",1]}]}
 { must } => {"data":{"must":[1,null]},
-    "errors":[{"message":"Answer of a wrong shape","locations":[{"line":1,"column":3}],"path":["must"]}]}
+    "errors":[{"message":"Answer of a wrong shape","locations":[{"line":1,"column":3}],"path":["must",1]}]}
 
 # Item by item.
 { inner } => {"data":{"inner":[[1,null],null,[null,null],[null],null]},
-    "errors":[{"message":"Answer of a wrong shape","locations":[{"line":1,"column":3}],"path":["inner"]},
-    {"message":"Answer of a wrong shape","locations":[{"line":1,"column":3}],"path":["inner"]},
-    {"message":"Answer of a wrong shape","locations":[{"line":1,"column":3}],"path":["inner"]},
-    {"message":"Answer of a wrong shape","locations":[{"line":1,"column":3}],"path":["inner"]}]}
+    "errors":[{"message":"Answer of a wrong shape","locations":[{"line":1,"column":3}],"path":["inner",0,1]},
+    {"message":"Answer of a wrong shape","locations":[{"line":1,"column":3}],"path":["inner",1]},
+    {"message":"Answer of a wrong shape","locations":[{"line":1,"column":3}],"path":["inner",2,1]},
+    {"message":"Answer of a wrong shape","locations":[{"line":1,"column":3}],"path":["inner",3,0]}]}
 { cells { a } } => {"data":{"cells":[{"a":1},null,null,null,null]},
-    "errors":[{"message":"Answer of a wrong shape","locations":[{"line":1,"column":3}],"path":["cells"]},
-    {"message":"Answer of a wrong shape","locations":[{"line":1,"column":3}],"path":["cells"]},
-    {"message":"Answer of a wrong shape","locations":[{"line":1,"column":3}],"path":["cells"]}]}
+    "errors":[{"message":"Answer of a wrong shape","locations":[{"line":1,"column":3}],"path":["cells",1]},
+    {"message":"Answer of a wrong shape","locations":[{"line":1,"column":3}],"path":["cells",2]},
+    {"message":"Answer of a wrong shape","locations":[{"line":1,"column":3}],"path":["cells",3]}]}
+# More than ten, in the order of number.
+{ eleven } => {"data":{"eleven":[null,null,null,null,null,null,null,null,null,null,null]},
+    "errors":[{"message":"Answer of a wrong shape","locations":[{"line":1,"column":3}],"path":["eleven",0]},
+    {"message":"Answer of a wrong shape","locations":[{"line":1,"column":3}],"path":["eleven",1]},
+    {"message":"Answer of a wrong shape","locations":[{"line":1,"column":3}],"path":["eleven",2]},
+    {"message":"Answer of a wrong shape","locations":[{"line":1,"column":3}],"path":["eleven",3]},
+    {"message":"Answer of a wrong shape","locations":[{"line":1,"column":3}],"path":["eleven",4]},
+    {"message":"Answer of a wrong shape","locations":[{"line":1,"column":3}],"path":["eleven",5]},
+    {"message":"Answer of a wrong shape","locations":[{"line":1,"column":3}],"path":["eleven",6]},
+    {"message":"Answer of a wrong shape","locations":[{"line":1,"column":3}],"path":["eleven",7]},
+    {"message":"Answer of a wrong shape","locations":[{"line":1,"column":3}],"path":["eleven",8]},
+    {"message":"Answer of a wrong shape","locations":[{"line":1,"column":3}],"path":["eleven",9]},
+    {"message":"Answer of a wrong shape","locations":[{"line":1,"column":3}],"path":["eleven",10]}]}
 "#;
 
 #[test]
 fn wrong_shapes_are_errors(rt: HostRuntime) -> Result<(), Fail> {
-    assert_eq!(rt; report(rt.alloc(), SHAPES)?.as_str(), "31 rows, 0 differ");
+    assert_eq!(rt; report(rt.alloc(), SHAPES)?.as_str(), "32 rows, 0 differ");
     Ok(())
 }

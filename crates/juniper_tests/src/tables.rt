@@ -91,6 +91,7 @@ fn request_for(alloc: Global, document: String) -> Request {
         operation_name: "",
         variables: "",
         sights: String::new(alloc),
+        twin_sights: String::new(alloc),
     }
 }
 

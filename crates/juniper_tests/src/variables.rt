@@ -6,7 +6,7 @@ use std::alloc::{AllocError, Global};
 use std::collections::HashMap;
 use std::test::Fail;
 
-const ARGUMENTS: &str = r#"schema:
+pub(crate) const ARGUMENTS: &str = r#"schema:
 type Query {
   id: ID!, number(plus: Int = 1): Int, open(of: Int): Int, text(of: String): String, flag(of: Boolean = true): Boolean
   episode(of: Episode = JEDI): Episode, must(of: Int!): Int
@@ -36,7 +36,7 @@ rows:
 { must(of: null) } => refused: Argument does not fit its type
 "#;
 
-const VARIABLES: &str = r#"schema:
+pub(crate) const VARIABLES: &str = r#"schema:
 type Query {
   name: String, number(plus: Int = 1): Int, text(of: String): String, episode(of: Episode = JEDI): Episode, must(of: Int!): Int
   list(of: [Int!]): Int, box(of: Box): Int, hero: Hero
@@ -174,7 +174,7 @@ fn given_a_variable(alloc: Global) -> Result<String, AllocError> {
     let name = String::from_str(alloc, "a")?;
     variables.insert(name, InputValue::Variable(String::from_str(alloc, "a")?))?;
     let text = "query Q($a: Int) { number(plus: $a) }";
-    let mut context = Notes::new(String::new(alloc));
+    let mut context = Notes::new(alloc, String::new(alloc));
     match execute_sync(alloc, text, None, &root, &variables, &mut context) {
         Ok(_) => String::from_str(alloc, "answered"),
         Err(refusal) => format!(in alloc; "{refusal}"),

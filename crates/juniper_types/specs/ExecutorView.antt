@@ -20,12 +20,13 @@ use Rattle.juniper_position.specs.declared.position.Span.{Span}
 use Rattle.juniper_position.specs.declared.position.Spanning.{Spanning}
 use Rattle.juniper_syntax.specs.declared.ast.Field.{Field}
 use Rattle.juniper_syntax.specs.declared.ast.Fragment.{Fragment}
-use Rattle.juniper_syntax.specs.declared.ast.Selection.{Selection}
 use Rattle.juniper_syntax.specs.declared.input.InputValue.{InputValue}
 use Rattle.juniper_syntax.specs.declared.scalar.ScalarValue.{Ghosts as Scalars}
 use Rattle.juniper_syntax.specs.InputView.{view_variables}
 use Rattle.juniper_lookahead.specs.Expansion.{occurrence_at}
-use Rattle.juniper_lookahead.specs.Selected.{IsSelected}
+use Rattle.juniper_lookahead.specs.Sites.{IsFirstOf, IsWholeGroup, view_fields}
+use Rattle.juniper_lookahead.specs.declared.occurrences.Enclosing.{Enclosing}
+use Rattle.juniper_lookahead.specs.declared.occurrences.Occurrence.{Occurrence as CodeOccurrence}
 use Rattle.juniper_schema.specs.SchemaView.{view_schema}
 use Rattle.juniper_errors.specs.declared.field_path.FieldPath.{FieldPath}
 use Rattle.juniper_schema.specs.declared.schema.SchemaType.{SchemaType}
@@ -49,7 +50,7 @@ module _ {C S : Type 0} {scalar : Scalars S} {equality : Equality S} {shows : Sh
   abbrev pub fragments_of : Executor C S scalar equality shows → HashMap (Bor (List ℕ)) (Bor (Fragment S)) (BuildHasherDefault FoldHasher)
   fragments_of e = e.fragments.now
 
-  -- the response keys from the root to the field now resolved
+  -- the path from the root to the field now resolved
   abbrev pub path_of : Executor C S scalar equality shows → FieldPath
   path_of e = e.path.now
 
@@ -61,30 +62,39 @@ module _ {C S : Type 0} {scalar : Scalars S} {equality : Equality S} {shows : Sh
   abbrev pub concrete_of : Executor C S scalar equality shows → Name
   concrete_of e = e.concrete_type.now
 
-  -- the selections that the field is among
-  abbrev pub enclosing_of : Executor C S scalar equality shows → List (Selection S)
+  -- the selections that the field is among, one slice after the other
+  abbrev pub enclosing_of : Executor C S scalar equality shows → List (Enclosing S)
   enclosing_of e = e.enclosing.now
 
-  -- the field as it is written
+  -- the field as it is written: its occurrences, in order
+  abbrev pub occurrences_of : Executor C S scalar equality shows → List (CodeOccurrence S)
+  occurrences_of e = e.occurrences.now
+
+  -- the first of them
   abbrev pub occurrence_of : Executor C S scalar equality shows → Spanning (Field S) Span
-  occurrence_of e = e.occurrence.now
+  occurrence_of e = e.first.now
 
-  -- the start of the field
+  -- its start
   abbrev pub start_of : Executor C S scalar equality shows → Position
-  start_of e = view_position e.occurrence.now.span.start
+  start_of e = view_position e.first.now.span.start
 
-  -- the field, with what is selected below it
+  -- its occurrences, with what is selected below each
+  abbrev pub view_occurrences : (S → Shown) → Executor C S scalar equality shows → List Occurrence
+  view_occurrences shown e = view_fields shown e.variables.now e.fragments.now e.occurrences.now
+
+  -- the first of them, with what is selected below it
   abbrev pub view_occurrence : (S → Shown) → Executor C S scalar equality shows → Occurrence
-  view_occurrence shown e = occurrence_at shown e.variables.now e.fragments.now e.occurrence.now
+  view_occurrence shown e = occurrence_at shown e.variables.now e.fragments.now e.first.now
 
-  -- the executor is that of a field of this name with these arguments (6.4.1), which is one of those that the selections around it
-  -- hold for its object type (6.3.2)
+  -- the executor is that of a field of this name with these arguments (6.4.1), whose occurrences are all that the selections around
+  -- it hold of one response key for its object type, in order (6.3.2)
   pub record IsAskedFor (shown : S → Shown) (e : Executor C S scalar equality shows) (name : Name) (given : Members) : Type 0 where
     pub is_named : (view_occurrence shown e).head.name.item ≡ name
     pub is_given : given ≡ coerced_arguments (declared_arguments (field_of (view_schema shown e.schema.now) e.concrete_type.now name))
         (view_variables shown e.variables.now) (written (view_occurrence shown e).head.arguments)
-    pub selected : IsSelected shown (is_possible (view_schema shown e.schema.now)) e.variables.now e.fragments.now e.concrete_type.now e.enclosing.now
-        e.occurrence.now
+    pub first : IsFirstOf e.first.now e.occurrences.now
+    pub whole : IsWholeGroup shown (is_possible (view_schema shown e.schema.now)) e.variables.now e.fragments.now e.concrete_type.now e.enclosing.now
+        e.occurrences.now
 
 -- the fragment that the map has at a name
 abbrev pub fragment_at : {S H : Type 0} → HashMap (Bor (List ℕ)) (Bor (Fragment S)) H → Name → Option (Fragment S)

@@ -3,8 +3,9 @@
 ghost use Rattle.juniper_lookahead.specs.Expansion.{IsAcyclic};
 
 use juniper_errors::FieldPath;
+use juniper_lookahead::{Enclosing, Occurrence};
 use juniper_schema::{SchemaType, TypeType};
-use juniper_syntax::{Field, Fragments, ScalarValue, Selection, Span, Spanning, Variables};
+use juniper_syntax::{Field, Fragments, ScalarValue, Span, Spanning, Variables};
 
 /// What a resolver may ask of the field that it resolves. It lends what the request lends: for `'s` the schema, for `'d` the
 /// document, for `'a` its text, and for `'r` the rest.
@@ -17,7 +18,8 @@ pub struct Executor<'r, 's, 'd, 'a, CtxT, S: ScalarValue> {
     pub(crate) path: &'r FieldPath<'a>,
     pub(crate) declared_type: &'r TypeType<'s, S>,
     pub(crate) concrete_type: &'r str,
-    pub(crate) enclosing: &'d [Selection<'a, S>],
-    pub(crate) occurrence: &'d Spanning<Field<'a, S>, Span>,
+    pub(crate) enclosing: &'r [Enclosing<'d, 'a, S>],
+    pub(crate) occurrences: &'r [Occurrence<'d, 'a, S>],
+    pub(crate) first: &'d Spanning<Field<'a, S>, Span>,
     ghost acyclic: { IsAcyclic S.shown fragments.now },
 }

@@ -135,10 +135,11 @@ pub fn occurrence() -> Spanning<Field<'static, DefaultScalarValue>, Span> {
     )
 }
 
-/// The response keys down to it, which share those down to `hero` with a copy that is gone.
+/// The path down to it, below the third hero, which shares the steps down to that hero with a copy that is gone.
 pub fn path(alloc: Global) -> Result<FieldPath<'static>, AllocError> {
     let root = Rc::new(alloc, FieldPath::Root(SourcePosition::new_origin()))?;
-    let hero = FieldPath::Field("hero", at(2), root);
+    let heroes = FieldPath::Field("hero", at(2), root);
+    let hero = FieldPath::Item(2, Rc::new(alloc, heroes)?);
     let copy = hero.clone()?;
     drop(hero);
     Ok(FieldPath::Field("mate", at(9), Rc::new(alloc, copy)?))

@@ -4,7 +4,8 @@ use crate::context::FromContext;
 use crate::executor::Executor;
 use crate::resolver::GraphQLValue;
 use crate::samples::{Counter, Requests, occurrence, path, variables};
-use juniper_errors::FieldError;
+use juniper_errors::{FieldError, PathPart, PathSegment};
+use juniper_lookahead::Occurrence;
 use juniper_schema::{SchemaType, TypeType};
 use juniper_syntax::{DefaultScalarValue, Field, InputValue, Span, Spanning, Value};
 use std::alloc::{AllocError, Global};
@@ -22,7 +23,9 @@ location => 0:9 | 0:9
 type => String | String
 fragment Other => none | none
 ahead => mate: friend | mate: friend
-error => 0:9 hero mate failed | 0:9 hero mate failed";
+occurrences => 2: mate mate | 2: mate mate
+occurrences from the back => 1 left after mate | 1 left after mate
+error => 0:9 hero 2 mate failed | 0:9 hero 2 mate failed";
 
 /// How a resolver is held: its type, its concrete type and its root.
 const RESOLVERS: &str = "\
@@ -54,6 +57,8 @@ fn asked<C: Display>(
         "type" => type_of(alloc, executor.current_type()),
         "fragment Other" => fragment_of(alloc, executor, "Other"),
         "ahead" => ahead_of(alloc, executor),
+        "occurrences" => occurrences_of(alloc, executor),
+        "occurrences from the back" => last_occurrence_of(alloc, executor),
         "error" => error_of(alloc, executor),
         _ => unknown(alloc),
     }
@@ -100,6 +105,36 @@ fn ahead_of<C>(
     format!(in alloc; "{alias}: {name}")
 }
 
+/// How many occurrences the field has, and the names that look-ahead shows of them.
+fn occurrences_of<C>(
+    alloc: Global,
+    executor: &Executor<C, DefaultScalarValue>,
+) -> Result<String, AllocError> {
+    let occurrences = executor.look_ahead_occurrences();
+    let count = occurrences.len();
+    let mut text = format!(in alloc; "{count}:")?;
+    for occurrence in occurrences {
+        text.push(' ')?;
+        text.push_str(occurrence.field_name())?;
+    }
+    Ok(text)
+}
+
+/// What is left when the last occurrence was taken, and its name.
+fn last_occurrence_of<C>(
+    alloc: Global,
+    executor: &Executor<C, DefaultScalarValue>,
+) -> Result<String, AllocError> {
+    let mut occurrences = executor.look_ahead_occurrences();
+    match occurrences.next_back() {
+        Some(last) => {
+            let (count, name) = (occurrences.len(), last.field_name());
+            format!(in alloc; "{count} left after {name}")
+        }
+        None => String::from_str(alloc, "none"),
+    }
+}
+
 /// An error at the field: its place, its path and its message.
 fn error_of<C>(
     alloc: Global,
@@ -109,9 +144,13 @@ fn error_of<C>(
     let made = executor.new_error(alloc, error)?;
     let (line, column) = (made.location().line(), made.location().column());
     let mut text = format!(in alloc; "{line}:{column}")?;
-    for key in made.path() {
+    for segment in made.path() {
         text.push(' ')?;
-        text.push_str(key.as_str())?;
+        let shown = match segment {
+            PathSegment::Index(position) => position.to_string(alloc)?,
+            PathSegment::Key(key) => String::from_str(alloc, key.as_str())?,
+        };
+        text.push_str(shown.as_str())?;
     }
     text.push(' ')?;
     text.push_str(made.error().message())?;
@@ -166,6 +205,7 @@ fn told_at<'d>(
     let fragments = HashMap::new(alloc);
     match schema.type_by_name("String") {
         Some(declared) => {
+            let occurrences = [Occurrence { field }, Occurrence { field }];
             let executor = Executor::at_field(
                 &7,
                 schema,
@@ -175,7 +215,7 @@ fn told_at<'d>(
                 &declared,
                 "Human",
                 &[],
-                field,
+                &occurrences,
             );
             told_by(alloc, &executor, case)
         }
@@ -241,10 +281,15 @@ where
 }
 
 #[test]
-fn copies_of_paths_have_their_keys(rt: HostRuntime) -> Result<(), Fail> {
+fn copies_of_paths_have_their_parts(rt: HostRuntime) -> Result<(), Fail> {
     let alloc = rt.alloc();
-    let keys = path(alloc)?.clone()?.keys(alloc)?;
-    assert_eq!(rt; keys.as_slice(), ["hero", "mate"].as_slice());
+    let parts = path(alloc)?.clone()?.parts(alloc)?;
+    let wanted = [
+        PathPart::Key("hero"),
+        PathPart::Index(2),
+        PathPart::Key("mate"),
+    ];
+    assert_eq!(rt; parts.as_slice(), wanted.as_slice());
     Ok(())
 }
 

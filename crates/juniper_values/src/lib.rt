@@ -9,7 +9,8 @@ pub use juniper_conversions::{
     FromInputValue, FromInputValueArrayError, FromInputValueVecError, ToInputValue,
 };
 pub use juniper_errors::{
-    ExecutionError, ExecutionResult, FieldError, FieldResult, IntoFieldError, ResolveError,
+    ExecutionError, ExecutionResult, FieldError, FieldResult, IntoFieldError, PathPart,
+    PathSegment, ResolveError,
 };
 pub use juniper_id::ID;
 pub use juniper_nullable::Nullable;

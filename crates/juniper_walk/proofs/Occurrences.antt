@@ -3,8 +3,9 @@ use Rattle.std.proofs.Common.{◌≡◌, ℕ, zero, suc, List, [], ◌∷◌, �
 use Rattle.graphql_spec.specs.Shown.{Name}
 use Rattle.graphql_spec.specs.Values.{Value, join}
 use Rattle.graphql_spec.specs.Types.{TypeRef, innermost}
-use Rattle.graphql_spec.specs.Errors.{Place, keys_only, Listed}
-use Rattle.graphql_spec.specs.GroupLaws.{IsCompletedFor}
+use Rattle.graphql_spec.specs.Errors.{Place, Listed}
+use Rattle.graphql_spec.specs.ExactAnswers.{whole}
+use Rattle.graphql_spec.specs.GroupLaws.{GroupCompleted, IsCompletedFor, all_starts}
 use Rattle.graphql_spec.specs.Laws.{Agree, In, Merges}
 use Rattle.graphql_spec.specs.Resolvers.{Error, Reply, World}
 use Rattle.graphql_spec.specs.Selections.{Occurrence, all_below, occurrences}
@@ -14,11 +15,11 @@ use Rattle.graphql_spec.proofs.Lists.{all_below-append, occurrences-chain}
 use Rattle.graphql_spec.proofs.Picked.{all-completed}
 use Rattle.juniper_assemble.specs.Keyed.{IsJoin}
 use Rattle.juniper_assemble.specs.SkeletonView.{IsFilledFrom}
-use Rattle.juniper_completion.specs.Skeletons.{Skeleton, fill, listed_at, reply_errors, reply_nodes}
+use Rattle.juniper_completion.specs.Skeletons.{Spot, Skeleton, fill, listed_spots, reply_error_spots}
 use Rattle.juniper_completion.specs.Walks.{AreWalkedAt}
 use Rattle.juniper_completion.proofs.Agreeing.{agree-front, reply-possible}
 use Rattle.juniper_completion.proofs.ByNodes.{occurrence-by-nodes}
-use Rattle.juniper_walk.specs.Completing.{AreSomeAt, IsGroupAt, IsOneAt, IsParted}
+use Rattle.juniper_walk.specs.Completing.{AreSome, IsOne, IsParted}
 use Rattle.juniper_walk.specs.Walking.{AreAllWalked, AreReached}
 use Rattle.juniper_walk.proofs.Additions.{value-keyed}
 
@@ -48,62 +49,60 @@ module _ {N : Type 0} (W : World N) where
       ∙ occurrences-chain W.possible U (all_below front) (all_below rest)) (m d U h))
 
   -- for each node of a reply, what each occurrence selects agrees
-  pub each-reached : (t : TypeRef) (r : Reply N) (s : Skeleton) (ns : List N) (es : List Error) → IsParted W t r s ns es → (os : List Occurrence) →
-      Merges W (innermost t) (all_below os) →
+  pub each-reached : (here : Place) (t : TypeRef) (r : Reply N) (s : Skeleton) (ns : List (Spot N)) (es : List (Spot Error)) →
+      IsParted W here t r s ns es → (os : List Occurrence) → Merges W (innermost t) (all_below os) →
       (o : Occurrence) → In o os → AreReached W ns o.below
-  each-reached t r s ns es parted os m o i =
-      λ n j d. one-merges (innermost t) os o i m d (W.concrete n) (reply-possible W t r n (subst (λ l. In n l) parted.nodes j))
+  each-reached here t r s ns es parted os m o i =
+      λ x j d. one-merges (innermost t) os o i m d (W.concrete x.what) (reply-possible W here t r x (subst (λ l. In x l) parted.nodes j))
 
   -- ## One occurrence
 
-  module _ (at : Place) (s : Skeleton) (ns : List N) (errors : List Error) where
+  module _ (s : Skeleton) (ns : List (Spot N)) (errors : List (Spot Error)) where
     pub one-at : (o : Occurrence) (vs ws left : List Value) (below es : List Listed) (v : Value) (copy : Skeleton) →
-        AreAllWalked W at o.below ns vs below → copy ≡ s → ws ≡ vs →
-        IsFilledFrom (fill copy ws) v left → es ≡ listed_at at o.head.span.start errors ++ below → IsOneAt W at s ns errors o v es
+        AreAllWalked W o.below ns vs below → copy ≡ s → ws ≡ vs →
+        IsFilledFrom (fill copy ws) v left → es ≡ listed_spots whole o.head.span.start errors ++ below → IsOne W s ns errors o v es
     one-at o vs ws left below es v copy walked copied same from listed = let filled : IsFilledFrom (fill s ws) v left =
         subst (λ x. IsFilledFrom (fill x ws) v left) copied from in record {
-          completed = λ t r p here told. occurrence-by-nodes W here [] t r o vs walked.parts
-              (subst (λ q. AreWalkedAt keys_only W q o.below (reply_nodes W t r) vs walked.parts) (sym told)
-              (subst (λ ms. AreWalkedAt keys_only W at o.below ms vs walked.parts) p.nodes walked.walked))
+          completed = λ here t r p. occurrence-by-nodes W whole here [] t r o vs walked.parts
+              (subst (λ ms. AreWalkedAt whole W o.below ms vs walked.parts) p.nodes walked.walked)
               v (filled.value ∙ (ap (λ l. (fill s l).value) same ∙ ap (λ x. (fill x vs).value) p.skeleton))
-              es (listed ∙ (ap (λ l. l ++ below) (ap (listed_at at o.head.span.start) p.errors
-              ∙ ap (λ q. listed_at q o.head.span.start (reply_errors W t r)) (sym told))
-              ∙ ap (λ l. listed_at (keys_only here) o.head.span.start (reply_errors W t r) ++ l) walked.listed));
+              es (listed ∙ (ap (λ l. l ++ below) (ap (listed_spots whole o.head.span.start) p.errors)
+              ∙ ap (λ l. listed_spots whole o.head.span.start (reply_error_spots W here t r) ++ l) walked.listed));
           keyed = value-keyed s vs ws left v walked.keyed same filled;
         }
 
     -- ## One after the other
 
     module _ (all : List Occurrence) where
-      pub some-first : (o : Occurrence) (os : List Occurrence) (v : Value) (es : List Listed) → os ≡ o ∷ [] → IsOneAt W at s ns errors o v es →
-          AreSomeAt W at s ns errors all os v es
+      pub some-first : (o : Occurrence) (os : List Occurrence) (v : Value) (es : List Listed) → os ≡ o ∷ [] → IsOne W s ns errors o v es →
+          AreSome W s ns errors all os v es
       some-first o os v es is one = record {
-        completed = λ t r p m here told. subst (λ l. IsCompletedFor keys_only W here [] t r l v es) (sym is)
-            (first-completed keys_only W here [] t r o v es (one.completed t r p here told));
+        completed = λ here t r p m. subst (λ l. IsCompletedFor whole W here [] t r l v es) (sym is)
+            (first-completed whole W here [] t r o v es (one.completed here t r p));
         keyed = one.keyed;
       }
 
       pub some-more : (os next rest : List Occurrence) (o : Occurrence) (v u w : Value) (es ds more : List Listed) → all ≡ next ++ rest →
           next ≡ os ++ o ∷ [] → more ≡ es ++ ds →
-          AreSomeAt W at s ns errors all os v es → IsOneAt W at s ns errors o u ds → IsJoin v u w → AreSomeAt W at s ns errors all next w more
+          AreSome W s ns errors all os v es → IsOne W s ns errors o u ds → IsJoin v u w → AreSome W s ns errors all next w more
       some-more os next rest o v u w es ds more split is listed some one joined = record {
-        completed = λ t r p m here told.
+        completed = λ here t r p m.
             let front : Merges W (innermost t) (all_below (os ++ o ∷ [])) =
             subst (λ l. Merges W (innermost t) (all_below l)) is
             (front-merges (innermost t) next rest (subst (λ l. Merges W (innermost t) (all_below l)) split m)) in
-            let both : IsCompletedFor keys_only W here [] t r (os ++ o ∷ []) (join v u) (es ++ ds) =
-            one-more-completed keys_only W here [] t r os o v u es ds front (some.completed t r p m here told) (one.completed t r p here told) in
-            subst (λ l. IsCompletedFor keys_only W here [] t r l w more) (sym is)
-            (subst (λ x. IsCompletedFor keys_only W here [] t r (os ++ o ∷ []) x more) (sym joined.is)
-            (subst (λ x. IsCompletedFor keys_only W here [] t r (os ++ o ∷ []) (join v u) x) (sym listed) both));
+            let both : IsCompletedFor whole W here [] t r (os ++ o ∷ []) (join v u) (es ++ ds) =
+            one-more-completed whole W here [] t r os o v u es ds front (some.completed here t r p m) (one.completed here t r p) in
+            subst (λ l. IsCompletedFor whole W here [] t r l w more) (sym is)
+            (subst (λ x. IsCompletedFor whole W here [] t r (os ++ o ∷ []) x more) (sym joined.is)
+            (subst (λ x. IsCompletedFor whole W here [] t r (os ++ o ∷ []) (join v u) x) (sym listed) both));
         keyed = joined.keyed;
       }
 
-      pub some-all : (os : List Occurrence) (v : Value) (es : List Listed) → os ≡ all → AreSomeAt W at s ns errors all os v es →
-          AreSomeAt W at s ns errors all all v es
-      some-all os v es is some = subst (λ l. AreSomeAt W at s ns errors all l v es) is some
+      pub some-all : (os : List Occurrence) (v : Value) (es : List Listed) → os ≡ all → AreSome W s ns errors all os v es →
+          AreSome W s ns errors all all v es
+      some-all os v es is some = subst (λ l. AreSome W s ns errors all l v es) is some
 
-      pub all-at : (v : Value) (es : List Listed) → AreSomeAt W at s ns errors all all v es → (t : TypeRef) (r : Reply N) →
-          IsParted W t r s ns errors → Merges W (innermost t) (all_below all) →
-          IsGroupAt W at t r all v es
-      all-at v es some t r p m = λ here told. all-completed W keys_only here [] t r all v es (some.completed t r p m here told)
+      pub all-at : (v : Value) (es : List Listed) → AreSome W s ns errors all all v es → (here : Place) (t : TypeRef) (r : Reply N) →
+          IsParted W here t r s ns errors → Merges W (innermost t) (all_below all) →
+          GroupCompleted whole all_starts W here [] t r all v es
+      all-at v es some here t r p m = all-completed W whole here [] t r all v es (some.completed here t r p m)

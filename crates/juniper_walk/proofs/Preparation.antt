@@ -1,18 +1,19 @@
 -- A field's answer, taken apart from its nodes.
-use Rattle.std.proofs.Common.{◌≡◌, Bool, List, [], ◌∷◌, ◌++◌, refl}
-use Rattle.std.proofs.Common.{sym, ap, ◌∙◌, subst}
+use Rattle.std.proofs.Common.{◌≡◌, Bool, List, [], ◌∷◌, ◌++◌, Bor, refl, sym, ap, ◌∙◌, subst}
 use Rattle.graphql_spec.specs.Shown.{Shown, Name}
 use Rattle.graphql_spec.specs.Positions.{Position}
 use Rattle.graphql_spec.specs.Documents.{response_key}
 use Rattle.graphql_spec.specs.Types.{TypeRef, required}
 use Rattle.graphql_spec.specs.Errors.{Place, key, Listed}
-use Rattle.graphql_spec.specs.Selections.{Occurrence, occurrences}
+use Rattle.graphql_spec.specs.ExactAnswers.{whole}
+use Rattle.graphql_spec.specs.Selections.{Occurrence, occurrences, with_key}
 use Rattle.graphql_spec.specs.Documents.{Selections}
 use Rattle.graphql_spec.specs.Directives.{passes}
-use Rattle.graphql_spec.specs.Laws.{In}
+use Rattle.graphql_spec.proofs.Lists.{same_refl}
+use Rattle.graphql_spec.proofs.Parts.{chain-end}
 use Rattle.graphql_spec.specs.Resolvers.{Error, World}
-use Rattle.graphql_spec.specs.Execution.{type_of, reply_of, reply_to}
-use Rattle.juniper_completion.specs.Skeletons.{Skeleton, listed_at}
+use Rattle.graphql_spec.specs.Execution.{type_of, reply_of}
+use Rattle.juniper_completion.specs.Skeletons.{Spot, Skeleton, listed_spots}
 use Rattle.juniper_position.specs.declared.position.Spanning.{Spanning}
 use Rattle.juniper_position.specs.declared.position.Span.{Span}
 use Rattle.juniper_position.specs.Positions.{view_span}
@@ -21,7 +22,7 @@ use Rattle.juniper_syntax.specs.DocumentView.{view_head, view_selections, view_s
 use Rattle.juniper_syntax.specs.declared.ast.Field.{Field as FieldType, out-Field}
 use Rattle.juniper_syntax.specs.declared.ast.Selection.{Selection}
 use Rattle.juniper_lookahead.specs.Expansion.{FragmentsByName, VariableMap, expanded, fragments_among, occurrence_at}
-use Rattle.juniper_lookahead.specs.Selected.{IsSelected}
+use Rattle.juniper_lookahead.specs.Sites.{IsWholeGroup, expanded_each, view_fields}
 use Rattle.juniper_collect.specs.FragmentView.{ExpandAlike, fragments_in}
 use Rattle.juniper_collect.specs.Collected.{expansion, view_collected}
 use Rattle.juniper_collect.specs.declared.collecting.Collector.{Collector}
@@ -29,46 +30,69 @@ use Rattle.juniper_walk.specs.FieldWords.{head_of}
 use Rattle.juniper_walk.specs.Completing.{IsParted}
 use Rattle.juniper_walk.specs.Walking.{IsPrepared}
 
-module _ {N : Type 0} (W : World N) (at : Place) (T : Name) (m : N) (o : Occurrence) (place : Place) (r : Bool) (s : Skeleton) (ns : List N)
+module _ {N : Type 0} (W : World N) (at : Place) (T : Name) (m : N) (o : Occurrence) (r : Bool) (s : Skeleton) (ns : List (Spot N))
     (es : List Listed) where
-  pub prepared-reply : (t : TypeRef) (errors : List Error) → place ≡ at ++ key (response_key o.head) ∷ [] → r ≡ required t →
-      t ≡ W.field_type T o.head.name.item →
-      IsParted W t (reply_to W T m o.head) s ns errors → es ≡ listed_at place o.head.span.start errors → IsPrepared W at T m o place r s ns es
-  unfolding type_of reply_of
-  prepared-reply t errors is q typed parted listed =
-      let here : IsParted W (W.field_type T o.head.name.item) (reply_to W T m o.head) s ns errors =
-      subst (λ u. IsParted W u (reply_to W T m o.head) s ns errors) typed parted in
+  pub prepared-reply : (place : Place) (t : TypeRef) (errors : List (Spot Error)) → place ≡ at ++ key (response_key o.head) ∷ [] → r ≡ required t →
+      t ≡ type_of W T (o ∷ []) →
+      IsParted W place t (reply_of W T m (o ∷ [])) s ns errors → es ≡ listed_spots whole o.head.span.start errors → IsPrepared W at T m o r s ns es
+  prepared-reply place t errors is q typed parted listed =
+      let here : IsParted W (at ++ key (response_key o.head) ∷ []) (type_of W T (o ∷ [])) (reply_of W T m (o ∷ [])) s ns errors =
+      subst (λ p. IsParted W p (type_of W T (o ∷ [])) (reply_of W T m (o ∷ [])) s ns errors) is
+      (subst (λ u. IsParted W place u (reply_of W T m (o ∷ [])) s ns errors) typed parted) in
       record {
-        is_place = is;
         non_null = q ∙ ap required typed;
         skeleton = here.skeleton;
         nodes = here.nodes;
-        errors = listed ∙ ap (listed_at place o.head.span.start) here.errors;
+        errors = listed ∙ ap (listed_spots whole o.head.span.start) here.errors;
       }
 
 pub same-head : {S P : Type 0} (shown : S → Shown) (c : Collector S P) (f : Spanning (FieldType S) Span) → (view_collected shown c f).head ≡ head_of shown f
 unfolding view_collected
 same-head shown c f = refl
 
-pub listed-same : (p q : Place) (a b : Position) (xs : List Error) → p ≡ q → a ≡ b → listed_at p a xs ≡ listed_at q b xs
-listed-same p q a b xs e f = ap (λ x. listed_at x a xs) e ∙ ap (λ x. listed_at q x xs) f
+pub listed-same : (a b : Position) (xs : List (Spot Error)) → a ≡ b → listed_spots whole a xs ≡ listed_spots whole b xs
+listed-same a b xs e = ap (λ x. listed_spots whole x xs) e
 
--- ## A collected field is selected where the fragments are found by their names
+-- ## A field whose selection stands alone is a whole group, also where the fragments are found by their names
+
+own-key : (o : Occurrence) → with_key (response_key o.head) (o ∷ []) ≡ o ∷ []
+unfolding with_key
+own-key o = rw (same_refl (response_key o.head)) refl
 
 module _ {S P : Type 0} (shown : S → Shown) (c : Collector S P) (m : FragmentsByName S)
     (alike : ExpandAlike (fragments_among shown m) (fragments_in shown c.fragments.now)) where
-  same-expansion : (s : Selections) → expansion shown c s ≡ expanded shown c.variables.now m s
+  pub same-expansion : (s : Selections) → expansion shown c s ≡ expanded shown c.variables.now m s
   unfolding expansion expanded
   same-expansion s = sym (alike (passes (view_variables shown c.variables.now)) s)
 
-  same-occurrence : (f : Spanning (FieldType S) Span) → view_collected shown c f ≡ occurrence_at shown c.variables.now m f
+  pub same-occurrence : (f : Spanning (FieldType S) Span) → view_collected shown c f ≡ occurrence_at shown c.variables.now m f
   unfolding view_collected occurrence_at
   same-occurrence f = ap (λ b. record { head = view_head shown (out-Field S f.item) (view_span f.span); below = b })
       (same-expansion (view_set shown (out-Field S f.item).selection_set))
 
-  pub selected-at : (possible : Name → Name → Bool) (vars : VariableMap S) (T : Name) (ss : List (Selection S)) (f : Spanning (FieldType S) Span)
-      → vars ≡ c.variables.now →
-      In (view_collected shown c f) (occurrences possible T (expansion shown c (view_selections shown ss))) → IsSelected shown possible vars m T ss f
-  selected-at possible vars T ss f is among = subst (λ v. IsSelected shown possible v m T ss f) (sym is)
-      (subst (λ o. In o (occurrences possible T (expanded shown c.variables.now m (view_selections shown ss)))) (same-occurrence f)
-      (subst (λ s. In (view_collected shown c f) (occurrences possible T s)) (same-expansion (view_selections shown ss)) among))
+  -- the one field that is shown where the values of variables are those of the collector
+  pub same-single : (vars : VariableMap S) (f : Bor (Spanning (FieldType S) Span)) → vars ≡ c.variables.now →
+      view_fields shown vars m (record { field = f } ∷ []) ≡ view_collected shown c f.now ∷ []
+  same-single vars f is = ap (λ v. view_fields shown v m (record { field = f } ∷ [])) is ∙ ap (λ o. o ∷ []) (sym (same-occurrence f.now))
+
+  module _ (possible : Name → Name → Bool) (T : Name) (a : Bor (List (Selection S))) (f : Bor (Spanning (FieldType S) Span))
+      (alone : occurrences possible T (expansion shown c (view_selections shown a.now)) ≡ view_collected shown c f.now ∷ []) where
+    abbrev o : Occurrence
+    o = occurrence_at shown c.variables.now m f.now
+
+    all-held : occurrences possible T (expanded_each shown c.variables.now m (record { selections = a } ∷ [])) ≡ o ∷ []
+    unfolding expanded_each
+    all-held =
+        ap (occurrences possible T) (chain-end (expanded shown c.variables.now m (view_selections shown a.now))
+        ∙ sym (same-expansion (view_selections shown a.now)))
+        ∙ (alone ∙ ap (λ x. x ∷ []) (same-occurrence f.now))
+
+    pub alone-whole : (vars : VariableMap S) → vars ≡ c.variables.now →
+        IsWholeGroup shown possible vars m T (record { selections = a } ∷ []) (record { field = f } ∷ [])
+    alone-whole vars is = subst (λ v. IsWholeGroup shown possible v m T (record { selections = a } ∷ []) (record { field = f } ∷ [])) (sym is) (record {
+      key = response_key o.head;
+      first = o;
+      others = [];
+      some = refl;
+      whole = sym (ap (with_key (response_key o.head)) all-held ∙ own-key o);
+    })

@@ -4,12 +4,13 @@ use Rattle.graphql_spec.specs.Shown.{Shown, Name}
 use Rattle.graphql_spec.specs.Documents.{response_key}
 use Rattle.graphql_spec.specs.Values.{Value, Entries, object, is_null}
 use Rattle.graphql_spec.specs.Types.{required}
-use Rattle.graphql_spec.specs.Errors.{Place, key, keys_only, Listed}
+use Rattle.graphql_spec.specs.Errors.{Place, key, Listed}
+use Rattle.graphql_spec.specs.ExactAnswers.{whole}
 use Rattle.graphql_spec.specs.Selections.{Forest, depth, Occurrence, occurrences}
 use Rattle.graphql_spec.specs.Resolvers.{World}
 use Rattle.graphql_spec.specs.Execution.{type_of, reply_of}
 use Rattle.graphql_spec.specs.Laws.{In, Agree}
-use Rattle.juniper_completion.specs.Skeletons.{Skeleton, reply_skeleton, reply_nodes, reply_errors, listed_at, fill}
+use Rattle.juniper_completion.specs.Skeletons.{Spot, Skeleton, reply_skeleton, reply_node_spots, reply_error_spots, listed_spots, fill}
 use Rattle.juniper_completion.specs.CompletionLaws.{all_listed}
 use Rattle.juniper_completion.specs.Walks.{AreWalkedAt, IsWalked, joined_in}
 use Rattle.juniper_lookahead.specs.Expansion.{VariableMap}
@@ -40,39 +41,39 @@ module _ {N : Type 0} (W : World N) where
   AllAgree T os = (d : ℕ) → Agree W d T os
 
   -- so do those that selections hold for each of these nodes
-  abbrev pub AreReached : List N → Forest → Type 0
-  AreReached ns s = (n : N) → In n ns → AllAgree (W.concrete n) (occurrences W.possible (W.concrete n) s)
+  abbrev pub AreReached : List (Spot N) → Forest → Type 0
+  AreReached ns s = (x : Spot N) → In x ns → AllAgree (W.concrete x.what) (occurrences W.possible (W.concrete x.what) s)
 
   -- to every depth the fields agree that selections hold for an object type, as those of a valid operation do
   abbrev pub SelectionsAgree : Name → Forest → Type 0
   SelectionsAgree T s = AllAgree T (occurrences W.possible T s)
 
-  -- the fields of a node were walked, wherever its place is told as `at`, and counted down from any depth that is deep enough
+  -- the fields of the node at a place were walked, wherever its null lands, and counted down from any depth that is deep enough
   pub record IsWalkedThrough (at : Place) (T : Name) (n : N) (os : List Occurrence) (v : Value) (es : List Listed) : Type 0 where
-    pub walked : (d : ℕ) → deepest os ≤ d → (here lands : Place) → keys_only here ≡ at → IsWalked keys_only W d here lands T n os v es
+    pub walked : (d : ℕ) → deepest os ≤ d → (lands : Place) → IsWalked whole W d at lands T n os v es
     pub keyed : is_keyed v ≡ true
 
-  -- so were the selections of each node, with the errors of the one behind those of the other
-  pub record AreAllWalked (at : Place) (s : Forest) (ns : List N) (vs : List Value) (es : List Listed) : Type 0 where
+  -- so were the selections of each node at its place, with the errors of the one behind those of the other
+  pub record AreAllWalked (s : Forest) (ns : List (Spot N)) (vs : List Value) (es : List Listed) : Type 0 where
     pub parts : List (List Listed)
-    pub walked : AreWalkedAt keys_only W at s ns vs parts
+    pub walked : AreWalkedAt whole W s ns vs parts
     pub listed : es ≡ all_listed parts
     pub keyed : all_keyed vs ≡ true
 
   -- ## Only private clauses cite what follows
 
   -- the answer to a field of a node, taken apart from its nodes
-  pub record IsPrepared (at : Place) (T : Name) (m : N) (o : Occurrence) (place : Place) (r : Bool) (s : Skeleton) (ns : List N)
+  pub record IsPrepared (at : Place) (T : Name) (m : N) (o : Occurrence) (r : Bool) (s : Skeleton) (ns : List (Spot N))
       (es : List Listed) : Type 0 where
-    pub is_place : place ≡ at ++ key (response_key o.head) ∷ []
     pub non_null : r ≡ required (type_of W T (o ∷ []))
     pub skeleton : s ≡ reply_skeleton W (type_of W T (o ∷ [])) (reply_of W T m (o ∷ []))
-    pub nodes : ns ≡ reply_nodes W (type_of W T (o ∷ [])) (reply_of W T m (o ∷ []))
-    pub errors : es ≡ listed_at place o.head.span.start (reply_errors W (type_of W T (o ∷ [])) (reply_of W T m (o ∷ [])))
+    pub nodes : ns ≡ reply_node_spots W (at ++ key (response_key o.head) ∷ []) (type_of W T (o ∷ [])) (reply_of W T m (o ∷ []))
+    pub errors : es ≡ listed_spots whole o.head.span.start
+        (reply_error_spots W (at ++ key (response_key o.head) ∷ []) (type_of W T (o ∷ [])) (reply_of W T m (o ∷ [])))
 
   -- the first fields were walked, of all of them
   pub record IsWalking (at : Place) (T : Name) (n : N) (all front : List Occurrence) (es : Entries) (errors : List Listed) : Type 0 where
-    pub walked : (d : ℕ) → deepest all ≤ d → (here lands : Place) → keys_only here ≡ at → IsWalked keys_only W d here lands T n front (object es) errors
+    pub walked : (d : ℕ) → deepest all ≤ d → (lands : Place) → IsWalked whole W d at lands T n front (object es) errors
     pub keyed : is_keyed (object es) ≡ true
 
 -- a field's value was added to its object, but where its null rises

@@ -51,15 +51,15 @@ pub(crate) fn add_field<'a, N: Drop, S: ScalarValue>(
     Ok(false)
 }
 
-/// Whether a null rises past its field: the value is null at a non-null type.
-fn does_rise<S: ScalarValue>(value: &Value<S>, is_non_null: bool) -> bool
+/// Whether a null rises past its field: the value is null at a non-null type (6.4.4).
+pub fn does_rise<S: ScalarValue>(value: &Value<S>, is_non_null: bool) -> bool
     ensures { result ≡ (is_null (view_value S.shown value.now) && is_non_null) }
 {
     value.is_null() && is_non_null
 }
 
 /// Adds the object of a node, and what fails in it, to those before it.
-pub(crate) fn add_object<S: ScalarValue>(
+pub fn add_object<S: ScalarValue>(
     values: &mut Vec<Value<S>>,
     errors: &mut Vec<ExecutionError<S>>,
     walked: Walked<S>,
@@ -76,7 +76,7 @@ pub(crate) fn add_object<S: ScalarValue>(
 }
 
 /// What a field selects; nothing where it has no selections (2.4).
-pub(crate) fn selections_of<'d, 'a, S: ScalarValue>(
+pub fn selections_of<'d, 'a, S: ScalarValue>(
     field: &'d Spanning<Field<'a, S>, Span>,
 ) -> &'d [Selection<'a, S>]
     ensures { view_selections S.shown result.now ≡ view_set S.shown (out-Field S field.now.item).selection_set }

@@ -1,18 +1,18 @@
 //! What a request gives to its walk.
 
 ghost use Rattle.std.specs.Prelude.{◌≡◌, string_bytes};
-ghost use Rattle.graphql_spec.specs.Execution.{reply_to};
+ghost use Rattle.graphql_spec.specs.Execution.{reply_of, type_of};
 ghost use Rattle.juniper_syntax.specs.TypeView.{view_type};
 ghost use Rattle.juniper_lookahead.specs.Expansion.{IsAcyclic};
-ghost use Rattle.juniper_lookahead.specs.Selected.{IsSelected};
+ghost use Rattle.juniper_lookahead.specs.Sites.{IsWholeGroup, view_fields};
 ghost use Rattle.juniper_resolvable.specs.ResolvedView.{Answers};
-ghost use Rattle.juniper_walk.specs.FieldWords.{head_of};
 
 use juniper_assemble::Completer;
 use juniper_collect::{Collector, Conditions};
 use juniper_errors::{FieldPath, ResolveError};
+use juniper_lookahead::{Enclosing, Occurrence};
 use juniper_resolvable::Resolved;
-use juniper_syntax::{Field, Fragments, ScalarValue, Selection, Span, Spanning, Type};
+use juniper_syntax::{Fragments, ScalarValue, Type};
 use std::alloc::Global;
 
 /// Where a field is asked for.
@@ -22,10 +22,10 @@ pub struct Site<'r, 'd, 'a, S> {
     pub fragments: &'r Fragments<'d, 'a, S>,
     /// The response keys from the root to the field.
     pub path: &'r FieldPath<'a>,
-    /// The selections that hold the field, perhaps within fragments.
-    pub enclosing: &'d [Selection<'a, S>],
-    /// The field as it is written.
-    pub field: &'d Spanning<Field<'a, S>, Span>,
+    /// The selections that hold the field, perhaps within fragments, one slice after the other.
+    pub enclosing: &'r [Enclosing<'d, 'a, S>],
+    /// The field as it is written: all its occurrences, in order. There is one at least.
+    pub occurrences: &'r [Occurrence<'d, 'a, S>],
 }
 
 /// What a field of a node answers.
@@ -48,8 +48,8 @@ pub trait Resolver<S: ScalarValue>: Completer<S> + Conditions {
     fn concrete_type_name<'n>(&'n self, node: &'n Self::Node) -> &'n str
         ensures { result.now ≡ (Self.world self.now).concrete node.now };
 
-    /// What a field of a node answers, `__typename` too (ResolveFieldValue, 6.4.2), with its declared type. The field is one of
-    /// those that the selections around it hold for the object type (6.3.2).
+    /// What the first occurrence of a field of a node answers, `__typename` too (ResolveFieldValue, 6.4.2), with its declared type. The
+    /// occurrences are all that the selections around them hold of one response key for the object type (6.3.2).
     fn ask<'t, 'd, 'a>(
         &'t self,
         alloc: Global,
@@ -58,11 +58,12 @@ pub trait Resolver<S: ScalarValue>: Completer<S> + Conditions {
         site: &Site<'_, 'd, 'a, S>,
     ) -> Asked<'t, Self::Node, S>
         requires acyclic { IsAcyclic S.shown site.now.fragments.now }
-        requires selected { IsSelected S.shown (Self.possible self.now)
-            (values self.now) site.now.fragments.now concrete.now site.now.enclosing.now site.now.field.now }
+        requires whole { IsWholeGroup S.shown (Self.possible self.now) (values self.now) site.now.fragments.now concrete.now site.now.enclosing.now
+            site.now.occurrences.now }
         ensures declared { view_type (λ n. string_bytes n) result.declared.now
-            ≡ (Self.world self.now).field_type concrete.now (head_of S.shown site.now.field.now).name.item }
-        ensures answer { Answers S.shown result.answer (reply_to (Self.world self.now) concrete.now node.now (head_of S.shown site.now.field.now)) };
+            ≡ type_of (Self.world self.now) concrete.now (view_fields S.shown (values self.now) site.now.fragments.now site.now.occurrences.now) }
+        ensures answer { Answers S.shown result.answer (reply_of (Self.world self.now) concrete.now node.now
+            (view_fields S.shown (values self.now) site.now.fragments.now site.now.occurrences.now)) };
 }
 
 /// What one request gives to each of its fields.

@@ -8,7 +8,8 @@ ghost use Rattle.graphql_spec.specs.Shown.{Name};
 ghost use Rattle.juniper_walk.specs.FieldWords.{fields_at, head_of};
 
 use crate::preparing::response_key;
-use juniper_collect::{Collected, Occurrence};
+use juniper_collect::Collected;
+use juniper_lookahead::Occurrence;
 use juniper_syntax::{Field, ScalarValue, Span, Spanning};
 use std::alloc::{AllocError, Global};
 use std::collections::HashMap;

@@ -2,41 +2,46 @@
 
 ghost use Rattle.std.specs.Prelude.{◌≡◌, IfOk, map, string_bytes};
 ghost use Rattle.juniper_assemble.specs.SkeletonView.{view_fault, view_skeleton};
-ghost use Rattle.juniper_completion.specs.Skeletons.{listed_at};
+ghost use Rattle.juniper_assemble.specs.SpotView.{view_faults, view_nodes};
+ghost use Rattle.graphql_spec.specs.ExactAnswers.{whole};
+ghost use Rattle.juniper_completion.specs.Skeletons.{listed_spots};
 ghost use Rattle.juniper_errors.specs.ErrorView.{view_error, view_listed};
 ghost use Rattle.juniper_errors.specs.PathView.{path_place};
 ghost use Rattle.juniper_position.specs.Positions.{view_position};
 ghost use Rattle.juniper_resolvable.specs.ResolvedView.{Answers};
 ghost use Rattle.juniper_syntax.specs.TypeView.{view_type};
-ghost use Rattle.juniper_walk.specs.Completing.{IsParted, IsTold};
+ghost use Rattle.juniper_walk.specs.Completing.{IsParted, IsTold, view_errors};
 
-use juniper_assemble::{Completer, Fault, Skeleton, take_apart};
+use juniper_assemble::{Completer, Fault, Skeleton, Spot, take_apart};
 use juniper_errors::{ExecutionError, FieldError, FieldPath, ResolveError};
 use juniper_resolvable::Resolved;
 use juniper_syntax::{ScalarValue, SourcePosition, Type, Value};
 use std::alloc::{AllocError, Global};
+use std::rc::Rc;
 
 /// A reply without the objects of its nodes.
 #[derive(Drop)]
-pub(crate) struct Parted<N, S> {
+pub struct Parted<'a, N, S> {
     /// The answer, with a hole for each node.
-    pub(crate) skeleton: Skeleton<S>,
-    /// The nodes.
-    pub(crate) nodes: Vec<N>,
-    /// The errors of what fails apart from them.
-    pub(crate) errors: Vec<FieldError<S>>,
+    pub skeleton: Skeleton<S>,
+    /// The nodes, each at its place.
+    pub nodes: Vec<Spot<'a, N>>,
+    /// The errors of what fails apart from them, each at its place.
+    pub errors: Vec<Spot<'a, FieldError<S>>>,
 }
 
-/// A reply at a declared type, taken apart; an error where memory was refused to it, or is refused here.
-pub(crate) fn part_reply<S: ScalarValue, C: Completer<S>>(
+/// A reply at a declared type and a path, taken apart; an error where memory was refused to it, or is refused here.
+pub fn part_reply<'a, S: ScalarValue, C: Completer<S>>(
     alloc: Global,
     completer: &C,
     declared: &Type<String>,
     answer: Result<Resolved<C::Node, S>, ResolveError<S>>,
-) -> Result<Parted<C::Node, S>, AllocError>
+    path: &Rc<FieldPath<'a>>,
+) -> Result<Parted<'a, C::Node, S>, AllocError>
     ensures told { IfOk result (λ _. IsTold answer) }
-    ensures parted { (reply : _) → Answers S.shown answer reply → IfOk result (λ p. IsParted (C.world completer.now)
-        (view_type (λ n. string_bytes n) declared.now) reply (view_skeleton S.shown p.skeleton) p.nodes.items (map (view_error S.shown) p.errors.items)) }
+    ensures parted { (reply : _) → Answers S.shown answer reply → IfOk result (λ p. IsParted (C.world completer.now) (path_place path.now.value)
+        (view_type (λ n. string_bytes n) declared.now) reply (view_skeleton S.shown p.skeleton) (view_nodes p.nodes.items)
+        (view_errors S.shown p.errors.items)) }
 {
     let mut nodes = Vec::new(alloc);
     match answer {
@@ -47,6 +52,7 @@ pub(crate) fn part_reply<S: ScalarValue, C: Completer<S>>(
                 completer,
                 declared,
                 resolved,
+                path,
                 &mut nodes,
                 &mut faults,
             )?;
@@ -59,7 +65,11 @@ pub(crate) fn part_reply<S: ScalarValue, C: Completer<S>>(
         }
         Err(ResolveError::Field(error)) => {
             let mut errors = Vec::new(alloc);
-            errors.push(error)?;
+            let here = path.clone()?;
+            errors.push(Spot {
+                path: here,
+                what: error,
+            })?;
             Ok(Parted {
                 skeleton: Skeleton::Absent,
                 nodes,
@@ -70,16 +80,18 @@ pub(crate) fn part_reply<S: ScalarValue, C: Completer<S>>(
     }
 }
 
-/// The field errors of faults.
-fn fault_errors<S: ScalarValue>(
+/// The field errors of faults, each at its place.
+fn fault_errors<'a, S: ScalarValue>(
     alloc: Global,
-    faults: &[Fault],
-) -> Result<Vec<FieldError<S>>, AllocError>
-    ensures { IfOk result (λ made. map (view_error S.shown) made.items ≡ map view_fault faults.now) }
+    faults: &[Spot<'a, Fault>],
+) -> Result<Vec<Spot<'a, FieldError<S>>>, AllocError>
+    ensures { IfOk result (λ made. view_errors S.shown made.items ≡ view_faults faults.now) }
 {
     let mut made = Vec::with_capacity(alloc, faults.len())?;
     for fault in faults {
-        made.push(fault_error(alloc, *fault)?)?;
+        let error = fault_error(alloc, fault.what)?;
+        let path = fault.path.clone()?;
+        made.push(Spot { path, what: error })?;
     }
     Ok(made)
 }
@@ -100,25 +112,21 @@ fn fault_error<S: ScalarValue>(alloc: Global, fault: Fault) -> Result<FieldError
     }
 }
 
-/// The errors of one field, listed at its path, where it starts.
-#[tactic(auto, unfolding(juniper_completion::specs::Skeletons::listed_at))]
-pub(crate) fn list_errors<S: ScalarValue>(
+/// The errors of one field, each listed at its path, where the field starts.
+#[tactic(auto, unfolding(juniper_completion::specs::Skeletons::listed_spots))]
+pub fn list_errors<S: ScalarValue>(
     alloc: Global,
-    path: &FieldPath<'_>,
     start: SourcePosition,
-    errors: &[FieldError<S>],
+    errors: &[Spot<'_, FieldError<S>>],
 ) -> Result<Vec<ExecutionError<S>>, AllocError>
     ensures { IfOk result (λ made. map (view_listed S.shown) made.items
-        ≡ listed_at (path_place path.now) (view_position start) (map (view_error S.shown) errors.now)) }
+        ≡ listed_spots whole (view_position start) (view_errors S.shown errors.now)) }
 {
-    if errors.is_empty() {
-        return Ok(Vec::new(alloc));
-    }
-    let keys = path.keys(alloc)?;
     let mut made = Vec::with_capacity(alloc, errors.len())?;
     for error in errors {
-        let copy = error.try_clone(alloc)?;
-        let listed = ExecutionError::new(alloc, start, &keys, copy)?;
+        let parts = error.path.as_ref().parts(alloc)?;
+        let copy = error.what.try_clone(alloc)?;
+        let listed = ExecutionError::new(alloc, start, &parts, copy)?;
         made.push(listed)?;
     }
     Ok(made)

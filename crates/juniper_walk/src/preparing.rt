@@ -6,32 +6,31 @@ ghost use Rattle.graphql_spec.specs.Errors.{key};
 ghost use Rattle.juniper_errors.specs.ErrorView.{view_listed};
 ghost use Rattle.juniper_errors.specs.PathView.{path_place};
 ghost use Rattle.juniper_assemble.specs.SkeletonView.{view_skeleton};
-ghost use Rattle.graphql_spec.specs.Laws.{In};
-ghost use Rattle.graphql_spec.specs.Selections.{occurrences};
-ghost use Rattle.juniper_syntax.specs.DocumentView.{view_selections};
-ghost use Rattle.juniper_collect.specs.Collected.{expansion, view_collected};
+ghost use Rattle.juniper_assemble.specs.SpotView.{view_nodes};
+ghost use Rattle.juniper_collect.specs.Collected.{view_collected};
+ghost use Rattle.juniper_collect.specs.Singles.{IsAlone};
 ghost use Rattle.juniper_walk.specs.FieldWords.{head_of};
 ghost use Rattle.juniper_walk.specs.Walking.{IsPrepared, IsReadyWalk};
 
 use crate::asking::{Asked, Resolver, Site, Walk};
 use crate::parting::{Parted, list_errors, part_reply};
-use juniper_assemble::Skeleton;
+use juniper_assemble::{Skeleton, Spot};
+use juniper_collect::Single;
 use juniper_errors::{ExecutionError, FieldPath};
-use juniper_syntax::{Field, ScalarValue, Selection, SourcePosition, Span, Spanning};
+use juniper_lookahead::{Enclosing, Occurrence};
+use juniper_syntax::{Field, ScalarValue, SourcePosition, Span, Spanning};
 use std::alloc::{AllocError, Global};
 use std::rc::Rc;
 
 /// A field's answer without the objects of its nodes.
 #[derive(Drop)]
 pub(crate) struct Prepared<'a, N, S> {
-    /// The response keys from the root to the field.
-    pub(crate) path: Rc<FieldPath<'a>>,
     /// Whether its type is non-null.
     pub(crate) is_non_null: bool,
     /// The answer, with a hole for each node.
     pub(crate) skeleton: Skeleton<S>,
-    /// The nodes.
-    pub(crate) nodes: Vec<N>,
+    /// The nodes, each at its place.
+    pub(crate) nodes: Vec<Spot<'a, N>>,
     /// What fails apart from them.
     pub(crate) errors: Vec<ExecutionError<S>>,
 }
@@ -47,7 +46,7 @@ pub fn response_key<'a, S: ScalarValue>(field: &Spanning<Field<'a, S>, Span>) ->
     }
 }
 
-/// The path of the root: no keys.
+/// The path of the root: no steps.
 pub fn root_path<'a>(alloc: Global, start: SourcePosition) -> Result<Rc<FieldPath<'a>>, AllocError>
     ensures { IfOk result (λ made. path_place made.value ≡ []) }
 {
@@ -71,39 +70,41 @@ pub fn path_below<'a, S: ScalarValue>(
     Ok(made)
 }
 
-/// A field of a node: its answer, taken apart.
+/// A field of a node, asked for as the one occurrence that its selection alone holds: its answer, taken apart.
 pub(crate) fn prepare<'d, 'a, S: ScalarValue, R: Resolver<S>>(
     walk: &Walk<'_, 'd, 'a, S, R>,
     path: &Rc<FieldPath<'a>>,
     concrete: &str,
     node: &R::Node,
-    enclosing: &'d [Selection<'a, S>],
-    field: &'d Spanning<Field<'a, S>, Span>,
+    single: &Single<'d, 'a, S>,
 ) -> Result<Prepared<'a, R::Node, S>, AllocError>
     requires ready { IsReadyWalk S.shown R.possible R.values (R.world walk.now.collector.possible) walk.now }
-    requires among { In (view_collected S.shown walk.now.collector field.now) (occurrences (R.possible walk.now.collector.possible) concrete.now
-        (expansion S.shown walk.now.collector (view_selections S.shown enclosing.now))) }
+    requires alone { IsAlone S.shown walk.now.collector (R.possible walk.now.collector.possible) concrete.now single.now }
     ensures { IfOk result (λ p. IsPrepared (R.world walk.now.collector.possible) (path_place path.now.value) concrete.now node.now
-        (view_collected S.shown walk.now.collector field.now)
-        (path_place p.path.value) p.is_non_null (view_skeleton S.shown p.skeleton) p.nodes.items (map (view_listed S.shown) p.errors.items)) }
+        (view_collected S.shown walk.now.collector single.now.field.now)
+        p.is_non_null (view_skeleton S.shown p.skeleton) (view_nodes p.nodes.items) (map (view_listed S.shown) p.errors.items)) }
 {
     let alloc = walk.alloc;
+    let field = single.field;
     let here = path_below(alloc, path, field)?;
+    let enclosing = [Enclosing {
+        selections: single.alone,
+    }];
+    let occurrences = [Occurrence { field }];
     let site = Site {
         fragments: walk.collector.fragments.by_name(),
         path: here.as_ref(),
-        enclosing,
-        field,
+        enclosing: &enclosing,
+        occurrences: &occurrences,
     };
     let Asked { declared, answer } = walk.collector.possible.ask(alloc, concrete, node, &site);
     let Parted {
         skeleton,
         nodes,
         errors,
-    } = part_reply(alloc, &walk.collector.possible, declared, answer)?;
-    let listed = list_errors(alloc, here.as_ref(), field.span.start, &errors)?;
+    } = part_reply(alloc, &walk.collector.possible, declared, answer, &here)?;
+    let listed = list_errors(alloc, field.span.start, &errors)?;
     Ok(Prepared {
-        path: here,
         is_non_null: declared.is_non_null(),
         skeleton,
         nodes,

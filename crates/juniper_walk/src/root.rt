@@ -1,7 +1,7 @@
 //! The whole answer to selections on a root (section 6.2 of the Specification).
 
 ghost use Rattle.std.specs.Prelude.{◌≡◌, IfOk, map};
-ghost use Rattle.graphql_spec.specs.Errors.{keys_only};
+ghost use Rattle.graphql_spec.specs.ExactAnswers.{whole};
 ghost use Rattle.graphql_spec.specs.Selections.{occurrences};
 ghost use Rattle.graphql_spec.specs.Walk.{IsAnswerFor};
 ghost use Rattle.juniper_syntax.specs.DocumentView.{view_selections};
@@ -14,7 +14,7 @@ use crate::asking::{Resolver, Walk};
 use crate::preparing::root_path;
 use crate::sort::sort_errors;
 use crate::walking::{Walked, object};
-use juniper_collect::collect;
+use juniper_collect::collect_singles;
 use juniper_syntax::{ScalarValue, Selection, SourcePosition};
 use std::alloc::AllocError;
 
@@ -30,13 +30,13 @@ pub fn answer<'d, 'a, S: ScalarValue, R: Resolver<S>>(
     requires ready { IsReadyWalk S.shown R.possible R.values (R.world walk.now.collector.possible) walk.now }
     requires agree { SelectionsAgree (R.world walk.now.collector.possible) concrete.now
         (expansion S.shown walk.now.collector (view_selections S.shown selections.now)) }
-    ensures { IfOk result (λ r. IsAnswerFor keys_only (R.world walk.now.collector.possible) concrete.now root.now
+    ensures { IfOk result (λ r. IsAnswerFor whole (R.world walk.now.collector.possible) concrete.now root.now
         (expansion S.shown walk.now.collector (view_selections S.shown selections.now))
         (view_value S.shown r.value) (map (view_listed S.shown) r.errors.items)) }
 {
-    let fields = collect(walk.alloc, &walk.collector, concrete, selections)?;
+    let fields = collect_singles(walk.alloc, &walk.collector, concrete, selections)?;
     let path = root_path(walk.alloc, start)?;
-    let walked = object(walk, &path, concrete, root, selections, &fields)?;
+    let walked = object(walk, &path, concrete, root, &fields)?;
     let mut errors = walked.errors;
     sort_errors(&mut errors)?;
     Ok(Walked {

@@ -5,17 +5,18 @@ ghost use Rattle.std.specs.Prelude.{◌≡◌, IfOk, map};
 ghost use Rattle.juniper_syntax.specs.ValueView.{view_value};
 ghost use Rattle.juniper_errors.specs.ErrorView.{view_listed};
 ghost use Rattle.juniper_errors.specs.PathView.{path_place};
-ghost use Rattle.graphql_spec.specs.Selections.{occurrences};
-ghost use Rattle.juniper_syntax.specs.DocumentView.{view_selections};
-ghost use Rattle.juniper_collect.specs.Collected.{expansion, view_all, view_collected};
+ghost use Rattle.juniper_assemble.specs.SpotView.{view_nodes};
+ghost use Rattle.juniper_collect.specs.Collected.{view_collected};
+ghost use Rattle.juniper_collect.specs.Singles.{AreAlone, view_singles};
 ghost use Rattle.juniper_walk.specs.Walking.{AllAgree, AreAllWalked, AreReached, IsReadyWalk, IsWalkedThrough};
 
 use crate::adding::{add_field, add_object, selections_of};
 use crate::asking::{Resolver, Walk};
 use crate::preparing::prepare;
-use juniper_collect::{Occurrence, collect};
+use juniper_assemble::Spot;
+use juniper_collect::{Single, collect_singles};
 use juniper_errors::{ExecutionError, FieldPath};
-use juniper_syntax::{Field, Object, ScalarValue, Selection, Span, Spanning, Value};
+use juniper_syntax::{Field, Object, ScalarValue, Span, Spanning, Value};
 use std::alloc::AllocError;
 use std::rc::Rc;
 
@@ -33,31 +34,29 @@ pub(crate) struct AllWalked<S> {
     pub(crate) errors: Vec<ExecutionError<S>>,
 }
 
-/// The object of a node of an object type, at this path, for these fields of the enclosing selections, and the errors of
-/// those that fail. A null at a non-null field ends the walk, and the object is null (6.4.4).
+/// The object of a node of an object type, at this path, for these fields, one after the other, and the errors of those that
+/// fail. A null at a non-null field ends the walk, and the object is null (6.4.4).
 #[cycle(walking)]
 pub fn object<'d, 'a, S: ScalarValue, R: Resolver<S>>(
     walk: &Walk<'_, 'd, 'a, S, R>,
     path: &Rc<FieldPath<'a>>,
     concrete: &str,
     node: &R::Node,
-    enclosing: &'d [Selection<'a, S>],
-    fields: &[Occurrence<'d, 'a, S>],
+    fields: &[Single<'d, 'a, S>],
 ) -> Result<Walked<S>, AllocError>
     requires ready { IsReadyWalk S.shown R.possible R.values (R.world walk.now.collector.possible) walk.now }
-    requires agree { AllAgree (R.world walk.now.collector.possible) concrete.now (view_all S.shown walk.now.collector fields.now) }
-    requires collected { view_all S.shown walk.now.collector fields.now ≡ occurrences (R.possible walk.now.collector.possible) concrete.now
-        (expansion S.shown walk.now.collector (view_selections S.shown enclosing.now)) }
+    requires agree { AllAgree (R.world walk.now.collector.possible) concrete.now (view_singles S.shown walk.now.collector fields.now) }
+    requires alone { AreAlone S.shown walk.now.collector (R.possible walk.now.collector.possible) concrete.now fields.now }
     ensures { IfOk result (λ r. IsWalkedThrough (R.world walk.now.collector.possible) (path_place path.now.value) concrete.now node.now
-        (view_all S.shown walk.now.collector fields.now)
+        (view_singles S.shown walk.now.collector fields.now)
         (view_value S.shown r.value) (map (view_listed S.shown) r.errors.items)) }
 {
     let mut entries = Object::with_capacity(walk.alloc, fields.len())?;
     let mut errors = Vec::new(walk.alloc);
-    for occurrence in fields {
-        let field = occurrence.field;
-        let prepared = prepare(walk, path, concrete, node, enclosing, field)?;
-        let walked = objects_of(walk, &prepared.path, &prepared.nodes, field)?;
+    for single in fields {
+        let field = single.field;
+        let prepared = prepare(walk, path, concrete, node, single)?;
+        let walked = objects_of(walk, &prepared.nodes, field)?;
         let rises = add_field(
             walk.alloc,
             &mut entries,
@@ -79,27 +78,27 @@ pub fn object<'d, 'a, S: ScalarValue, R: Resolver<S>>(
     })
 }
 
-/// The objects of nodes for what a field selects, one after the other.
+/// The objects of nodes, each at its place, for what a field selects, one after the other.
 #[cycle(walking)]
 pub(crate) fn objects_of<'d, 'a, S: ScalarValue, R: Resolver<S>>(
     walk: &Walk<'_, 'd, 'a, S, R>,
-    path: &Rc<FieldPath<'a>>,
-    nodes: &[R::Node],
+    nodes: &[Spot<'a, R::Node>],
     field: &'d Spanning<Field<'a, S>, Span>,
 ) -> Result<AllWalked<S>, AllocError>
     requires ready { IsReadyWalk S.shown R.possible R.values (R.world walk.now.collector.possible) walk.now }
-    requires agree { AreReached (R.world walk.now.collector.possible) nodes.now (view_collected S.shown walk.now.collector field.now).below }
-    ensures { IfOk result (λ r. AreAllWalked (R.world walk.now.collector.possible) (path_place path.now.value)
-        (view_collected S.shown walk.now.collector field.now).below nodes.now
+    requires agree { AreReached (R.world walk.now.collector.possible) (view_nodes nodes.now) (view_collected S.shown walk.now.collector field.now).below }
+    ensures { IfOk result (λ r. AreAllWalked (R.world walk.now.collector.possible)
+        (view_collected S.shown walk.now.collector field.now).below (view_nodes nodes.now)
         (map (view_value S.shown) r.values.items) (map (view_listed S.shown) r.errors.items)) }
 {
     let selections = selections_of(field);
     let mut values = Vec::new(walk.alloc);
     let mut errors = Vec::new(walk.alloc);
-    for node in nodes {
+    for spot in nodes {
+        let node = &spot.what;
         let concrete = walk.collector.possible.concrete_type_name(node);
-        let fields = collect(walk.alloc, &walk.collector, concrete, selections)?;
-        let walked = object(walk, path, concrete, node, selections, &fields)?;
+        let fields = collect_singles(walk.alloc, &walk.collector, concrete, selections)?;
+        let walked = object(walk, &spot.path, concrete, node, &fields)?;
         add_object(&mut values, &mut errors, walked)?;
     }
     Ok(AllWalked { values, errors })

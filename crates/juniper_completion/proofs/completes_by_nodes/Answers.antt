@@ -1,8 +1,11 @@
 use Rattle.juniper_completion.proofs.completes_by_nodes.Goals as goal
-use Rattle.juniper_completion.proofs.ByNodes.{occurrence-by-nodes, group-by-nodes}
+use Rattle.juniper_completion.proofs.ByNodes.{occurrence-by-nodes, group-by-nodes, group-by-spots}
 
 pub returns-clause-occurrence : goal.returns-clause-occurrence
 returns-clause-occurrence g c = λ W. occurrence-by-nodes W
 
 pub returns-clause-group : goal.returns-clause-group
 returns-clause-group g c = λ W. group-by-nodes W
+
+pub returns-clause-spots : goal.returns-clause-spots
+returns-clause-spots g c = λ W. group-by-spots W

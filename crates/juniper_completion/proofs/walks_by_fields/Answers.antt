@@ -5,10 +5,10 @@ use Rattle.juniper_completion.proofs.Walking.{none-walked, one-more-walked, walk
 use Rattle.juniper_completion.proofs.walks_by_fields.Goals as goal
 
 pub returns-clause-none : goal.returns-clause-none
-returns-clause-none g c = λ W. none-walked W
+returns-clause-none g c = λ tell W. none-walked tell W
 
 pub returns-clause-more : goal.returns-clause-more
-returns-clause-more g c = λ W. one-more-walked W
+returns-clause-more g c = λ tell W. one-more-walked tell W
 
 pub returns-clause-keys : goal.returns-clause-keys
 returns-clause-keys g c = keys-stay-apart
@@ -20,4 +20,4 @@ pub returns-clause-agree : goal.returns-clause-agree
 returns-clause-agree g c = λ W. agrees-below W
 
 pub returns-clause-answers : goal.returns-clause-answers
-returns-clause-answers g c = λ W. walk-answers W
+returns-clause-answers g c = λ tell W. walk-answers tell W

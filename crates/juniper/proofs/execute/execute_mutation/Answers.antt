@@ -11,8 +11,9 @@ use Rattle.juniper_syntax.specs.DocumentView.{view_definition, view_document, vi
 use Rattle.juniper_syntax.specs.InputView.{view_variables}
 use Rattle.juniper_schema.specs.SchemaView.{view_schema}
 use Rattle.juniper.specs.Services.{is_undeclared, mutation_on, rooted_steps}
+use Rattle.juniper.specs.Walkings.{starts_by}
 use Rattle.juniper.proofs.Executing.{left-moves, mutation-agrees, no-cycle, run-is-answer, run-left}
-use Rattle.juniper.proofs.GroupLoop.{left-same, on-err}
+use Rattle.juniper.proofs.RootPlans.{left-same, on-err}
 use Rattle.juniper.proofs.execute.execute_mutation.Goals as goal
 
 pub returns-in_err-fragments : goal.returns-in_err-fragments
@@ -45,36 +46,6 @@ returns-in_err-path g c =
     let all = selected d o vars in
     on-err _ _ _ c.from_residual-in_err-path.ensures.0 (left-same M T (keys (root_fields M T all start)) (root_fields M T all start) start)
 
-pub returns-in_err-fields : goal.returns-in_err-fields
-returns-in_err-fields g c =
-    let shown = g.S.ScalarValue.shown in
-    let root = c.args.served.now in
-    let s = view_schema shown root.schema.now in
-    let vars = view_variables shown c.args.variables.now in
-    let M = mutation_on g.Q.GraphQLValue.concrete g.Q.GraphQLValue.answer root.query.now root.query_info.now
-    (rooted_steps g.M.GraphQLMutationValue.step g.M.GraphQLMutationValue.torn root.mutation.now root.mutation_info.now) s vars in
-    let T = c.args.concrete.now in
-    let d = view_document shown c.args.document.now in
-    let o = view_operation shown c.args.operation.now in
-    let start = c.args.context.now in
-    let all = selected d o vars in
-    on-err _ _ _ c.from_residual-in_err-fields.ensures.0 (left-same M T (keys (root_fields M T all start)) (root_fields M T all start) start)
-
-pub root_fields-requires : goal.root_fields-requires
-unfolding is_undeclared
-root_fields-requires g c =
-    let shown = g.S.ScalarValue.shown in
-    let s = view_schema shown c.args.served.now.schema.now in
-    let d = view_document shown c.args.document.now in
-    let is = c.in_ok-fragments.ensures.is ∙ ap (λ ds. fragments (map (view_definition shown) ds)) c.as_slice.ensures.value in
-    record {
-      made = c.in_ok-fragments.ensures.made;
-      acyclic = no-cycle s c.args.served.now.is_introspection_disabled d c.requires.valid _ is;
-      at_root = c.in_ok-path.ensures;
-      unnamed =
-          ap is_undeclared c.undeclared_type-undeclared.ensures;
-    }
-
 pub run_groups-requires-clause-ready : goal.run_groups-requires-clause-ready
 unfolding is_undeclared
 run_groups-requires-clause-ready g c =
@@ -103,9 +74,6 @@ run_groups-requires-clause-agree g c = λ now.
     (view_variables shown c.args.variables.now)
     (g.Q.GraphQLValue.concrete root.query.now root.query_info.now now) (g.Q.GraphQLValue.answer root.query.now root.query_info.now now) _ is _
     (ap (view_selections shown) c.as_slice-2.ensures.value)
-
-pub run_groups-requires-clause-fields : goal.run_groups-requires-clause-fields
-run_groups-requires-clause-fields g c = rw c.deref.ensures.value c.in_ok-fields.ensures
 
 pub returns-in-Err : goal.returns-in-Err
 unfolding selected world_of
@@ -144,7 +112,7 @@ returns-in_err-sort_errors-in-Ok g c =
     let same = ap (λ fs. expand (passes vars) fs (view_selections shown c.as_slice-2.result.now)) is
     ∙ ap (λ ss. expand (passes vars) (fragments d) (view_selections shown ss)) c.as_slice-2.ensures.value in
     on-err _ _ _ c.from_residual-in_err-sort_errors-in-Ok.ensures.0
-    (run-left M T start c.run_groups.new.context (is_possible s) refl _ all same _ _ c.in-Ok.ensures)
+    (run-left M T start c.run_groups.new.context (is_possible s) refl _ all same (starts_by root.walking) _ _ c.in-Ok.ensures)
 
 pub returns : goal.returns
 unfolding selected world_of
@@ -164,4 +132,4 @@ returns g c =
     let same = ap (λ fs. expand (passes vars) fs (view_selections shown c.as_slice-2.result.now)) is
     ∙ ap (λ ss. expand (passes vars) (fragments d) (view_selections shown ss)) c.as_slice-2.ensures.value in
     run-is-answer M T start c.run_groups.new.context
-    (is_possible s) refl _ all same _ _ _ c.in-Ok.ensures c.in_ok-sort_errors-in-Ok.ensures.counted c.in_ok-sort_errors-in-Ok.ensures.sorted
+    (is_possible s) refl _ all same root.walking _ _ _ c.in-Ok.ensures c.in_ok-sort_errors-in-Ok.ensures.counted c.in_ok-sort_errors-in-Ok.ensures.sorted

@@ -18,8 +18,11 @@ returns-in-Subscription g c =
     root.is_introspection_disabled in (
       spec.is_subscription,
       refl,
-      subscription-ends S s (view_document shown c.args.document.now) (view_operation shown c.args.operation.now)
-          (view_variables shown c.args.variables.now) c.args.context.now (ap view_kind c.in-Subscription.is),
+      (
+        subscription-ends S s (view_document shown c.args.document.now) (view_operation shown c.args.operation.now)
+            (view_variables shown c.args.variables.now) c.args.context.now (ap view_kind c.in-Subscription.is),
+        tt,
+      ),
     )
 
 pub returns-in_default : goal.returns-in_default
@@ -35,8 +38,11 @@ returns-in_default g c =
     let given = view_variables shown c.args.variables.now in (
       spec.no_mutation_type,
       refl,
-      mutation-ends S s d o given c.args.context.now (ap view_kind c.in-Mutation.is)
-          (sym c.mutation_name.ensures ∙ ap (option_map (λ n. n.now)) c.in_default.is),
+      (
+        mutation-ends S s d o given c.args.context.now (ap view_kind c.in-Mutation.is)
+            (sym c.mutation_name.ensures ∙ ap (option_map (λ n. n.now)) c.in_default.is),
+        tt,
+      ),
     )
 
 pub returns-in-Err : goal.returns-in-Err
@@ -51,10 +57,12 @@ returns-in-Err g c =
     let o = view_operation shown c.args.operation.now in
     let given = view_variables shown c.args.variables.now in
     let T = c.in-Some.concrete.now in
-    let is = sym c.mutation_name.ensures ∙ ap (option_map (λ n. n.now)) c.in-Some.is in
-    mutation-left S s d o given c.args.context.now (ap view_kind c.in-Mutation.is) T is m
-    (ap (option_map (λ (n : Name). m)) is, is) _ c.in_ok-values-in-Mutation.ensures
-    c.execute_mutation.new.context c.in-Err.ensures
+    let is = sym c.mutation_name.ensures ∙ ap (option_map (λ n. n.now)) c.in-Some.is in (
+      mutation-left S s d o given c.args.context.now (ap view_kind c.in-Mutation.is) T is m
+          (ap (option_map (λ (n : Name). m)) is, is) _ c.in_ok-values-in-Mutation.ensures
+          c.execute_mutation.new.context c.in-Err.ensures,
+      tt,
+    )
 
 pub returns-in-Mutation : goal.returns-in-Mutation
 returns-in-Mutation g c =
@@ -68,10 +76,12 @@ returns-in-Mutation g c =
     let o = view_operation shown c.args.operation.now in
     let given = view_variables shown c.args.variables.now in
     let T = c.in-Some.concrete.now in
-    let is = sym c.mutation_name.ensures ∙ ap (option_map (λ n. n.now)) c.in-Some.is in
-    mutation-answers S s d o given c.args.context.now (ap view_kind c.in-Mutation.is) T is m
-    (ap (option_map (λ (n : Name). m)) is, is) _ c.in_ok-values-in-Mutation.ensures
-    c.execute_mutation.new.context _ _ c.in-Ok.ensures
+    let is = sym c.mutation_name.ensures ∙ ap (option_map (λ n. n.now)) c.in-Some.is in (
+      mutation-answers S s d o given c.args.context.now (ap view_kind c.in-Mutation.is) T is m
+          (ap (option_map (λ (n : Name). m)) is, is) _ c.in_ok-values-in-Mutation.ensures
+          c.execute_mutation.new.context _ _ c.in-Ok.ensures.0,
+      c.in-Ok.ensures.1,
+    )
 
 pub returns : goal.returns
 returns g c =
@@ -80,7 +90,9 @@ returns g c =
     let s = view_schema shown root.schema.now in
     let m = rooted_steps g.M.GraphQLMutationValue.step g.M.GraphQLMutationValue.torn root.mutation.now root.mutation_info.now in
     let S = service_in g.Q.GraphQLValue.concrete g.Q.GraphQLValue.answer g.Q.GraphQLValue.root root.query.now root.query_info.now m s
-    root.is_introspection_disabled in
-    query-ends S s (view_document shown c.args.document.now) (view_operation shown c.args.operation.now)
-    (view_variables shown c.args.variables.now) c.args.context.now
-    (ap view_kind c.in-Query.is) _ c.in_ok-values-in-Query.ensures _ _ c.in_ok-answered-in-Query.ensures
+    root.is_introspection_disabled in (
+      query-ends S s (view_document shown c.args.document.now) (view_operation shown c.args.operation.now)
+          (view_variables shown c.args.variables.now) c.args.context.now
+          (ap view_kind c.in-Query.is) _ c.in_ok-values-in-Query.ensures _ _ c.in_ok-answered-in-Query.ensures.0,
+      c.in_ok-answered-in-Query.ensures.1,
+    )

@@ -1,11 +1,15 @@
-use Rattle.std.proofs.Common.{string_bytes, refl, ap}
+use Rattle.std.proofs.Common.{string_bytes, refl, ap, subst}
+use Rattle.graphql_spec.specs.Fields.{is_possible}
 use Rattle.graphql_spec.specs.Resolvers.{world_of}
 use Rattle.graphql_spec.specs.Types.{innermost}
 use Rattle.juniper_schema.specs.SchemaView.{view_schema}
 use Rattle.juniper_syntax.specs.TypeView.{view_type}
-use Rattle.juniper.specs.RootFields.{values_in}
+use Rattle.juniper_plan.proofs.Elsewhere.{standing-elsewhere}
+use Rattle.juniper_plan.specs.PlanWalks.{HasFirst}
+use Rattle.juniper_plan.specs.Plans.{fields_at}
+use Rattle.juniper.specs.RootFields.{collector_in, values_in}
 use Rattle.juniper.specs.Services.{is_undeclared, mutation_on, rooted_steps}
-use Rattle.juniper.proofs.RootGroups.{at-group, merges-same, root-ready}
+use Rattle.juniper.proofs.RootGroups.{completed-elsewhere, merges-elsewhere, root-ready, same-fields-elsewhere, step-elsewhere}
 use Rattle.juniper.proofs.mutation.complete.Goals as goal
 
 pub invariant_of-service : goal.invariant_of-service
@@ -17,6 +21,16 @@ unfolding world_of
 complete_group-requires-clause-ready g c =
     record { collector = root-ready g.S.ScalarValue.shown c.args.walk.now _ refl refl c.requires.ready; same = refl; variables = refl }
 
+pub complete_group-requires-clause-standing : goal.complete_group-requires-clause-standing
+complete_group-requires-clause-standing g c =
+    standing-elsewhere g.S.ScalarValue.shown (collector_in g.S.ScalarValue.shown c.args.walk.now) _ refl refl
+    (is_possible (view_schema g.S.ScalarValue.shown c.args.served.now.schema.now)) c.args.plan.now c.requires.standing
+
+pub complete_group-requires-clause-some : goal.complete_group-requires-clause-some
+complete_group-requires-clause-some g c =
+    subst HasFirst (same-fields-elsewhere g.S.ScalarValue.shown (collector_in g.S.ScalarValue.shown c.args.walk.now) _ refl refl
+    (fields_at c.args.plan.now c.args.group.0)) c.requires.some
+
 pub complete_group-requires-clause-merge : goal.complete_group-requires-clause-merge
 complete_group-requires-clause-merge g c =
     let shown = g.S.ScalarValue.shown in
@@ -24,9 +38,14 @@ complete_group-requires-clause-merge g c =
     let M = mutation_on g.Q.GraphQLValue.concrete g.Q.GraphQLValue.answer root.query.now root.query_info.now
     (rooted_steps g.M.GraphQLMutationValue.step g.M.GraphQLMutationValue.torn root.mutation.now root.mutation_info.now) (view_schema shown root.schema.now)
     (values_in shown c.args.walk.now) in
-    merges-same shown c.args.walk.now _ refl refl (M.world c.args.context.now)
-    (innermost (view_type (λ n. string_bytes n) c.args.asked.declared.now)) c.args.group.now c.requires.merge
+    merges-elsewhere shown _ (collector_in shown c.args.walk.now) refl refl (M.world c.args.context.now)
+    (innermost (view_type (λ n. string_bytes n) c.args.asked.declared.now)) (fields_at c.args.plan.now c.args.group.0) c.requires.merge
+
+pub returns-clause-plan : goal.returns-clause-plan
+returns-clause-plan g c =
+    step-elsewhere g.S.ScalarValue.shown _ (collector_in g.S.ScalarValue.shown c.args.walk.now) refl refl _ _ _ c.in_ok-walked.ensures.plan
 
 pub returns-clause-completed : goal.returns-clause-completed
 returns-clause-completed g c = λ reply given.
-    at-group g.S.ScalarValue.shown c.args.walk.now _ refl refl _ _ _ reply c.args.group.now _ _ (c.in_ok-walked.ensures.completed reply given)
+    completed-elsewhere g.S.ScalarValue.shown _ (collector_in g.S.ScalarValue.shown c.args.walk.now) refl refl _ _ _ _ reply
+    (fields_at c.args.plan.now c.args.group.0) _ _ (c.in_ok-walked.ensures.completed reply given)

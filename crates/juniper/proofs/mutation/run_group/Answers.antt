@@ -1,85 +1,123 @@
-use Rattle.std.proofs.Common.{[], ◌∷◌, ◌++◌, ap, ◌∙◌}
-use Rattle.graphql_spec.specs.Documents.{response_key}
-use Rattle.graphql_spec.specs.Errors.{key}
-use Rattle.graphql_spec.specs.Fields.{declared_type}
+use Rattle.std.proofs.Common.{◌∷◌, sym, ap, ◌∙◌, subst}
+use Rattle.graphql_spec.specs.Fields.{declared_type, is_possible}
 use Rattle.graphql_spec.specs.Mutation.{step_of}
 use Rattle.graphql_spec.specs.Resolvers.{world_of}
+use Rattle.juniper_collect.specs.Collected.{view_all}
+use Rattle.juniper_plan.specs.PlanWalks.{IsGroupOf}
+use Rattle.juniper_plan.specs.Plans.{fields_at, key_at}
+use Rattle.juniper_plan.proofs.Whole.{some-field}
 use Rattle.juniper_schema.specs.SchemaView.{view_schema}
-use Rattle.juniper_walk.specs.FieldWords.{head_of}
-use Rattle.juniper.specs.RootFields.{all_fields, field_in, fields_in, group_in, selected_in, values_in}
+use Rattle.juniper.specs.RootFields.{all_fields, collector_in, field_in, selected_in, values_in}
 use Rattle.juniper.specs.Services.{mutation_on, rooted_steps}
-use Rattle.juniper.proofs.RootGroups.{first-among, given-at, group-merges, group-ran, group-type, left-stopped, root-selected, stopped-in, told-leaves}
+use Rattle.juniper.specs.Walkings.{starts_by}
+use Rattle.juniper.proofs.RootGroups.{completed-for, given-at, group-key, group-merges, group-others, group-ran, group-type, has-first, left-stopped, place-at, root-whole, stopped-in, told-leaves}
 use Rattle.juniper.proofs.mutation.run_group.Goals as goal
 
-pub step-answer-requires-clause-selected : goal.step-answer-requires-clause-selected
-step-answer-requires-clause-selected g c =
+pub fields-fields-requires-clause-within : goal.fields-fields-requires-clause-within
+fields-fields-requires-clause-within g c = c.requires.standing.within
+
+pub first_of-first-requires : goal.first_of-first-requires
+first_of-first-requires g c =
     let shown = g.S.ScalarValue.shown in
-    let s = view_schema shown c.args.served.now.schema.now in
-    root-selected shown c.args.walk.now c.by_name.result.now c.by_name.ensures.alike s c.args.group.now.first.now
-    (first-among _ _ _ _ c.requires.group)
+    let walk = c.args.walk.now in
+    let os = all_fields shown walk (view_schema shown c.args.served.now.schema.now) in
+    let k = key_at c.args.plan.now c.args.group.0 in
+    some-field shown (collector_in shown walk) c.fields-fields.result.now k os
+    (subst (λ l. IsGroupOf k os (view_all shown (collector_in shown walk) l)) (sym c.fields-fields.ensures) c.requires.group)
+
+pub step-answer-requires-clause-whole : goal.step-answer-requires-clause-whole
+step-answer-requires-clause-whole g c =
+    let shown = g.S.ScalarValue.shown in
+    let walk = c.args.walk.now in
+    root-whole shown walk c.by_name.result.now c.by_name.ensures.alike (is_possible (view_schema shown c.args.served.now.schema.now)) c.args.enclosing.now
+    (fields_at c.args.plan.now c.args.group.0) c.fields-fields.result.now (key_at c.args.plan.now c.args.group.0) (selected_in shown walk)
+    c.requires.enclosing c.fields-fields.ensures c.requires.group
+
+pub complete-requires-clause-some : goal.complete-requires-clause-some
+complete-requires-clause-some g c = has-first g.S.ScalarValue.shown c.args.walk.now _ _ _ c.requires.group
 
 pub complete-requires-clause-merge : goal.complete-requires-clause-merge
 unfolding world_of
 complete-requires-clause-merge g c =
     let shown = g.S.ScalarValue.shown in
     let root = c.args.served.now in
+    let walk = c.args.walk.now in
+    let s = view_schema shown root.schema.now in
     let M = mutation_on g.Q.GraphQLValue.concrete g.Q.GraphQLValue.answer root.query.now root.query_info.now
-    (rooted_steps g.M.GraphQLMutationValue.step g.M.GraphQLMutationValue.torn root.mutation.now root.mutation_info.now) (view_schema shown root.schema.now)
-    (values_in shown c.args.walk.now) in
-    group-merges (M.world c.step-answer.new.context) c.args.walk.now.concrete.now (field_in shown c.args.walk.now c.args.group.now.first.now)
-    (fields_in shown c.args.walk.now c.args.group.now.others.now) _
-    (c.declared_type-declared.ensures ∙ ap declared_type c.field_of-field.ensures) (selected_in shown c.args.walk.now)
-    (c.requires.agree c.step-answer.new.context) _ c.requires.group
+    (rooted_steps g.M.GraphQLMutationValue.step g.M.GraphQLMutationValue.torn root.mutation.now root.mutation_info.now) s (values_in shown walk) in
+    let os = all_fields shown walk s in
+    let k = key_at c.args.plan.now c.args.group.0 in
+    let fs = c.fields-fields.result.now in
+    let f = c.first_of-first.result.now in
+    let group = subst (λ l. IsGroupOf k os (view_all shown (collector_in shown walk) l)) (sym c.fields-fields.ensures) c.requires.group in
+    let all = group-others shown walk fs f k os c.first_of-first.ensures group in
+    let after = c.step-answer.new.context in
+    group-merges (M.world after) walk.concrete.now (field_in shown walk f) all.0 _
+    (c.declared_type-declared.ensures ∙ ap declared_type c.field_of-field.ensures) (selected_in shown walk)
+    (c.requires.agree after) k all.1 _ (c.requires.group.whole ∙ all.1)
 
-pub returns-in-Err : goal.returns-in-Err
-returns-in-Err g c =
+pub returns-in-Err-clause-ran : goal.returns-in-Err-clause-ran
+returns-in-Err-clause-ran g c =
     let shown = g.S.ScalarValue.shown in
     let root = c.args.served.now in
     let walk = c.args.walk.now in
     let s = view_schema shown root.schema.now in
     let M = mutation_on g.Q.GraphQLValue.concrete g.Q.GraphQLValue.answer root.query.now root.query_info.now
     (rooted_steps g.M.GraphQLMutationValue.step g.M.GraphQLMutationValue.torn root.mutation.now root.mutation_info.now) s (values_in shown walk) in
-    let k = response_key (head_of shown c.args.group.now.first.now) in
-    let others = fields_in shown walk c.args.group.now.others.now in
-    let stopped = left-stopped M walk.concrete.now
-    (group_in shown walk c.args.group.now) c.args.context.now c.step-answer.new.context c.step-answer.result (c.step-answer.ensures.context others) in
-    stopped-in M walk.concrete.now k (all_fields shown walk s)
-    (group_in shown walk c.args.group.now) c.requires.group c.args.context.now c.step-answer.new.context stopped
+    let T = walk.concrete.now in
+    let os = all_fields shown walk s in
+    let k = key_at c.args.plan.now c.args.group.0 in
+    let fs = c.fields-fields.result.now in
+    let f = c.first_of-first.result.now in
+    let group = subst (λ l. IsGroupOf k os (view_all shown (collector_in shown walk) l)) (sym c.fields-fields.ensures) c.requires.group in
+    let all = group-others shown walk fs f k os c.first_of-first.ensures group in
+    let stopped = left-stopped M T (field_in shown walk f ∷ all.0) c.args.context.now c.step-answer.new.context c.step-answer.result
+    (c.step-answer.ensures.context all.0) in
+    stopped-in M T k os (field_in shown walk f ∷ all.0) all.1 c.args.context.now c.step-answer.new.context stopped
 
-pub returns-in-Err-give : goal.returns-in-Err-give
-returns-in-Err-give g c =
+pub returns-in-Err-give-clause-ran : goal.returns-in-Err-give-clause-ran
+returns-in-Err-give-clause-ran g c =
     let shown = g.S.ScalarValue.shown in
     let root = c.args.served.now in
     let walk = c.args.walk.now in
     let s = view_schema shown root.schema.now in
     let M = mutation_on g.Q.GraphQLValue.concrete g.Q.GraphQLValue.answer root.query.now root.query_info.now
     (rooted_steps g.M.GraphQLMutationValue.step g.M.GraphQLMutationValue.torn root.mutation.now root.mutation_info.now) s (values_in shown walk) in
-    let k = response_key (head_of shown c.args.group.now.first.now) in
-    let others = fields_in shown walk c.args.group.now.others.now in
-    let stopped = left-stopped M walk.concrete.now
-    (group_in shown walk c.args.group.now) c.args.context.now c.step-answer.new.context c.step-answer.result (c.step-answer.ensures.context others) in
-    stopped-in M walk.concrete.now k (all_fields shown walk s)
-    (group_in shown walk c.args.group.now) c.requires.group c.args.context.now c.step-answer.new.context stopped
+    let T = walk.concrete.now in
+    let os = all_fields shown walk s in
+    let k = key_at c.args.plan.now c.args.group.0 in
+    let fs = c.fields-fields.result.now in
+    let f = c.first_of-first.result.now in
+    let group = subst (λ l. IsGroupOf k os (view_all shown (collector_in shown walk) l)) (sym c.fields-fields.ensures) c.requires.group in
+    let all = group-others shown walk fs f k os c.first_of-first.ensures group in
+    let stopped = left-stopped M T (field_in shown walk f ∷ all.0) c.args.context.now c.step-answer.new.context c.step-answer.result
+    (c.step-answer.ensures.context all.0) in
+    stopped-in M T k os (field_in shown walk f ∷ all.0) all.1 c.args.context.now c.step-answer.new.context stopped
 
-pub returns : goal.returns
+pub returns-clause-ran : goal.returns-clause-ran
 unfolding world_of
-returns g c =
+returns-clause-ran g c =
     let shown = g.S.ScalarValue.shown in
     let root = c.args.served.now in
     let walk = c.args.walk.now in
     let s = view_schema shown root.schema.now in
     let M = mutation_on g.Q.GraphQLValue.concrete g.Q.GraphQLValue.answer root.query.now root.query_info.now
     (rooted_steps g.M.GraphQLMutationValue.step g.M.GraphQLMutationValue.torn root.mutation.now root.mutation_info.now) s (values_in shown walk) in
-    let k = response_key (head_of shown c.args.group.now.first.now) in
-    let others = fields_in shown walk c.args.group.now.others.now in
-    let group = group_in shown walk c.args.group.now in
+    let T = walk.concrete.now in
+    let os = all_fields shown walk s in
+    let k = key_at c.args.plan.now c.args.group.0 in
+    let fs = c.fields-fields.result.now in
+    let f = c.first_of-first.result.now in
+    let group = subst (λ l. IsGroupOf k os (view_all shown (collector_in shown walk) l)) (sym c.fields-fields.ensures) c.requires.group in
+    let all = group-others shown walk fs f k os c.first_of-first.ensures group in
     let before = c.args.context.now in
     let after = c.step-answer.new.context in
-    let stepped = told-leaves M walk.concrete.now group before after c.step-answer.result c.in-Ok.ensures.told (c.step-answer.ensures.context others) in
+    let all_of = field_in shown walk f ∷ all.0 in
+    let stepped = told-leaves M T all_of before after c.step-answer.result c.in-Ok.ensures.told (c.step-answer.ensures.context all.0) in
     let declared = c.declared_type-declared.ensures ∙ ap declared_type c.field_of-field.ensures in
-    let typed = group-type (M.world after) walk.concrete.now (field_in shown walk c.args.group.now.first.now) others _ declared in
-    let at = c.in_ok-path.ensures ∙ ap (λ p. p ++ key k ∷ []) c.requires.ready.at_root in
-    let completed = c.in-Ok.ensures.completed (step_of M walk.concrete.now before group).1 (c.step-answer.ensures.answer others) in
-    let given = given-at _ k _ _ _ _ _ _ _ _ c.response_key-key.ensures c.in-Ok-give.ensures in
-    group-ran M walk.concrete.now k (all_fields shown walk s) group c.requires.group before after stepped _ typed _ at _ _ completed _ _
-    c.is_non_null.ensures _ _ _ _ given
+    let typed = group-type (M.world after) T (field_in shown walk f) all.0 _ declared in
+    let at = place-at _ _ _ k c.in_ok-path.ensures c.requires.ready.at_root (group-key shown walk fs f k os c.first_of-first.ensures group) in
+    let completed = completed-for (starts_by root.walking) (M.world after) _ _ (step_of M T before all_of).1 _ all_of _ _ (c.requires.group.whole ∙ all.1)
+    (c.in-Ok.ensures.completed (step_of M T before all_of).1 (c.step-answer.ensures.answer all.0)) in
+    let given = given-at _ k _ _ _ _ _ _ _ _ c.key-key.ensures c.in-Ok-give.ensures in
+    group-ran M T k os all_of all.1 before after (starts_by root.walking) stepped _ typed _ at _ _ completed _ _ c.is_non_null.ensures _ _ _ _ given

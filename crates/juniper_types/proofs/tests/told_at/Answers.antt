@@ -8,6 +8,6 @@ none-spread : HasNoCycle []
 unfolding deep fragment_of
 none-spread k = refl
 
-pub at_field-executor-requires : goal.at_field-executor-requires
+pub at_field-executor-requires-clause-acyclic : goal.at_field-executor-requires-clause-acyclic
 unfolding fragments_among
-at_field-executor-requires c = subst HasNoCycle (sym (ap (map (named_fragment default_shown)) c.new-fragments.ensures.empty)) none-spread
+at_field-executor-requires-clause-acyclic c = subst HasNoCycle (sym (ap (map (named_fragment default_shown)) c.new-fragments.ensures.empty)) none-spread

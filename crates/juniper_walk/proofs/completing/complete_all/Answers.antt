@@ -1,14 +1,14 @@
 use Rattle.std.proofs.Common.{◌+◌, ◌∷◌, drop, map, take, refl, sym, ap, ◌∙◌, inr}
 use Rattle.std.proofs.lemmas.List.{map-append, take-append-drop}
 use Rattle.juniper_collect.specs.Collected.{view_collected}
-use Rattle.juniper_collect.specs.declared.collecting.Occurrence.{Occurrence}
+use Rattle.juniper_lookahead.specs.declared.occurrences.Occurrence.{Occurrence}
 use Rattle.juniper_errors.specs.ErrorView.{view_listed}
 use Rattle.juniper_walk.proofs.Occurrences.{some-first, some-more}
 use Rattle.juniper_walk.proofs.Slices.{seen-in, taken-one}
 use Rattle.juniper_walk.proofs.completing.complete_all.Goals as goal
 
 pub loop-occurrence-init : goal.loop-occurrence-init
-loop-occurrence-init g c = some-first _ _ _ _ _ _ _ _ _ _ refl c.in_ok-value.ensures
+loop-occurrence-init g c = some-first _ _ _ _ _ _ _ _ _ refl c.in_ok-value.ensures
 
 pub complete_one-requires-in-loop-occurrence-clause-reached : goal.complete_one-requires-in-loop-occurrence-clause-reached
 complete_one-requires-in-loop-occurrence-clause-reached g c =
@@ -29,4 +29,4 @@ loop-occurrence-preserved g c =
     let next = ap (λ l. first ∷ l) (taken-one view os i x c.loop-occurrence-test.true c.occurrence-item.is) in
     let listed = ap (map (view_listed shown)) c.in_ok-append.ensures.items
     ∙ map-append (view_listed shown) c.loop-occurrence.errors.items c.in_ok-more.more.errors.items in
-    some-more _ _ _ _ _ _ _ _ _ _ _ _ _ _ _ _ split next listed c.loop-occurrence.invariant c.in_ok-more.ensures c.in_ok-value-2.ensures
+    some-more _ _ _ _ _ _ _ _ _ _ _ _ _ _ _ split next listed c.loop-occurrence.invariant c.in_ok-more.ensures c.in_ok-value-2.ensures

@@ -1,17 +1,17 @@
 use Rattle.std.proofs.Common.{◌∷◌, map, take}
 use Rattle.juniper_assemble.specs.SkeletonView.{view_skeleton}
+use Rattle.juniper_assemble.specs.SpotView.{view_nodes}
 use Rattle.juniper_collect.specs.Collected.{view_all, view_collected}
-use Rattle.juniper_errors.specs.ErrorView.{view_error, view_listed}
-use Rattle.juniper_errors.specs.PathView.{path_place}
+use Rattle.juniper_errors.specs.ErrorView.{view_listed}
 use Rattle.juniper_syntax.specs.ValueView.{view_value}
-use Rattle.juniper_walk.specs.Completing.{AreSomeAt, view_group}
+use Rattle.juniper_walk.specs.Completing.{AreSome, view_errors, view_group}
 use Rattle.juniper_walk.proofs.completing.complete_all.Given as goal
 
 abbrev pub invariant-loop-occurrence : goal.invariant-loop-occurrence
 invariant-loop-occurrence g l =
     let shown = g.S.ScalarValue.shown in
     let view = view_all shown l.walk.collector in
-    AreSomeAt (g.R.Completer.world l.walk.collector.possible) (path_place l.path.value) (view_skeleton shown l.parted.skeleton) l.parted.nodes.items
-    (map (view_error shown) l.parted.errors.items) (view_group shown l.walk.collector l.group)
+    AreSome (g.R.Completer.world l.walk.collector.possible) (view_skeleton shown l.parted.skeleton) (view_nodes l.parted.nodes.items)
+    (view_errors shown l.parted.errors.items) (view_group shown l.walk.collector l.group)
     (view_collected shown l.walk.collector l.group.first.now ∷ view (take l.occurrence-index l.group.others.now)) (view_value shown l.value)
     (map (view_listed shown) l.errors.items)

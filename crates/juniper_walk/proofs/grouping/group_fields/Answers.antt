@@ -4,7 +4,7 @@ use Rattle.std.proofs.lemmas.Grind.{text_groups}
 use Rattle.std.specs.List.{filter}
 use Rattle.std.specs.Str.{bytes_eq}
 use Rattle.graphql_spec.specs.Documents.{response_key}
-use Rattle.juniper_collect.specs.declared.collecting.Occurrence.{Occurrence}
+use Rattle.juniper_lookahead.specs.declared.occurrences.Occurrence.{Occurrence}
 use Rattle.juniper_walk.specs.FieldWords.{head_of}
 use Rattle.juniper_walk.proofs.grouping.group_fields.Goals as goal
 

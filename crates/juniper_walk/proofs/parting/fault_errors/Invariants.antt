@@ -1,7 +1,7 @@
-use Rattle.std.proofs.Common.{◌≡◌, map, take}
-use Rattle.juniper_assemble.specs.SkeletonView.{view_fault}
-use Rattle.juniper_errors.specs.ErrorView.{view_error}
+use Rattle.std.proofs.Common.{◌≡◌, take}
+use Rattle.juniper_assemble.specs.SpotView.{view_faults}
+use Rattle.juniper_walk.specs.Completing.{view_errors}
 use Rattle.juniper_walk.proofs.parting.fault_errors.Given as goal
 
 abbrev pub invariant-loop-fault : goal.invariant-loop-fault
-invariant-loop-fault g l = map (view_error g.S.ScalarValue.shown) l.made.items ≡ map view_fault (take l.fault-index l.faults)
+invariant-loop-fault g l = view_errors g.S.ScalarValue.shown l.made.items ≡ view_faults (take l.fault-index l.faults)

@@ -3,27 +3,32 @@ use Rattle.graphql_spec.specs.Arguments.{coerced_arguments}
 use Rattle.graphql_spec.specs.Documents.{written}
 use Rattle.juniper_syntax.specs.InputView.{view_variables}
 use Rattle.juniper_lookahead.specs.Expansion.{occurrence_at}
-use Rattle.juniper.proofs.Asked.{asked-at}
+use Rattle.juniper.proofs.Asked.{asked-at, first-bound, first-same}
 use Rattle.juniper_values.specs.ArgumentView.{view_arguments}
 use Rattle.juniper_resolvable.specs.ResolvedView.{Answers}
 use Rattle.juniper_walk.specs.FieldWords.{head_of}
 use Rattle.juniper.proofs.service.Service.resolve.Goals as goal
+
+pub at_field-executor-requires-clause-some : goal.at_field-executor-requires-clause-some
+at_field-executor-requires-clause-some g c = first-bound c.args.site.now.occurrences.now c.args.first.now c.requires.first
 
 pub resolve_field-requires : goal.resolve_field-requires
 unfolding occurrence_at
 resolve_field-requires g c =
     let shown = g.S.ScalarValue.shown in
     let vars = c.args.self.now.variables.now in
-    let h = head_of shown c.args.site.now.field.now in
+    let h = head_of shown c.args.first.now in
     let made = c.at_field-executor.ensures in
-    asked-at shown c.at_field-executor.result _ _ _ _ _ _ _ _ made.schema made.variables made.fragments made.concrete_type made.enclosing made.occurrence
-    refl (c.in_ok-arguments.ensures ∙ ap (λ d. coerced_arguments d (view_variables shown vars) (written h.arguments)) c.requires.arguments) c.requires.selected
+    asked-at shown c.at_field-executor.result _ _ _ _ _ c.args.site.now.occurrences.now c.args.first.now _ _ made.schema made.variables made.fragments
+    made.concrete_type made.enclosing made.occurrences
+    (first-same c.args.site.now.occurrences.now _ c.args.first.now made.first c.requires.first) c.requires.first
+    refl (c.in_ok-arguments.ensures ∙ ap (λ d. coerced_arguments d (view_variables shown vars) (written h.arguments)) c.requires.arguments) c.requires.whole
 
 pub returns : goal.returns
 returns g c =
     let shown = g.S.ScalarValue.shown in
     let service = c.args.self.now in
-    let h = head_of shown c.args.site.now.field.now in
+    let h = head_of shown c.args.first.now in
     let answer = g.Q.GraphQLValue.answer service.resolver.now service.info.now in
     subst (λ as'. Answers shown c.resolve_field.result (answer service.context.now c.args.node.now h.name.item as'))
     c.in_ok-arguments.ensures

@@ -1,0 +1,22 @@
+use Rattle.std.proofs.Common.{ap}
+use Rattle.juniper_schema.specs.SchemaView.{view_schema}
+use Rattle.juniper_syntax.specs.DocumentView.{view_document, view_operation}
+use Rattle.juniper_syntax.specs.InputView.{view_variables}
+use Rattle.juniper.specs.Answering.{outcome_of}
+use Rattle.juniper.specs.Walkings.{Lists}
+use Rattle.juniper.proofs.Composing.{answers-beside}
+use Rattle.juniper.proofs.RootOutcomes.{outcome-moved}
+use Rattle.juniper.proofs.execute.execute_walked.Goals as goal
+
+pub returns : goal.returns
+returns g c =
+    let shown = g.S.ScalarValue.shown in
+    let root = c.args.root_node.now in
+    let d = view_document shown c.args.document.now in
+    let o = view_operation shown c.args.operation.now in
+    let given = view_variables shown c.args.variables.now in
+    answers-beside shown _ (Lists c.args.walking) c.execute_operation.result c.execute_operation.ensures _
+    (λ r p. outcome-moved g.Q.GraphQLValue.concrete g.Q.GraphQLValue.answer g.Q.GraphQLValue.root g.M.GraphQLMutationValue.step g.M.GraphQLMutationValue.torn
+    root _ _ _ _ _
+    (ap (view_schema shown) c.schema.ensures) c.is_introspection_disabled.ensures c.query_info.ensures c.mutation.ensures c.mutation_info.ensures
+    (λ x. outcome_of x d o given) c.args.context.now r c.execute_operation.new.context p)

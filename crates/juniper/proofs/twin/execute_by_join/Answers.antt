@@ -1,0 +1,23 @@
+use Rattle.graphql_spec.specs.ExactAnswers.{whole}
+use Rattle.graphql_spec.specs.Outcomes.{IsOutcomeOf}
+use Rattle.juniper_intro.specs.RootView.{schema_of}
+use Rattle.juniper_schema.specs.SchemaView.{view_schema}
+use Rattle.juniper_syntax.specs.DocumentView.{view_document, view_operation}
+use Rattle.juniper_syntax.specs.InputView.{view_variables}
+use Rattle.juniper.specs.Answering.{outcome_of}
+use Rattle.juniper.specs.RootView.{service_of}
+use Rattle.juniper.specs.Walkings.{Lists}
+use Rattle.juniper.specs.declared.walking.Walking.TheVariants.{Joined}
+use Rattle.juniper.proofs.Composing.{answers-alone}
+use Rattle.juniper.proofs.twin.execute_by_join.Goals as goal
+
+pub returns : goal.returns
+returns g c =
+    let shown = g.S.ScalarValue.shown in
+    let root = c.args.root_node.now in
+    let S = service_of g.Q.GraphQLValue.concrete g.Q.GraphQLValue.answer g.Q.GraphQLValue.root g.M.GraphQLMutationValue.step g.M.GraphQLMutationValue.torn shown
+    root in
+    let x = outcome_of (view_schema shown (schema_of root)) (view_document shown c.args.document.now) (view_operation shown c.args.operation.now)
+    (view_variables shown c.args.variables.now) in
+    answers-alone shown (λ r. IsOutcomeOf S whole x c.args.context.now r c.execute_walked.new.context) (Lists Joined) c.execute_walked.result
+    c.execute_walked.ensures

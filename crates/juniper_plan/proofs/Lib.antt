@@ -1,0 +1,16 @@
+pub mod Keys
+pub mod Depths
+pub mod Standing
+pub mod Gathering
+pub mod Enclosed
+pub mod Elsewhere
+pub mod Taken
+pub mod Kept
+pub mod Rounds
+pub mod RootRounds
+pub mod Whole
+pub mod Sorted
+pub mod Completed
+pub mod Put
+pub mod Nodes
+pub mod Turns

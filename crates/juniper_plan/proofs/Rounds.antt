@@ -1,0 +1,159 @@
+-- The rounds of the walk: a plan that is added to while an object's groups, and a group's nodes, are walked (6.3).
+use Rattle.std.proofs.Common.{◌≡◌, ◌==◌, ℕ, zero, suc, ◌+◌, ◌*◌, ◌-◌, ◌≤◌, ◌<◌, Bool, true, false, List, [], ◌∷◌, ◌++◌, length, take, refl, sym, ap, ◌∙◌, subst, arith}
+use Rattle.std.proofs.lemmas.Bool.{eqb-true}
+use Rattle.graphql_spec.specs.Shown.{Shown, Name}
+use Rattle.graphql_spec.specs.Values.{Value, Entries, null, object}
+use Rattle.graphql_spec.specs.Errors.{Place, Listed}
+use Rattle.graphql_spec.specs.Selections.{Forest, depth, Occurrence, all_below, keys, occurrences, with_key}
+use Rattle.graphql_spec.specs.Resolvers.{World}
+use Rattle.graphql_spec.proofs.Lists.{IsMore}
+use Rattle.juniper_completion.specs.Skeletons.{Spot, Skeleton}
+use Rattle.juniper_collect.specs.Collected.{view_all}
+use Rattle.juniper_collect.specs.declared.collecting.Collector.{Collector}
+use Rattle.juniper_plan.specs.declared.plan.GroupRange.{GroupRange}
+use Rattle.juniper_plan.specs.declared.plan.Plan.{Plan}
+use Rattle.juniper_plan.specs.PlanWalks.{AreObjectsWalked, IsGroupOf, IsObjectWalked, IsPrepared, IsPut, IsWalking}
+use Rattle.juniper_plan.specs.Plans.{IsMade, IsStanding, IsStep, StandsFor, fields_at, key_at}
+use Rattle.juniper_plan.proofs.Depths.{group-shallower}
+use Rattle.juniper_plan.proofs.Keys.{key-has-one}
+use Rattle.juniper_plan.proofs.Standing.{IsPlaced, fields-kept, grown-none, grown-twice, longer, placed, range-length, stands-still}
+use Rattle.juniper_plan.proofs.Turns.{through-null, walking-ends, walking-on, walking-stops}
+use Rattle.juniper_plan.proofs.Nodes.{one-more}
+
+cons-head : {A : Type 0} (x y : A) (xs ys : List A) → x ∷ xs ≡ y ∷ ys → x ≡ y
+cons-head x y xs ys e = cc
+
+cons-tail : {A : Type 0} (x y : A) (xs ys : List A) → x ∷ xs ≡ y ∷ ys → xs ≡ ys
+cons-tail x y xs ys e = cc
+
+pub take-next : {A : Type 0} (ks : List A) (n : ℕ) (k : A) (rest : List A) → ks ≡ take n ks ++ k ∷ rest → take (suc n) ks ≡ take n ks ++ k ∷ []
+take-next [] zero k rest e = absurd cc
+take-next (j ∷ js) zero k rest e = ap (λ x. x ∷ []) (cons-head j k js rest e)
+take-next [] (suc n) k rest e = absurd cc
+take-next (j ∷ js) (suc n) k rest e = ap (λ l. j ∷ l) (take-next js n k rest (cons-tail j j js (take n js ++ k ∷ rest) e))
+
+pub take-none : {A : Type 0} (ks : List A) (n : ℕ) → n ≡ 0 → take n ks ≡ []
+take-none ks zero e = refl
+take-none ks (suc n) e = absurd (omega (arith, e))
+
+pub take-past : {A : Type 0} (ks : List A) (n : ℕ) → length ks ≤ n → take n ks ≡ ks
+take-past [] zero past = refl
+take-past [] (suc n) past = refl
+take-past (k ∷ ks) zero past = absurd (omega (arith, past))
+take-past (k ∷ ks) (suc n) past = ap (λ l. k ∷ l) (take-past ks n (omega (arith, past)))
+
+pub no-items : {A : Type 0} (xs : List A) (b : Bool) → b ≡ (length xs == 0) → b ≡ true → xs ≡ []
+no-items [] b is yes_so = refl
+no-items (x ∷ xs) b is yes_so = let e : suc (length xs) ≡ 0 = eqb-true (suc (length xs)) 0 (sym is ∙ yes_so) in absurd (omega (arith, e))
+
+module _ {S P : Type 0} (shown : S → Shown) (c : Collector S P) (possible : Name → Name → Bool) where
+  pub no-step : (p : Plan S) → IsStanding shown c possible p → IsStep shown c possible p p
+  no-step p s = record { standing = s; grown = grown-none p p refl refl }
+
+  pub more-steps : (p q r : Plan S) → IsStep shown c possible p q → IsStep shown c possible q r → IsStep shown c possible p r
+  more-steps p q r a b = record { standing = b.standing; grown = grown-twice p q r a.grown b.grown }
+
+  group-of : (p : Plan S) (i n : ℕ) (os : List Occurrence) → IsPlaced shown c p i n os → IsGroupOf (key_at p i) os (view_all shown c (fields_at p i))
+  group-of p i n os at = let (first, others, some) = key-has-one os (take n (keys os)) at.rest (key_at p i) at.split in
+      record { first = first; others = others; some = at.fields ∙ some; whole = at.fields }
+
+  -- ## A group of an object
+
+  module _ (p q : Plan S) (r : GroupRange) (T : Name) (s : Forest) (standing : IsStanding shown c possible p)
+      (stands : StandsFor shown c p r (occurrences possible T s)) (step : IsStep shown c possible p q) (i : ℕ) (low : r.first.0 ≤ i) (high : i < r.end.0) where
+    abbrev os : List Occurrence
+    os = occurrences possible T s
+
+    at-group : IsPlaced shown c q i (i - r.first.0) os
+    at-group = placed shown c q r os i (i - r.first.0) (stands-still shown c p q r os standing.within step.grown stands) low high refl
+
+    pub group-bound : i < length q.groups.items
+    group-bound = let long = longer p q step.grown in omega (arith, long, high, stands.inside)
+
+    pub group-is : IsGroupOf (key_at q i) os (view_all shown c (fields_at q i))
+    group-is = group-of q i (i - r.first.0) os at-group
+
+    pub group-falls : 2 * depth (all_below (view_all shown c (fields_at q i))) + 1 < 2 * depth s
+    group-falls =
+        let more : IsMore (with_key (key_at q i) os) = key-has-one os (take (i - r.first.0) (keys os)) at-group.rest (key_at q i) at-group.split in
+        let less : depth (all_below (with_key (key_at q i) os)) < depth s = group-shallower possible T s (key_at q i) more in
+        let same : depth (all_below (view_all shown c (fields_at q i))) ≡ depth (all_below (with_key (key_at q i) os)) =
+        ap (λ l. depth (all_below l)) at-group.fields in
+        omega (arith, less, same)
+
+    module _ {N : Type 0} (W : World N) (possible_is : possible ≡ W.possible) (at : Place) (m : N) (es made : Entries) (errors more : List Listed)
+        (walking : IsWalking W at T m (occurrences W.possible T s) (take (i - r.first.0) (keys (occurrences W.possible T s))) es errors)
+        (key_is : Name) (q_is : Bool) (k : Skeleton) (ns ms : List (Spot N)) (apart below : List Listed) (vs : List Value)
+        (prepared : IsPrepared W at T m (key_at q i) (view_all shown c (fields_at q i)) key_is q_is k ns apart) (same_nodes : ms ≡ ns)
+        (nodes : AreObjectsWalked W (all_below (view_all shown c (fields_at q i))) ms vs below)
+        (rises : Bool) (put_in : IsPut key_is q_is k vs (apart ++ below) rises es made errors more) where
+      abbrev ws : List Occurrence
+      ws = occurrences W.possible T s
+
+      same_os : os ≡ ws
+      same_os = ap (λ f. occurrences f T s) possible_is
+
+      abbrev n : ℕ
+      n = i - r.first.0
+
+      split : keys ws ≡ take n (keys ws) ++ key_at q i ∷ at-group.rest
+      split = subst (λ l. keys l ≡ take n (keys l) ++ key_at q i ∷ at-group.rest) same_os at-group.split
+
+      fields_are : view_all shown c (fields_at q i) ≡ with_key (key_at q i) ws
+      fields_are = at-group.fields ∙ ap (with_key (key_at q i)) same_os
+
+      prepared_here : IsPrepared W at T m (key_at q i) (with_key (key_at q i) ws) key_is q_is k ns apart
+      prepared_here = subst (λ l. IsPrepared W at T m (key_at q i) l key_is q_is k ns apart) fields_are prepared
+
+      nodes_here : AreObjectsWalked W (all_below (with_key (key_at q i) ws)) ns vs below
+      nodes_here = subst (λ x. AreObjectsWalked W (all_below (with_key (key_at q i) ws)) x vs below) same_nodes
+          (subst (λ l. AreObjectsWalked W (all_below l) ms vs below) fields_are nodes)
+
+      pub group-walked : rises ≡ false → IsWalking W at T m ws (take (i + 1 - r.first.0) (keys ws)) made more
+      group-walked kept =
+          let next : take (i + 1 - r.first.0) (keys ws) ≡ take n (keys ws) ++ key_at q i ∷ [] =
+          ap (λ x. take x (keys ws)) {x = i + 1 - r.first.0} {y = suc n} (omega (arith, low)) ∙ take-next (keys ws) n (key_at q i) at-group.rest split in
+          walking-on W at T m ws (take n (keys ws)) at-group.rest (key_at q i) split es made errors more walking key_is q_is k ns apart below vs prepared_here
+          nodes_here rises put_in (take (i + 1 - r.first.0) (keys ws)) next kept
+
+      pub group-stops : (v : Value) → v ≡ null → rises ≡ true → IsObjectWalked W at s T m v more
+      group-stops v is lost = through-null W at s T m v more is
+          (walking-stops W at T m ws (take n (keys ws)) at-group.rest (key_at q i) split es made errors more walking key_is q_is k ns apart below vs
+          prepared_here nodes_here rises put_in s refl lost)
+
+  -- all groups of an object
+  pub groups-walked : (p : Plan S) (r : GroupRange) (T : Name) (s : Forest) → StandsFor shown c p r (occurrences possible T s) → (i : ℕ) → r.end.0 ≤ i →
+      {N : Type 0} (W : World N) → possible ≡ W.possible → (at : Place) (m : N) (es : Entries) (v : Value) (errors : List Listed) → v ≡ object es →
+      IsWalking W at T m (occurrences W.possible T s) (take (i - r.first.0) (keys (occurrences W.possible T s))) es errors →
+      IsObjectWalked W at s T m v errors
+  groups-walked p r T s stands i past W possible_is at m es v errors is walking =
+      let ws = occurrences W.possible T s in
+      let n : length (keys ws) ≡ r.end.0 - r.first.0 = sym (ap (λ f. length (keys (occurrences f T s))) possible_is)
+      ∙ range-length shown c p r (occurrences possible T s) stands in
+      walking-ends W at T m ws s refl (take (i - r.first.0) (keys ws)) (take-past (keys ws) (i - r.first.0) (omega (arith, n, past))) es v errors is walking
+
+  -- ## A node of a group
+
+  module _ (p q : Plan S) (i : ℕ) (standing : IsStanding shown c possible p) (bound : i < length p.groups.items) (step : IsStep shown c possible p q)
+      (s : Forest)
+      (selected : s ≡ all_below (view_all shown c (fields_at p i))) where
+    pub still-selected : s ≡ all_below (view_all shown c (fields_at q i))
+    still-selected = selected ∙ ap (λ l. all_below (view_all shown c l)) (sym (fields-kept p q step.grown i bound standing.within))
+
+    pub still-bound : i < length q.groups.items
+    still-bound = let long = longer p q step.grown in omega (arith, long, bound)
+
+    pub node-falls : 2 * depth s < 2 * depth (all_below (view_all shown c (fields_at p i))) + 1
+    node-falls = let same = ap depth selected in omega (arith, same)
+
+    pub step-made : (r : Plan S) (held : List Occurrence) (g : GroupRange) → IsMade shown c possible held q r g → IsStep shown c possible p r
+    step-made r held g made = record { standing = made.standing; grown = grown-twice p q r step.grown made.grown }
+
+    pub node-walked : {N : Type 0} (W : World N) (ns next : List (Spot N)) (vs more : List Value) (es further listed : List Listed) (n : Spot N) (T : Name)
+        (v : Value) → AreObjectsWalked W (all_below (view_all shown c (fields_at p i))) ns vs es → T ≡ W.concrete n.what →
+        IsObjectWalked W n.place s T n.what v listed →
+        next ≡ ns ++ n ∷ [] → more ≡ vs ++ v ∷ [] → further ≡ es ++ listed →
+        AreObjectsWalked W (all_below (view_all shown c (fields_at p i))) next more further
+    node-walked W ns next vs more es further listed n T v all typed one a b e =
+        one-more W (all_below (view_all shown c (fields_at p i))) ns next vs more es further listed n T v all typed
+        (subst (λ x. IsObjectWalked W n.place x T n.what v listed) selected one) a b e

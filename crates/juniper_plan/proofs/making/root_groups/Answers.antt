@@ -1,0 +1,9 @@
+use Rattle.std.proofs.Common.{ap, ◌∙◌}
+use Rattle.juniper_collect.specs.Collected.{view_all}
+use Rattle.juniper_plan.proofs.Kept.{same-made}
+use Rattle.juniper_plan.proofs.making.root_groups.Goals as goal
+
+pub returns : goal.returns
+returns g c =
+    same-made g.S.ScalarValue.shown c.args.collector.now (g.P.Conditions.possible c.args.collector.now.possible) _ _ c.args.plan.now _ _
+    (ap (view_all g.S.ScalarValue.shown c.args.collector.now) c.deref.ensures.value ∙ c.in_ok-fields.ensures) c.in_ok-groups.ensures

@@ -1,0 +1,25 @@
+use Rattle.juniper_plan.proofs.Sorted.{bare-stands, one-enclosing, walk-is-exact, walk-is-of-firsts}
+use Rattle.juniper_plan.proofs.root.answer.Goals as goal
+
+pub root_groups-requires-clause-standing : goal.root_groups-requires-clause-standing
+root_groups-requires-clause-standing g c =
+    bare-stands g.S.ScalarValue.shown c.args.walk.now.collector (g.R.Conditions.possible c.args.walk.now.collector.possible) c.new-plan.result
+    c.new-plan.ensures
+
+pub object-requires-clause-standing : goal.object-requires-clause-standing
+object-requires-clause-standing g c = c.in_ok-groups.ensures.standing
+
+pub object-requires-clause-groups : goal.object-requires-clause-groups
+object-requires-clause-groups g c = c.in_ok-groups.ensures.stands
+
+pub returns-clause-exact : goal.returns-clause-exact
+returns-clause-exact g c =
+    walk-is-exact (g.R.Completer.world c.args.walk.now.collector.possible) c.args.concrete.now c.args.root.now _ _
+    (one-enclosing g.S.ScalarValue.shown c.args.walk.now.collector (record { selections = c.args.selections })) _ c.in_ok-path.ensures _ _ _
+    c.in_ok-walked.ensures.walked c.in_ok-sort_errors.ensures.counted c.in_ok-sort_errors.ensures.sorted
+
+pub returns-clause-firsts : goal.returns-clause-firsts
+returns-clause-firsts g c =
+    walk-is-of-firsts (g.R.Completer.world c.args.walk.now.collector.possible) c.args.concrete.now c.args.root.now _ _
+    (one-enclosing g.S.ScalarValue.shown c.args.walk.now.collector (record { selections = c.args.selections })) _ c.in_ok-path.ensures _ _ _
+    c.in_ok-walked.ensures.walked c.in_ok-sort_errors.ensures.counted

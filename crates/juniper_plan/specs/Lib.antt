@@ -1,0 +1,3 @@
+pub mod PlanLists
+pub mod Plans
+pub mod PlanWalks

@@ -1,0 +1,62 @@
+//! A reply is completed for all fields of a group at once (CompleteValue and MergeSelectionSets, section 6.4.3 of the Specification).
+
+ghost use Rattle.std.specs.Prelude.{◌≡◌, ◌<◌, [], IfOk, map, string_bytes};
+ghost use Rattle.graphql_spec.specs.ExactAnswers.{whole};
+ghost use Rattle.graphql_spec.specs.GroupLaws.{GroupCompleted, first_start};
+ghost use Rattle.juniper_collect.specs.Collected.{view_all};
+ghost use Rattle.juniper_errors.specs.ErrorView.{view_listed};
+ghost use Rattle.juniper_errors.specs.PathView.{path_place};
+ghost use Rattle.juniper_resolvable.specs.ResolvedView.{Answers};
+ghost use Rattle.juniper_syntax.specs.TypeView.{view_type};
+ghost use Rattle.juniper_syntax.specs.ValueView.{view_value};
+ghost use Rattle.juniper_walk.specs.Completing.{IsTold};
+ghost use Rattle.juniper_walk.specs.Walking.{IsReadyWalk};
+ghost use Rattle.juniper_plan.specs.Plans.{IsStanding, IsStep, fields_at, group_count};
+ghost use Rattle.juniper_plan.specs.PlanWalks.{HasFirst};
+
+use crate::plan::{GroupNo, Plan};
+use crate::walking::objects_of;
+use juniper_assemble::fill;
+use juniper_errors::FieldPath;
+use juniper_syntax::ScalarValue;
+use juniper_walk::{Asked, Parted, Resolver, Walk, Walked, list_errors, part_reply};
+use std::alloc::AllocError;
+use std::rc::Rc;
+
+/// The value of what the fields of a group answer, and the errors of what fails in it, for what all of them select. An error where memory
+/// was refused to the answer, or is refused here.
+pub fn complete_group<'d, 'a, S: ScalarValue, R: Resolver<S>>(
+    walk: &Walk<'_, 'd, 'a, S, R>,
+    plan: &mut Plan<'d, 'a, S>,
+    path: &Rc<FieldPath<'a>>,
+    asked: Asked<'_, R::Node, S>,
+    group: GroupNo,
+) -> Result<Walked<S>, AllocError>
+    requires ready { IsReadyWalk S.shown R.possible R.values (R.world walk.now.collector.possible) walk.now }
+    requires standing { IsStanding S.shown walk.now.collector (R.possible walk.now.collector.possible) plan.old }
+    requires bound { group.0 < group_count plan.old }
+    requires some { HasFirst (view_all S.shown walk.now.collector (fields_at plan.old group.0)) }
+    ensures plan { IfOk result (λ _. IsStep S.shown walk.now.collector (R.possible walk.now.collector.possible) plan.old plan.new) }
+    ensures told { IfOk result (λ _. IsTold asked.entry.answer) }
+    ensures completed { (reply : _) → Answers S.shown asked.entry.answer reply → IfOk result (λ w. GroupCompleted whole first_start
+        (R.world walk.now.collector.possible) (path_place path.now.value) [] (view_type (λ n. string_bytes n) asked.entry.declared.now) reply
+        (view_all S.shown walk.now.collector (fields_at plan.old group.0)) (view_value S.shown w.value) (map (view_listed S.shown) w.errors.items)) }
+{
+    let Asked { declared, answer } = asked;
+    let Parted {
+        skeleton,
+        nodes,
+        errors,
+    } = part_reply(walk.alloc, &walk.collector.possible, declared, answer, path)?;
+    let start = plan.fields(group)[0].field.span.start;
+    let mut listed = list_errors(walk.alloc, start, &errors)?;
+    let walked = objects_of(walk, plan, &nodes, group)?;
+    let mut below = walked.errors;
+    listed.append(&mut below)?;
+    let mut values = walked.values.into_iter();
+    let value = fill(walk.alloc, skeleton, &mut values)?;
+    Ok(Walked {
+        value,
+        errors: listed,
+    })
+}

@@ -1,0 +1,163 @@
+//! The plan of a request: the response keys of its objects, and the fields of each (CollectFields, section 6.3.2 of the
+//! Specification).
+
+ghost use Rattle.std.specs.Prelude.{◌≡◌, ◌<◌, ◌≤◌, OnOk, length, slice_range};
+ghost use Rattle.juniper_plan.specs.Plans.{IsBare, IsGroupAdded, IsKept, IsWithin, fields_at, group_count, key_at, made_at};
+ghost use Rattle.juniper_plan.specs.PlanLists.{named_in};
+
+use juniper_collect::Collected;
+use juniper_lookahead::Occurrence;
+use juniper_syntax::ScalarValue;
+use std::alloc::{AllocError, Global};
+
+/// The number of a group in a plan, counted from 0.
+#[derive(Clone, Copy)]
+pub struct GroupNo(pub usize);
+
+/// The number of an occurrence in a plan, counted from 0.
+#[derive(Clone, Copy)]
+pub struct OccNo(pub usize);
+
+/// Groups that stand one behind the other: those of an object.
+#[derive(Clone, Copy)]
+pub struct GroupRange {
+    /// The first of them.
+    pub first: GroupNo,
+    /// The one behind the last.
+    pub end: GroupNo,
+}
+
+/// The fields of one response key.
+#[derive(Clone, Copy)]
+pub struct Group<'a> {
+    /// The response key.
+    pub(crate) key: &'a str,
+    /// The first of its fields.
+    pub(crate) first: OccNo,
+    /// The one behind the last.
+    pub(crate) end: OccNo,
+}
+
+/// The groups below a group, for the nodes of one object type.
+#[derive(Drop)]
+pub struct Below {
+    /// The object type.
+    pub(crate) concrete: String,
+    /// The groups.
+    pub(crate) groups: GroupRange,
+}
+
+/// All groups and all occurrences that were met in a request so far.
+#[derive(Drop)]
+pub struct Plan<'d, 'a, S> {
+    /// The groups; those of an object stand one behind the other.
+    pub(crate) groups: Vec<Group<'a>>,
+    /// The fields; those of a group stand one behind the other.
+    pub(crate) occurrences: Vec<Occurrence<'d, 'a, S>>,
+    /// For each group, by its number: what was made below it.
+    pub(crate) below: Vec<Vec<Below>>,
+}
+
+impl<'d, 'a, S: ScalarValue> Plan<'d, 'a, S> {
+    /// A plan without groups.
+    pub fn new(alloc: Global) -> Plan<'d, 'a, S>
+        ensures { IsBare result }
+    {
+        Plan {
+            groups: Vec::new(alloc),
+            occurrences: Vec::new(alloc),
+            below: Vec::new(alloc),
+        }
+    }
+
+    /// The fields of a group, in order.
+    pub fn fields(&self, group: GroupNo) -> &[Occurrence<'d, 'a, S>]
+        requires bound { group.0 < group_count self.now }
+        requires within { IsWithin self.now }
+        ensures { result.now ≡ fields_at self.now group.0 }
+    {
+        let found = self.groups[group.0];
+        part_of(self.occurrences.as_slice(), found.first.0, found.end.0)
+    }
+
+    /// The response key of a group.
+    pub fn key(&self, group: GroupNo) -> &'a str
+        requires { group.0 < group_count self.now }
+        ensures { result.now ≡ key_at self.now group.0 }
+    {
+        let found = self.groups[group.0];
+        found.key
+    }
+
+    /// What was made below a group for the nodes of an object type, if it was.
+    pub(crate) fn made_below(&self, group: GroupNo, concrete: &str) -> Option<GroupRange>
+        requires { group.0 < length self.now.below.items }
+        ensures { result ≡ named_in concrete.now (made_at self.now group.0) }
+    {
+        let made = &self.below[group.0];
+        find_made(made, concrete)
+    }
+
+    /// Keeps what was made below a group for the nodes of an object type.
+    pub(crate) fn keep_below(
+        &mut self,
+        alloc: Global,
+        group: GroupNo,
+        concrete: &str,
+        groups: GroupRange,
+    ) -> Result<(), AllocError>
+        requires { group.0 < length self.old.below.items }
+        ensures { OnOk result (IsKept group.0 concrete.now groups self.old self.new) }
+    {
+        let concrete = String::from_str(alloc, concrete)?;
+        let made = &mut self.below[group.0];
+        made.push(Below { concrete, groups })?;
+        Ok(())
+    }
+
+    /// Adds a group of a response key; none where it has no fields.
+    pub(crate) fn add_group(
+        &mut self,
+        alloc: Global,
+        key: &'a str,
+        fields: Collected<'d, 'a, S>,
+    ) -> Result<(), AllocError>
+        ensures { OnOk result (IsGroupAdded key.now fields.entry.items self.old self.new) }
+    {
+        if fields.is_empty() {
+            return Ok(());
+        }
+        let mut added = fields;
+        let first = OccNo(self.occurrences.len());
+        self.occurrences.append(&mut added)?;
+        let end = OccNo(self.occurrences.len());
+        self.groups.push(Group { key, first, end })?;
+        self.below.push(Vec::new(alloc))?;
+        Ok(())
+    }
+}
+
+/// A part of a list.
+fn part_of<'p, 'd, 'a, S>(
+    fields: &'p [Occurrence<'d, 'a, S>],
+    first: usize,
+    end: usize,
+) -> &'p [Occurrence<'d, 'a, S>]
+    requires ordered { first ≤ end }
+    requires inside { end ≤ length fields.now }
+    ensures { result.now ≡ slice_range fields.now first end }
+{
+    &fields[first..end]
+}
+
+/// What was made for the nodes of an object type, if it was.
+fn find_made(made: &[Below], concrete: &str) -> Option<GroupRange>
+    ensures { result ≡ named_in concrete.now made.now }
+{
+    for below in made {
+        if below.concrete.as_str() == concrete {
+            return Some(below.groups);
+        }
+    }
+    None
+}
