@@ -26,7 +26,7 @@ pub enum LexerError {
 }
 
 impl LexerError {
-    /// A copy of the error.
+    /// An equal error, by `==`.
     ///
     /// # Errors
     /// An [`AllocError`] where there is no memory for its text.
@@ -82,7 +82,7 @@ pub enum ParseError {
 }
 
 impl ParseError {
-    /// A copy of the error.
+    /// An equal error, by `==`.
     ///
     /// # Errors
     /// An [`AllocError`] where there is no memory for its text.

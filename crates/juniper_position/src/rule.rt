@@ -38,7 +38,7 @@ impl RuleError {
         slice::from_ref(&self.location)
     }
 
-    /// An equal error; an error where memory is refused.
+    /// An equal error, by `==`; an error where memory is refused.
     pub fn try_clone(&self, alloc: Global) -> Result<Self, AllocError>
         ensures { IfOk result (λ made. view_rule_error made ≡ view_rule_error self.now) }
     {

@@ -10,4 +10,5 @@ pub mod Values
 pub mod ValueLists
 pub mod Mapped
 pub mod ValueEquality
+pub mod ValueKeys
 pub mod TypeTexts

@@ -1,7 +1,8 @@
 //! Keys with values, in the order in which the keys came: a key is found without going over the others.
 
 ghost use Rattle.std.specs.Prelude.{◌≡◌, ◌<◌, [], length, slice_get, slice_set, Some, None, IfOk, OnOk, OnErr, string_bytes};
-ghost use Rattle.std.specs.Map.{values_of, lookup, set_value};
+ghost use Rattle.std.specs.List.{IsDistinct};
+ghost use Rattle.std.specs.Map.{keys_of, values_of, lookup, set_value};
 ghost use Rattle.std.specs.Option.{option_copied};
 ghost use Rattle.std.specs.String.{string_eq};
 ghost use Rattle.std.specs.Cmp.{on_per, and_per, on_equiv, and_equiv, partial_equiv_from_equiv};
@@ -60,6 +61,13 @@ impl<V> Fields<V> {
     {
         let place = self.keys.get_index_of(key)?;
         Some(&self.values[place])
+    }
+
+    /// No two keys are equal: it does nothing, and its contract says so.
+    pub fn keys_differ(&self)
+        ensures { IsDistinct string_eq (keys_of self.now) }
+    {
+        self.keys.as_slice();
     }
 
     /// The values, in the order of their keys.

@@ -51,7 +51,7 @@ impl<S: ScalarValue> Value<S> {
     }
 }
 
-/// Keys with values, in order; its calls keep the keys distinct.
+/// Keys with values, in order; no two keys are equal (by [`object_keys_differ`](crate::laws::object_keys_differ)).
 #[cycle(value)]
 #[derive(Debug, PartialEq, Eq, Drop)]
 pub struct Object<S> {
