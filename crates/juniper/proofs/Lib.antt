@@ -10,3 +10,4 @@ mod VariableValues
 pub mod Asked
 pub mod RootOutcomes
 pub mod Asking
+pub mod RequestErrorEquality

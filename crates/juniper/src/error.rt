@@ -50,7 +50,7 @@ impl GraphQLError {
         Ok(GraphQLError::ValidationError(vec![in alloc; error]?))
     }
 
-    /// An equal error; an error where memory is refused.
+    /// An equal error, by `==`; an error where memory is refused.
     pub fn try_clone(&self, alloc: Global) -> Result<Self, AllocError>
         ensures { IfOk result (λ made. view_request_error made ≡ view_request_error self.now) }
     {

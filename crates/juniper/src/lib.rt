@@ -5,6 +5,7 @@ mod coerce;
 mod error;
 mod execute;
 mod introspection;
+pub mod laws;
 mod mutation;
 mod operation;
 mod request;

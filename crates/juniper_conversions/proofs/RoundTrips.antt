@@ -1,8 +1,9 @@
 -- What is made of a nullable value comes back, by what conversions answer.
-use Rattle.std.proofs.Common.{◌≡◌, Bool, true, Option, Some, None, Result, Ok, Err, refl}
-use Rattle.std.specs.Prelude.{◌≢◌}
+use Rattle.std.proofs.Common.{◌≡◌, Option, Some, None, Result, Ok, Err, refl}
+use Rattle.std.specs.Prelude.{◌≢◌, IsOkAnd, IsSomeAnd}
 use Rattle.graphql_spec.specs.Constants.{Constant, null}
-use Rattle.juniper_conversions.specs.Options.{GivesOption, is_ok_by, is_some_by}
+use Rattle.juniper_conversions.specs.Options.{GivesOption}
+use Rattle.juniper_conversions.specs.RoundTrips.{ComesBack, ComesBackAs}
 
 module _ {A E : Type 0} (inner : Constant → Result A E → Type 0) where
   pub none_back : (answer : Result (Option A) E) → GivesOption inner null answer → answer ≡ Ok None
@@ -10,8 +11,8 @@ module _ {A E : Type 0} (inner : Constant → Result A E → Type 0) where
   none_back (Ok (Some x)) h = absurd (h.0 refl)
   none_back (Err e) h = absurd (h.0 refl)
 
-  pub some_back : (test : A → Bool) (v : Constant) → ((answer : Result A E) → inner v answer → is_ok_by test answer ≡ true) → v ≢ null
-      → (answer : Result (Option A) E) → GivesOption inner v answer → is_ok_by (is_some_by test) answer ≡ true
-  some_back test v back there (Ok None) h = absurd (there h)
-  some_back test v back there (Ok (Some x)) h = back (Ok x) h.1
-  some_back test v back there (Err e) h = back (Err e) h.1
+  pub some_back : (input : A → Constant) (x : A) → input x ≢ null → ComesBack inner input x → (answer : Result (Option A) E) →
+      GivesOption inner (input x) answer → IsOkAnd answer (λ back. IsSomeAnd back (ComesBackAs inner input x))
+  some_back input x written there (Ok None) h = absurd (written h)
+  some_back input x written there (Ok (Some y)) h = h.1
+  some_back input x written there (Err e) h = absurd (there e h.1)

@@ -1,5 +1,5 @@
 -- What conversions of nullable types answer (3.12).
-use Rattle.std.specs.Prelude.{◌≡◌, ◌≢◌, Bool, false, Option, Some, None, Result, Ok, Err}
+use Rattle.std.specs.Prelude.{◌≡◌, ◌≢◌, Option, Some, None, Result, Ok, Err}
 use Rattle.graphql_spec.specs.Constants.{Constant, null}
 
 -- a nullable type (3.12): null is `None`, any other value goes as the type inside
@@ -12,13 +12,3 @@ GivesOption inner v (Err e) = (v ≢ null) × inner v (Err e)
 abbrev pub option_input : {A : Type 0} → (A → Constant) → Option A → Constant
 option_input inner None = null
 option_input inner (Some x) = inner x
-
--- a value that passes the test is answered
-abbrev pub is_ok_by : {A E : Type 0} → (A → Bool) → Result A E → Bool
-is_ok_by test (Ok x) = test x
-is_ok_by test (Err e) = false
-
--- it is there, and passes the test
-abbrev pub is_some_by : {A : Type 0} → (A → Bool) → Option A → Bool
-is_some_by test None = false
-is_some_by test (Some x) = test x

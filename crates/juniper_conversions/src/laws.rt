@@ -1,9 +1,9 @@
 //! Laws of conversions. Each function does nothing; its contract is the law.
 
-ghost use Rattle.std.specs.Prelude.{◌≡◌, ◌≢◌, Bool, true, MatchResult, Ok, None, Some, string_bytes};
+ghost use Rattle.std.specs.Prelude.{◌≡◌, ◌≢◌, MatchResult, Ok, IsOkAnd, IsSomeAnd, None, Some, string_bytes};
 ghost use Rattle.graphql_spec.specs.Constants.{null};
 ghost use Rattle.juniper_id.specs.Text.{id_text};
-ghost use Rattle.juniper_conversions.specs.Options.{is_ok_by, is_some_by};
+ghost use Rattle.juniper_conversions.specs.RoundTrips.{ComesBack, ComesBackAs};
 
 use crate::convert::{FromInputValue, ToInputValue};
 use juniper_id::ID;
@@ -35,11 +35,13 @@ pub fn ids_come_back<S: ScalarValue>(value: &ID)
         MatchResult answer (λ id. id_text id ≡ id_text value.now) (λ e. ⊥) }
 {}
 
-/// `None` comes back from null. `Some` of a value comes back where the value does and is not written as null: what each
-/// answer for the value passes, each answer for `Some` of it passes, inside `Some`.
+/// `None` comes back from null. `Some` of a value comes back where the value does and is not written as null.
 pub fn options_come_back<T: FromInputValue<S> + ToInputValue<S>, S: ScalarValue>(value: &T)
+    ensures some_given { (back : T) → T.input value.now ≢ null → ComesBackAs T.gives T.input value.now back →
+        ⟦<Option<T> as FromInputValue<S>>⟧.gives (⟦<Option<T> as ToInputValue<S>>⟧.input (Some value.now)) (Ok (Some back)) }
+    ensures some { T.input value.now ≢ null → ComesBack T.gives T.input value.now → (answer : _) →
+        ⟦<Option<T> as FromInputValue<S>>⟧.gives (⟦<Option<T> as ToInputValue<S>>⟧.input (Some value.now)) answer →
+        IsOkAnd answer (λ back. IsSomeAnd back (ComesBackAs T.gives T.input value.now)) }
+    ensures none_given { ⟦<Option<T> as FromInputValue<S>>⟧.gives (⟦<Option<T> as ToInputValue<S>>⟧.input None) (Ok None) }
     ensures none { (answer : _) → ⟦<Option<T> as FromInputValue<S>>⟧.gives (⟦<Option<T> as ToInputValue<S>>⟧.input None) answer → answer ≡ Ok None }
-    ensures some { (test : T → Bool) → ((answer : _) → T.gives (T.input value.now) answer → is_ok_by test answer ≡ true) → T.input value.now ≢ null →
-        (answer : _) → ⟦<Option<T> as FromInputValue<S>>⟧.gives (⟦<Option<T> as ToInputValue<S>>⟧.input (Some value.now)) answer →
-        is_ok_by (is_some_by test) answer ≡ true }
 {}

@@ -7,4 +7,5 @@ pub mod Rooting
 pub mod Given
 pub mod Looked
 pub mod RootSchemas
+pub mod AllowedSchemas
 pub mod RootReplies
