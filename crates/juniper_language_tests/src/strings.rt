@@ -25,6 +25,7 @@ quote \\\" => \"quote \"\"
 escaped \\n\\r\\b\\t\\f => \"escaped ␤␍\u{8}\u{9}\u{C}\"
 slashes \\\\ \\/ => \"slashes \\ /\"
 white space => \"white space\"
+unicode \\u1234\\u5678\\u90AB\\uCDEF => \"unicode \u{1234}\u{5678}\u{90AB}\u{CDEF}\"
 \\x => Unknown escape sequence \"\\x\" in string
 a\\N => Unknown escape sequence \"\\N\" in string
 \\u+123 => Unknown escape sequence \"\\u+123\" in string

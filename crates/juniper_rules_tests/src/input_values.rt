@@ -37,6 +37,7 @@ query Q($b: Box, $n: Int!, $m: Int) { id } { v(m: \"x\", b: {width: 1}, other: 3
 query Q($b: Box) { id } { v(b: {height: 1}) } => Variable `$b` has no fitting value@0:8;
 query Q($b: Box) { id } { v(b: {width: 1, inner: {width: 2, sizes: [3, null]}}) } => Variable `$b` has no fitting value@0:8;
 query Q($b: [Box!]!) { id } { v(b: {width: 1, sizes: 2}) } =>
+query Q($t: String = \"é\", $n: Int!) { id } { v } => Variable `$n` has no fitting value@0:26 byte 27;
 mutation M($n: Int!) { add(n: $n) { total } } { v(n: [1]) } => Variable `$n` has no fitting value@0:11;
 query Q($c: Cell) { id } { v(c: {a: 1, b: 2}) } => Variable `$c` has no fitting value@0:8;
 { id } { v(n: 1) } =>";

@@ -1,5 +1,5 @@
 //! The whole lists of errors, through the three phases, worked out by hand: each error with the line and the column,
-//! counted from zero, where its definition starts.
+//! counted from zero, where its definition starts, and the place in bytes where that is another number than the column.
 
 use crate::looks::{Look, check, first_other};
 use crate::schemas::SMALL;
@@ -18,13 +18,13 @@ query A { id }
   query B($n: Int) {
     ...F
   }
-fragment F on Query { add(n: $n) { number(plus: $m) } } => Variable is not defined@1:2; Variable may not stand here@1:2;
+fragment F on Query { add(n: $n) { number(plus: $m) } } => Variable is not defined@1:2 byte 17; Variable may not stand here@1:2 byte 17;
 
 query A { number(plus: $n) }
 query B { id }
-query C($n: String) { number(plus: $n) } => Variable is not defined@0:0; Variable may not stand here@2:0;
+query C($n: String) { number(plus: $n) } => Variable is not defined@0:0; Variable may not stand here@2:0 byte 44;
 
-query A { __type(name: \"é\") { name } } query B { number(plus: $n) } => Variable is not defined@0:39;
+query A { __type(name: \"é\") { name } } query B { number(plus: $n) } => Variable is not defined@0:39 byte 40;
 
 fragment F on Query { number(plus: $n) } query Q { id } =>
 
@@ -99,7 +99,7 @@ query Q { x: id ...A } fragment A on Query { ...B ...B } fragment B on Query { .
 
 query A { id }
 query B { ...F }
- fragment F on Query { x: id x: number } => Fields cannot be merged@1:0; Fields cannot be merged@2:1;";
+ fragment F on Query { x: id x: number } => Fields cannot be merged@1:0 byte 15; Fields cannot be merged@2:1 byte 33;";
 
 #[test]
 fn lists_are_whole(rt: HostRuntime) {

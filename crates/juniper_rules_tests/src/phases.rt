@@ -2,7 +2,7 @@
 
 use crate::looks::{Look, Scalar, StaticDocument, check, first_other};
 use crate::schemas::SMALL;
-use juniper_language::RuleError;
+use juniper_language::{RuleError, SourcePosition};
 use juniper_phases::{name_errors, type_errors};
 use juniper_rules::validate;
 use juniper_schema::SchemaType;
@@ -17,6 +17,7 @@ query A { id } query A { x } => Operation name is not unique@15;
 { id } { id } => Anonymous operation is not alone@0; Anonymous operation is not alone@7;
 query Q($n: Hero) { ... on Villain { id } } => Unknown type@0;
 query Q($n: [__Type!]!) { ... on String { id } } =>
+# é\rquery Q($n: Hero) { id } query P { id @what } => Unknown type@5; Unknown directive@30;
 query Q($n: String, $n: Hero) { id @skip @what } => Variable name is not unique@0; Unknown directive@0; Unknown type@0;
 { ...F } fragment F on Query { ...F } => Fragment spreads itself@9;
 { ...G } fragment F on Query { id(a: {k: 1, k: 2}, a: 3) } fragment F on None { id } => Unknown fragment@0; Argument name is not unique@9; Input field name is not unique@9; Fragment name is not unique@59; Unknown type@59;";
@@ -32,6 +33,7 @@ query Q($q: Query) { id } => Variable is not of an input type@0;
 { number(minus: 1) } => Unknown argument@0;
 { add { id } } => Argument is missing@0;
 { add(n: null) { id } } => Argument does not fit its type@0;
+{ add(n: \"é€😀\") { id } } query P { nope } => Argument does not fit its type@0; Unknown field@31;
 { add(n: \"x\", in: {}) { id } } => Argument does not fit its type@0;
 { add(n: 1, in: {k: 1, l: 2}) { id } } =>
 { id @skip } => Argument is missing@0;
@@ -92,15 +94,24 @@ pub fn put_errors(
     Some(())
 }
 
-/// Writes each error behind a blank and with a `;` at its end: its message, `@`, and its line and column, counted from zero.
+/// Writes each error behind a blank and with a `;` at its end: its message, `@`, its line and column, counted from zero, and
+/// ` byte ` and its place in bytes where that is another number than the column.
 pub fn put_places(errors: &[RuleError], line: &mut Line) {
     for error in errors {
         for location in error.locations() {
             line.put(" ", error.message());
             line.put_shown("@", &location.line());
             line.put_shown(":", &location.column());
+            put_index(location, line);
             line.put(";", "");
         }
+    }
+}
+
+/// Writes a place in bytes where it is another number than the column.
+fn put_index(location: &SourcePosition, line: &mut Line) {
+    if location.index() != location.column() {
+        line.put_shown(" byte ", &location.index());
     }
 }
 

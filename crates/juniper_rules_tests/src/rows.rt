@@ -149,6 +149,9 @@ query A { nope } query B { hero } => Unknown field@0:0; Selection set does not f
 query A { id } query A { id @what } fragment F on Villain { id } => Operation name is not unique@0:15; Unknown directive@0:15; Unknown type@0:36;
 query Q($n: Villain) { nope number(plus: $m) } => Unknown type@0:0;
 query A { nope } query B { number(plus: $n) x: id x: name } => Unknown field@0:0;
+# é\r{ nope } => Unknown field@1:0 byte 5;
+query A { __type(name: \"é\") { name } } query B { nope } => Unknown field@0:39 byte 40;
+{ __type(name: \"é€😀\") { name } }\r\r{ hero } => Anonymous operation is not alone@0:0; Anonymous operation is not alone@2:0 byte 40;
 subscription S { x @skip } =>
 subscription S($n: Villain) { x } => Unknown type@0:0;
 subscription S($n: Int = \"x\") { x(n: $m) } => Default value does not fit its type@0:0;";

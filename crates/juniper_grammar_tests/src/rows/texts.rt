@@ -15,6 +15,7 @@ pub const STRINGS: &str = r#"== outline
 { a(x: "\u0000\u000B\u001f") } => query { a( x:"\u0000\u000B\u001F"<"\u0000\u000B\u001f"> ) };
 { a(x: "\u0022\u005C") } => query { a( x:"\"\\"<"\u0022\u005C"> ) };
 { a(x: "\u00e9\u20AC\u20ac") } => query { a( x:"é€€"<"\u00e9\u20AC\u20ac"> ) };
+{ a(x: "unicode \u1234\u5678\u90AB\uCDEF") } => query { a( x:"unicode ሴ噸邫췯"<"unicode \u1234\u5678\u90AB\uCDEF"> ) };
 { a(x: "\\u0041 \\n\\") } => query { a( x:"\\u0041 \\n\\" ) };
 { a(x: "quote \"") } => query { a( x:"quote \"" ) };
 query($v: String = "\u0041") { a @d(y: ["\/", {k: "\""}]) } => query ( $v:String="A"<"\u0041"> ) { a @d( y:["/", {k: "\""}]<["\/", {k: "\""}]> ) };
