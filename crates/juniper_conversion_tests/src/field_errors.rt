@@ -1,7 +1,7 @@
 //! The errors of fields and of executions.
 
 use crate::tables::{Told, check, unknown};
-use juniper_language::{DefaultScalarValue, SourcePosition, Value};
+use juniper_language::{DefaultScalarValue, ScalarValue, SourcePosition, Value};
 use juniper_values::PathPart::{Index, Key};
 use juniper_values::{ExecutionError, FieldError, IntoFieldError, PathPart, ResolveError};
 use std::alloc::{AllocError, AllocFailed, Global};
@@ -134,8 +134,8 @@ fn at_origin(alloc: Global) -> Result<ExecutionError<DefaultScalarValue>, AllocE
 type Row = (usize, &'static [PathPart<'static>], &'static str, i32);
 
 /// The error of a row.
-fn listed(alloc: Global, row: Row) -> Result<ExecutionError<DefaultScalarValue>, AllocError> {
-    let extensions = Value::Scalar(DefaultScalarValue::Int(row.3));
+fn listed<S: ScalarValue>(alloc: Global, row: Row) -> Result<ExecutionError<S>, AllocError> {
+    let extensions = Value::Scalar(S::from_int(row.3));
     let error = FieldError::new(alloc, row.2, extensions)?;
     ExecutionError::new(alloc, SourcePosition::new(row.0, 0, row.0), row.1, error)
 }
@@ -161,18 +161,20 @@ fn rows_of(case: &str) -> Option<(Row, Row)> {
 }
 
 /// How the errors of a case are ordered, and whether they are equal.
-pub fn order_of(alloc: Global, case: &str) -> Result<String, AllocError> {
+pub fn order_of<S: ScalarValue>(alloc: Global, case: &str) -> Result<String, AllocError> {
     match rows_of(case) {
-        Some((first, second)) => order(alloc, &listed(alloc, first)?, &listed(alloc, second)?),
+        Some((first, second)) => {
+            order::<S>(alloc, &listed(alloc, first)?, &listed(alloc, second)?)
+        }
         None => unknown(alloc),
     }
 }
 
 /// How two errors are ordered, and whether they are equal.
-fn order(
+fn order<S: ScalarValue>(
     alloc: Global,
-    first: &ExecutionError<DefaultScalarValue>,
-    second: &ExecutionError<DefaultScalarValue>,
+    first: &ExecutionError<S>,
+    second: &ExecutionError<S>,
 ) -> Result<String, AllocError> {
     let order = first.compare(second);
     let same = *first == *second;
@@ -196,7 +198,8 @@ fn equal<T: Eq>(a: &T, b: &T) -> bool {
 
 /// Whether a copy of an error is equal to it.
 fn is_copied(alloc: Global) -> Result<bool, AllocError> {
-    let error = listed(alloc, (9, &[Key("hero"), Key("name")], "no", 1))?;
+    let row: Row = (9, &[Key("hero"), Key("name")], "no", 1);
+    let error = listed::<DefaultScalarValue>(alloc, row)?;
     Ok(equal(&error.try_clone(alloc)?, &error))
 }
 
@@ -231,6 +234,7 @@ fn an_error_keeps_its_place(rt: HostRuntime) {
 #[test]
 fn errors_are_compared(rt: HostRuntime) {
     check(&rt, rt.alloc(), Told::Order, ORDERS);
+    check(&rt, rt.alloc(), Told::OtherOrder, ORDERS);
 }
 
 #[test]

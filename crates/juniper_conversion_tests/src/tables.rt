@@ -1,7 +1,7 @@
 //! Tables of rows, each a case and what is told of it.
 
 use crate::rows::Question;
-use crate::{both_scalars, field_errors, rows, scalars};
+use crate::{arguments, both_scalars, field_errors, rows, scalars};
 use juniper_language::DefaultScalarValue;
 use juniper_language_tests::scalar::TestScalar;
 use std::alloc::{AllocError, Global};
@@ -44,8 +44,12 @@ pub enum Told {
     Place,
     /// How two errors are ordered, and whether they are equal.
     Order,
+    /// The same with scalars of another type.
+    OtherOrder,
     /// Whether what is made of an error is equal to it.
     Copy,
+    /// What is got of an argument.
+    Got,
 }
 
 /// What is told of a case.
@@ -67,8 +71,10 @@ fn told_of(alloc: Global, told: Told, case: &str) -> Result<String, AllocError> 
         Told::FieldError => field_errors::said_of(alloc, case),
         Told::Refusal => field_errors::refused_of(alloc, case),
         Told::Place => field_errors::place_of(alloc, case),
-        Told::Order => field_errors::order_of(alloc, case),
+        Told::Order => field_errors::order_of::<DefaultScalarValue>(alloc, case),
+        Told::OtherOrder => field_errors::order_of::<TestScalar>(alloc, case),
         Told::Copy => field_errors::copy_of(alloc, case),
+        Told::Got => arguments::got_of(alloc, case),
     }
 }
 

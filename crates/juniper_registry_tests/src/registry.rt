@@ -4,7 +4,7 @@ use crate::samples::{Character, Episode, Found, Human, Review};
 use crate::tables::{Told, check};
 use juniper_id::ID;
 use juniper_meta::meta::Field;
-use juniper_meta::{MetaType, ScalarKinds};
+use juniper_meta::{ListMeta, MetaType, ScalarKinds};
 use juniper_nullable::Nullable;
 use juniper_registry::{GraphQLReference, GraphQLType, Registry, RegistryError, TypeKind};
 use juniper_syntax::DefaultScalarValue;
@@ -19,6 +19,25 @@ Box<Option<bool>> => Boolean
 &String => String!
 Nullable<ID> => ID
 Vec<ID> => [ID!]!";
+
+/// For each type of the library its name, the reference to it, and its declaration.
+const TYPES: &str = "\
+i32 => Int, Int!, scalar Int of ints
+bool => Boolean, Boolean!, scalar Boolean of booleans
+String => String, String!, scalar String of texts
+ID => ID, ID!, scalar ID of ints and texts
+Option<i32> => no name, Int, Int! or null
+Nullable<i32> => no name, Int, Int! or null
+Vec<i32> => no name, [Int!]!, list of Int!
+[i32; 3] => no name, [Int!]!, list of 3 Int!
+Box<i32> => Int, Int!, scalar Int of ints
+&i32 => Int, Int!, scalar Int of ints
+Option<Vec<Option<ID>>> => no name, [ID], [ID]! or null
+Vec<Vec<bool>> => no name, [[Boolean!]!]!, list of [Boolean!]!
+Vec<Nullable<String>> => no name, [String]!, list of String
+[Option<i32>; 0] => no name, [Int]!, list of 0 Int
+Box<Option<i32>> => no name, Int, Int! or null
+&Vec<i32> => no name, [Int!]!, list of Int!";
 
 /// The last field of what is built, and the field of a type that differs from what its resolver answers.
 const FIELDS: &str = "\
@@ -93,6 +112,92 @@ fn reference<T: GraphQLReference<DefaultScalarValue, TypeInfo = ()>>(
     alloc: Global,
 ) -> Result<String, AllocError> {
     empty(alloc).get_type::<T>(&())?.to_string(alloc)
+}
+
+/// The name of the type of this name, the reference to it, and its declaration.
+pub fn type_of(alloc: Global, name: &str) -> Result<String, AllocError> {
+    match name {
+        "i32" => told::<i32>(alloc),
+        "bool" => told::<bool>(alloc),
+        "String" => told::<String>(alloc),
+        "ID" => told::<ID>(alloc),
+        "Option<i32>" => told::<Option<i32>>(alloc),
+        "Nullable<i32>" => told::<Nullable<i32>>(alloc),
+        "Vec<i32>" => told::<Vec<i32>>(alloc),
+        "[i32; 3]" => told::<[i32; 3]>(alloc),
+        "Box<i32>" => told::<Box<i32>>(alloc),
+        "&i32" => told::<&i32>(alloc),
+        _ => type_of_more(alloc, name),
+    }
+}
+
+/// The same of types that stand in one another.
+fn type_of_more(alloc: Global, name: &str) -> Result<String, AllocError> {
+    match name {
+        "Option<Vec<Option<ID>>>" => told::<Option<Vec<Option<ID>>>>(alloc),
+        "Vec<Vec<bool>>" => told::<Vec<Vec<bool>>>(alloc),
+        "Vec<Nullable<String>>" => told::<Vec<Nullable<String>>>(alloc),
+        "[Option<i32>; 0]" => told::<[Option<i32>; 0]>(alloc),
+        "Box<Option<i32>>" => told::<Box<Option<i32>>>(alloc),
+        "&Vec<i32>" => told::<&Vec<i32>>(alloc),
+        _ => unknown(alloc),
+    }
+}
+
+/// The name of a type, the reference to it, and its declaration.
+fn told<T: GraphQLType<DefaultScalarValue, TypeInfo = ()>>(
+    alloc: Global,
+) -> Result<String, AllocError> {
+    let reference = own_reference::<T>(alloc)?;
+    let declaration = declaration::<T>(alloc)?;
+    let name = T::name(&()).unwrap_or("no name");
+    format!(in alloc; "{name}, {reference}, {declaration}")
+}
+
+/// The reference to a type as the type itself says it.
+fn own_reference<T: GraphQLReference<DefaultScalarValue, TypeInfo = ()>>(
+    alloc: Global,
+) -> Result<String, AllocError> {
+    T::type_in(alloc, &(), &mut empty(alloc))?.to_string(alloc)
+}
+
+/// The declaration of a type.
+fn declaration<T: GraphQLType<DefaultScalarValue, TypeInfo = ()>>(
+    alloc: Global,
+) -> Result<String, AllocError> {
+    let meta = T::meta(alloc, &(), &mut empty(alloc))?;
+    match &meta {
+        MetaType::Scalar(scalar) => {
+            let (name, kinds) = (scalar.name.as_str(), kinds_text(scalar.kinds));
+            format!(in alloc; "scalar {name} of {kinds}")
+        }
+        MetaType::Nullable(nullable) => {
+            let inside = &nullable.of_type;
+            format!(in alloc; "{inside} or null")
+        }
+        MetaType::List(list) => list_text(alloc, list),
+        _ => unknown(alloc),
+    }
+}
+
+/// A list, with how many items it expects.
+fn list_text(alloc: Global, list: &ListMeta) -> Result<String, AllocError> {
+    let item = &list.of_type;
+    match list.expected_size {
+        Some(size) => format!(in alloc; "list of {size} {item}"),
+        None => format!(in alloc; "list of {item}"),
+    }
+}
+
+/// The kinds that a scalar accepts.
+fn kinds_text(kinds: ScalarKinds) -> &'static str {
+    match (kinds.int, kinds.text, kinds.boolean) {
+        (true, false, false) => "ints",
+        (false, true, false) => "texts",
+        (false, false, true) => "booleans",
+        (true, true, false) => "ints and texts",
+        _ => "other kinds",
+    }
 }
 
 /// A field of what is built, as it is written.
@@ -273,6 +378,11 @@ fn default_value(alloc: Global) -> Result<String, AllocError> {
 #[test]
 fn types_are_referred_to(rt: HostRuntime) {
     check(&rt, rt.alloc(), Told::Reference, REFERENCES);
+}
+
+#[test]
+fn types_are_what_they_stand_for(rt: HostRuntime) {
+    check(&rt, rt.alloc(), Told::Type, TYPES);
 }
 
 #[test]

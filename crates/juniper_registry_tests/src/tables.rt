@@ -1,6 +1,8 @@
 //! Tables of rows, each a case and what is told of it.
 
-use crate::registry::{built_of, default_of, field_of, kind_of, reference_of, shown_of, steps};
+use crate::registry::{
+    built_of, default_of, field_of, kind_of, reference_of, shown_of, steps, type_of,
+};
 use std::alloc::{AllocError, Global};
 use std::process::Abort;
 
@@ -11,6 +13,8 @@ pub enum Told {
     Case,
     /// The reference to a type.
     Reference,
+    /// The name of a type, the reference to it, and its declaration.
+    Type,
     /// A field as it is written.
     Field,
     /// Whether a declaration is built.
@@ -30,6 +34,7 @@ fn told_of(alloc: Global, told: Told, case: &str) -> Result<String, AllocError> 
     match told {
         Told::Case => String::from_str(alloc, case),
         Told::Reference => reference_of(alloc, case),
+        Told::Type => type_of(alloc, case),
         Told::Field => field_of(alloc, case),
         Told::Built => String::from_str(alloc, built_of(alloc, case)),
         Told::Steps => steps(alloc),
