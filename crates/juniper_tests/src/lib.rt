@@ -20,6 +20,8 @@ mod nulls;
 #[cfg(test)]
 mod objects;
 #[cfg(test)]
+mod roots;
+#[cfg(test)]
 mod shapes;
 #[cfg(test)]
 mod tables;
