@@ -78,6 +78,8 @@ query A($n: Int!) { id } query B { id } | B => 0 {"data":{"id":"q1"}}
 { id } |  => 0 {"data":{"id":"q1"}}
 { id } |  | {} => 0 {"data":{"id":"q1"}}
 query Q($n: Int = 5) { number(plus: $n) } | Q | {"n":null} => 0 {"data":{"number":null}}
+mutation M($n: Int = 3) { add(n: $n) { total } } |  | {"n":null} => 0 {"data":null,"errors":[{"message":"Expected GraphQL scalar, found: null","locations":[{"line":1,"column":27}],"path":["add"]}]}
+mutation M($n: Int = 3) { add(n: $n) { total } } | M | {"n":4} => 0 {"data":{"add":{"total":4}}} total: 4, count: 1
 query Q($n: Int = 5) { number(plus: $n) } |  | {"n":1} => 0 {"data":{"number":42}}
 query Q($n: Int) { number(plus: $n) } |  | {"n":"1"} => 1 refused: Variable `$n` has no fitting value
 query Q($c: Boolean) { id @include(if: $c) name } |  | {"c":null} => 1 refused: Variable may not stand here

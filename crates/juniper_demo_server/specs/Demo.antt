@@ -3,11 +3,12 @@ use Rattle.std.specs.Prelude.{ℕ, ℤ, pos, Bool, codes, cond, ◌+◌, ◌&&�
 use Rattle.std.specs.Ordering.{int_eq}
 use Rattle.std.specs.Str.{bytes_eq}
 use Rattle.graphql_spec.specs.Shown.{Name, int, text}
-use Rattle.graphql_spec.specs.Constants.{Members, find}
+use Rattle.graphql_spec.specs.Constants.{Constant, Members, find}
 use Rattle.graphql_spec.specs.Resolvers.{Error, Reply, answered, failed, nothing, leaf, items, node}
 use Rattle.juniper_resolvable.specs.ResolvedView.{trees_of}
 use Rattle.juniper_resolvable.specs.Answered.{fails_with, int_reply, int_sum, text_reply, trees_reply}
-use Rattle.juniper_values.specs.ArgumentsRead.{enum_argument, int_argument, with_read}
+use Rattle.juniper_scalars.specs.Conversions.{int_of, refusal_text}
+use Rattle.juniper_values.specs.ArgumentsRead.{enum_argument, int_argument, or_error, with_read}
 use Rattle.juniper_demo_server.specs.declared.demo.Demo.{Demo}
 use Rattle.juniper_demo_server.specs.declared.demo.DemoContext.{DemoContext}
 use Rattle.juniper_demo_server.specs.declared.demo.DemoNode.{DemoNode}
@@ -128,6 +129,11 @@ abbrev pub after_sum : DemoContext → Option DemoContext → DemoContext × Rep
 after_sum c None = (c, fails_with (codes "Too large"))
 after_sum c (Some d) = (d, answered (node Tally))
 
+-- an Int that may be missing; null is none
+abbrev pub given_int : Option Constant → Result (Option ℤ) Error
+given_int None = Ok None
+given_int (Some v) = or_error (refusal_text (codes "Int") v) (int_of v)
+
 -- `add`, by its argument
 abbrev pub add_step : DemoContext → Result (Option ℤ) Error → DemoContext × Reply DemoNode
 add_step c (Err e) = (c, failed e)
@@ -137,7 +143,7 @@ add_step c (Ok (Some n)) = after_sum c (plus c n)
 -- the step of a field of the mutation type
 abbrev pub step : DemoContext → Name → Members → DemoContext × Reply DemoNode
 step c field arguments =
-    cond (bytes_eq field (codes "add")) (add_step c (int_argument (find (codes "n") arguments)))
+    cond (bytes_eq field (codes "add")) (add_step c (given_int (find (codes "n") arguments)))
     (cond (bytes_eq field (codes "fail")) (c, fails_with (codes "failed"))
     (c, answered nothing))
 

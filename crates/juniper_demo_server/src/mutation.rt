@@ -5,14 +5,14 @@ ghost use Rattle.graphql_spec.specs.Constants.{find};
 ghost use Rattle.juniper_resolvable.specs.ResolvedView.{Answers};
 ghost use Rattle.juniper_types.specs.Stepping.{Leaves};
 ghost use Rattle.juniper_values.specs.ArgumentView.{view_arguments};
-ghost use Rattle.juniper_values.specs.ArgumentsRead.{int_argument};
-ghost use Rattle.juniper_demo_server.specs.Demo.{add_step, step, torn};
+ghost use Rattle.juniper_values.specs.ArgumentsRead.{Reads};
+ghost use Rattle.juniper_demo_server.specs.Demo.{add_step, given_int, step, torn};
 
 use crate::demo::{DemoContext, DemoNode};
 use juniper_language::ScalarValue;
 use juniper_resolvable::{Resolved, fails, null};
 use juniper_types::{Executor, GraphQLMutationValue};
-use juniper_values::{Arguments, ResolveError, int_argument};
+use juniper_values::{Arguments, ResolveError};
 use std::alloc::Global;
 
 /// `type Mutation`.
@@ -45,17 +45,17 @@ impl<S: ScalarValue> GraphQLMutationValue<S> for DemoMutation {
     }
 }
 
-/// `add`: an addition, and the tally; one that is too large changes nothing.
+/// `add`: an addition, and the tally; one that is too large, and a null, which no Int is, change nothing.
 fn add_field<S: ScalarValue>(
     alloc: Global,
     arguments: &Arguments<'_, S>,
     context: &mut DemoContext,
 ) -> Result<Resolved<DemoNode, S>, ResolveError<S>>
-    ensures answer { Answers S.shown result (add_step context.old (int_argument (find (codes "n") (view_arguments S.shown arguments.now)))).1 }
-    ensures context { Leaves (add_step context.old (int_argument (find (codes "n") (view_arguments S.shown arguments.now)))).0 (torn context.old)
+    ensures answer { Answers S.shown result (add_step context.old (given_int (find (codes "n") (view_arguments S.shown arguments.now)))).1 }
+    ensures context { Leaves (add_step context.old (given_int (find (codes "n") (view_arguments S.shown arguments.now)))).0 (torn context.old)
         result context.new }
 {
-    match int_argument(alloc, arguments, "n") {
+    match given_int(alloc, arguments, "n") {
         Err(error) => Err(error),
         Ok(None) => Ok(Resolved::Null),
         Ok(Some(number)) => match context.plus(number) {
@@ -66,4 +66,15 @@ fn add_field<S: ScalarValue>(
             }
         },
     }
+}
+
+/// The Int at this name; `None` where it is missing. Any other value, and so null, is an error.
+fn given_int<S: ScalarValue>(
+    alloc: Global,
+    arguments: &Arguments<'_, S>,
+    name: &str,
+) -> Result<Option<i32>, ResolveError<S>>
+    ensures { Reads S.shown result (given_int (find name.now (view_arguments S.shown arguments.now))) }
+{
+    arguments.get::<i32>(alloc, name)
 }
