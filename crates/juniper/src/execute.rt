@@ -30,6 +30,7 @@ use crate::service::{Service, undeclared_type};
 use crate::variables::coerce_variables;
 use crate::walking::Walking;
 use juniper_collect::{Collector, fragments_of};
+use juniper_intro::laws::root_replies;
 use juniper_intro::{RootNode, RootedNode};
 use juniper_language::{
     Document, Operation, OperationType, ScalarValue, Span, Spanning, Value, Variables,
@@ -109,6 +110,7 @@ pub(crate) fn execute_walked<
         (outcome_of (view_schema S.shown (schema_of root_node.now)) (view_document S.shown document.now) (view_operation S.shown operation.now)
         (view_variables S.shown variables.now)) context.old r context.new × Lists walking r) result }
 {
+    root_replies(root_node);
     let served = Served {
         query: root_node,
         query_info: root_node.query_info(),

@@ -1,7 +1,8 @@
 -- What a root's nodes reply is what is defined of the nodes that they mean.
-use Rattle.std.proofs.Common.{◌≡◌, ℕ, List, IsTrue, refl, ap}
+use Rattle.std.proofs.Common.{◌≡◌, ℕ, List, IsTrue, true, refl, ap}
 use Rattle.graphql_spec.specs.Constants.{Members}
 use Rattle.graphql_spec.specs.Executable.{is_executable}
+use Rattle.graphql_spec.specs.Introspection as rooted
 use Rattle.graphql_spec.specs.Introspection.{introspect, introspected, rooted_answer, rooted_concrete, user_reply}
 use Rattle.graphql_spec.specs.Resolvers.{Reply, answered}
 use Rattle.graphql_spec.specs.Schema.{Schema}
@@ -12,6 +13,7 @@ use Rattle.juniper_intro.specs.HandleView.{code_handle, code_input, code_type, o
 use Rattle.juniper_intro.specs.Handles as spec
 use Rattle.juniper_intro.specs.Handles.{AllAreNamed, held_reply, held_user_reply, meant}
 use Rattle.juniper_intro.specs.HeldReplies.{held_answer, held_concrete}
+use Rattle.juniper_intro.specs.Tops.{is_top}
 use Rattle.juniper_intro.specs.declared.node.RootedNode.{RootedNode}
 use Rattle.juniper_intro.specs.declared.node.RootedNode.TheVariants as node
 
@@ -32,6 +34,12 @@ handle-coded (spec.field_handle i j) = refl
 handle-coded (spec.input_handle p) = ap (λ q. spec.input_handle q) (input-coded p)
 handle-coded (spec.value_handle i j) = refl
 handle-coded (spec.directive_handle i) = refl
+
+-- the root is seen as the root
+pub top-seen : {N : Type 0} (s : Schema) (names : List Name) (n : RootedNode N) → is_top n ≡ true → view_node s names n ≡ rooted.root
+top-seen s names node.Root e = refl
+top-seen s names (node.User n) e = cc
+top-seen s names (node.Introspected h) e = cc
 
 module _ {N : Type 0} (s : Schema) (names : List Name) (concrete : N → Name) (top : N) where
   pub types-rooted : (n : RootedNode N) → held_concrete concrete top n ≡ rooted_concrete top concrete (view_node s names n)

@@ -2,10 +2,15 @@
 use Rattle.std.specs.Prelude.{Bool}
 use Rattle.std.specs.declared.cmp.PartialEq.{Ghosts as Equality}
 use Rattle.std.specs.declared.fmt.Debug.{Ghosts as Shows}
+use Rattle.graphql_spec.specs.Introspection as rooted
+use Rattle.graphql_spec.specs.Shown.{Shown}
+use Rattle.juniper_intro.specs.HandleView.{view_node}
 use Rattle.juniper_intro.specs.Introspectors as introspectors
+use Rattle.juniper_intro.specs.declared.node.RootedNode.{RootedNode}
 use Rattle.juniper_intro.specs.declared.root.RootNode.{RootNode}
 use Rattle.juniper_registry.specs.declared.graphql_type.GraphQLReference.{Ghosts as References}
 use Rattle.juniper_registry.specs.declared.graphql_type.GraphQLType.{Ghosts as Types}
+use Rattle.juniper_schema.specs.SchemaView.{view_schema}
 use Rattle.juniper_schema.specs.declared.schema.SchemaType.{SchemaType}
 use Rattle.juniper_syntax.specs.declared.scalar.ScalarValue.{Ghosts as Scalars}
 use Rattle.juniper_types.specs.declared.resolver.GraphQLValue.{Ghosts as Values}
@@ -45,3 +50,9 @@ module _ {Q M Sub S C N I J K : Type 0} {values : Values Q S C N I} {query : Typ
   -- whether introspection is disabled
   abbrev pub is_disabled : RootNode Q M Sub S C N I J K values query query_ref mutation mutation_ref subscription subscription_ref scalar equality shows → Bool
   is_disabled r = r.is_introspection_disabled
+
+  -- the node that one of the root's is seen as (4)
+  unfoldable pub view_node_of : (S → Shown) →
+      RootNode Q M Sub S C N I J K values query query_ref mutation mutation_ref subscription subscription_ref scalar equality shows →
+      RootedNode N → rooted.RootedNode N
+  view_node_of shown r = view_node (view_schema shown (schema_of r)) (introspectors.names_of r.introspector)

@@ -1,4 +1,5 @@
 use Rattle.std.proofs.Common.{ap}
+use Rattle.juniper_intro.specs.RootView.{resolver_of, view_node_of}
 use Rattle.juniper_schema.specs.SchemaView.{view_schema}
 use Rattle.juniper_syntax.specs.DocumentView.{view_document, view_operation}
 use Rattle.juniper_syntax.specs.InputView.{view_variables}
@@ -15,8 +16,9 @@ returns g c =
     let d = view_document shown c.args.document.now in
     let o = view_operation shown c.args.operation.now in
     let given = view_variables shown c.args.variables.now in
+    let law = c.root_replies.ensures in
     answers-beside shown _ (Lists c.args.walking) c.execute_operation.result c.execute_operation.ensures _
     (λ r p. outcome-moved g.Q.GraphQLValue.concrete g.Q.GraphQLValue.answer g.Q.GraphQLValue.root g.M.GraphQLMutationValue.step g.M.GraphQLMutationValue.torn
-    root _ _ _ _ _
+    _ _ _ (view_node_of shown root) (resolver_of root) _ law.types law.replies law.top law.users _ _ _ _ _ _ _ _ _
     (ap (view_schema shown) c.schema.ensures) c.is_introspection_disabled.ensures c.query_info.ensures c.mutation.ensures c.mutation_info.ensures
     (λ x. outcome_of x d o given) c.args.context.now r c.execute_operation.new.context p)
