@@ -1,13 +1,18 @@
 -- What a resolver is asked for at a field.
-use Rattle.std.proofs.Common.{◌≡◌, ◌<◌, Bool, List, [], ◌∷◌, length, sym, ap, ◌∙◌, arith}
+use Rattle.std.proofs.Common.{◌≡◌, ◌<◌, Bool, List, [], ◌∷◌, ◌++◌, IsTrue, Some, length, sym, ap, ◌∙◌, subst, arith}
 use Rattle.std.specs.declared.cmp.PartialEq.{Ghosts as Equality}
 use Rattle.std.specs.declared.fmt.Debug.{Ghosts as Shows}
 use Rattle.graphql_spec.specs.Shown.{Shown, Name}
 use Rattle.graphql_spec.specs.Arguments.{coerced_arguments}
 use Rattle.graphql_spec.specs.Constants.{Members}
-use Rattle.graphql_spec.specs.Documents.{written}
+use Rattle.graphql_spec.specs.Documents.{response_key, written}
+use Rattle.graphql_spec.specs.Executable.{is_executable}
+use Rattle.graphql_spec.specs.Errors.{Place, key}
+use Rattle.graphql_spec.specs.Selections.{Occurrence}
 use Rattle.graphql_spec.specs.Execution.{reply_of, reply_to, type_of}
-use Rattle.graphql_spec.specs.Fields.{declared_arguments, field_of, is_possible}
+use Rattle.graphql_spec.specs.Fields.{declared_arguments, declared_type, field_of, is_possible}
+use Rattle.graphql_spec.specs.Schema.{Schema}
+use Rattle.graphql_spec.specs.Types.{TypeRef, innermost}
 use Rattle.graphql_spec.specs.Resolvers.{World}
 use Rattle.juniper_position.specs.declared.position.Span.{Span}
 use Rattle.juniper_position.specs.declared.position.Spanning.{Spanning}
@@ -18,10 +23,17 @@ use Rattle.juniper_lookahead.specs.Expansion.{FragmentsByName, VariableMap, occu
 use Rattle.juniper_lookahead.specs.Sites.{IsFirstOf, IsWholeGroup, view_fields}
 use Rattle.juniper_lookahead.specs.declared.occurrences.Enclosing.{Enclosing}
 use Rattle.juniper_lookahead.specs.declared.occurrences.Occurrence.{Occurrence as CodeOccurrence}
-use Rattle.juniper_schema.specs.SchemaView.{view_schema}
+use Rattle.juniper_meta.specs.MetaView.{Meta}
+use Rattle.juniper_schema.specs.MadeTypes.{around, view_made}
+use Rattle.juniper_schema.specs.SchemaView.{meta_named, view_schema}
+use Rattle.juniper_errors.specs.PathView.{path_place}
+use Rattle.juniper_errors.specs.declared.field_path.FieldPath.{FieldPath}
 use Rattle.juniper_schema.specs.declared.schema.SchemaType.{SchemaType}
-use Rattle.juniper_types.specs.ExecutorView.{IsAskedFor, concrete_of, enclosing_of, fragments_of, occurrence_of, occurrences_of, schema_of, variables_of}
+use Rattle.juniper_schema.specs.declared.type_type.TypeType.{TypeType}
+use Rattle.juniper_types.specs.ExecutorView.{IsAskedFor, IsDeclaredType, IsStepOf, concrete_of, enclosing_of, fragments_of, occurrence_of, occurrences_of, path_of, schema_of, variables_of}
+use Rattle.juniper_types.specs.ExecutorView as executing
 use Rattle.juniper_types.specs.declared.executor.Executor.{Executor}
+use Rattle.juniper_walk.specs.Asking.{IsPathOf}
 use Rattle.juniper_walk.specs.FieldWords.{head_of}
 
 -- a list with a first has one at least
@@ -35,6 +47,17 @@ first-same [] f g first other = absurd first
 first-same (o ∷ os) f g first other = sym first ∙ other
 
 module _ {S : Type 0} (shown : S → Shown) (vars : VariableMap S) (m : FragmentsByName S) where
+  -- the path of a group is that of its first
+  pub first-placed : (os : List (CodeOccurrence S)) (f : Spanning (Field S) Span) (at : Place) → IsFirstOf f os →
+      IsPathOf (view_fields shown vars m os) at → IsStepOf (response_key (head_of shown f)) at
+  unfolding occurrence_at
+  first-placed [] f at first p = absurd first
+  first-placed (o ∷ os) f at first p =
+      let e : occurrence_at shown vars m o.field.now ∷ view_fields shown vars m os ≡ p.first ∷ p.others = p.some in
+      let same : p.first ≡ occurrence_at shown vars m o.field.now = cc in
+      subst (λ (x : Spanning (Field S) Span). IsStepOf (response_key (head_of shown x)) at) first
+      (record { above = p.above; is = p.is ∙ ap (λ (x : Occurrence). p.above ++ key (response_key x.head) ∷ []) same })
+
   -- a whole group has one field at least
   pub whole-bound : (possible : Name → Name → Bool) (T : Name) (es : List (Enclosing S)) (os : List (CodeOccurrence S)) →
       IsWholeGroup shown possible vars m T es os → 0 < length os
@@ -55,19 +78,33 @@ module _ {S : Type 0} (shown : S → Shown) (vars : VariableMap S) (m : Fragment
     first-reply [] f first = absurd first
     first-reply (o ∷ os) f first = ap (λ (x : Spanning (Field S) Span). reply_to W T n (head_of shown x)) (sym first)
 
+-- a type that is made of the declared reference is the declared type
+pub shows-declared : {S : Type 0} (shown : S → Shown) (s : Schema) (T name : Name) (t : TypeRef) (made : TypeType S) → t ≡ declared_type (field_of s T name) →
+    ((m : Meta) → meta_named s (innermost t) ≡ Some m → view_made shown made ≡ around m t) → IsDeclaredType shown s T name made
+unfolding declared_type
+shows-declared shown s T name t made is makes = λ f m found known.
+    let same : t ≡ f.of_type = is ∙ ap declared_type found in
+    subst (λ u. view_made shown made ≡ around m u) same (makes m (ap (λ u. meta_named s (innermost u)) same ∙ known))
+
 module _ {C S : Type 0} {scalar : Scalars S} {equality : Equality S} {shows : Shows S} (shown : S → Shown) (e : Executor C S scalar equality shows) where
   pub asked-at : (s : SchemaType S scalar equality shows) (vars : VariableMap S) (m : FragmentsByName S) (T : Name) (es : List (Enclosing S))
-      (os : List (CodeOccurrence S)) (f : Spanning (Field S) Span) (name : Name) (given : Members) →
+      (os : List (CodeOccurrence S)) (f : Spanning (Field S) Span) (declared : TypeType S) (at : FieldPath) (name : Name) (given : Members) →
       schema_of e ≡ s → variables_of e ≡ vars → fragments_of e ≡ m → concrete_of e ≡ T → enclosing_of e ≡ es → occurrences_of e ≡ os →
-      occurrence_of e ≡ f → IsFirstOf f os →
+      occurrence_of e ≡ f → executing.type_of e ≡ declared → path_of e ≡ at → IsFirstOf f os →
       (occurrence_at shown vars m f).head.name.item ≡ name →
       given ≡ coerced_arguments (declared_arguments (field_of (view_schema shown s) T name)) (view_variables shown vars)
       (written (occurrence_at shown vars m f).head.arguments) →
-      IsWholeGroup shown (is_possible (view_schema shown s)) vars m T es os → IsAskedFor shown e name given
-  asked-at s vars m T es os f name given of_schema of_variables of_fragments of_concrete of_enclosing of_occurrences of_occurrence first is_named is_given whole =
+      IsWholeGroup shown (is_possible (view_schema shown s)) vars m T es os → IsDeclaredType shown (view_schema shown s) T name declared →
+      IsStepOf (response_key (occurrence_at shown vars m f).head) (path_place at) → IsTrue (is_executable (view_schema shown s)) →
+      IsAskedFor shown e name given
+  asked-at s vars m T es os f declared at name given of_schema of_variables of_fragments of_concrete of_enclosing of_occurrences of_occurrence of_type of_path
+      first is_named is_given whole shows placed executable =
       record {
         is_named = rw (of_variables, of_fragments, of_occurrence) is_named;
         is_given = rw (of_schema, of_variables, of_fragments, of_concrete, of_occurrence) is_given;
         first = rw (of_occurrence, of_occurrences) first;
         whole = rw (of_schema, of_variables, of_fragments, of_concrete, of_enclosing, of_occurrences) whole;
+        shows_type = rw (of_schema, of_concrete, of_type) shows;
+        is_placed = rw (of_variables, of_fragments, of_occurrence, of_path) placed;
+        executable = rw of_schema executable;
       }

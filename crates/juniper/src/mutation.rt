@@ -1,7 +1,9 @@
 //! The root groups of a mutation take their steps one after the other (ExecuteMutation, section 6.2.2 of the Specification).
 
 ghost use Rattle.std.specs.Prelude.{◌≡◌, ◌<◌, [], ◌∷◌, length, IfOk, MatchResult, map, string_bytes};
+ghost use Rattle.graphql_spec.specs.Documents.{response_key};
 ghost use Rattle.graphql_spec.specs.ExactAnswers.{whole};
+ghost use Rattle.graphql_spec.specs.Fields as fields;
 ghost use Rattle.graphql_spec.specs.Fields.{declared_arguments, field_of, is_possible};
 ghost use Rattle.graphql_spec.specs.GroupLaws.{GroupCompleted};
 ghost use Rattle.graphql_spec.specs.Laws.{Merges};
@@ -21,6 +23,7 @@ ghost use Rattle.juniper_resolvable.specs.ResolvedView.{Answers};
 ghost use Rattle.juniper_schema.specs.SchemaView.{view_schema};
 ghost use Rattle.juniper_syntax.specs.TypeView.{view_type};
 ghost use Rattle.juniper_syntax.specs.ValueView.{view_object, view_value};
+ghost use Rattle.juniper_types.specs.ExecutorView.{IsStepOf};
 ghost use Rattle.juniper_walk.specs.Completing.{IsTold};
 ghost use Rattle.juniper_walk.specs.FieldWords.{head_of};
 ghost use Rattle.juniper_walk.specs.Walking.{SelectionsAgree};
@@ -82,8 +85,11 @@ pub(crate) fn step<
 ) -> Result<Resolved<Q::Node, S>, ResolveError<S>>
     requires arguments { map (view_argument S.shown) arguments.now ≡ declared_arguments (field_of (view_schema S.shown (schema_of served.now))
         walk.now.concrete.now (head_of S.shown written.now).name.item) }
+    requires declared { view_type (λ n. string_bytes n) declared.now
+        ≡ fields.declared_type (field_of (view_schema S.shown (schema_of served.now)) walk.now.concrete.now (head_of S.shown written.now).name.item) }
     requires acyclic { IsAcyclic S.shown site.now.fragments.now }
     requires first { IsFirstOf written.now site.now.occurrences.now }
+    requires path { IsStepOf (response_key (head_of S.shown written.now)) (path_place site.now.path.now) }
     requires whole { IsWholeGroup S.shown (is_possible (view_schema S.shown (schema_of served.now))) walk.now.variables.now site.now.fragments.now
         walk.now.concrete.now site.now.enclosing.now site.now.occurrences.now }
     ensures answer { (os : _) → Answers S.shown result
@@ -98,14 +104,14 @@ pub(crate) fn step<
         return type_name(alloc, walk.concrete);
     }
     let arguments = coerce_arguments(alloc, arguments, written, walk.variables)?;
-    let declared = shown_type(alloc, served.schema, served.query_type(), declared)?;
+    let shown = shown_type(alloc, served.schema, served.query_type(), declared)?;
     let executor = Executor::at_field(
         &(),
         served.schema,
         walk.variables,
         site.fragments,
         site.path,
-        &declared,
+        &shown,
         walk.concrete,
         site.enclosing,
         site.occurrences,

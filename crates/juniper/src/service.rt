@@ -1,20 +1,25 @@
 //! What a request asks of its schema, its variables and its resolver (section 6.4 of the Specification).
 
-ghost use Rattle.std.specs.Prelude.{◌≡◌, ◌<◌, [], length, IsTrue, false, map, option_map, string_bytes};
+ghost use Rattle.std.specs.Prelude.{◌≡◌, ◌<◌, [], length, IfOk, IsTrue, Some, false, map, option_map, string_bytes};
 ghost use Rattle.graphql_spec.specs.Arguments.{coerced_arguments};
-ghost use Rattle.graphql_spec.specs.Documents.{written};
+ghost use Rattle.graphql_spec.specs.Documents.{response_key, written};
+ghost use Rattle.graphql_spec.specs.Executable.{is_executable};
 ghost use Rattle.graphql_spec.specs.Execution.{reply_to};
-ghost use Rattle.graphql_spec.specs.Fields.{declared_arguments, declared_type, field_of, is_possible};
+ghost use Rattle.graphql_spec.specs.Fields as fields;
+ghost use Rattle.graphql_spec.specs.Fields.{declared_arguments, field_of, is_possible};
 ghost use Rattle.graphql_spec.specs.Resolvers.{answered, leaf};
 ghost use Rattle.graphql_spec.specs.Shown.{text};
-ghost use Rattle.graphql_spec.specs.Types.{named};
+ghost use Rattle.graphql_spec.specs.Types.{innermost, named};
 ghost use Rattle.juniper_syntax.specs.InputView.{view_variables};
 ghost use Rattle.juniper_syntax.specs.TypeView.{view_type};
 ghost use Rattle.juniper_meta.specs.MetaView.{view_argument, view_field};
 ghost use Rattle.juniper_resolvable.specs.ResolvedView.{Answers};
-ghost use Rattle.juniper_schema.specs.SchemaView.{view_schema};
+ghost use Rattle.juniper_errors.specs.PathView.{path_place};
+ghost use Rattle.juniper_schema.specs.MadeTypes.{around, view_made};
+ghost use Rattle.juniper_schema.specs.SchemaView.{meta_named, view_schema};
 ghost use Rattle.juniper_lookahead.specs.Expansion.{IsAcyclic};
 ghost use Rattle.juniper_lookahead.specs.Sites.{IsFirstOf, IsWholeGroup};
+ghost use Rattle.juniper_types.specs.ExecutorView.{IsStepOf};
 ghost use Rattle.juniper_walk.specs.FieldWords.{head_of};
 ghost use Rattle.juniper.specs.Services.{is_undeclared, world_in};
 
@@ -43,6 +48,7 @@ pub(crate) struct Service<'r, Q: GraphQLValue<S>, S: ScalarValue> {
     pub(crate) query_type: &'r MetaType<S>,
     /// Its declared type.
     pub(crate) undeclared: Type<String>,
+    ghost executable: { IsTrue (is_executable (view_schema S.shown schema.now)) },
     ghost unnamed: { IsTrue (is_undeclared (view_type (λ n. string_bytes n) undeclared)) },
 }
 
@@ -121,8 +127,11 @@ impl<'r, Q: GraphQLValue<S>, S: ScalarValue> Service<'r, Q, S> {
     ) -> Result<Resolved<Q::Node, S>, ResolveError<S>>
         requires arguments { map (view_argument S.shown) arguments.now
             ≡ declared_arguments (field_of (view_schema S.shown self.now.schema.now) concrete.now (head_of S.shown first.now).name.item) }
+        requires declared { view_type (λ n. string_bytes n) declared.now
+            ≡ fields.declared_type (field_of (view_schema S.shown self.now.schema.now) concrete.now (head_of S.shown first.now).name.item) }
         requires acyclic { IsAcyclic S.shown site.now.fragments.now }
         requires first { IsFirstOf first.now site.now.occurrences.now }
+        requires path { IsStepOf (response_key (head_of S.shown first.now)) (path_place site.now.path.now) }
         requires whole { IsWholeGroup S.shown (is_possible (view_schema S.shown self.now.schema.now)) self.now.variables.now site.now.fragments.now
             concrete.now site.now.enclosing.now site.now.occurrences.now }
         ensures { Answers S.shown result (reply_to (world_in Q.concrete Q.answer self.now.resolver.now self.now.info.now self.now.context.now
@@ -149,8 +158,11 @@ impl<'r, Q: GraphQLValue<S>, S: ScalarValue> Service<'r, Q, S> {
     ) -> Result<Resolved<Q::Node, S>, ResolveError<S>>
         requires arguments { map (view_argument S.shown) arguments.now
             ≡ declared_arguments (field_of (view_schema S.shown self.now.schema.now) concrete.now (head_of S.shown first.now).name.item) }
+        requires declared { view_type (λ n. string_bytes n) declared.now
+            ≡ fields.declared_type (field_of (view_schema S.shown self.now.schema.now) concrete.now (head_of S.shown first.now).name.item) }
         requires acyclic { IsAcyclic S.shown site.now.fragments.now }
         requires first { IsFirstOf first.now site.now.occurrences.now }
+        requires path { IsStepOf (response_key (head_of S.shown first.now)) (path_place site.now.path.now) }
         requires whole { IsWholeGroup S.shown (is_possible (view_schema S.shown self.now.schema.now)) self.now.variables.now site.now.fragments.now
             concrete.now site.now.enclosing.now site.now.occurrences.now }
         ensures { Answers S.shown result (Q.answer self.now.resolver.now self.now.info.now self.now.context.now node.now
@@ -159,14 +171,14 @@ impl<'r, Q: GraphQLValue<S>, S: ScalarValue> Service<'r, Q, S> {
             (written (head_of S.shown first.now).arguments))) }
     {
         let arguments = coerce_arguments(alloc, arguments, first, self.variables)?;
-        let declared = shown_type(alloc, self.schema, self.query_type, declared)?;
+        let shown = shown_type(alloc, self.schema, self.query_type, declared)?;
         let executor = Executor::at_field(
             self.context,
             self.schema,
             self.variables,
             site.fragments,
             site.path,
-            &declared,
+            &shown,
             concrete,
             site.enclosing,
             site.occurrences,
@@ -195,7 +207,7 @@ pub(crate) fn declared_type<'t, S: ScalarValue>(
     undeclared: &'t Type<String>,
 ) -> &'t Type<String>
     requires { IsTrue (is_undeclared (view_type (λ n. string_bytes n) undeclared.now)) }
-    ensures { view_type (λ n. string_bytes n) result.now ≡ declared_type (option_map (λ f. view_field S.shown f.now) field.entry) }
+    ensures { view_type (λ n. string_bytes n) result.now ≡ fields.declared_type (option_map (λ f. view_field S.shown f.now) field.entry) }
 {
     match field {
         Some(field) => &field.field_type,
@@ -203,13 +215,16 @@ pub(crate) fn declared_type<'t, S: ScalarValue>(
     }
 }
 
-/// The type that a resolver is shown for a field: the declared one.
+/// The type that a resolver is shown for a field: the declared one, where the schema has its name.
 pub(crate) fn shown_type<'s, S: ScalarValue>(
     alloc: Global,
     schema: &'s SchemaType<S>,
     query_type: &'s MetaType<S>,
     declared: &Type<String>,
-) -> Result<TypeType<'s, S>, AllocError> {
+) -> Result<TypeType<'s, S>, AllocError>
+    ensures { IfOk result (λ made. (m : _) → meta_named (view_schema S.shown schema.now) (innermost (view_type (λ n. string_bytes n) declared.now)) ≡ Some m →
+        view_made S.shown made ≡ around m (view_type (λ n. string_bytes n) declared.now)) }
+{
     match schema.concrete_type_by_name(declared.innermost_name()) {
         Some(_) => schema.make_type(alloc, declared),
         None => Ok(TypeType::Concrete(query_type)),

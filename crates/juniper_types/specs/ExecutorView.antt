@@ -1,5 +1,5 @@
 -- What an executor shows (6.4.2).
-use Rattle.std.specs.Prelude.{◌≡◌, ℕ, List, Option, option_map, String}
+use Rattle.std.specs.Prelude.{◌≡◌, ℕ, List, [], ◌∷◌, ◌++◌, IsTrue, Option, Some, option_map, String}
 use Rattle.std.specs.Borrow.{Bor}
 use Rattle.std.specs.HashMap.{HashMap, get_by}
 use Rattle.std.specs.Str.{bytes_eq}
@@ -12,9 +12,13 @@ use Rattle.graphql_spec.specs.Positions.{Position}
 use Rattle.graphql_spec.specs.Shown.{Shown, Name}
 use Rattle.graphql_spec.specs.Arguments.{coerced_arguments}
 use Rattle.graphql_spec.specs.Constants.{Members}
-use Rattle.graphql_spec.specs.Documents.{written}
+use Rattle.graphql_spec.specs.Documents.{response_key, written}
+use Rattle.graphql_spec.specs.Errors.{Place, key}
+use Rattle.graphql_spec.specs.Executable.{is_executable}
 use Rattle.graphql_spec.specs.Fields.{declared_arguments, field_of, is_possible}
+use Rattle.graphql_spec.specs.Schema.{FieldDeclaration, Schema}
 use Rattle.graphql_spec.specs.Selections.{Occurrence}
+use Rattle.graphql_spec.specs.Types.{innermost}
 use Rattle.juniper_position.specs.Positions.{view_position}
 use Rattle.juniper_position.specs.declared.position.Span.{Span}
 use Rattle.juniper_position.specs.declared.position.Spanning.{Spanning}
@@ -27,11 +31,24 @@ use Rattle.juniper_lookahead.specs.Expansion.{occurrence_at}
 use Rattle.juniper_lookahead.specs.Sites.{IsFirstOf, IsWholeGroup, view_fields}
 use Rattle.juniper_lookahead.specs.declared.occurrences.Enclosing.{Enclosing}
 use Rattle.juniper_lookahead.specs.declared.occurrences.Occurrence.{Occurrence as CodeOccurrence}
-use Rattle.juniper_schema.specs.SchemaView.{view_schema}
+use Rattle.juniper_errors.specs.PathView.{path_place}
+use Rattle.juniper_meta.specs.MetaView.{Meta}
+use Rattle.juniper_schema.specs.MadeTypes.{around, view_made}
+use Rattle.juniper_schema.specs.SchemaView.{meta_named, view_schema}
 use Rattle.juniper_errors.specs.declared.field_path.FieldPath.{FieldPath}
 use Rattle.juniper_schema.specs.declared.schema.SchemaType.{SchemaType}
 use Rattle.juniper_schema.specs.declared.type_type.TypeType.{TypeType}
 use Rattle.juniper_types.specs.declared.executor.Executor.{Executor}
+
+-- a type is the one that a field declares, with what the schema declares at its name (3.4.1, 3.6)
+abbrev pub IsDeclaredType : {S : Type 0} → (S → Shown) → Schema → Name → Name → TypeType S → Type 0
+IsDeclaredType shown s T name made = (f : FieldDeclaration) (m : Meta) → field_of s T name ≡ Some f → meta_named s (innermost f.of_type) ≡ Some m →
+    view_made shown made ≡ around m f.of_type
+
+-- the last step of a path is this response key (7.1.2)
+pub record IsStepOf (k : Name) (at : Place) : Type 0 where
+  pub above : Place
+  pub is : at ≡ above ++ key k ∷ []
 
 module _ {C S : Type 0} {scalar : Scalars S} {equality : Equality S} {shows : Shows S} where
   -- the context of the request
@@ -86,8 +103,9 @@ module _ {C S : Type 0} {scalar : Scalars S} {equality : Equality S} {shows : Sh
   abbrev pub view_occurrence : (S → Shown) → Executor C S scalar equality shows → Occurrence
   view_occurrence shown e = occurrence_at shown e.variables.now e.fragments.now e.first.now
 
-  -- the executor is that of a field of this name with these arguments (6.4.1), whose occurrences are all that the selections around
-  -- it hold of one response key for its object type, in order (6.3.2)
+  -- The executor is that of a field of this name with these arguments (6.4.1), whose occurrences are all that the selections around
+  -- it hold of one response key for its object type, in order (6.3.2). It shows the type that the field declares, a path whose last
+  -- step is the response key, and a schema that can be executed.
   pub record IsAskedFor (shown : S → Shown) (e : Executor C S scalar equality shows) (name : Name) (given : Members) : Type 0 where
     pub is_named : (view_occurrence shown e).head.name.item ≡ name
     pub is_given : given ≡ coerced_arguments (declared_arguments (field_of (view_schema shown e.schema.now) e.concrete_type.now name))
@@ -95,6 +113,9 @@ module _ {C S : Type 0} {scalar : Scalars S} {equality : Equality S} {shows : Sh
     pub first : IsFirstOf e.first.now e.occurrences.now
     pub whole : IsWholeGroup shown (is_possible (view_schema shown e.schema.now)) e.variables.now e.fragments.now e.concrete_type.now e.enclosing.now
         e.occurrences.now
+    pub shows_type : IsDeclaredType shown (view_schema shown e.schema.now) e.concrete_type.now name e.declared_type.now
+    pub is_placed : IsStepOf (response_key (view_occurrence shown e).head) (path_place e.path.now)
+    pub executable : IsTrue (is_executable (view_schema shown e.schema.now))
 
 -- the fragment that the map has at a name
 abbrev pub fragment_at : {S H : Type 0} → HashMap (Bor (List ℕ)) (Bor (Fragment S)) H → Name → Option (Fragment S)

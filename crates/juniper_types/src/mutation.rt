@@ -33,8 +33,8 @@ pub trait GraphQLMutationValue<S: ScalarValue>: GraphQLType<S> {
 
     /// Takes the step of a root field: changes the context, and answers the field or the error with which it fails; where
     /// memory is wanting, the context may be torn. The executor is that of the field: it is written with this name and these
-    /// arguments (6.4.1), and its occurrences are all that the selections around it hold of one response key for the mutation
-    /// type (6.3.2).
+    /// arguments (6.4.1), its occurrences are all that the selections around it hold of one response key for the mutation
+    /// type (6.3.2), the type is the one that it declares, and the path ends with its response key.
     fn resolve_root(
         &self,
         alloc: Global,

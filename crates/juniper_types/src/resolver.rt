@@ -51,8 +51,8 @@ pub trait GraphQLValue<S: ScalarValue>: GraphQLType<S> {
         ensures { result.now ≡ concrete self.now info.now context.now node.now };
 
     /// The answer to a field of a node, or the error with which the field fails. The executor is that of the field: it is
-    /// written with this name and these arguments (6.4.1), and its occurrences are all that the selections around it hold of one
-    /// response key for the object type (6.3.2).
+    /// written with this name and these arguments (6.4.1), its occurrences are all that the selections around it hold of one
+    /// response key for the object type (6.3.2), the type is the one that it declares, and the path ends with its response key.
     fn resolve_field(
         &self,
         alloc: Global,

@@ -1,3 +1,4 @@
+pub mod Asking
 pub mod Completing
 pub mod FieldWords
 pub mod Walking

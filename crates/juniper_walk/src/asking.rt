@@ -5,7 +5,9 @@ ghost use Rattle.graphql_spec.specs.Execution.{reply_of, type_of};
 ghost use Rattle.juniper_syntax.specs.TypeView.{view_type};
 ghost use Rattle.juniper_lookahead.specs.Expansion.{IsAcyclic};
 ghost use Rattle.juniper_lookahead.specs.Sites.{IsWholeGroup, view_fields};
+ghost use Rattle.juniper_errors.specs.PathView.{path_place};
 ghost use Rattle.juniper_resolvable.specs.ResolvedView.{Answers};
+ghost use Rattle.juniper_walk.specs.Asking.{IsPathOf};
 
 use juniper_assemble::Completer;
 use juniper_collect::{Collector, Conditions};
@@ -49,7 +51,7 @@ pub trait Resolver<S: ScalarValue>: Completer<S> + Conditions {
         ensures { result.now ≡ (Self.world self.now).concrete node.now };
 
     /// What the first occurrence of a field of a node answers, `__typename` too (ResolveFieldValue, 6.4.2), with its declared type. The
-    /// occurrences are all that the selections around them hold of one response key for the object type (6.3.2).
+    /// occurrences are all that the selections around them hold of one response key for the object type (6.3.2), with which the path ends.
     fn ask<'t, 'd, 'a>(
         &'t self,
         alloc: Global,
@@ -58,6 +60,7 @@ pub trait Resolver<S: ScalarValue>: Completer<S> + Conditions {
         site: &Site<'_, 'd, 'a, S>,
     ) -> Asked<'t, Self::Node, S>
         requires acyclic { IsAcyclic S.shown site.now.fragments.now }
+        requires path { IsPathOf (view_fields S.shown (values self.now) site.now.fragments.now site.now.occurrences.now) (path_place site.now.path.now) }
         requires whole { IsWholeGroup S.shown (Self.possible self.now) (values self.now) site.now.fragments.now concrete.now site.now.enclosing.now
             site.now.occurrences.now }
         ensures declared { view_type (λ n. string_bytes n) result.declared.now

@@ -14,7 +14,7 @@ use Rattle.juniper.proofs.execute.execute_query.Goals as goal
 
 pub invariant_of-service : goal.invariant_of-service
 unfolding is_undeclared
-invariant_of-service g c = record { unnamed = ap is_undeclared c.undeclared_type.ensures }
+invariant_of-service g c = record { executable = c.args.served.now.executable; unnamed = ap is_undeclared c.undeclared_type.ensures }
 
 pub answer-requires-clause-ready : goal.answer-requires-clause-ready
 unfolding world_of

@@ -3,6 +3,7 @@ use Rattle.graphql_spec.specs.Fields.{declared_type, is_possible}
 use Rattle.graphql_spec.specs.Mutation.{step_of}
 use Rattle.graphql_spec.specs.Resolvers.{world_of}
 use Rattle.juniper_collect.specs.Collected.{view_all}
+use Rattle.juniper_errors.specs.PathView.{path_place}
 use Rattle.juniper_plan.specs.PlanWalks.{IsGroupOf}
 use Rattle.juniper_plan.specs.Plans.{fields_at, key_at}
 use Rattle.juniper_plan.proofs.Whole.{some-field}
@@ -24,6 +25,15 @@ first_of-first-requires g c =
     let k = key_at c.args.plan.now c.args.group.0 in
     some-field shown (collector_in shown walk) c.fields-fields.result.now k os
     (subst (λ l. IsGroupOf k os (view_all shown (collector_in shown walk) l)) (sym c.fields-fields.ensures) c.requires.group)
+
+pub step-answer-requires-clause-declared : goal.step-answer-requires-clause-declared
+step-answer-requires-clause-declared g c = c.declared_type-declared.ensures ∙ ap declared_type c.field_of-field.ensures
+
+pub step-answer-requires-clause-path : goal.step-answer-requires-clause-path
+step-answer-requires-clause-path g c = record {
+  above = path_place c.args.walk.now.path.now.value;
+  is = ap path_place c.as_ref.ensures ∙ c.in_ok-path.ensures;
+}
 
 pub step-answer-requires-clause-whole : goal.step-answer-requires-clause-whole
 step-answer-requires-clause-whole g c =

@@ -1,4 +1,5 @@
 use Rattle.std.proofs.Common.{[], ◌∷◌, ◌++◌, sym, ap, ◌∙◌, subst}
+use Rattle.graphql_spec.specs.Documents.{response_key}
 use Rattle.graphql_spec.specs.Errors.{key}
 use Rattle.graphql_spec.specs.Execution.{reply_of, type_of}
 use Rattle.graphql_spec.specs.Selections.{occurrences}
@@ -24,6 +25,26 @@ ask-answer-requires-clause-whole g c =
     whole-at shown collector c.by_name.result.now c.by_name.ensures.alike possible (g.R.Resolver.values c.args.walk.now.collector.possible)
     c.args.concrete.now c.args.enclosing.now c.fields-fields.result.now (key_at c.args.plan.now c.args.group.0) c.requires.ready.variables
     (subst (λ fs. IsGroupOf (key_at c.args.plan.now c.args.group.0) all (view_all shown collector fs)) (sym c.fields-fields.ensures) c.requires.whole)
+
+pub ask-answer-requires-clause-path : goal.ask-answer-requires-clause-path
+ask-answer-requires-clause-path g c =
+    let shown = g.S.ScalarValue.shown in
+    let collector = c.args.walk.now.collector in
+    let possible = g.R.Conditions.possible collector.possible in
+    let k = key_at c.args.plan.now c.args.group.0 in
+    let all = occurrences possible c.args.concrete.now (all_expanded shown collector c.args.enclosing.now) in
+    let group = subst (λ l. IsGroupOf k all (view_all shown collector l)) (sym c.fields-fields.ensures) c.requires.whole in
+    let head = (first-field shown collector c.fields-fields.result.now c.index-fields-0.result k all group).0 in
+    let place = path_place c.args.path.now.value in
+    let fields = ap (λ vars. view_fields shown vars c.by_name.result.now c.fields-fields.result.now) c.requires.ready.variables
+    ∙ sym (same-fields shown collector c.by_name.result.now c.by_name.ensures.alike c.fields-fields.result.now) in
+    record {
+      first = group.first;
+      others = group.others;
+      some = fields ∙ group.some;
+      above = place;
+      is = ap path_place c.as_ref.ensures ∙ (c.in_ok-here.ensures ∙ ap (λ h. place ++ key (response_key h) ∷ []) (sym head));
+    }
 
 pub returns : goal.returns
 returns g c =

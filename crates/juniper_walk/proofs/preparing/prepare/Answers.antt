@@ -17,6 +17,21 @@ ask-answer-requires-clause-whole g c =
     (g.R.Conditions.possible c.args.walk.now.collector.possible) c.args.concrete.now c.args.single.now.alone c.args.single.now.field c.requires.alone
     (g.R.Resolver.values c.args.walk.now.collector.possible) c.requires.ready.variables
 
+pub ask-answer-requires-clause-path : goal.ask-answer-requires-clause-path
+ask-answer-requires-clause-path g c =
+    let shown = g.S.ScalarValue.shown in
+    let collector = c.args.walk.now.collector in
+    let field = c.args.single.now.field in
+    let head = same-head shown collector field.now in
+    let place = path_place c.args.path.now.value in
+    record {
+      first = view_collected shown collector field.now;
+      others = [];
+      some = same-single shown collector c.by_name.result.now c.by_name.ensures.alike (g.R.Resolver.values collector.possible) field c.requires.ready.variables;
+      above = place;
+      is = ap path_place c.as_ref.ensures ∙ (c.in_ok-here.ensures ∙ ap (λ h. place ++ key (response_key h) ∷ []) (sym head));
+    }
+
 pub returns : goal.returns
 returns g c =
     let shown = g.S.ScalarValue.shown in

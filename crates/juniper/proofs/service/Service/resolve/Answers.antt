@@ -3,7 +3,8 @@ use Rattle.graphql_spec.specs.Arguments.{coerced_arguments}
 use Rattle.graphql_spec.specs.Documents.{written}
 use Rattle.juniper_syntax.specs.InputView.{view_variables}
 use Rattle.juniper_lookahead.specs.Expansion.{occurrence_at}
-use Rattle.juniper.proofs.Asked.{asked-at, first-bound, first-same}
+use Rattle.juniper.proofs.Asked.{asked-at, first-bound, first-same, shows-declared}
+use Rattle.juniper_schema.specs.SchemaView.{view_schema}
 use Rattle.juniper_values.specs.ArgumentView.{view_arguments}
 use Rattle.juniper_resolvable.specs.ResolvedView.{Answers}
 use Rattle.juniper_walk.specs.FieldWords.{head_of}
@@ -19,10 +20,12 @@ resolve_field-requires g c =
     let vars = c.args.self.now.variables.now in
     let h = head_of shown c.args.first.now in
     let made = c.at_field-executor.ensures in
-    asked-at shown c.at_field-executor.result _ _ _ _ _ c.args.site.now.occurrences.now c.args.first.now _ _ made.schema made.variables made.fragments
-    made.concrete_type made.enclosing made.occurrences
-    (first-same c.args.site.now.occurrences.now _ c.args.first.now made.first c.requires.first) c.requires.first
+    asked-at shown c.at_field-executor.result _ _ _ _ _ c.args.site.now.occurrences.now c.args.first.now c.in_ok-shown.shown c.args.site.now.path.now _ _
+    made.schema made.variables made.fragments made.concrete_type made.enclosing made.occurrences
+    (first-same c.args.site.now.occurrences.now _ c.args.first.now made.first c.requires.first) made.declared_type made.path c.requires.first
     refl (c.in_ok-arguments.ensures ∙ ap (λ d. coerced_arguments d (view_variables shown vars) (written h.arguments)) c.requires.arguments) c.requires.whole
+    (shows-declared shown (view_schema shown c.args.self.now.schema.now) c.args.concrete.now h.name.item _ c.in_ok-shown.shown c.requires.declared
+    c.in_ok-shown.ensures) c.requires.path c.args.self.now.executable
 
 pub returns : goal.returns
 returns g c =
