@@ -11,8 +11,12 @@ use juniper_response::answer_line;
 use std::alloc::{AllocError, Global};
 
 /// The demo's root without its mutations.
-type Root<S> =
-    RootNode<Demo, EmptyMutation<DemoContext, DemoNode>, EmptySubscription<DemoContext>, S>;
+type Root<S> = RootNode<
+    Demo,
+    EmptyMutation<DemoContext, DemoNode>,
+    EmptySubscription<DemoContext>,
+    S,
+>;
 
 /// For a name that is referred to and maybe never declared whether a root is made: the built-in scalars stand by themselves.
 const AWAITED: &str = "\
