@@ -1,7 +1,5 @@
 -- One more definition behind the earlier ones.
-use Rattle.std.proofs.Common.{◌≡◌, ℕ, Bool, true, false, ◌||◌, cond, List, [], ◌∷◌, ◌++◌, Option, Some, None, refl, sym, ap, ◌∙◌}
-use Rattle.std.specs.Borrow.{Bor}
-use Rattle.std.specs.HashSet.{HashSet}
+use Rattle.std.proofs.Common.{◌≡◌, Bool, true, false, ◌||◌, cond, List, [], ◌∷◌, ◌++◌, Option, Some, None, refl, sym, ap, ◌∙◌}
 use Rattle.std.specs.List.{list_any}
 use Rattle.std.specs.Option.{is_some}
 use Rattle.std.specs.Str.{bytes_eq}
@@ -11,7 +9,6 @@ use Rattle.graphql_spec.specs.Documents.{Definition, Operation, Fragment, operat
 use Rattle.graphql_spec.specs.Fragments.{fragment_of}
 use Rattle.graphql_spec.specs.Rules.{has_name, names_operation, repeats_operation}
 use Rattle.graphql_spec.proofs.Lists.{same_sym}
-use Rattle.juniper_written.specs.WrittenView.{has_name as is_there}
 use Rattle.juniper_name_rules.proofs.Known.{some-first, or-false}
 
 -- ## Lists
@@ -82,11 +79,6 @@ module _ (ds : List Definition) (n : Name) where
   found-fragment f =
       ap (λ fs. is_some (fragment_of fs n)) (fragments-append ds (fragment f ∷ [])) ∙ (found-append (fragments ds) (f ∷ []) n
       ∙ ap (λ b. is_some (fragment_of (fragments ds) n) || b) (some-first (bytes_eq n f.name.item) f None ∙ or-false (bytes_eq n f.name.item)))
-
--- before the first definition
-pub none-there : {H : Type 0} (s : HashSet (Bor (List ℕ)) H) → s.keys ≡ [] → (n : Name) → is_there s n ≡ false
-unfolding is_there
-none-there s none n = ap (list_any (λ k. bytes_eq n k.now)) none
 
 -- ## What the rules find
 

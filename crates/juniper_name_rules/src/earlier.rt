@@ -8,15 +8,14 @@ ghost use Rattle.juniper_syntax.specs.DocumentView.{view_definition};
 ghost use Rattle.juniper_name_rules.specs.NamesBefore.{IsEarlier};
 
 use juniper_syntax::{Definition, ScalarValue};
-use juniper_written::is_seen;
+use juniper_written::NameSet;
 use std::alloc::{AllocError, Global};
-use std::collections::HashSet;
 
 /// The names of the definitions before one.
 #[derive(Drop)]
 pub struct Earlier<'a> {
-    pub(crate) operations: HashSet<&'a str>,
-    pub(crate) fragments: HashSet<&'a str>,
+    pub(crate) operations: NameSet<'a>,
+    pub(crate) fragments: NameSet<'a>,
 }
 
 impl<'a> Earlier<'a> {
@@ -25,8 +24,8 @@ impl<'a> Earlier<'a> {
         ensures { IsEarlier result [] }
     {
         Earlier {
-            operations: HashSet::new(alloc),
-            fragments: HashSet::new(alloc),
+            operations: NameSet::new(alloc),
+            fragments: NameSet::new(alloc),
         }
     }
 
@@ -38,13 +37,13 @@ impl<'a> Earlier<'a> {
         match definition {
             Definition::Operation(operation) => match operation.item.name {
                 Some(name) => {
-                    is_seen(&mut self.operations, name.item)?;
+                    self.operations.insert(name.item)?;
                     Ok(())
                 }
                 None => Ok(()),
             },
             Definition::Fragment(fragment) => {
-                is_seen(&mut self.fragments, fragment.item.name.item)?;
+                self.fragments.insert(fragment.item.name.item)?;
                 Ok(())
             }
         }

@@ -1,8 +1,6 @@
 -- Lists with an item for each definition, and the names that one reaches.
 use Rattle.std.proofs.Common.{◌≡◌, ℕ, Bool, false, ◌<◌, List, length, get_or, map, arith, sym, ap, ◌∙◌}
 use Rattle.std.proofs.lemmas.List.{get_or-map, length-map}
-use Rattle.std.specs.HashSet.{HashSet}
-use Rattle.std.specs.Borrow.{Bor}
 use Rattle.graphql_spec.specs.Shown.{Name}
 use Rattle.graphql_spec.specs.Documents.{Definition, Document, fragments}
 use Rattle.graphql_spec.specs.Fragments.{spreads}
@@ -10,6 +8,7 @@ use Rattle.graphql_spec.specs.VariableUses.{is_reached}
 use Rattle.graphql_spec.specs.Written.{selections_of}
 use Rattle.juniper_use_rules.specs.UsesView.{IsReachOf}
 use Rattle.juniper_written.specs.WrittenView.{has_name}
+use Rattle.juniper_written.specs.declared.name_set.NameSet.{NameSet}
 
 seen-at : {A C : Type 0} (g : A → C) (xs : List A) (i : ℕ) (x : A) (e : C) → i < length xs → x ≡ get_or xs i x → get_or (map g xs) i e ≡ g x
 seen-at g xs i x e below is = get_or-map g xs i x e below ∙ ap g (sym is)
@@ -35,7 +34,7 @@ pub as-many : {A B C D : Type 0} (view : A → B) (f : B → C) (g : D → C) (x
 as-many view f g xs us same = sym (length-map us g) ∙ (ap length same ∙ (length-map (map view xs) f ∙ length-map xs view))
 
 -- the names that a definition's spreads reach are those that an operation reaches
-pub reach-is : {H : Type 0} (r : HashSet (Bor (List ℕ)) H) (d : Document) (x : Definition) (names : List Name) → names ≡ spreads (selections_of x) →
+pub reach-is : (r : NameSet) (d : Document) (x : Definition) (names : List Name) → names ≡ spreads (selections_of x) →
     ((n : Name) → has_name r n ≡ is_reached (fragments d) names n) → IsReachOf r d x
 unfolding selections_of
 reach-is r d x names same reaches = λ o is n. reaches n ∙ ap (λ ns. is_reached (fragments d) ns n) (same ∙ ap (λ y. spreads (selections_of y)) is)

@@ -1,5 +1,5 @@
 -- What validation lists, phase by phase.
-use Rattle.std.proofs.Common.{◌≡◌, Bool, List, [], ◌∷◌, refl, sym, ap, ◌∙◌}
+use Rattle.std.proofs.Common.{◌≡◌, Bool, List, [], ◌∷◌, refl, sym}
 use Rattle.graphql_spec.specs.Documents.{Document}
 use Rattle.graphql_spec.specs.Schema.{Schema}
 use Rattle.graphql_spec.specs.Rules.{RuleError, at_each, first_found, name_errors, rule_errors, type_errors, use_errors}

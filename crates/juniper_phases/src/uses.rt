@@ -22,9 +22,8 @@ use juniper_syntax::{Definition, RuleError, ScalarValue};
 use juniper_use_rules::{
     Used, looks_at_schema, misuses_variable, used_in, uses_of_fragments, uses_undefined,
 };
-use juniper_written::{ArgumentLists, Written, argument_lists, written_in};
+use juniper_written::{ArgumentLists, NameSet, Written, argument_lists, written_in};
 use std::alloc::{AllocError, Global};
-use std::collections::HashSet;
 
 /// What the rules on variables, merging and introspection find in a document with these fragments, of whose definitions
 /// these have fields that cannot be merged: an error for each rule that a definition violates, in the order of the
@@ -151,13 +150,13 @@ fn reach_of<'d, 'a, S: ScalarValue>(
     fragments: &FragmentsByName<'d, 'a, S>,
     definition: &Definition<'a, S>,
     written: &Written<'d, 'a, S>,
-) -> Result<HashSet<&'a str>, AllocError>
+) -> Result<NameSet<'a>, AllocError>
     ensures { IfOk result (λ r. (d : documents.Document) → AreFragmentsOf S.shown fragments.now d →
         view_written S.shown written.now ≡ parts_of (view_definition S.shown definition.now) → IsReachOf r d (view_definition S.shown definition.now)) }
 {
     match definition {
         Definition::Operation(_) => fragments.reached(alloc, &written.spreads),
-        Definition::Fragment(_) => Ok(HashSet::new(alloc)),
+        Definition::Fragment(_) => Ok(NameSet::new(alloc)),
     }
 }
 

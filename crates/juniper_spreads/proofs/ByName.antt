@@ -1,11 +1,7 @@
 -- Maps to which the first of each name goes.
-use Rattle.std.proofs.Common.{◌≡◌, ℕ, ◌+◌, ◌<◌, ◌≤◌, Bool, true, false, cond, List, [], ◌∷◌, length, get_or, drop, map, Option, Some, None, option_map, is_some, Bor, refl, sym, ap, ◌∙◌, inl, inr, subst}
+use Rattle.std.proofs.Common.{◌≡◌, ℕ, ◌+◌, ◌<◌, ◌≤◌, Bool, true, false, cond, List, [], ◌∷◌, length, get_or, drop, map, Option, Some, None, option_map, refl, sym, ap, ◌∙◌}
 use Rattle.std.specs.Option.{option_or}
-use Rattle.std.specs.HashMap.{HashMap, get_by}
-use Rattle.std.specs.Map.{lookup, update}
 use Rattle.std.specs.Str.{bytes_eq}
-use Rattle.std.proofs.lemmas.Bool.{cases_Bool}
-use Rattle.std.proofs.lemmas.Cmp.{nat_list_eq_equiv}
 use Rattle.std.proofs.lemmas.List.{drop_all}
 use Rattle.graphql_spec.specs.Shown.{Shown, Name}
 use Rattle.graphql_spec.specs.Documents as spec
@@ -17,27 +13,14 @@ use Rattle.juniper_written.specs.Parts.{Parts, parts_of}
 use Rattle.juniper_written.specs.WrittenView.{view_names, view_written}
 use Rattle.juniper_written.specs.declared.written.Written.{Written}
 use Rattle.juniper_spreads.specs.SpreadsView.{spreads_at}
-use Rattle.juniper_spreads.proofs.Names.{same, true_false}
 
 or-none : {A : Type 0} (o : Option A) → o ≡ option_or o None
 or-none None = refl
 or-none (Some x) = refl
 
-or-known : {A : Type 0} (o p : Option A) → is_some o ≡ true → o ≡ option_or o p
-or-known None p e = true_false false e refl
-or-known (Some x) p e = refl
-
-or-unknown : {A : Type 0} (o p : Option A) → is_some o ≡ false → p ≡ option_or o p
-or-unknown None p e = refl
-or-unknown (Some x) p e = true_false true refl e
-
 or-moves : {A : Type 0} (o p q : Option A) → option_or (option_or o p) q ≡ option_or o (option_or p q)
 or-moves None p q = refl
 or-moves (Some x) p q = refl
-
-some-map : {A B : Type 0} (f : A → B) (o : Option A) → is_some (option_map f o) ≡ is_some o
-some-map f None = refl
-some-map f (Some x) = refl
 
 map-cond : {A B : Type 0} (f : A → B) (b : Bool) (x : A) → option_map f (cond b (Some x) None) ≡ cond b (Some (f x)) None
 map-cond f true x = refl
@@ -97,29 +80,9 @@ module _ {A D : Type 0} (F : List spec.Definition → Name → Option A)
 
 -- ## One entry more
 
-put-one : {V W : Type 0} (view : V → W) (b : Bool) (old new : Option V) (x : V) → new ≡ cond b (Some x) old → (b ≡ true → is_some old ≡ false) →
-    option_map view new ≡ option_or (option_map view old) (cond b (Some (view x)) None)
-put-one view true old new x e absent = ap (option_map view) e ∙ or-unknown (option_map view old) (Some (view x)) (some-map view old ∙ absent refl)
-put-one view false old new x e absent = ap (option_map view) e ∙ or-none (option_map view old)
-
-module _ {V W H : Type 0} (view : V → W) where
-  pub put-first : (m n : HashMap (Bor (List ℕ)) V H) (name : Name) (x : V) → is_some (get_by (λ i. bytes_eq name i.now) m) ≡ false →
-      ((cs : List ℕ) → get_by (λ i. bytes_eq cs i.now) n ≡ update bytes_eq (λ ds. get_by (λ i. bytes_eq ds i.now) m) name (Some x) cs) →
-      (k : Name) → option_map view (get_by (λ i. bytes_eq k i.now) n)
-      ≡ option_or (option_map view (get_by (λ i. bytes_eq k i.now) m)) (cond (bytes_eq k name) (Some (view x)) None)
-  put-first m n name x absent put k =
-      put-one view (bytes_eq name k) (get_by (λ i. bytes_eq k i.now) m) (get_by (λ i. bytes_eq k i.now) n) x (put k)
-      (λ e. subst (λ j. is_some (get_by (λ i. bytes_eq j i.now) m) ≡ false) (same name k e) absent)
-      ∙ ap (λ b. option_or (option_map view (get_by (λ i. bytes_eq k i.now) m)) (cond b (Some (view x)) None)) (nat_list_eq_equiv.symm name k)
-
-  pub put-not : (m : HashMap (Bor (List ℕ)) V H) (name : Name) (x : W) → is_some (get_by (λ i. bytes_eq name i.now) m) ≡ true →
-      (k : Name) → option_map view (get_by (λ i. bytes_eq k i.now) m)
-      ≡ option_or (option_map view (get_by (λ i. bytes_eq k i.now) m)) (cond (bytes_eq k name) (Some x) None)
-  put-not m name x there k = elim (cases_Bool (bytes_eq k name)) [
-    | inl q ↦ rw q (or-known (option_map view (get_by (λ i. bytes_eq k i.now) m)) (Some x)
-        (some-map view (get_by (λ i. bytes_eq k i.now) m) ∙ subst (λ j. is_some (get_by (λ i. bytes_eq j i.now) m) ≡ true) (sym (same k name q)) there))
-    | inr q ↦ rw q (or-none (option_map view (get_by (λ i. bytes_eq k i.now) m)))
-  ]
+pub put-seen : {V W : Type 0} (view : V → W) (o : Option V) (b : Bool) (x : V) →
+    option_map view (option_or o (cond b (Some x) None)) ≡ option_or (option_map view o) (cond b (Some (view x)) None)
+put-seen view o b x = map-or view o (cond b (Some x) None) ∙ ap (option_or (option_map view o)) (map-cond view b x)
 
 -- ## What a definition puts in
 
@@ -148,8 +111,3 @@ pub written-spreads : {S : Type 0} (shown : S → Shown) (w : Written S) (x : sp
     view_written shown w ≡ parts_of x → view_names w.spreads.items ≡ spreads f.selections
 unfolding parts_of selections_of
 written-spreads shown w x f is e = ap (λ (p : Parts). p.spreads) e ∙ ap (λ y. spreads (selections_of y)) is
-
--- nothing is in an empty map
-pub empty-at : {V W H : Type 0} (view : V → W) (m : HashMap (Bor (List ℕ)) V H) → m.entries ≡ [] → (k : Name) →
-    option_map view (get_by (λ n. bytes_eq k n.now) m) ≡ None
-empty-at view m none k = ap (λ es. option_map view (lookup (λ n. bytes_eq k n.now) es)) none

@@ -1,4 +1,5 @@
 mod Names
+mod Testing
 mod Reaching
 mod Searching
 mod Weights

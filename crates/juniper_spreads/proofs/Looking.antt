@@ -1,21 +1,18 @@
 -- What a map of spreads has at a name, and names that are taken from a list.
-use Rattle.std.proofs.Common.{◌≡◌, ℕ, ◌+◌, ◌<◌, arith, Bool, true, false, not, ◌&&◌, ◌||◌, inl, inr, cond, List, [], ◌∷◌, ◌++◌, length, Option, Some, None, option_map, is_some, Vec, Bor, refl, sym, ap, ◌∙◌, subst}
+use Rattle.std.proofs.Common.{◌≡◌, ℕ, ◌+◌, ◌<◌, arith, Bool, true, false, not, ◌&&◌, ◌||◌, cond, List, [], ◌∷◌, ◌++◌, length, Option, Some, None, option_map, is_some, Vec, Bor, refl, sym, ap, ◌∙◌}
 use Rattle.std.specs.Option.{option_to_list, option_copied}
-use Rattle.std.specs.HashMap.{HashMap, get_by, keys}
-use Rattle.std.specs.HashSet.{HashSet}
-use Rattle.std.specs.List.{list_all, list_any}
+use Rattle.std.specs.List.{list_all}
 use Rattle.std.specs.Str.{bytes_eq}
-use Rattle.std.proofs.lemmas.Bool.{and_parts, or_cases}
-use Rattle.std.proofs.lemmas.Map.Made.{is_some-lookup}
 use Rattle.std.specs.declared.alloc.Global.{Global}
 use Rattle.std.proofs.lemmas.List.{length-map, length-append}
 use Rattle.graphql_spec.specs.Shown.{Name}
 use Rattle.graphql_spec.specs.Documents.{Fragment}
 use Rattle.graphql_spec.specs.Fragments.{fragment_of, spreads, spreads_in}
 use Rattle.juniper_syntax.proofs.Lists.{seen-push}
-use Rattle.juniper_written.specs.WrittenView.{has_name, view_names}
+use Rattle.juniper_written.specs.WrittenView.{entries_of, named, view_names}
+use Rattle.juniper_written.specs.declared.name_map.NameMap.{NameMap}
 use Rattle.juniper_spreads.specs.SpreadsView.{AreSpreadsOf, spread_by, spreads_at, names_or_none, step_count}
-use Rattle.juniper_spreads.proofs.Names.{next, same as same-name, true_false}
+use Rattle.juniper_spreads.proofs.Names.{next}
 use Rattle.juniper_spreads.proofs.Orders.{or_unknown}
 use Rattle.juniper_spreads.proofs.Weights.{weight, less, falls, fewer}
 
@@ -29,7 +26,7 @@ some-map : {A B : Type 0} (f : A → B) (o : Option A) → is_some (option_map f
 some-map f None = refl
 some-map f (Some x) = refl
 
-module _ {H : Type 0} (m : HashMap (Bor (List ℕ)) (Vec (Bor (List ℕ)) Global) H) where
+module _ (m : NameMap (Vec (Bor (List ℕ)) Global)) where
   pub next-is : (fs : List Fragment) → AreSpreadsOf m fs → (k : Name) → names_or_none (spread_by m k) ≡ next fs k
   unfolding spreads_at
   next-is fs are k = ap names_or_none (are k) ∙ names-of (fragment_of fs k)
@@ -39,12 +36,12 @@ module _ {H : Type 0} (m : HashMap (Bor (List ℕ)) (Vec (Bor (List ℕ)) Global
   known-is fs are k = ap is_some (are k) ∙ some-map (λ f. spreads f.selections) (fragment_of fs k)
 
   pub found-is : (k : Name) (o : Option (Bor (Vec (Bor (List ℕ)) Global))) (v : Bor (Vec (Bor (List ℕ)) Global)) →
-      option_copied o ≡ get_by (λ n. bytes_eq k n.now) m → o ≡ Some v →
+      option_copied o ≡ named m k → o ≡ Some v →
       spread_by m k ≡ Some (view_names v.now.items)
   unfolding spread_by
   found-is k o v e is = ap (option_map (λ w. view_names w.items)) (sym e ∙ ap option_copied is)
 
-  pub missing-is : (k : Name) (o : Option (Bor (Vec (Bor (List ℕ)) Global))) → option_copied o ≡ get_by (λ n. bytes_eq k n.now) m → o ≡ None →
+  pub missing-is : (k : Name) (o : Option (Bor (Vec (Bor (List ℕ)) Global))) → option_copied o ≡ named m k → o ≡ None →
       spread_by m k ≡ None
   unfolding spread_by
   missing-is k o e is = ap (option_map (λ w. view_names w.items)) (sym e ∙ ap option_copied is)
@@ -66,29 +63,29 @@ pub names-popped : (old rest : List (Bor (List ℕ))) (x : Bor (List ℕ)) → o
 names-popped old rest x e = seen-push (λ (n : Bor (List ℕ)). n.now) rest old x e
 
 -- there is less to do once a name is seen, and what it spreads is left
-pub goes-down : {H A : Type 0} (m : HashMap (Bor (List ℕ)) (Vec (Bor (List ℕ)) Global) H) (seen now : Name → Bool) (x : Name) →
+pub goes-down : {A : Type 0} (m : NameMap (Vec (Bor (List ℕ)) Global)) (seen now : Name → Bool) (x : Name) →
     ((n : Name) → now n ≡ cond (bytes_eq x n) true (seen n)) → seen x ≡ false →
     (left rest made : List A) (last : A) → left ≡ rest ++ last ∷ [] → length made ≡ length rest + step_count (spread_by m x) →
-    weight now m.entries + length made < weight seen m.entries + length left
+    weight now (entries_of m) + length made < weight seen (entries_of m) + length left
 goes-down m seen now x is new left rest made last e grown =
     let f = falls seen now x is m new in
     let l : length left ≡ length rest + 1 = ap length e ∙ length-append rest (last ∷ []) in
     omega (arith, f, l, grown)
 
 -- there is less to do once one is taken away
-pub goes-on : {H A : Type 0} (m : HashMap (Bor (List ℕ)) (Vec (Bor (List ℕ)) Global) H) (seen now : Name → Bool) (x : Name) →
+pub goes-on : {A : Type 0} (m : NameMap (Vec (Bor (List ℕ)) Global)) (seen now : Name → Bool) (x : Name) →
     ((n : Name) → now n ≡ cond (bytes_eq x n) true (seen n)) →
-    (left rest : List A) (last : A) → left ≡ rest ++ last ∷ [] → weight now m.entries + length rest < weight seen m.entries + length left
+    (left rest : List A) (last : A) → left ≡ rest ++ last ∷ [] → weight now (entries_of m) + length rest < weight seen (entries_of m) + length left
 goes-on m seen now x is left rest last e =
-    let f = less seen now x is m.entries in
+    let f = less seen now x is (entries_of m) in
     let l : length left ≡ length rest + 1 = ap length e ∙ length-append rest (last ∷ []) in
     omega (arith, f, l)
 
 -- the same where the names are left alone
-pub goes-down-names : {H : Type 0} (m : HashMap (Bor (List ℕ)) (Vec (Bor (List ℕ)) Global) H) (seen now : Name → Bool) (x : Bor (List ℕ)) →
+pub goes-down-names : (m : NameMap (Vec (Bor (List ℕ)) Global)) (seen now : Name → Bool) (x : Bor (List ℕ)) →
     ((n : Name) → now n ≡ cond (bytes_eq x.now n) true (seen n)) → seen x.now ≡ false →
     (left rest made : List (Bor (List ℕ))) → left ≡ rest ++ x ∷ [] → view_names made ≡ view_names rest ++ names_or_none (spread_by m x.now) →
-    weight now m.entries + length made < weight seen m.entries + length left
+    weight now (entries_of m) + length made < weight seen (entries_of m) + length left
 goes-down-names m seen now x is new left rest made e grown =
     let f = falls seen now x.now is m new in
     let l : length left ≡ length rest + 1 = ap length e ∙ length-append rest (x ∷ []) in
@@ -99,36 +96,20 @@ goes-down-names m seen now x is new left rest made e grown =
     let w = fewer (spread_by m x.now) in
     omega (arith, f, l, p, q, g, w)
 
--- nothing is in an empty set
-pub empty-has : {H : Type 0} (s : HashSet (Bor (List ℕ)) H) → s.keys ≡ [] → (n : Name) → has_name s n ≡ false
-unfolding has_name
-empty-has s none n = ap (list_any (λ k. bytes_eq n k.now)) none
-
 -- what a look-up tells
-pub found-by : {H : Type 0} (m : HashMap (Bor (List ℕ)) (Vec (Bor (List ℕ)) Global) H) (k : Name) →
-    is_some (get_by (λ n. bytes_eq k n.now) m) ≡ is_some (spread_by m k)
+pub found-by : (m : NameMap (Vec (Bor (List ℕ)) Global)) (k : Name) →
+    is_some (named m k) ≡ is_some (spread_by m k)
 unfolding spread_by
-found-by m k = sym (some-map (λ v. view_names v.items) (get_by (λ n. bytes_eq k n.now) m))
+found-by m k = sym (some-map (λ v. view_names v.items) (named m k))
 
 pub all-names : (f : Name → Bool) (ks : List (Bor (List ℕ))) → list_all (λ k. f k.now) ks ≡ list_all f (view_names ks)
 all-names f [] = refl
 all-names f (k ∷ ks) = ap (λ b. f k.now && b) (all-names f ks)
 
-module _ {H : Type 0} (m : HashMap (Bor (List ℕ)) (Vec (Bor (List ℕ)) Global) H) (fs : List Fragment) (are : AreSpreadsOf m fs) (done : Name → Bool) where
+module _ (m : NameMap (Vec (Bor (List ℕ)) Global)) (fs : List Fragment) (are : AreSpreadsOf m fs) (done : Name → Bool) where
   -- what a fragment spreads is done, as the document has it
   pub all-ready : (k : Name) → list_all (λ n. done n || not (is_some (spread_by m n))) (names_or_none (spread_by m k)) ≡ true →
       list_all (or_unknown fs done) (next fs k) ≡ true
   all-ready k e =
       let same : (λ (n : Name). done n || not (is_some (spread_by m n))) ≡ or_unknown fs done = λ i n. done n || not (known-is m fs are n i) in
       ap (λ l. list_all (or_unknown fs done) l) (sym (next-is m fs are k)) ∙ (ap (λ f. list_all f (names_or_none (spread_by m k))) (sym same) ∙ e)
-
-  all-in : (es : List (Bor (List ℕ))) → list_all (λ n. done n.now) es ≡ true → (k : Name) → list_any (λ n. bytes_eq k n.now) es ≡ true → done k ≡ true
-  all-in [] a k e = true_false false e refl
-  all-in (x ∷ xs) a k e =
-      let p = and_parts (done x.now) (list_all (λ n. done n.now) xs) a in
-      elim (or_cases (bytes_eq k x.now) (list_any (λ n. bytes_eq k n.now) xs) e)
-      [ inl q ↦ subst (λ z. done z ≡ true) (sym (same-name k x.now q)) p.0 | inr q ↦ all-in xs p.1 k q ]
-
-  -- all fragments are done
-  pub all-keys : list_all (λ n. done n.now) (keys m) ≡ true → (k : Name) → is_some (fragment_of fs k) ≡ true → done k ≡ true
-  all-keys a k e = all-in (keys m) a k (sym (is_some-lookup (λ (n : Bor (List ℕ)). bytes_eq k n.now) m.entries) ∙ (found-by m k ∙ (known-is m fs are k ∙ e)))

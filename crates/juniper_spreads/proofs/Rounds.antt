@@ -1,19 +1,18 @@
 -- Rounds over names, in each of which some are taken and the others left.
 use Rattle.std.specs.Prelude.{ℕ, zero, Bool, true, false, ◌||◌, not, List, [], ◌∷◌, ◌++◌, length, get_or, drop, map, Option, Some, None, option_map, is_some, Vec, ◌≡◌, ◌≤◌, ◌<◌, ◌+◌}
 use Rattle.std.specs.Borrow.{Bor}
-use Rattle.std.specs.HashMap.{HashMap, keys}
-use Rattle.std.specs.List.{list_any, list_all}
+use Rattle.std.specs.List.{list_all}
 use Rattle.std.specs.Str.{bytes_eq}
 use Rattle.std.specs.declared.alloc.Global.{Global}
 use Rattle.std.proofs.lemmas.Bool.{or_cases, or_left, or_right}
 use Rattle.std.proofs.lemmas.List.{append-nil, append_assoc, length-append, drop_all, drop_more}
-use Rattle.std.proofs.lemmas.Map.Made.{is_some-lookup}
 use Rattle.std.proofs.Common.{refl, sym, ap, ◌∙◌, inl, inr, subst, arith}
 use Rattle.graphql_spec.specs.Shown.{Name}
 use Rattle.graphql_spec.specs.Documents.{Fragment}
 use Rattle.graphql_spec.specs.Fragments.{fragment_of}
 use Rattle.juniper_syntax.proofs.Lists.{seen-push}
-use Rattle.juniper_written.specs.WrittenView.{view_names}
+use Rattle.juniper_written.specs.WrittenView.{named, view_names}
+use Rattle.juniper_written.specs.declared.name_map.NameMap.{NameMap}
 use Rattle.juniper_spreads.specs.Order.{found, is_ready, put}
 use Rattle.juniper_spreads.specs.SpreadsView.{AreSpreadsOf, names_or_none, spread_by}
 use Rattle.juniper_spreads.proofs.Names.{has, true_false, either, has_first, has_second, next, itself}
@@ -110,15 +109,11 @@ module _ {T : Type 0} (taken : T → Name → Bool) (ready : (Name → Bool) →
 
 -- ## The names of fragments
 
-names-among : (xs : List (Bor (List ℕ))) (k : Name) → has (view_names xs) k ≡ list_any (λ n. bytes_eq k n.now) xs
-names-among [] k = refl
-names-among (x ∷ xs) k = ap (λ b. bytes_eq k x.now || b) (names-among xs k)
-
-module _ {H : Type 0} (m : HashMap (Bor (List ℕ)) (Vec (Bor (List ℕ)) Global) H) (fs : List Fragment) (are : AreSpreadsOf m fs) where
-  -- the names of all fragments are keys
-  pub known-among : (xs : List (Bor (List ℕ))) → xs ≡ keys m → (k : Name) → is_some (fragment_of fs k) ≡ true → has (view_names xs) k ≡ true
-  known-among xs is k e = ap (λ l. has (view_names l) k) is ∙ (names-among (keys m) k
-      ∙ (sym (is_some-lookup (λ (n : Bor (List ℕ)). bytes_eq k n.now) m.entries) ∙ (found-by m k ∙ (known-is m fs are k ∙ e))))
+module _ (m : NameMap (Vec (Bor (List ℕ)) Global)) (fs : List Fragment) (are : AreSpreadsOf m fs) where
+  -- the names of all fragments are names of the map
+  pub known-among : (xs : List (Bor (List ℕ))) → ((k : Name) → has (view_names xs) k ≡ is_some (named m k)) → (k : Name) →
+      is_some (fragment_of fs k) ≡ true → has (view_names xs) k ≡ true
+  known-among xs all k e = all k ∙ (found-by m k ∙ (known-is m fs are k ∙ e))
 
   -- the names that a fragment spreads are taken, or no fragment's, as the document has it
   pub ready-is : (taken : Name → Bool) (k : Name) → is_ready m taken k ≡ list_all (or_unknown fs taken) (next fs k)

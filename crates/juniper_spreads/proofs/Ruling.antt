@@ -1,6 +1,5 @@
 -- What the rules on spreads ask, and what the code answers.
 use Rattle.std.proofs.Common.{◌≡◌, ℕ, suc, true, false, not, ◌||◌, List, [], ◌∷◌, length, Option, Some, None, is_some, Bor, refl, sym, ap, ap₂, ◌∙◌}
-use Rattle.std.specs.HashMap.{HashMap}
 use Rattle.std.specs.List.{list_any}
 use Rattle.std.specs.Option.{is_none}
 use Rattle.std.specs.Str.{bytes_eq}
@@ -15,6 +14,7 @@ use Rattle.graphql_spec.specs.Rules.{spreads_unknown, spreads_itself}
 use Rattle.graphql_spec.specs.VariableUses.{is_reached}
 use Rattle.graphql_spec.specs.Written.{selections_of}
 use Rattle.juniper_written.specs.WrittenView.{view_names}
+use Rattle.juniper_written.specs.declared.name_map.NameMap.{NameMap}
 use Rattle.juniper_spreads.specs.SpreadsView.{AreSpreadsOf, NoneReachesItself, names_or_none, spread_by}
 use Rattle.juniper_spreads.proofs.Names.{next, same, itself, true_false}
 use Rattle.juniper_spreads.proofs.Looking.{known-is, next-is}
@@ -23,16 +23,16 @@ none-is : {A : Type 0} (o : Option A) → not (is_some o) ≡ is_none o
 none-is None = refl
 none-is (Some x) = refl
 
-module _ {H : Type 0} (m : HashMap (Bor (List ℕ)) (Vec (Bor (List ℕ)) Global) H) where
-  any-unknown : (fs : List Fragment) → AreSpreadsOf m fs → (ks : List (Bor (List ℕ))) →
-      list_any (λ k. not (is_some (spread_by m k.now))) ks ≡ list_any (λ k. is_none (fragment_of fs k)) (view_names ks)
+module _ (m : NameMap (Vec (Bor (List ℕ)) Global)) where
+  any-unknown : (fs : List Fragment) → AreSpreadsOf m fs → (ks : List Name) →
+      list_any (λ k. not (is_some (spread_by m k))) ks ≡ list_any (λ k. is_none (fragment_of fs k)) ks
   any-unknown fs are [] = refl
-  any-unknown fs are (k ∷ ks) = ap₂ (λ a b. a || b) (ap not (known-is m fs are k.now) ∙ none-is (fragment_of fs k.now)) (any-unknown fs are ks)
+  any-unknown fs are (k ∷ ks) = ap₂ (λ a b. a || b) (ap not (known-is m fs are k) ∙ none-is (fragment_of fs k)) (any-unknown fs are ks)
 
   pub unknown-is : (d : Document) (x : Definition) → AreSpreadsOf m (fragments d) → (ks : List (Bor (List ℕ))) → view_names ks ≡ spreads (selections_of x) →
-      list_any (λ k. not (is_some (spread_by m k.now))) ks ≡ spreads_unknown d x
+      list_any (λ k. not (is_some (spread_by m k))) (view_names ks) ≡ spreads_unknown d x
   unfolding spreads_unknown
-  unknown-is d x are ks is = any-unknown (fragments d) are ks ∙ ap (list_any (λ k. is_none (fragment_of (fragments d) k))) is
+  unknown-is d x are ks is = any-unknown (fragments d) are (view_names ks) ∙ ap (list_any (λ k. is_none (fragment_of (fragments d) k))) is
 
   round : (fs : List Fragment) (k : Name) → is_reached fs (next fs k) k ≡ reaches fs (suc (length fs)) k k
   unfolding is_reached reaches

@@ -1,7 +1,6 @@
 -- How much a walk through spreads has still to do.
 use Rattle.std.specs.Prelude.{ℕ, zero, suc, Bool, true, false, cond, List, [], ◌∷◌, length, Option, Some, None, option_map, ◌≡◌, ◌≤◌, ◌+◌, Vec}
 use Rattle.std.specs.Borrow.{Bor}
-use Rattle.std.specs.HashMap.{HashMap}
 use Rattle.std.specs.Map.{lookup}
 use Rattle.std.specs.Str.{bytes_eq}
 use Rattle.std.specs.declared.alloc.Global.{Global}
@@ -9,7 +8,8 @@ use Rattle.std.proofs.lemmas.Bool.{cases_Bool}
 use Rattle.std.proofs.lemmas.List.{length-map}
 use Rattle.std.proofs.Common.{ap, ◌∙◌, inl, inr, subst, arith}
 use Rattle.graphql_spec.specs.Shown.{Name}
-use Rattle.juniper_written.specs.WrittenView.{view_names}
+use Rattle.juniper_written.specs.WrittenView.{entries_of, named, view_names}
+use Rattle.juniper_written.specs.declared.name_map.NameMap.{NameMap}
 use Rattle.juniper_spreads.specs.SpreadsView.{spread_by, names_or_none, step_count}
 use Rattle.juniper_spreads.proofs.Names.{same}
 
@@ -49,10 +49,10 @@ module _ (seen now : Name → Bool) (x : Name) (is : (n : Name) → now n ≡ co
   ]
 
   -- a fragment that is seen takes its steps away
-  pub falls : {H : Type 0} (m : HashMap (Bor (List ℕ)) (Vec (Bor (List ℕ)) Global) H) → seen x ≡ false →
-      weight now m.entries + step_count (spread_by m x) ≤ weight seen m.entries
-  unfolding spread_by
-  falls m new = falls-at new m.entries
+  pub falls : (m : NameMap (Vec (Bor (List ℕ)) Global)) → seen x ≡ false →
+      weight now (entries_of m) + step_count (spread_by m x) ≤ weight seen (entries_of m)
+  unfolding spread_by named
+  falls m new = falls-at new (entries_of m)
 
 pub fewer : (o : Option (List Name)) → length (names_or_none o) ≤ step_count o
 unfolding names_or_none step_count

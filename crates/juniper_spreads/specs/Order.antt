@@ -1,7 +1,6 @@
 -- Fragments in an order in which each stands behind those that it spreads (5.5.2.2).
 use Rattle.std.specs.Prelude.{ℕ, Bool, true, false, not, ◌||◌, List, [], ◌∷◌, ◌++◌, length, Option, Some, None, is_some, Vec, ◌≡◌}
 use Rattle.std.specs.Borrow.{Bor}
-use Rattle.std.specs.HashMap.{HashMap}
 use Rattle.std.specs.List.{list_all}
 use Rattle.std.specs.Set.{is_member}
 use Rattle.std.specs.Str.{bytes_eq}
@@ -10,6 +9,7 @@ use Rattle.graphql_spec.specs.Shown.{Name}
 use Rattle.graphql_spec.specs.Documents.{Fragment}
 use Rattle.graphql_spec.specs.Fragments.{deep, fragment_of, spreads, spreads_in}
 use Rattle.graphql_spec.specs.Laws.{In}
+use Rattle.juniper_written.specs.declared.name_map.NameMap.{NameMap}
 use Rattle.juniper_spreads.specs.SpreadsView.{names_or_none, spread_by}
 
 module _ (fs : List Fragment) where
@@ -37,7 +37,7 @@ abbrev pub is_among : List Name → Name → Bool
 is_among = is_member bytes_eq
 
 -- the fragment of a name spreads only names that are taken, or no fragment's
-unfoldable pub is_ready : {H : Type 0} → HashMap (Bor (List ℕ)) (Vec (Bor (List ℕ)) Global) H → (Name → Bool) → Name → Bool
+unfoldable pub is_ready : NameMap (Vec (Bor (List ℕ)) Global) → (Name → Bool) → Name → Bool
 is_ready m taken k = list_all (λ n. taken n || not (is_some (spread_by m n))) (names_or_none (spread_by m k))
 
 module _ (fs : List Fragment) where

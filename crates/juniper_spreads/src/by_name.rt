@@ -11,15 +11,14 @@ ghost use Rattle.juniper_spreads.specs.SpreadsView.{AreFragmentsOf, AreSpreadsOf
 use crate::cycles::has_no_cycle;
 use crate::reach::SpreadsByName;
 use juniper_syntax::{Definition, Fragment, ScalarValue, Span, Spanning};
-use juniper_written::written_in;
+use juniper_written::{NameMap, written_in};
 use std::alloc::{AllocError, Global};
-use std::collections::HashMap;
 
 /// The fragments of a document by name, of those of one name the first (2.8).
 #[derive(Drop)]
 pub struct FragmentsByName<'d, 'a, S> {
     /// The fragments.
-    pub fragments: HashMap<&'a str, &'d Spanning<Fragment<'a, S>, Span>>,
+    pub fragments: NameMap<'a, &'d Spanning<Fragment<'a, S>, Span>>,
     /// The names that each of them spreads, at any depth, in document order.
     pub spreads: SpreadsByName<'a>,
     /// Whether it was found that none of them reaches itself (5.5.2.2).
@@ -61,10 +60,10 @@ impl<'d, 'a, S: ScalarValue> FragmentsByName<'d, 'a, S> {
 fn first_fragments<'d, 'a, S: ScalarValue>(
     alloc: Global,
     document: &'d [Definition<'a, S>],
-) -> Result<HashMap<&'a str, &'d Spanning<Fragment<'a, S>, Span>>, AllocError>
+) -> Result<NameMap<'a, &'d Spanning<Fragment<'a, S>, Span>>, AllocError>
     ensures { IfOk result (λ r. (k : Name) → fragment_at S.shown r k ≡ fragment_of (fragments (map (view_definition S.shown) document.now)) k) }
 {
-    let mut first = HashMap::new(alloc);
+    let mut first = NameMap::new(alloc);
     for definition in document {
         put_fragment(definition, &mut first)?;
     }
@@ -74,20 +73,13 @@ fn first_fragments<'d, 'a, S: ScalarValue>(
 /// Puts a fragment in, where none of its name is there.
 fn put_fragment<'d, 'a, S: ScalarValue>(
     definition: &'d Definition<'a, S>,
-    first: &mut HashMap<&'a str, &'d Spanning<Fragment<'a, S>, Span>>,
+    first: &mut NameMap<'a, &'d Spanning<Fragment<'a, S>, Span>>,
 ) -> Result<(), AllocError>
     ensures { OnOk result ((k : Name) → fragment_at S.shown first.new k
         ≡ option_or (fragment_at S.shown first.old k) (fragment_of (fragments (view_definition S.shown definition.now ∷ [])) k)) }
 {
     match definition {
-        Definition::Fragment(fragment) => {
-            let name = fragment.item.name.item;
-            if first.contains_key(name) {
-                return Ok(());
-            }
-            first.insert(name, fragment)?;
-            Ok(())
-        }
+        Definition::Fragment(fragment) => first.put_first(fragment.item.name.item, fragment),
         Definition::Operation(_) => Ok(()),
     }
 }
@@ -99,7 +91,7 @@ fn first_spreads<'a, S: ScalarValue>(
 ) -> Result<SpreadsByName<'a>, AllocError>
     ensures { IfOk result (λ r. AreSpreadsOf r (fragments (map (view_definition S.shown) document.now))) }
 {
-    let mut first = HashMap::new(alloc);
+    let mut first = NameMap::new(alloc);
     for definition in document {
         put_spreads(alloc, definition, &mut first)?;
     }
@@ -117,13 +109,8 @@ fn put_spreads<'a, S: ScalarValue>(
 {
     match definition {
         Definition::Fragment(fragment) => {
-            let name = fragment.item.name.item;
-            if spreads.contains_key(name) {
-                return Ok(());
-            }
             let written = written_in(alloc, definition)?;
-            spreads.insert(name, written.spreads)?;
-            Ok(())
+            spreads.put_first(fragment.item.name.item, written.spreads)
         }
         Definition::Operation(_) => Ok(()),
     }

@@ -1,16 +1,15 @@
 //! Fragments that spread themselves.
 
 ghost use Rattle.std.specs.Prelude.{◌≡◌, ◌||◌, ◌+◌, IfOk, List, OnOk, is_some, length, not, true};
-ghost use Rattle.std.specs.HashMap.{keys};
 ghost use Rattle.std.specs.List.{list_all};
 ghost use Rattle.graphql_spec.specs.Shown.{Name};
 ghost use Rattle.graphql_spec.specs.Documents.{Fragment};
-ghost use Rattle.juniper_written.specs.WrittenView.{has_name};
+ghost use Rattle.juniper_written.specs.WrittenView.{has_name, view_names};
 ghost use Rattle.juniper_spreads.specs.SpreadsView.{AreSpreadsOf, NoneReachesItself, names_or_none, spread_by, step_count};
 
-use crate::reach::{SpreadsByName, is_new};
+use crate::reach::SpreadsByName;
+use juniper_written::NameSet;
 use std::alloc::{AllocError, Global};
-use std::collections::HashSet;
 
 /// A step of the walk.
 #[derive(Clone, Copy)]
@@ -37,12 +36,12 @@ pub(crate) fn walk_order<'a>(
     spreads: &SpreadsByName<'a>,
 ) -> Result<Vec<&'a str>, AllocError> {
     let mut order = Vec::new(alloc);
-    let mut entered = HashSet::new(alloc);
+    let mut entered = NameSet::new(alloc);
     let mut steps = first_steps(alloc, spreads)?;
     while let Some(step) = steps.pop() {
         match step {
             Step::Enter(name) => {
-                if is_new(&mut entered, name)? {
+                if entered.insert(name)? {
                     enter(spreads, name, &mut steps)?;
                 }
             }
@@ -58,7 +57,8 @@ fn first_steps<'a>(
     spreads: &SpreadsByName<'a>,
 ) -> Result<Vec<Step<'a>>, AllocError> {
     let mut steps = Vec::new(alloc);
-    for name in spreads.keys() {
+    let names = spreads.names(alloc)?;
+    for name in &names {
         steps.push(Step::Enter(*name))?;
     }
     Ok(steps)
@@ -92,18 +92,18 @@ fn is_in_order<'a>(
 ) -> Result<bool, AllocError>
     ensures { IfOk result (λ b. b ≡ true → (fs : List Fragment) → AreSpreadsOf spreads.now fs → NoneReachesItself fs) }
 {
-    let mut done = HashSet::new(alloc);
+    let mut done = NameSet::new(alloc);
     for name in order {
         if !are_done(spreads, *name, &done) {
             return Ok(false);
         }
-        is_new(&mut done, *name)?;
+        done.insert(*name)?;
     }
-    Ok(none_left(spreads, &done))
+    none_left(alloc, spreads, &done)
 }
 
 /// Whether the fragments that a fragment spreads are done.
-pub(crate) fn are_done<'a>(spreads: &SpreadsByName<'a>, name: &str, done: &HashSet<&'a str>) -> bool
+pub(crate) fn are_done<'a>(spreads: &SpreadsByName<'a>, name: &str, done: &NameSet<'a>) -> bool
     ensures { result ≡ list_all (λ n. has_name done.now n || not (is_some (spread_by spreads.now n))) (names_or_none (spread_by spreads.now name.now)) }
 {
     match spreads.get(name) {
@@ -113,22 +113,39 @@ pub(crate) fn are_done<'a>(spreads: &SpreadsByName<'a>, name: &str, done: &HashS
 }
 
 /// Whether the names are done, or no fragment's.
-fn all_done<'a>(spreads: &SpreadsByName<'a>, names: &[&str], done: &HashSet<&'a str>) -> bool
-    ensures { result ≡ list_all (λ k. has_name done.now k.now || not (is_some (spread_by spreads.now k.now))) names.now }
+fn all_done<'a>(spreads: &SpreadsByName<'a>, names: &[&str], done: &NameSet<'a>) -> bool
+    ensures { result ≡ list_all (λ k. has_name done.now k || not (is_some (spread_by spreads.now k))) (view_names names.now) }
 {
-    names.iter().all(|name| is_done(spreads, *name, done))
+    for name in names {
+        if !is_done(spreads, *name, done) {
+            return false;
+        }
+    }
+    true
 }
 
 /// Whether a name is done, or no fragment's.
-fn is_done<'a>(spreads: &SpreadsByName<'a>, name: &str, done: &HashSet<&'a str>) -> bool
+fn is_done<'a>(spreads: &SpreadsByName<'a>, name: &str, done: &NameSet<'a>) -> bool
     ensures { result ≡ (has_name done.now name.now || not (is_some (spread_by spreads.now name.now))) }
 {
-    done.contains(name) || !spreads.contains_key(name)
+    done.contains(name) || !spreads.contains(name)
 }
 
-/// Whether all fragments are done.
-fn none_left<'a>(spreads: &SpreadsByName<'a>, done: &HashSet<&'a str>) -> bool
-    ensures { result ≡ list_all (λ k. has_name done.now k.now) (keys spreads.now) }
+/// Whether all fragments are done. An error where memory is refused.
+fn none_left<'a>(
+    alloc: Global,
+    spreads: &SpreadsByName<'a>,
+    done: &NameSet<'a>,
+) -> Result<bool, AllocError>
+    ensures { IfOk result (λ b. b ≡ true → (k : Name) → is_some (spread_by spreads.now k) ≡ true → has_name done.now k ≡ true) }
 {
-    spreads.keys().all(|name| done.contains(*name))
+    let names = spreads.names(alloc)?;
+    Ok(are_in(done, &names))
+}
+
+/// Whether all of the names are there.
+fn are_in<'a>(set: &NameSet<'a>, names: &[&str]) -> bool
+    ensures { result ≡ list_all (λ k. has_name set.now k.now) names.now }
+{
+    names.iter().all(|name| set.contains(*name))
 }

@@ -1,7 +1,6 @@
 //! The fragments of a document in an order in which each stands behind those that it spreads.
 
 ghost use Rattle.std.specs.Prelude.{◌≡◌, ◌≤◌, ◌||◌, IfOk, List, OnOk, false, length, map, true};
-ghost use Rattle.std.specs.HashMap.{keys};
 ghost use Rattle.graphql_spec.specs.Shown.{Name};
 ghost use Rattle.graphql_spec.specs.Documents.{Document, Fragment as SpecFragment, fragments};
 ghost use Rattle.juniper_syntax.specs.DocumentView.{view_fragment};
@@ -11,10 +10,10 @@ ghost use Rattle.juniper_spreads.specs.SpreadsView.{AreFragmentsOf, AreSpreadsOf
 
 use crate::by_name::FragmentsByName;
 use crate::cycles::{are_done, walk_order};
-use crate::reach::{SpreadsByName, is_new};
+use crate::reach::SpreadsByName;
 use juniper_syntax::{Fragment, ScalarValue, Span, Spanning};
+use juniper_written::NameSet;
 use std::alloc::{AllocError, Global};
-use std::collections::HashSet;
 
 impl<'d, 'a, S: ScalarValue> FragmentsByName<'d, 'a, S> {
     /// The fragments in an order in which each stands once, behind those that it spreads; of those of one name it is
@@ -57,7 +56,7 @@ struct Taken<'a> {
     /// In the order in which they were.
     order: Vec<&'a str>,
     /// The same as a set.
-    names: HashSet<&'a str>,
+    names: NameSet<'a>,
 }
 
 /// The names of the fragments, each behind those that it spreads: all but those that lead to a cycle. A walk leaves the
@@ -71,11 +70,11 @@ fn names_in_order<'a>(
 {
     let mut taken = Taken {
         order: Vec::new(alloc),
-        names: HashSet::new(alloc),
+        names: NameSet::new(alloc),
     };
     let walked = walk_order(alloc, spreads)?;
     taken.take_ready(alloc, spreads, &walked)?;
-    let mut left = names_of(alloc, spreads)?;
+    let mut left = spreads.names(alloc)?;
     loop {
         let kept = taken.take_ready(alloc, spreads, &left)?;
         if kept.len() == left.len() {
@@ -83,13 +82,6 @@ fn names_in_order<'a>(
         }
         left = kept;
     }
-}
-
-/// The names of all fragments.
-fn names_of<'a>(alloc: Global, spreads: &SpreadsByName<'a>) -> Result<Vec<&'a str>, AllocError>
-    ensures { IfOk result (λ r. r.items ≡ keys spreads.now) }
-{
-    spreads.keys().copied().collect(alloc)
 }
 
 impl<'a> Taken<'a> {
@@ -132,7 +124,7 @@ impl<'a> Taken<'a> {
         if !are_done(spreads, name, &self.names) {
             return Ok(false);
         }
-        is_new(&mut self.names, name)?;
+        self.names.insert(name)?;
         self.order.push(name)?;
         Ok(true)
     }

@@ -1,18 +1,17 @@
 //! The names that spreads lead to.
 
-ghost use Rattle.std.specs.Prelude.{◌≡◌, ◌++◌, IfOk, List, OnOk, cond, not, true};
-ghost use Rattle.std.specs.Str.{bytes_eq};
+ghost use Rattle.std.specs.Prelude.{◌≡◌, ◌++◌, IfOk, List, OnOk};
 ghost use Rattle.graphql_spec.specs.Shown.{Name};
 ghost use Rattle.graphql_spec.specs.Documents.{Fragment};
 ghost use Rattle.graphql_spec.specs.VariableUses.{is_reached};
 ghost use Rattle.juniper_written.specs.WrittenView.{has_name, view_names};
 ghost use Rattle.juniper_spreads.specs.SpreadsView.{AreSpreadsOf, names_or_none, spread_by};
 
+use juniper_written::{NameMap, NameSet};
 use std::alloc::{AllocError, Global};
-use std::collections::{HashMap, HashSet};
 
 /// The names that each fragment spreads, by the fragment's name.
-pub type SpreadsByName<'a> = HashMap<&'a str, Vec<&'a str>>;
+pub type SpreadsByName<'a> = NameMap<'a, Vec<&'a str>>;
 
 /// The names, and all that their fragments' spreads lead to, known or not (5.8.3); the time grows with the number of
 /// spreads. An error where memory is refused.
@@ -20,14 +19,14 @@ pub fn reached<'a>(
     alloc: Global,
     spreads: &SpreadsByName<'a>,
     names: &[&'a str],
-) -> Result<HashSet<&'a str>, AllocError>
+) -> Result<NameSet<'a>, AllocError>
     ensures { IfOk result (λ r. (fs : List Fragment) → AreSpreadsOf spreads.now fs → (n : Name) → has_name r n ≡ is_reached fs (view_names names.now) n) }
 {
-    let mut seen = HashSet::new(alloc);
+    let mut seen = NameSet::new(alloc);
     let mut left = Vec::new(alloc);
     left.extend_from_slice(names)?;
     while let Some(name) = left.pop() {
-        if is_new(&mut seen, name)? {
+        if seen.insert(name)? {
             follow(spreads, name, &mut left)?;
         }
     }
@@ -49,12 +48,4 @@ fn follow<'a>(
         }
         None => Ok(()),
     }
-}
-
-/// Whether the name is not there yet; afterwards it is.
-pub(crate) fn is_new<'a>(seen: &mut HashSet<&'a str>, name: &'a str) -> Result<bool, AllocError>
-    ensures found { IfOk result (λ b. b ≡ not (has_name seen.old name.now)) }
-    ensures added { OnOk result ((n : Name) → has_name seen.new n ≡ cond (bytes_eq name.now n) true (has_name seen.old n)) }
-{
-    Ok(seen.insert(name)?)
 }

@@ -16,8 +16,8 @@ ghost use Rattle.juniper_spreads.specs.SpreadsView.{AreFragmentsOf, AreSpreadsOf
 use crate::by_name::FragmentsByName;
 use crate::reach::{SpreadsByName, reached};
 use juniper_syntax::{Definition, ScalarValue};
+use juniper_written::NameSet;
 use std::alloc::{AllocError, Global};
-use std::collections::HashSet;
 
 impl<'d, 'a, S: ScalarValue> FragmentsByName<'d, 'a, S> {
     /// Whether a definition that spreads these names spreads a fragment that is not there (5.5.2.1).
@@ -53,7 +53,7 @@ impl<'d, 'a, S: ScalarValue> FragmentsByName<'d, 'a, S> {
 
     /// The names that an operation that spreads these names reaches: these, and all that they lead to (5.8.3). The time
     /// grows with the number of spreads. An error where memory is refused.
-    pub fn reached(&self, alloc: Global, names: &[&'a str]) -> Result<HashSet<&'a str>, AllocError>
+    pub fn reached(&self, alloc: Global, names: &[&'a str]) -> Result<NameSet<'a>, AllocError>
         ensures { IfOk result (λ r. (d : Document) → AreFragmentsOf S.shown self.now d → (n : Name) →
             has_name r n ≡ is_reached (fragments d) (view_names names.now) n) }
     {
@@ -63,16 +63,21 @@ impl<'d, 'a, S: ScalarValue> FragmentsByName<'d, 'a, S> {
 
 /// Whether one of the names is no fragment's.
 fn has_unknown<'a>(spreads: &SpreadsByName<'a>, names: &[&str]) -> bool
-    ensures { result ≡ list_any (λ k. not (is_some (spread_by spreads.now k.now))) names.now }
+    ensures { result ≡ list_any (λ k. not (is_some (spread_by spreads.now k))) (view_names names.now) }
 {
-    names.iter().any(|name| is_unknown(spreads, *name))
+    for name in names {
+        if is_unknown(spreads, *name) {
+            return true;
+        }
+    }
+    false
 }
 
 /// Whether a name is no fragment's.
 fn is_unknown<'a>(spreads: &SpreadsByName<'a>, name: &str) -> bool
     ensures { result ≡ not (is_some (spread_by spreads.now name.now)) }
 {
-    !spreads.contains_key(name)
+    !spreads.contains(name)
 }
 
 /// Whether one of the names is this name, or leads to it.

@@ -1,13 +1,7 @@
 -- The variables by name: a map to which the first of each name goes.
-use Rattle.std.proofs.Common.{◌≡◌, ℕ, ◌+◌, ◌<◌, ◌≤◌, Bool, true, false, cond, List, [], ◌∷◌, length, get_or, drop, map, Option, Some, None, option_map, is_some, Bor, refl, sym, ap, ◌∙◌, inl, inr, subst}
+use Rattle.std.proofs.Common.{◌≡◌, ℕ, ◌+◌, ◌<◌, ◌≤◌, Bool, true, false, cond, List, [], ◌∷◌, length, get_or, drop, map, Option, Some, None, option_map, is_some, Bor, refl, sym, ap, ◌∙◌}
 use Rattle.std.specs.Option.{option_or, option_copied}
-use Rattle.std.specs.HashMap.{HashMap, get_by}
-use Rattle.std.specs.Map.{lookup, update}
 use Rattle.std.specs.Str.{bytes_eq}
-use Rattle.std.specs.Bool.{Decides}
-use Rattle.std.proofs.lemmas.Bool.{cases_Bool, both_ways}
-use Rattle.std.proofs.lemmas.Cmp.{nat_list_eq_equiv}
-use Rattle.std.proofs.lemmas.Slice.Eq.{bytes_eq-Decides}
 use Rattle.std.proofs.lemmas.List.{drop_all}
 use Rattle.graphql_spec.specs.Shown.{Shown, Name}
 use Rattle.graphql_spec.specs.Documents as spec
@@ -17,6 +11,8 @@ use Rattle.juniper_position.specs.declared.position.Span.{Span}
 use Rattle.juniper_syntax.specs.DocumentView.{view_variable}
 use Rattle.juniper_syntax.specs.declared.ast.VariableDefinition.{VariableDefinition}
 use Rattle.juniper_syntax.proofs.Lists.{seen-left-is}
+use Rattle.juniper_written.specs.WrittenView.{named}
+use Rattle.juniper_written.specs.declared.name_map.NameMap.{NameMap}
 use Rattle.juniper_use_rules.specs.UsesView.{definition_at}
 use Rattle.juniper_use_rules.proofs.Tests.{some-map}
 
@@ -26,17 +22,6 @@ or-none : {A : Type 0} (o : Option A) → o ≡ option_or o None
 or-none None = refl
 or-none (Some x) = refl
 
-true_false : {P : Type 0} (b : Bool) → b ≡ true → b ≡ false → P
-true_false b t f = absurd (both_ways b f t)
-
-or-known : {A : Type 0} (o p : Option A) → is_some o ≡ true → o ≡ option_or o p
-or-known None p e = true_false false e refl
-or-known (Some x) p e = refl
-
-or-unknown : {A : Type 0} (o p : Option A) → is_some o ≡ false → p ≡ option_or o p
-or-unknown None p e = refl
-or-unknown (Some x) p e = true_false true refl e
-
 or-moves : {A : Type 0} (o p q : Option A) → option_or (option_or o p) q ≡ option_or o (option_or p q)
 or-moves None p q = refl
 or-moves (Some x) p q = refl
@@ -44,13 +29,6 @@ or-moves (Some x) p q = refl
 cond-or : {A : Type 0} (b : Bool) (x : A) (o : Option A) → cond b (Some x) o ≡ option_or (cond b (Some x) None) o
 cond-or true x o = refl
 cond-or false x o = refl
-
-decided : {P : Type 0} (r : Bool) → Decides r P → r ≡ true → P
-decided true d e = d.0 refl
-decided false d e = absurd (both_ways false refl e)
-
-same : (k j : Name) → bytes_eq k j ≡ true → k ≡ j
-same k j e = decided (bytes_eq k j) (bytes_eq-Decides k j) e
 
 -- ## A loop over variables
 
@@ -87,61 +65,44 @@ module _ {D : Type 0} (view : D → spec.VariableDefinition) (ds : List D) where
 
 -- ## One variable more
 
-put-one : {V W : Type 0} (view : V → W) (b : Bool) (old new : Option V) (x : V) → new ≡ cond b (Some x) old → (b ≡ true → is_some old ≡ false) →
-    option_map view new ≡ option_or (option_map view old) (cond b (Some (view x)) None)
-put-one view true old new x e absent = ap (option_map view) e ∙ or-unknown (option_map view old) (Some (view x)) (some-map view old ∙ absent refl)
-put-one view false old new x e absent = ap (option_map view) e ∙ or-none (option_map view old)
+map-or : {A B : Type 0} (f : A → B) (o p : Option A) → option_map f (option_or o p) ≡ option_or (option_map f o) (option_map f p)
+map-or f None p = refl
+map-or f (Some x) p = refl
+
+map-cond : {A B : Type 0} (f : A → B) (b : Bool) (x : A) → option_map f (cond b (Some x) None) ≡ cond b (Some (f x)) None
+map-cond f true x = refl
+map-cond f false x = refl
 
 module _ {S : Type 0} (shown : S → Shown) where
   abbrev Variable : Type 0
   Variable = Spanning (Bor (List ℕ)) Span × VariableDefinition S
 
-  module _ {H : Type 0} where
-    pub put-first : (m n : HashMap (Bor (List ℕ)) (Bor Variable) H) (x : Bor Variable) → is_some (get_by (λ i. bytes_eq x.now.0.item.now i.now) m) ≡ false →
-        ((cs : List ℕ) → get_by (λ i. bytes_eq cs i.now) n ≡ update bytes_eq (λ ds. get_by (λ i. bytes_eq ds i.now) m) x.now.0.item.now (Some x) cs) →
-        (k : Name) → definition_at shown n k ≡ option_or (definition_at shown m k) (definition_of (view_variable shown x.now ∷ []) k)
+  module _ (m : NameMap (Bor Variable)) (k : Name) where
+    pub put-seen : (n : NameMap (Bor Variable)) (x : Bor Variable) → named n k ≡ option_or (named m k) (cond (bytes_eq k x.now.0.item.now) (Some x) None) →
+        definition_at shown n k ≡ option_or (definition_at shown m k) (definition_of (view_variable shown x.now ∷ []) k)
     unfolding definition_at definition_of
-    put-first m n x absent put k =
-        let name = x.now.0.item.now in
-        put-one (λ (v : Bor Variable). view_variable shown v.now) (bytes_eq name k) (get_by (λ i. bytes_eq k i.now) m) (get_by (λ i. bytes_eq k i.now) n) x
-        (put k)
-        (λ e. subst (λ j. is_some (get_by (λ i. bytes_eq j i.now) m) ≡ false) (same name k e) absent)
-        ∙ ap (λ b. option_or (option_map (λ (v : Bor Variable). view_variable shown v.now) (get_by (λ i. bytes_eq k i.now) m))
-        (cond b (Some (view_variable shown x.now)) None)) (nat_list_eq_equiv.symm name k)
-
-    pub put-not : (m : HashMap (Bor (List ℕ)) (Bor Variable) H) (x : Bor Variable) → is_some (get_by (λ i. bytes_eq x.now.0.item.now i.now) m) ≡ true →
-        (k : Name) → definition_at shown m k ≡ option_or (definition_at shown m k) (definition_of (view_variable shown x.now ∷ []) k)
-    unfolding definition_at definition_of
-    put-not m x there k =
-        let name = x.now.0.item.now in
-        let old = option_map (λ (v : Bor Variable). view_variable shown v.now) (get_by (λ i. bytes_eq k i.now) m) in
-        elim (cases_Bool (bytes_eq k name)) [
-          | inl q ↦ rw q (or-known old (Some (view_variable shown x.now))
-              (some-map (λ (v : Bor Variable). view_variable shown v.now) (get_by (λ i. bytes_eq k i.now) m)
-              ∙ subst (λ j. is_some (get_by (λ i. bytes_eq j i.now) m) ≡ true) (sym (same k name q)) there))
-          | inr q ↦ rw q (or-none old)
-        ]
+    put-seen n x put =
+        let view : Bor Variable → spec.VariableDefinition = λ v. view_variable shown v.now in
+        ap (option_map view) put ∙ (map-or view (named m k) (cond (bytes_eq k x.now.0.item.now) (Some x) None)
+        ∙ ap (option_or (option_map view (named m k))) (map-cond view (bytes_eq k x.now.0.item.now) x))
 
     -- nothing is in an empty map
-    pub empty-at : (m : HashMap (Bor (List ℕ)) (Bor Variable) H) → m.entries ≡ [] → (k : Name) → definition_at shown m k ≡ None
+    pub empty-at : named m k ≡ None → definition_at shown m k ≡ None
     unfolding definition_at
-    empty-at m none k = ap (λ es. option_map (λ (v : Bor Variable). view_variable shown v.now) (lookup (λ n. bytes_eq k n.now) es)) none
+    empty-at none = ap (option_map (λ (v : Bor Variable). view_variable shown v.now)) none
 
     -- what a look-up tells
-    pub there-is : (m : HashMap (Bor (List ℕ)) (Bor Variable) H) (k : Name) → is_some (get_by (λ n. bytes_eq k n.now) m) ≡ is_some (definition_at shown m k)
+    pub there-is : is_some (named m k) ≡ is_some (definition_at shown m k)
     unfolding definition_at
-    there-is m k = sym (some-map (λ (v : Bor Variable). view_variable shown v.now) (get_by (λ n. bytes_eq k n.now) m))
+    there-is = sym (some-map (λ (v : Bor Variable). view_variable shown v.now) (named m k))
 
-    pub found-is : (m : HashMap (Bor (List ℕ)) (Bor Variable) H) (k : Name) (o : Option (Bor (Bor Variable))) (v : Bor (Bor Variable)) →
-        option_copied o ≡ get_by (λ n. bytes_eq k n.now) m → o ≡ Some v →
+    pub found-is : (o : Option (Bor (Bor Variable))) (v : Bor (Bor Variable)) → option_copied o ≡ named m k → o ≡ Some v →
         Some (view_variable shown v.now.now) ≡ definition_at shown m k
     unfolding definition_at
-    found-is m k o v e is = ap (λ p. option_map (λ (w : Bor Variable). view_variable shown w.now) (option_copied p)) (sym is)
+    found-is o v e is = ap (λ p. option_map (λ (w : Bor Variable). view_variable shown w.now) (option_copied p)) (sym is)
         ∙ ap (option_map (λ (w : Bor Variable). view_variable shown w.now)) e
 
-    pub missing-is : (m : HashMap (Bor (List ℕ)) (Bor Variable) H) (k : Name) (o : Option (Bor (Bor Variable))) →
-        option_copied o ≡ get_by (λ n. bytes_eq k n.now) m → o ≡ None →
-        None ≡ definition_at shown m k
+    pub missing-is : (o : Option (Bor (Bor Variable))) → option_copied o ≡ named m k → o ≡ None → None ≡ definition_at shown m k
     unfolding definition_at
-    missing-is m k o e is = ap (λ p. option_map (λ (w : Bor Variable). view_variable shown w.now) (option_copied p)) (sym is)
+    missing-is o e is = ap (λ p. option_map (λ (w : Bor Variable). view_variable shown w.now) (option_copied p)) (sym is)
         ∙ ap (option_map (λ (w : Bor Variable). view_variable shown w.now)) e

@@ -1,10 +1,7 @@
 -- What definitions use of variables, and how it is seen (5.8).
 use Rattle.std.specs.Prelude.{◌≡◌, ◌&&◌, ℕ, Bool, true, false, not, List, [], ◌∷◌, map, Option, Some, None, is_some, option_map}
 use Rattle.std.specs.Borrow.{Bor}
-use Rattle.std.specs.HashMap.{HashMap, get_by}
-use Rattle.std.specs.HashSet.{HashSet}
 use Rattle.std.specs.List.{flat_map, list_any}
-use Rattle.std.specs.Str.{bytes_eq}
 use Rattle.graphql_spec.specs.Shown.{Shown, Name}
 use Rattle.graphql_spec.specs.Documents as spec
 use Rattle.graphql_spec.specs.Documents.{Document, Definition, Operation, operation, fragment, fragments}
@@ -19,7 +16,9 @@ use Rattle.juniper_position.specs.declared.position.Span.{Span}
 use Rattle.juniper_syntax.specs.DocumentView.{view_variable}
 use Rattle.juniper_syntax.specs.declared.ast.VariableDefinition.{VariableDefinition}
 use Rattle.juniper_meta.specs.MetaView.{view_type}
-use Rattle.juniper_written.specs.WrittenView.{has_name, view_names}
+use Rattle.juniper_written.specs.WrittenView.{has_name, named, view_names}
+use Rattle.juniper_written.specs.declared.name_map.NameMap.{NameMap}
+use Rattle.juniper_written.specs.declared.name_set.NameSet.{NameSet}
 use Rattle.juniper_use_rules.specs.declared.uses.Use.{Use}
 use Rattle.juniper_use_rules.specs.declared.uses.Used.{Used}
 
@@ -39,7 +38,7 @@ unfoldable pub usage_of : Schema → Definition → Usage
 usage_of s x = record { fragment = fragment_name x; names = names_used x; uses = flat_map (uses_in_call s) (calls s x) }
 
 -- the names are those that an operation reaches (5.8.3)
-abbrev pub IsReachOf : {H : Type 0} → HashSet (Bor (List ℕ)) H → Document → Definition → Type 0
+abbrev pub IsReachOf : NameSet → Document → Definition → Type 0
 IsReachOf r d x = (o : Operation) → x ≡ operation o → (n : Name) → has_name r n ≡ is_reached (fragments d) (spreads o.selections) n
 
 -- ## Views
@@ -74,9 +73,9 @@ abbrev pub of_fragment : Usage → List Usage
 of_fragment u = where_named u.fragment u
 
 -- the definition of a variable that the map has at a name
-unfoldable pub definition_at : {S H : Type 0} → (S → Shown) → HashMap (Bor (List ℕ)) (Bor (Spanning (Bor (List ℕ)) Span × VariableDefinition S)) H → Name →
+unfoldable pub definition_at : {S : Type 0} → (S → Shown) → NameMap (Bor (Spanning (Bor (List ℕ)) Span × VariableDefinition S)) → Name →
     Option spec.VariableDefinition
-definition_at shown m n = option_map (λ v. view_variable shown v.now) (get_by (λ k. bytes_eq n k.now) m)
+definition_at shown m n = option_map (λ v. view_variable shown v.now) (named m n)
 
 -- a variable may stand at a place, if it is defined
 unfoldable pub allowed_by : (Name → Option spec.VariableDefinition) → uses.Use → Bool

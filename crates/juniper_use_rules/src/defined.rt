@@ -10,14 +10,14 @@ ghost use Rattle.juniper_use_rules.specs.UsesView.{definition_at};
 
 use juniper_syntax::ast::VariableDefinition;
 use juniper_syntax::{ScalarValue, Span, Spanning, VariableDefinitions};
+use juniper_written::NameMap;
 use std::alloc::{AllocError, Global};
-use std::collections::HashMap;
 
 /// A variable: its name and its definition.
 pub(crate) type Variable<'a, S> = (Spanning<&'a str, Span>, VariableDefinition<'a, S>);
 
 /// The variables by name.
-pub(crate) type VariablesByName<'d, 'a, S> = HashMap<&'a str, &'d Variable<'a, S>>;
+pub(crate) type VariablesByName<'d, 'a, S> = NameMap<'a, &'d Variable<'a, S>>;
 
 /// The variables by name, of those of one name the first. An error where memory is refused.
 pub(crate) fn variables_by_name<'d, 'a, S: ScalarValue>(
@@ -26,7 +26,7 @@ pub(crate) fn variables_by_name<'d, 'a, S: ScalarValue>(
 ) -> Result<VariablesByName<'d, 'a, S>, AllocError>
     ensures { IfOk result (λ r. (n : Name) → definition_at S.shown r n ≡ definition_of (view_variables S.shown variables.now) n) }
 {
-    let mut first = HashMap::new(alloc);
+    let mut first = NameMap::new(alloc);
     match variables {
         Some(variables) => {
             for variable in &variables.item.items {
@@ -46,10 +46,5 @@ fn put_variable<'d, 'a, S: ScalarValue>(
     ensures { OnOk result ((n : Name) → definition_at S.shown first.new n
         ≡ option_or (definition_at S.shown first.old n) (definition_of (view_variable S.shown variable.now ∷ []) n)) }
 {
-    let name = variable.0.item;
-    if first.contains_key(name) {
-        return Ok(());
-    }
-    first.insert(name, variable)?;
-    Ok(())
+    first.put_first(variable.0.item, variable)
 }

@@ -15,8 +15,8 @@ use crate::roots::has_root;
 use crate::uses::{Used, is_reached};
 use juniper_schema::SchemaType;
 use juniper_syntax::{Definition, ScalarValue};
+use juniper_written::NameSet;
 use std::alloc::{AllocError, Global};
-use std::collections::HashSet;
 
 /// Whether a definition is an operation that can be executed and uses, in itself or in fragments that it reaches, a
 /// variable that it does not define. `own` is what the definition uses, `fragments` what each fragment of the document
@@ -27,7 +27,7 @@ pub fn uses_undefined<S: ScalarValue>(
     definition: &Definition<'_, S>,
     own: &Used<'_>,
     fragments: &Vec<&Used<'_>>,
-    reached: &HashSet<&str>,
+    reached: &NameSet<'_>,
 ) -> Result<bool, AllocError>
     ensures { IfOk result (λ b. (d : Document) → view_used own.now ≡ usage_of (view_schema S.shown schema.now) (view_definition S.shown definition.now) →
         AreUsesOfFragments (view_schema S.shown schema.now) fragments.now.items d → IsReachOf reached.now d (view_definition S.shown definition.now) →
@@ -52,7 +52,7 @@ pub fn uses_undefined<S: ScalarValue>(
 fn lacks_reached<S: ScalarValue>(
     defined: &VariablesByName<'_, '_, S>,
     fragments: &Vec<&Used<'_>>,
-    reached: &HashSet<&str>,
+    reached: &NameSet<'_>,
 ) -> bool
     ensures { result ≡ list_any (reaches_unknown (has_name reached.now) (definition_at S.shown defined.now)) (view_used_at fragments.now.items) }
 {
@@ -69,7 +69,7 @@ fn lacks_reached<S: ScalarValue>(
 fn lacks_if_reached<S: ScalarValue>(
     defined: &VariablesByName<'_, '_, S>,
     used: &Used<'_>,
-    reached: &HashSet<&str>,
+    reached: &NameSet<'_>,
 ) -> bool
     ensures { result ≡ reaches_unknown (has_name reached.now) (definition_at S.shown defined.now) (view_used used.now) }
 {
@@ -92,5 +92,5 @@ fn lacks_one<S: ScalarValue>(defined: &VariablesByName<'_, '_, S>, names: &Vec<&
 fn is_undefined<S: ScalarValue>(defined: &VariablesByName<'_, '_, S>, name: &str) -> bool
     ensures { result ≡ is_unknown (definition_at S.shown defined.now) name.now }
 {
-    !defined.contains_key(name)
+    !defined.contains(name)
 }

@@ -16,9 +16,8 @@ use crate::places::uses_in_calls;
 use juniper_placed::Call;
 use juniper_schema::SchemaType;
 use juniper_syntax::{Definition, ScalarValue, Type};
-use juniper_written::ArgumentLists;
+use juniper_written::{ArgumentLists, NameSet};
 use std::alloc::{AllocError, Global};
-use std::collections::HashSet;
 
 /// A variable at a place (5.8.5).
 #[derive(Drop)]
@@ -105,7 +104,7 @@ fn fragment_name<'u, 'a: 'u, S: ScalarValue>(definition: &Definition<'a, S>) -> 
 }
 
 /// Whether it is what a fragment of one of the names uses.
-pub(crate) fn is_reached(reached: &HashSet<&str>, used: &Used<'_>) -> bool
+pub(crate) fn is_reached(reached: &NameSet<'_>, used: &Used<'_>) -> bool
     ensures { result ≡ is_reached_by (has_name reached.now) (view_used used.now) }
 {
     match used.fragment {

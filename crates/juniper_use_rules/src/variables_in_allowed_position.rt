@@ -22,8 +22,8 @@ use crate::roots::has_root;
 use crate::uses::{Use, Used, is_reached};
 use juniper_schema::SchemaType;
 use juniper_syntax::{Definition, InputValue, ScalarValue, Span, Spanning, Type};
+use juniper_written::NameSet;
 use std::alloc::{AllocError, Global};
-use std::collections::HashSet;
 
 /// Whether a definition is an operation that can be executed and uses, in itself or in fragments that it reaches, a
 /// variable where it may not stand. `own` is what the definition uses, `fragments` what each fragment of the document
@@ -34,7 +34,7 @@ pub fn misuses_variable<S: ScalarValue>(
     definition: &Definition<'_, S>,
     own: &Used<'_>,
     fragments: &Vec<&Used<'_>>,
-    reached: &HashSet<&str>,
+    reached: &NameSet<'_>,
 ) -> Result<bool, AllocError>
     ensures { IfOk result (λ b. (d : Document) → view_used own.now ≡ usage_of (view_schema S.shown schema.now) (view_definition S.shown definition.now) →
         AreUsesOfFragments (view_schema S.shown schema.now) fragments.now.items d → IsReachOf reached.now d (view_definition S.shown definition.now) →
@@ -59,7 +59,7 @@ pub fn misuses_variable<S: ScalarValue>(
 fn misuses_reached<S: ScalarValue>(
     defined: &VariablesByName<'_, '_, S>,
     fragments: &Vec<&Used<'_>>,
-    reached: &HashSet<&str>,
+    reached: &NameSet<'_>,
 ) -> bool
     ensures { result ≡ list_any (reaches_misused (has_name reached.now) (definition_at S.shown defined.now)) (view_used_at fragments.now.items) }
 {
@@ -76,7 +76,7 @@ fn misuses_reached<S: ScalarValue>(
 fn misuses_if_reached<S: ScalarValue>(
     defined: &VariablesByName<'_, '_, S>,
     used: &Used<'_>,
-    reached: &HashSet<&str>,
+    reached: &NameSet<'_>,
 ) -> bool
     ensures { result ≡ reaches_misused (has_name reached.now) (definition_at S.shown defined.now) (view_used used.now) }
 {

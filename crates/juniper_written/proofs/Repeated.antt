@@ -1,13 +1,12 @@
 -- Names that stand twice: what is left decides, beside what was seen.
-use Rattle.std.proofs.Common.{◌≡◌, ℕ, ◌-◌, ◌<◌, ◌≤◌, arith, Bool, true, false, ◌||◌, cond, List, [], ◌∷◌, length, get_or, take, drop, refl, sym, ap, ap₂, ◌∙◌}
+use Rattle.std.proofs.Common.{◌≡◌, ℕ, ◌-◌, ◌<◌, ◌≤◌, arith, Bool, true, false, ◌||◌, cond, not, List, [], ◌∷◌, length, get_or, take, drop, refl, sym, ap, ap₂, ◌∙◌}
 use Rattle.std.specs.Borrow.{Bor}
-use Rattle.std.specs.HashSet.{HashSet}
 use Rattle.std.specs.List.{list_any}
 use Rattle.std.specs.Str.{bytes_eq}
 use Rattle.graphql_spec.specs.Shown.{Name}
 use Rattle.graphql_spec.specs.Written.{repeats}
 use Rattle.juniper_syntax.proofs.Lists.{rest-is}
-use Rattle.juniper_written.specs.WrittenView.{has_name, view_names}
+use Rattle.juniper_written.specs.WrittenView.{view_names}
 
 -- the first name, before the others
 pub front-is : (xs : List (Bor (List ℕ))) (d : Bor (List ℕ)) → 1 ≤ length xs →
@@ -35,6 +34,15 @@ or-flips true false = refl
 or-flips false true = refl
 or-flips false false = refl
 
+-- what the opposite of a test tells
+pub not-true : (a b : Bool) → a ≡ not b → a ≡ true → b ≡ false
+not-true a true is e = sym e ∙ is
+not-true a false is e = refl
+
+pub not-false : (a b : Bool) → a ≡ not b → a ≡ false → b ≡ true
+not-false a true is e = refl
+not-false a false is e = sym e ∙ is
+
 -- one of them was seen, or is the new name
 any-more : (has now : Name → Bool) (x : Name) → ((n : Name) → now n ≡ cond (bytes_eq x n) true (has n)) → (xs : List Name) →
     list_any now xs ≡ (list_any has xs || list_any (bytes_eq x) xs)
@@ -43,18 +51,17 @@ any-more has now x more (y ∷ ys) =
     ap₂ (λ a b. a || b) (more y ∙ or-flips (bytes_eq x y) (has y)) (any-more has now x more ys)
     ∙ or-swaps (has y) (bytes_eq x y) (list_any has ys) (list_any (bytes_eq x) ys)
 
-none-seen : {H : Type 0} (s : HashSet (Bor (List ℕ)) H) → s.keys ≡ [] → (ys : List Name) → list_any (has_name s) ys ≡ false
-unfolding has_name
-none-seen s none [] = refl
-none-seen s none (y ∷ ys) = ap₂ (λ a b. a || b) (ap (list_any (λ k. bytes_eq y k.now)) none) (none-seen s none ys)
+none-seen : (has : Name → Bool) → ((n : Name) → has n ≡ false) → (ys : List Name) → list_any has ys ≡ false
+none-seen has none [] = refl
+none-seen has none (y ∷ ys) = ap₂ (λ a b. a || b) (none y) (none-seen has none ys)
 
 module _ (xs : List Name) where
   -- one of those that are left was seen, or stands twice among them
   abbrev pub IsLeft : List Name → (Name → Bool) → Type 0
   IsLeft left has = repeats xs ≡ (list_any has left || repeats left)
 
-  pub left-first : {H : Type 0} (s : HashSet (Bor (List ℕ)) H) → s.keys ≡ [] → IsLeft xs (has_name s)
-  left-first s none = sym (ap (λ b. b || repeats xs) (none-seen s none xs))
+  pub left-first : (has : Name → Bool) → ((n : Name) → has n ≡ false) → IsLeft xs has
+  left-first has none = sym (ap (λ b. b || repeats xs) (none-seen has none xs))
 
   at-turn : (left rest : List Name) (x : Name) (has : Name → Bool) → left ≡ x ∷ rest → IsLeft left has →
       repeats xs ≡ ((has x || list_any has rest) || (list_any (bytes_eq x) rest || repeats rest))

@@ -1,8 +1,8 @@
 -- How what is written is seen.
 use Rattle.std.specs.Prelude.{ℕ, Bool, List, [], map, Option, Some, None}
 use Rattle.std.specs.Borrow.{Bor}
-use Rattle.std.specs.HashSet.{HashSet}
 use Rattle.std.specs.List.{list_any}
+use Rattle.std.specs.Map.{lookup}
 use Rattle.std.specs.Str.{bytes_eq}
 use Rattle.graphql_spec.specs.Shown.{Shown, Name}
 use Rattle.graphql_spec.specs.Documents as spec
@@ -19,15 +19,30 @@ use Rattle.juniper_syntax.specs.declared.ast.InlineFragment.{InlineFragment, out
 use Rattle.juniper_syntax.specs.declared.ast.VariableDefinitions.{VariableDefinitions}
 use Rattle.juniper_written.specs.Parts.{Parts}
 use Rattle.juniper_written.specs.declared.arguments.ArgumentLists.{ArgumentLists}
+use Rattle.juniper_written.specs.declared.name_map.NameMap.{NameMap}
+use Rattle.juniper_written.specs.declared.name_set.NameSet.{NameSet}
 use Rattle.juniper_written.specs.declared.written.Written.{Written}
 
 -- names that the text holds
 abbrev pub view_names : List (Bor (List ℕ)) → List Name
 view_names = map (λ n. n.now)
 
+-- the names of a set, each once
+abbrev pub names_in : NameSet → List (Bor (List ℕ))
+names_in s = s.sorted.keys
+
 -- a set of such names has this one
-unfoldable pub has_name : {H : Type 0} → HashSet (Bor (List ℕ)) H → Name → Bool
-has_name s n = list_any (λ k. bytes_eq n k.now) s.keys
+unfoldable pub has_name : NameSet → Name → Bool
+has_name s n = list_any (λ k. bytes_eq n k.now) (names_in s)
+
+module _ {T : Type 0} where
+  -- what a map has, name by name; only proofs that a search ends cite it
+  abbrev pub entries_of : NameMap T → List (Bor (List ℕ) × T)
+  entries_of m = m.sorted.entries
+
+  -- what stands at a name
+  unfoldable pub named : NameMap T → Name → Option T
+  named m k = lookup (λ n. bytes_eq k n.now) (entries_of m)
 
 module _ {S : Type 0} (shown : S → Shown) where
   -- a field without what stands below it

@@ -2,9 +2,13 @@
 #![tactic(auto)]
 
 mod arguments;
+mod name_map;
+mod name_set;
 mod names;
 mod written;
 
 pub use arguments::{ArgumentLists, argument_lists};
-pub use names::{is_seen, repeats};
+pub use name_map::NameMap;
+pub use name_set::NameSet;
+pub use names::repeats;
 pub use written::{Written, write_directives, write_variables, written_in};

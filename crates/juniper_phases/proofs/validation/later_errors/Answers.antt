@@ -1,4 +1,4 @@
-use Rattle.std.proofs.Common.{[], map, sym, ◌∙◌}
+use Rattle.std.proofs.Common.{map, sym, ◌∙◌}
 use Rattle.std.proofs.lemmas.Result.{IfOk-weaker}
 use Rattle.juniper_position.specs.RuleView.{view_rule_error}
 use Rattle.juniper_schema.specs.SchemaView.{view_schema}

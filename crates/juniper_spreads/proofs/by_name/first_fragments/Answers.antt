@@ -1,8 +1,9 @@
+use Rattle.std.proofs.Common.{ap, option_map}
 use Rattle.graphql_spec.specs.Documents.{fragments}
 use Rattle.graphql_spec.specs.Fragments.{fragment_of}
 use Rattle.juniper_syntax.specs.DocumentView.{view_definition}
 use Rattle.juniper_spreads.specs.SpreadsView.{fragment_at}
-use Rattle.juniper_spreads.proofs.ByName.{fragment-splits, fragment-none, first-init, first-next, first-all, empty-at}
+use Rattle.juniper_spreads.proofs.ByName.{fragment-splits, fragment-none, first-init, first-next, first-all}
 use Rattle.juniper_spreads.proofs.by_name.first_fragments.Goals as goal
 
 pub loop-definition-init : goal.loop-definition-init
@@ -10,7 +11,7 @@ unfolding fragment_at
 loop-definition-init g c =
     first-init (λ ds k. fragment_of (fragments ds) k) fragment-splits fragment-none (view_definition g.S.ScalarValue.shown) c.args.document.now
     (fragment_at g.S.ScalarValue.shown c.new-first.result)
-    (empty-at _ c.new-first.result c.new-first.ensures.empty)
+    (λ k. ap (option_map _) (c.new-first.ensures k))
 
 pub loop-definition-preserved : goal.loop-definition-preserved
 loop-definition-preserved g c =

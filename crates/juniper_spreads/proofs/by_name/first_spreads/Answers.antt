@@ -1,7 +1,8 @@
+use Rattle.std.proofs.Common.{ap, option_map}
 use Rattle.graphql_spec.specs.Documents.{fragments}
 use Rattle.juniper_syntax.specs.DocumentView.{view_definition}
 use Rattle.juniper_spreads.specs.SpreadsView.{spread_by, spreads_at}
-use Rattle.juniper_spreads.proofs.ByName.{spreads-split, spreads-none, first-init, first-next, first-all, empty-at}
+use Rattle.juniper_spreads.proofs.ByName.{spreads-split, spreads-none, first-init, first-next, first-all}
 use Rattle.juniper_spreads.proofs.by_name.first_spreads.Goals as goal
 
 pub loop-definition-init : goal.loop-definition-init
@@ -9,7 +10,7 @@ unfolding spread_by
 loop-definition-init g c =
     first-init (λ ds k. spreads_at (fragments ds) k) spreads-split spreads-none (view_definition g.S.ScalarValue.shown) c.args.document.now
     (spread_by c.new-first.result)
-    (empty-at _ c.new-first.result c.new-first.ensures.empty)
+    (λ k. ap (option_map _) (c.new-first.ensures k))
 
 pub loop-definition-preserved : goal.loop-definition-preserved
 loop-definition-preserved g c =

@@ -13,11 +13,9 @@ or-false r true b c is e same = absurd (cc (e, is))
 or-false r false b c is e same = ap not same
 
 pub returns-then-contains : goal.returns-then-contains
-unfolding has_name
 returns-then-contains c = or-true c.contains.result (has_name c.args.done.now c.args.name.now) _ c.contains.ensures c.if-contains.true
 
 pub returns-else-contains : goal.returns-else-contains
-unfolding has_name
 returns-else-contains c =
-    or-false c.contains.result (has_name c.args.done.now c.args.name.now) c.contains_key.result (is_some (spread_by c.args.spreads.now c.args.name.now))
-    c.contains.ensures c.if-contains.false (c.contains_key.ensures ∙ found-by c.args.spreads.now c.args.name.now)
+    or-false c.contains.result (has_name c.args.done.now c.args.name.now) c.contains-else-contains.result (is_some (spread_by c.args.spreads.now c.args.name.now))
+    c.contains.ensures c.if-contains.false (c.contains-else-contains.ensures ∙ found-by c.args.spreads.now c.args.name.now)

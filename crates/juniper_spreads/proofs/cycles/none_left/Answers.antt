@@ -1,13 +1,13 @@
-use Rattle.std.proofs.Common.{ℕ, List, Bor, rules}
-use Rattle.std.specs.HashMap.{keys}
-use Rattle.std.proofs.lemmas.Iterator.Search.{all_from_yields_List}
-use Rattle.std.proofs.lemmas.Iterator.Consumers.{YieldsList-from_rest}
-use borrow.Author.Tests.{tests}
-use Rattle.juniper_written.specs.WrittenView.{has_name}
+use Rattle.std.proofs.Common.{ap, sym, ◌∙◌}
+use Rattle.std.specs.List.{list_all}
+use Rattle.juniper_written.specs.WrittenView.{has_name, view_names}
+use Rattle.juniper_spreads.proofs.Looking.{all-names, found-by}
+use Rattle.juniper_spreads.proofs.Orders.{all_at}
 use Rattle.juniper_spreads.proofs.cycles.none_left.Goals as goal
 
 pub returns : goal.returns
-unfolding has_name
-returns c =
-    all_from_yields_List (λ (k : Bor (List ℕ)). has_name c.args.done.now k.now) _ _ _ c.all.ensures.ran
-    (YieldsList-from_rest (keys c.args.spreads.now) c.keys.ensures.rest) (λ x b q k. search (rules, tests))
+returns c = λ e k known.
+    let done = has_name c.args.done.now in
+    let names = c.in_ok-names.names.items in
+    let all = sym (all-names done names) ∙ (sym (c.are_in.ensures ∙ ap (list_all (λ n. done n.now)) c.deref.ensures.value) ∙ e) in
+    all_at done (view_names names) all k (c.in_ok-names.ensures k ∙ (found-by c.args.spreads.now k ∙ known))

@@ -2,7 +2,6 @@ use Rattle.std.proofs.Common.{◌≡◌, length, sym, ap, subst, ◌∙◌, rule
 use Rattle.std.proofs.lemmas.Bool.{or_right}
 use Rattle.juniper_written.specs.WrittenView.{has_name, view_names}
 use Rattle.juniper_spreads.specs.Order.{IsTaken, is_among}
-use Rattle.juniper_spreads.proofs.Looking.{empty-has}
 use Rattle.juniper_spreads.proofs.Rounds.{known-among, rounds-end, rounds-go-on}
 use Rattle.juniper_spreads.proofs.Taking.{taken-first, taken-ends}
 use Rattle.juniper_spreads.proofs.ordered.names_in_order.Goals as goal
@@ -11,7 +10,7 @@ pub loop-left-init : goal.loop-left-init
 loop-left-init c = λ fs are.
     let names = has_name c.new-2.result in
     let first = subst (λ l. IsTaken fs names (view_names l)) (sym c.new.ensures.items)
-    (taken-first fs names (empty-has c.new-2.result c.new-2.ensures.empty)) in (
+    (taken-first fs names c.new-2.ensures) in (
       c.in_ok-take_ready.ensures.taken fs are first,
       λ k known. or_right (has_name c.take_ready.new.self.names k)
           (is_among (view_names c.in_ok-left.left.items) k) (known-among c.args.spreads.now fs are c.in_ok-left.left.items c.in_ok-left.ensures k known),

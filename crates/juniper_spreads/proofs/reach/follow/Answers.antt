@@ -12,11 +12,11 @@ returns-in_ok-extend_from_slice-in-Some c =
     let more : c.extend_from_slice.new.self.items ≡ old ++ c.deref.result.now = search rules in
     ap view_names more ∙ (map-append (λ (n : Bor (List ℕ)). n.now) old c.deref.result.now
     ∙ (ap (λ l. view_names old ++ view_names l) c.deref.ensures.value
-    ∙ ap (λ o. view_names old ++ names_or_none o) (sym (found-is c.args.spreads.now c.args.name.now c.get.result c.in-Some.names c.get.ensures.value
+    ∙ ap (λ o. view_names old ++ names_or_none o) (sym (found-is c.args.spreads.now c.args.name.now c.get.result c.in-Some.names c.get.ensures
     c.in-Some.is))))
 
 pub returns-in-None : goal.returns-in-None
 unfolding names_or_none
 returns-in-None c =
     let old = view_names c.args.left.now.items in
-    sym (append-nil old) ∙ ap (λ o. old ++ names_or_none o) (sym (missing-is c.args.spreads.now c.args.name.now c.get.result c.get.ensures.value c.in-None.is))
+    sym (append-nil old) ∙ ap (λ o. old ++ names_or_none o) (sym (missing-is c.args.spreads.now c.args.name.now c.get.result c.get.ensures c.in-None.is))

@@ -1,5 +1,5 @@
 use Rattle.std.proofs.Common.{◌∙◌}
-use Rattle.juniper_written.specs.WrittenView.{has_name, view_names}
+use Rattle.juniper_written.specs.WrittenView.{view_names}
 use Rattle.juniper_spreads.proofs.Ruling.{first-is-free}
 use Rattle.juniper_spreads.proofs.rules.leads_to.Goals as goal
 
@@ -9,5 +9,4 @@ returns-then-are_first c = λ fs are free.
     (c.are_first.ensures.0 c.if-are_first.true)
 
 pub returns : goal.returns
-unfolding has_name
 returns c = λ fs are free. c.contains.ensures ∙ c.in_ok-found.ensures fs are c.args.name.now

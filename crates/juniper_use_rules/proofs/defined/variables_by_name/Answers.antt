@@ -10,7 +10,7 @@ pub loop-variable-init : goal.loop-variable-init
 loop-variable-init g c =
     let shown = g.S.ScalarValue.shown in
     first-init (view_variable shown) c.deref-variable-items.result.now (definition_at shown c.new-first.result)
-    (empty-at shown c.new-first.result c.new-first.ensures.empty)
+    (λ n. empty-at shown c.new-first.result n (c.new-first.ensures n))
 
 pub loop-variable-preserved : goal.loop-variable-preserved
 loop-variable-preserved g c =
@@ -30,4 +30,4 @@ returns-after-loop-variable g c = λ n.
 pub returns-in-None : goal.returns-in-None
 returns-in-None g c = λ n.
     let shown = g.S.ScalarValue.shown in
-    empty-at shown c.new-first.result c.new-first.ensures.empty n ∙ (sym (none-of n) ∙ ap (λ o. definition_of (view_variables shown o) n) (sym c.in-None.is))
+    empty-at shown c.new-first.result n (c.new-first.ensures n) ∙ (sym (none-of n) ∙ ap (λ o. definition_of (view_variables shown o) n) (sym c.in-None.is))

@@ -9,11 +9,11 @@ unfolding allowed_by
 returns-in-Some g c =
     let u = view_use c.args.used.now in
     c.may_stand.ensures ∙ ap (λ o. elim o [ None ↦ true | Some v ↦ may_stand v u ])
-    (found-is g.S.ScalarValue.shown c.args.defined.now u.variable c.get.result c.in-Some.variable c.get.ensures.value c.in-Some.is)
+    (found-is g.S.ScalarValue.shown c.args.defined.now u.variable c.get.result c.in-Some.variable c.get.ensures c.in-Some.is)
 
 pub returns-in-None : goal.returns-in-None
 unfolding allowed_by
 returns-in-None g c =
     let u = view_use c.args.used.now in
     ap (λ o. elim o [ None ↦ true | Some v ↦ may_stand v u ])
-    (missing-is g.S.ScalarValue.shown c.args.defined.now u.variable c.get.result c.get.ensures.value c.in-None.is)
+    (missing-is g.S.ScalarValue.shown c.args.defined.now u.variable c.get.result c.get.ensures c.in-None.is)

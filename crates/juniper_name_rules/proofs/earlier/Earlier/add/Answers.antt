@@ -9,14 +9,14 @@ use Rattle.juniper_written.specs.WrittenView.{has_name}
 use Rattle.juniper_name_rules.proofs.NamesBefore.{with-name, names-named, names-nameless, names-fragment, found-operation, found-fragment}
 use Rattle.juniper_name_rules.proofs.earlier.Earlier.add.Goals as goal
 
-pub returns-in_ok-is_seen-in-Some : goal.returns-in_ok-is_seen-in-Some
+pub returns-in_ok-insert-in-Some : goal.returns-in_ok-insert-in-Some
 unfolding word_name
-returns-in_ok-is_seen-in-Some g c = λ ds e.
+returns-in_ok-insert-in-Some g c = λ ds e.
     let shown = g.S.ScalarValue.shown in
     let o = view_operation shown c.in-Operation.operation in
     let k = c.in-Some.name.item.now in
     let is = ap (view_definition shown) c.in-Operation.is in (
-      λ n. with-name (has_name c.args.self.now.operations) (has_name c.is_seen.new.seen) k c.in_ok-is_seen-in-Some.ensures.added n
+      λ n. with-name (has_name c.args.self.now.operations) (has_name c.insert.new.self) k c.in_ok-insert-in-Some.ensures.added n
           ∙ (ap (λ b. b || bytes_eq n k) (e.0 n)
           ∙ (sym (names-named ds n o k (ap (λ w. word_name (option_map view_word w)) c.in-Some.is)) ∙ ap (λ x. names_operation (ds ++ x ∷ []) n) (sym is))),
       λ n. e.1 n ∙ (sym (found-operation ds n o) ∙ ap (λ x. is_some (fragment_of (fragments (ds ++ x ∷ [])) n)) (sym is)),
@@ -33,13 +33,13 @@ returns-in-None g c = λ ds e.
       λ n. e.1 n ∙ (sym (found-operation ds n o) ∙ ap (λ x. is_some (fragment_of (fragments (ds ++ x ∷ [])) n)) (sym is)),
     )
 
-pub returns-in_ok-is_seen-in-Fragment : goal.returns-in_ok-is_seen-in-Fragment
-returns-in_ok-is_seen-in-Fragment g c = λ ds e.
+pub returns-in_ok-insert-in-Fragment : goal.returns-in_ok-insert-in-Fragment
+returns-in_ok-insert-in-Fragment g c = λ ds e.
     let shown = g.S.ScalarValue.shown in
     let f = view_fragment shown c.in-Fragment.fragment in
     let k = c.in-Fragment.fragment.item.name.item.now in
     let is = ap (view_definition shown) c.in-Fragment.is in (
       λ n. e.0 n ∙ (sym (names-fragment ds n f) ∙ ap (λ x. names_operation (ds ++ x ∷ []) n) (sym is)),
-      λ n. with-name (has_name c.args.self.now.fragments) (has_name c.is_seen-in-Fragment.new.seen) k c.in_ok-is_seen-in-Fragment.ensures.added n
+      λ n. with-name (has_name c.args.self.now.fragments) (has_name c.insert-in-Fragment.new.self) k c.in_ok-insert-in-Fragment.ensures.added n
           ∙ (ap (λ b. b || bytes_eq n k) (e.1 n) ∙ (sym (found-fragment ds n f) ∙ ap (λ x. is_some (fragment_of (fragments (ds ++ x ∷ [])) n)) (sym is))),
     )

@@ -2,12 +2,11 @@ use Rattle.std.proofs.Common.{option_map, ap, sym, ◌∙◌}
 use Rattle.graphql_spec.specs.Documents.{word_name}
 use Rattle.graphql_spec.specs.Rules.{repeats_operation}
 use Rattle.juniper_syntax.specs.DocumentView.{view_definition, view_operation, view_word}
-use Rattle.juniper_written.specs.WrittenView.{has_name}
 use Rattle.juniper_name_rules.proofs.NamesBefore.{repeats-named, repeats-nameless}
 use Rattle.juniper_name_rules.proofs.earlier.Earlier.repeats_operation.Goals as goal
 
 pub returns-in-Some : goal.returns-in-Some
-unfolding has_name word_name
+unfolding word_name
 returns-in-Some g c = λ ds e.
     let shown = g.S.ScalarValue.shown in
     c.contains.ensures ∙ (e.0 c.in-Some.name.item.now

@@ -7,11 +7,9 @@ use Rattle.juniper_spreads.proofs.Taking.{taken-next}
 use Rattle.juniper_spreads.proofs.ordered.Taken.take.Goals as goal
 
 pub returns-then-contains-clause-is : goal.returns-then-contains-clause-is
-unfolding has_name
 returns-then-contains-clause-is c = sym c.if-contains.true ∙ c.contains.ensures
 
 pub returns-then-not-are_done-clause-is : goal.returns-then-not-are_done-clause-is
-unfolding has_name
 returns-then-not-are_done-clause-is c = sym c.if-contains.false ∙ c.contains.ensures
 
 pub returns-then-not-are_done-clause-not_ready : goal.returns-then-not-are_done-clause-not_ready
@@ -19,11 +17,10 @@ unfolding is_ready
 returns-then-not-are_done-clause-not_ready c = λ e. (refl, sym c.are_done.ensures ∙ c.if-not-are_done.true)
 
 pub returns-clause-taken : goal.returns-clause-taken
-unfolding has_name
 returns-clause-taken c = λ fs are t.
     let more : c.push.new.self.items ≡ c.args.self.now.order.items ++ c.args.name ∷ [] = search rules in
-    subst (λ l. IsTaken fs (has_name c.is_new.new.seen) l) (sym (seen-push (λ n. n.now) c.args.self.now.order.items c.push.new.self.items c.args.name more))
-    (taken-next fs (has_name c.args.self.now.names) (has_name c.is_new.new.seen) c.args.name.now
-    (view_names c.args.self.now.order.items) t c.in_ok-is_new.ensures.added
+    subst (λ l. IsTaken fs (has_name c.insert.new.self) l) (sym (seen-push (λ n. n.now) c.args.self.now.order.items c.push.new.self.items c.args.name more))
+    (taken-next fs (has_name c.args.self.now.names) (has_name c.insert.new.self) c.args.name.now
+    (view_names c.args.self.now.order.items) t c.in_ok-insert.ensures.added
     (sym c.contains.ensures ∙ c.if-contains.false) (all-ready c.args.spreads.now fs are (has_name c.args.self.now.names) c.args.name.now
     (sym c.are_done.ensures ∙ c.if-not-are_done.false)))
