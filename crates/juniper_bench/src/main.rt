@@ -2,8 +2,9 @@
 //! prints what its document counts, `juniper_bench validate FILE TIMES` parses a file and validates its document so many times
 //! on a schema that is made, `juniper_bench execute FILE TIMES` answers a file's request so many times over the demo's root and
 //! prints its answer, `juniper_bench scan FILE TIMES` reads a file of JSON so many times, `juniper_bench make FIELDS DEPTH`
-//! prints a text to be parsed, and `juniper_bench schema TYPES TIMES` makes a schema of so many types, and tests so many times
-//! whether requests can be executed on it. The program takes no time itself: the one who runs it does.
+//! prints a text to be parsed, `juniper_bench make-colliding FIELDS` prints a request whose aliases collide, and
+//! `juniper_bench schema TYPES TIMES` makes a schema of so many types, and tests so many times whether requests can be
+//! executed on it. The program takes no time itself: the one who runs it does.
 #![tactic(auto)]
 
 ghost use Rattle.std.specs.Prelude.{◌≡◌, ◌++◌, IfOk, codes, string_bytes};
@@ -14,8 +15,8 @@ mod tests;
 
 use executing::execute_answer;
 use juniper_bench_tasks::{
-    Answer, Command, made_text, parse_answer, read_command, scan_answer, schema_answer,
-    validate_answer,
+    Answer, Command, colliding_text, made_text, parse_answer, read_command, scan_answer,
+    schema_answer, validate_answer,
 };
 use std::alloc::{AllocError, Global};
 use std::process::ExitCode;
@@ -30,7 +31,7 @@ fn answer<R: Files + AllocGlobal>(rt: &R, words: &[String]) -> Result<Answer, Al
             status: 2,
             line: String::from_str(
                 alloc,
-                "usage: juniper_bench parse FILE TIMES | validate FILE TIMES | execute FILE TIMES | scan FILE TIMES | make FIELDS DEPTH | schema TYPES TIMES",
+                "usage: juniper_bench parse FILE TIMES | validate FILE TIMES | execute FILE TIMES | scan FILE TIMES | make FIELDS DEPTH | make-colliding FIELDS | schema TYPES TIMES",
             )?,
         }),
         Some(Command::Parse(file, times)) => match text_of(rt, file) {
@@ -52,6 +53,10 @@ fn answer<R: Files + AllocGlobal>(rt: &R, words: &[String]) -> Result<Answer, Al
         Some(Command::Make(size)) => Ok(Answer {
             status: 0,
             line: made_text(alloc, size)?,
+        }),
+        Some(Command::MakeColliding(fields)) => Ok(Answer {
+            status: 0,
+            line: colliding_text(alloc, fields)?,
         }),
         Some(Command::Schema(types, times)) => schema_answer(alloc, types, times),
     }

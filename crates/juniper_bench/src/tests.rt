@@ -2,8 +2,8 @@
 
 use crate::executing::execute_answer;
 use juniper_bench_tasks::{
-    Answer, Command, made_text, parse_answer, read_command, scan_answer, schema_answer,
-    validate_answer,
+    Answer, Command, colliding_text, made_text, parse_answer, read_command, scan_answer,
+    schema_answer, validate_answer,
 };
 use std::alloc::{AllocError, Global};
 use std::process::Abort;
@@ -36,7 +36,9 @@ const MADE: &str = "\
 make 3 1 => 0 definitions: 3, fields: 3, bytes: all
 make 12 3 => 0 definitions: 3, fields: 12, bytes: all
 make 600 250 => 0 definitions: 3, fields: 600, bytes: all
-make 1000 7 => 0 definitions: 3, fields: 1000, bytes: all";
+make 1000 7 => 0 definitions: 3, fields: 1000, bytes: all
+make-colliding 1 => 0 definitions: 1, fields: 1, bytes: all
+make-colliding 5 => 0 definitions: 1, fields: 5, bytes: all";
 
 /// For the words of a command whether requests can be executed on the schema that is made.
 const SCHEMAS: &str = "\
@@ -52,6 +54,9 @@ scan file 2 => a file
 make 2 1 => nothing
 make 3 251 => nothing
 make x 1 => nothing
+make-colliding 0 => nothing
+make-colliding x => nothing
+make-colliding 1 1 => nothing
 parse file 0 => nothing
 scan file many => nothing
 schema 0 1 => nothing
@@ -111,6 +116,10 @@ fn asked(alloc: Global, text: &str) -> Result<String, AllocError> {
     let words = words_of(alloc, text)?;
     match read_command(words.as_slice()) {
         Some(Command::Make(size)) => made(alloc, made_text(alloc, size)?.as_str()),
+        Some(Command::MakeColliding(fields)) => made(
+            alloc,
+            colliding_text(alloc, fields)?.as_str(),
+        ),
         Some(Command::Schema(types, times)) => said(alloc, &schema_answer(alloc, types, times)?),
         Some(_) => String::from_str(alloc, "a file"),
         None => String::from_str(alloc, "nothing"),

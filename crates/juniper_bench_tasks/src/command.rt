@@ -28,18 +28,30 @@ pub enum Command<'a> {
     Scan(&'a str, usize),
     /// To make a text.
     Make(Size),
+    /// To make a request of so many fields whose aliases collide.
+    MakeColliding(usize),
     /// To make a schema of so many types, and to test so many times whether requests can be executed on it.
     Schema(usize, usize),
 }
 
 /// What the words ask for; nothing where they are none of `parse FILE TIMES`, `validate FILE TIMES`,
-/// `execute FILE TIMES`, `scan FILE TIMES`, `make FIELDS DEPTH` and `schema TYPES TIMES`, or a number is not in its bounds.
+/// `execute FILE TIMES`, `scan FILE TIMES`, `make FIELDS DEPTH`, `make-colliding FIELDS` and `schema TYPES TIMES`, or a
+/// number is not in its bounds.
 pub fn read_command(words: &[String]) -> Option<Command<'_>> {
-    let [word, first, second] = words else {
-        return None;
-    };
+    match words {
+        [word, only] => match word.as_str() {
+            "make-colliding" => Some(Command::MakeColliding(number(only.as_str())?)),
+            _ => None,
+        },
+        [word, first, second] => read_long(word.as_str(), first, second),
+        _ => None,
+    }
+}
+
+/// What a word and two others ask for.
+fn read_long<'a>(word: &str, first: &'a String, second: &String) -> Option<Command<'a>> {
     let last = number(second.as_str())?;
-    match word.as_str() {
+    match word {
         "parse" => Some(Command::Parse(first.as_str(), last)),
         "validate" => Some(Command::Validate(first.as_str(), last)),
         "execute" => Some(Command::Execute(first.as_str(), last)),

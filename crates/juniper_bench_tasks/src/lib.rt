@@ -2,12 +2,14 @@
 #![tactic(auto)]
 
 mod answers;
+mod collide;
 mod command;
 mod count;
 mod make;
 mod schema;
 
 pub use answers::{Answer, parse_answer, scan_answer, schema_answer, validate_answer};
+pub use collide::colliding_text;
 pub use command::{Command, Size, read_command};
 pub use count::count_fields;
 pub use make::made_text;
