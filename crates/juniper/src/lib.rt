@@ -20,6 +20,7 @@ pub use error::GraphQLError;
 pub use execute::execute_validated_query;
 pub use introspection::IntrospectionFormat;
 pub use introspection::introspect;
+pub use juniper_expanded_fields::expanded_fields;
 pub use juniper_intro::Handle;
 pub use juniper_intro::InputPlace;
 pub use juniper_intro::RootError;

@@ -1,0 +1,5 @@
+mod Adding
+mod Bounding
+mod Chains
+mod Turns
+mod Keeping

@@ -1,0 +1,3 @@
+pub mod ExpandedFields
+pub mod Bounds
+pub mod Kept

@@ -1,0 +1,19 @@
+//! What the number of fields says of an execution.
+
+ghost use Rattle.juniper_expanded_fields.specs.Bounds.{BoundsDepth, BoundsExecution, CountsFields, LongIsEndless, MetIsCollected, MetIsMerged};
+
+/// No types of objects and no values of variables make an execution meet more fields than are counted, where the count is below
+/// the greatest number: what is met are the fields that the selections hold for each object (sections 6.3.2 and 6.4.3). Nor do more
+/// stand inside one another.
+pub fn bounds_execution()
+    ensures bounds { BoundsExecution }
+    ensures depth { BoundsDepth }
+    ensures counts { CountsFields }
+    ensures collected { MetIsCollected }
+    ensures merged { MetIsMerged }
+{}
+
+/// A chain of spreads that is longer than the list of fragments has no end (section 5.5.2.2).
+pub fn long_is_endless()
+    ensures { LongIsEndless }
+{}
