@@ -10,6 +10,8 @@ mod errors;
 #[cfg(test)]
 mod flat;
 #[cfg(test)]
+mod hostile;
+#[cfg(test)]
 mod introspection;
 #[cfg(test)]
 mod mutations;
@@ -21,6 +23,8 @@ mod nulls;
 mod objects;
 #[cfg(test)]
 mod roots;
+#[cfg(test)]
+mod serving;
 #[cfg(test)]
 mod shapes;
 #[cfg(test)]

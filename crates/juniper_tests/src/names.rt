@@ -107,6 +107,7 @@ use juniper::decode_string;
 use juniper::enum_argument;
 use juniper::execute_sync;
 use juniper::execute_validated_query;
+use juniper::expanded_fields;
 use juniper::get_operation;
 use juniper::int_argument;
 use juniper::introspect;

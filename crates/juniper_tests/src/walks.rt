@@ -3,6 +3,7 @@
 
 use crate::ahead::AHEAD;
 use crate::flat::{FIELDS, OPERATIONS, REFUSED};
+use crate::hostile::HOSTILE;
 use crate::introspection::SCHEMAS;
 use crate::mutations::MUTATIONS;
 use crate::nulls::{LISTS, OBJECTS as RISING};
@@ -22,6 +23,7 @@ fn compare_tables(alloc: Global) -> Result<String, AllocError> {
     tally.compare_table("fields", FIELDS)?;
     tally.compare_table("operations", OPERATIONS)?;
     tally.compare_table("refused", REFUSED)?;
+    tally.compare_table("hostile", HOSTILE)?;
     tally.compare_table("introspection", SCHEMAS)?;
     tally.compare_table("mutations", MUTATIONS)?;
     tally.compare_table("lists", LISTS)?;
@@ -47,7 +49,7 @@ rising:54: errors
 #[test]
 fn both_walks_answer_alike(rt: HostRuntime) -> Result<(), Fail> {
     let found = compare_tables(rt.alloc())?;
-    assert_eq!(rt; found.strip_prefix(DIFFERING), Some("314 rows, 7 differ"));
+    assert_eq!(rt; found.strip_prefix(DIFFERING), Some("331 rows, 7 differ"));
     Ok(())
 }
 
