@@ -1,18 +1,16 @@
 -- What a resolver is asked for at a field.
-use Rattle.std.proofs.Common.{◌≡◌, ◌<◌, Bool, List, [], ◌∷◌, ◌++◌, IsTrue, Some, length, sym, ap, ◌∙◌, subst, arith}
+use Rattle.std.proofs.Common.{◌≡◌, ◌<◌, Bool, List, [], ◌∷◌, ◌++◌, IsTrue, length, sym, ap, ◌∙◌, subst, arith}
 use Rattle.std.specs.declared.cmp.PartialEq.{Ghosts as Equality}
 use Rattle.std.specs.declared.fmt.Debug.{Ghosts as Shows}
 use Rattle.graphql_spec.specs.Shown.{Shown, Name}
 use Rattle.graphql_spec.specs.Arguments.{coerced_arguments}
 use Rattle.graphql_spec.specs.Constants.{Members}
-use Rattle.graphql_spec.specs.Documents.{response_key, written}
+use Rattle.graphql_spec.specs.Documents.{Head, response_key, written}
 use Rattle.graphql_spec.specs.Executable.{is_executable}
 use Rattle.graphql_spec.specs.Errors.{Place, key}
 use Rattle.graphql_spec.specs.Selections.{Occurrence}
 use Rattle.graphql_spec.specs.Execution.{reply_of, reply_to, type_of}
-use Rattle.graphql_spec.specs.Fields.{declared_arguments, declared_type, field_of, is_possible}
-use Rattle.graphql_spec.specs.Schema.{Schema}
-use Rattle.graphql_spec.specs.Types.{TypeRef, innermost}
+use Rattle.graphql_spec.specs.Fields.{declared_arguments, field_of, is_possible}
 use Rattle.graphql_spec.specs.Resolvers.{World}
 use Rattle.juniper_position.specs.declared.position.Span.{Span}
 use Rattle.juniper_position.specs.declared.position.Spanning.{Spanning}
@@ -23,17 +21,16 @@ use Rattle.juniper_lookahead.specs.Expansion.{FragmentsByName, VariableMap, occu
 use Rattle.juniper_lookahead.specs.Sites.{IsFirstOf, IsWholeGroup, view_fields}
 use Rattle.juniper_lookahead.specs.declared.occurrences.Enclosing.{Enclosing}
 use Rattle.juniper_lookahead.specs.declared.occurrences.Occurrence.{Occurrence as CodeOccurrence}
-use Rattle.juniper_meta.specs.MetaView.{Meta}
-use Rattle.juniper_schema.specs.MadeTypes.{around, view_made}
-use Rattle.juniper_schema.specs.SchemaView.{meta_named, view_schema}
+use Rattle.juniper_schema.specs.SchemaView.{view_schema}
 use Rattle.juniper_errors.specs.PathView.{path_place}
 use Rattle.juniper_errors.specs.declared.field_path.FieldPath.{FieldPath}
 use Rattle.juniper_schema.specs.declared.schema.SchemaType.{SchemaType}
 use Rattle.juniper_schema.specs.declared.type_type.TypeType.{TypeType}
-use Rattle.juniper_types.specs.ExecutorView.{IsAskedFor, IsDeclaredType, IsStepOf, concrete_of, enclosing_of, fragments_of, occurrence_of, occurrences_of, path_of, schema_of, variables_of}
+use Rattle.juniper_types.specs.ExecutorView.{IsAskedFor, IsDeclaredType, IsStepOf, concrete_of, enclosing_of, fragments_of, occurrence_of, occurrences_of}
+use Rattle.juniper_types.specs.ExecutorView.{path_of, schema_of, variables_of}
 use Rattle.juniper_types.specs.ExecutorView as executing
 use Rattle.juniper_types.specs.declared.executor.Executor.{Executor}
-use Rattle.juniper_walk.specs.Asking.{IsPathOf}
+use Rattle.juniper_walk.specs.Asking.{IsAskedOf, IsPathOf}
 use Rattle.juniper_walk.specs.FieldWords.{head_of}
 
 -- a list with a first has one at least
@@ -64,6 +61,16 @@ module _ {S : Type 0} (shown : S → Shown) (vars : VariableMap S) (m : Fragment
   whole-bound possible T es [] whole = let e = whole.some in absurd cc
   whole-bound possible T es (o ∷ os) whole = omega arith
 
+  -- what a group asks is asked for its first
+  pub first-asked : {Q : Type 0} (asks : Head → Q → Type 0) (os : List (CodeOccurrence S)) (f : Spanning (Field S) Span) (q : Q) → IsFirstOf f os →
+      IsAskedOf asks (view_fields shown vars m os) q → asks (head_of shown f) q
+  unfolding occurrence_at
+  first-asked asks [] f q first a = absurd first
+  first-asked asks (o ∷ os) f q first a =
+      let e : occurrence_at shown vars m o.field.now ∷ view_fields shown vars m os ≡ a.first ∷ a.others = a.some in
+      let same : a.first ≡ occurrence_at shown vars m o.field.now = cc in
+      subst (λ (x : Spanning (Field S) Span). asks (head_of shown x) q) first (subst (λ h. asks h q) (ap (λ (x : Occurrence). x.head) same) a.asked)
+
   module _ {N : Type 0} (W : World N) (T : Name) (n : N) where
     -- the type and the reply of a group are those of its first (6.4.2)
     pub first-type : (os : List (CodeOccurrence S)) (f : Spanning (Field S) Span) → IsFirstOf f os →
@@ -77,14 +84,6 @@ module _ {S : Type 0} (shown : S → Shown) (vars : VariableMap S) (m : Fragment
     unfolding occurrence_at reply_of
     first-reply [] f first = absurd first
     first-reply (o ∷ os) f first = ap (λ (x : Spanning (Field S) Span). reply_to W T n (head_of shown x)) (sym first)
-
--- a type that is made of the declared reference is the declared type
-pub shows-declared : {S : Type 0} (shown : S → Shown) (s : Schema) (T name : Name) (t : TypeRef) (made : TypeType S) → t ≡ declared_type (field_of s T name) →
-    ((m : Meta) → meta_named s (innermost t) ≡ Some m → view_made shown made ≡ around m t) → IsDeclaredType shown s T name made
-unfolding declared_type
-shows-declared shown s T name t made is makes = λ f m found known.
-    let same : t ≡ f.of_type = is ∙ ap declared_type found in
-    subst (λ u. view_made shown made ≡ around m u) same (makes m (ap (λ u. meta_named s (innermost u)) same ∙ known))
 
 module _ {C S : Type 0} {scalar : Scalars S} {equality : Equality S} {shows : Shows S} (shown : S → Shown) (e : Executor C S scalar equality shows) where
   pub asked-at : (s : SchemaType S scalar equality shows) (vars : VariableMap S) (m : FragmentsByName S) (T : Name) (es : List (Enclosing S))

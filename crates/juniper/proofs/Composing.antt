@@ -1,5 +1,6 @@
 -- Each step of a request, over plain variables (6.1).
-use Rattle.std.proofs.Common.{rules, arith, ◌≡◌, ◌≢◌, ◌==◌, Bool, length, map, true, false, [], ◌∷◌, List, Option, Some, None, Result, Ok, Err, Vec, Global, refl, sym, ap, inl}
+use Rattle.std.proofs.Common.{rules, arith, ◌≡◌, ◌≢◌, ◌==◌, Bool, length, map, true, false, [], ◌∷◌, List, Option, Some, None, Result, Ok, Err, Vec, Global}
+use Rattle.std.proofs.Common.{refl, sym, ap, inl}
 use Rattle.std.proofs.Common.{inr, subst, ◌∙◌}
 use Rattle.std.proofs.lemmas.Bool.{both_ways}
 use Rattle.std.proofs.lemmas.List.{nil_from_length}
@@ -33,7 +34,8 @@ use Rattle.juniper_position.specs.declared.error.ParseError.TheVariants as parse
 use Rattle.juniper_position.specs.declared.position.Span.{Span}
 use Rattle.juniper_position.specs.declared.position.Spanning.{Spanning}
 use Rattle.juniper.specs.declared.error.GraphQLError.{GraphQLError}
-use Rattle.juniper.specs.RequestErrors.{of_parse_error, view_request_error, RequestError, not_parsed, not_valid, no_operation, multiple_operations, unknown_operation, is_subscription, not_subscription, no_mutation_type, variable_not_constant, out_of_memory}
+use Rattle.juniper.specs.RequestErrors.{of_parse_error, view_request_error, RequestError, not_parsed, not_valid, no_operation, multiple_operations}
+use Rattle.juniper.specs.RequestErrors.{unknown_operation, is_subscription, not_subscription, no_mutation_type, variable_not_constant, out_of_memory}
 
 -- ## What an error of one step stands for
 

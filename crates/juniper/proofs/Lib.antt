@@ -1,7 +1,6 @@
 mod Choosing
 mod Composing
 mod Executing
-mod Joining
 mod RootGroups
 mod RootPlans
 pub mod Messages

@@ -3,7 +3,7 @@ use Rattle.std.proofs.Common.{◌≡◌, ◌&&◌, Bool, List, [], ◌∷◌, �
 use Rattle.std.proofs.lemmas.List.{append-nil}
 use Rattle.graphql_spec.specs.Positions.{Position}
 use Rattle.graphql_spec.specs.Shown.{Shown, Name}
-use Rattle.graphql_spec.specs.Documents.{response_key}
+use Rattle.graphql_spec.specs.Documents.{Head, response_key}
 use Rattle.graphql_spec.specs.Directives.{passes}
 use Rattle.graphql_spec.specs.Fragments.{HasNoCycle, expand}
 use Rattle.graphql_spec.specs.Errors.{Listed, Place, key}
@@ -31,15 +31,18 @@ use Rattle.juniper_syntax.specs.InputView.{view_variables}
 use Rattle.juniper_syntax.specs.declared.ast.Field.{Field as FieldType, out-Field}
 use Rattle.juniper_types.specs.Stepping.{Leaves}
 use Rattle.juniper_walk.specs.Completing.{IsTold}
+use Rattle.juniper_walk.proofs.Preparation.{same-head}
+use Rattle.juniper_walk.specs.Asking.{IsAskedOf}
 use Rattle.juniper_walk.specs.FieldWords.{head_of}
 use Rattle.juniper_walk.specs.Walking.{SelectionsAgree}
 use Rattle.juniper_lookahead.specs.Sites.{IsFirstOf, IsWholeGroup}
 use Rattle.juniper_lookahead.specs.declared.occurrences.Enclosing.{Enclosing}
 use Rattle.juniper_plan.specs.PlanWalks.{HasFirst, IsGroupOf}
-use Rattle.juniper_plan.specs.Plans.{IsStep, all_expanded}
+use Rattle.juniper_plan.specs.Plans.{IsMade as IsPlanMade, IsStep, StandsFor, all_expanded}
 use Rattle.juniper_plan.proofs.Whole.{first-field, whole-at}
+use Rattle.juniper_plan.specs.declared.plan.GroupRange.{GroupRange}
 use Rattle.juniper_plan.specs.declared.plan.Plan.{Plan}
-use Rattle.juniper_plan.proofs.Elsewhere.{same-all, standing-elsewhere}
+use Rattle.juniper_plan.proofs.Elsewhere.{same-all, same-each, standing-elsewhere, stands-elsewhere}
 use Rattle.juniper.specs.RootFields.{IsReadyRoot, collector_in, field_in}
 use Rattle.juniper.specs.Stepping.{GroupRan, GroupStopped, IsGiven, StepLeaves}
 use Rattle.juniper.specs.declared.root_walk.RootWalk.{RootWalk}
@@ -66,13 +69,24 @@ module _ {S P : Type 0} (shown : S → Shown) (w : RootWalk S) (c : Collector S 
 
 -- ## A plan, as another collector sees it
 
-module _ {S P Q : Type 0} (shown : S → Shown) (c : Collector S P) (d : Collector S Q) (f : c.fragments.now ≡ d.fragments.now)
+module _ {S P R : Type 0} (shown : S → Shown) (c : Collector S P) (d : Collector S R) (f : c.fragments.now ≡ d.fragments.now)
     (v : c.variables.now ≡ d.variables.now) where
   pub same-fields-elsewhere : (os : List (CodeOccurrence S)) → view_all shown c os ≡ view_all shown d os
   same-fields-elsewhere os = same-all shown c d f v os
 
-  pub step-elsewhere : (possible : Name → Name → Bool) (p q : Plan S) → IsStep shown c possible p q → IsStep shown d possible p q
-  step-elsewhere possible p q s = record { standing = standing-elsewhere shown c d f v possible q s.standing; grown = s.grown }
+  pub step-elsewhere : {Q : Type 0} (asks : Name → Head → Q → Type 0) (possible : Name → Name → Bool) (p q : Plan S Q) →
+      IsStep shown c asks possible p q → IsStep shown d asks possible p q
+  step-elsewhere asks possible p q s = record { standing = standing-elsewhere shown c d f v asks possible q s.standing; grown = s.grown }
+
+  pub made-elsewhere : {Q : Type 0} (asks : Name → Head → Q → Type 0) (possible : Name → Name → Bool) (T : Name) (es : List (Enclosing S)) (p q : Plan S Q)
+      (r : GroupRange) → IsPlanMade shown c asks possible T (occurrences possible T (all_expanded shown c es)) p q r →
+      IsPlanMade shown d asks possible T (occurrences possible T (all_expanded shown d es)) p q r
+  made-elsewhere asks possible T es p q r m = record {
+    standing = standing-elsewhere shown c d f v asks possible q m.standing;
+    grown = m.grown;
+    stands = subst (λ x. StandsFor shown d asks T q r (occurrences possible T x)) (same-each shown c d f v es)
+        (stands-elsewhere shown c d f v asks T q r _ m.stands);
+  }
 
   pub completed-elsewhere : (pick : List Position → List Position) {N : Type 0} (W : World N) (at : Place) (t : TypeRef) (r : Reply N)
       (os : List (CodeOccurrence S)) (x : Value) (es : List Listed) →
@@ -104,6 +118,16 @@ module _ {S : Type 0} (shown : S → Shown) (w : RootWalk S) where
       let e : view_collected shown (collector_in shown w) o.field.now ≡ field_in shown w f =
       field-same shown w (collector_in shown w) refl refl o.field.now ∙ ap (field_in shown w) first in
       (view_all shown (collector_in shown w) fs, sym g.whole ∙ ap (λ (x : Occurrence). x ∷ view_all shown (collector_in shown w) fs) e)
+
+  -- what it asks is asked for its first field
+  pub group-asked : {Q : Type 0} (asks : Head → Q → Type 0) (fs : List (CodeOccurrence S)) (f : Spanning (FieldType S) Span) (q : Q) → IsFirstOf f fs →
+      IsAskedOf asks (view_all shown (collector_in shown w) fs) q → asks (head_of shown f) q
+  group-asked asks [] f q first a = absurd first
+  group-asked asks (o ∷ fs) f q first a =
+      let e : view_collected shown (collector_in shown w) o.field.now ∷ view_all shown (collector_in shown w) fs ≡ a.first ∷ a.others = a.some in
+      let same : a.first ≡ view_collected shown (collector_in shown w) o.field.now = cc in
+      subst (λ (x : Spanning (FieldType S) Span). asks (head_of shown x) q) first
+      (subst (λ h. asks h q) (ap (λ (x : Occurrence). x.head) same ∙ same-head shown (collector_in shown w) o.field.now) a.asked)
 
   -- its first field has the response key
   pub group-key : (fs : List (CodeOccurrence S)) (f : Spanning (FieldType S) Span) (k : Name) (os : List Occurrence) → IsFirstOf f fs →
@@ -170,9 +194,10 @@ module _ {C N : Type 0} (M : Mutation C N) (T k : Name) (os group : List Occurre
   abbrev type_in : List Occurrence → TypeRef
   type_in g = type_of (M.world (next g).0) T g
 
-  pub group-ran : (pick : List Position → List Position) → after ≡ (next group).0 → (t : TypeRef) → t ≡ type_of (M.world after) T group → (at : Place) → at ≡ key k ∷ [] →
-      (v : Value) (es : List Listed) →
-      GroupCompleted whole pick (M.world after) at [] t (next group).1 group v es → (r rises : Bool) → r ≡ required t → (held put_in : Entries) (errors listed : List Listed) →
+  pub group-ran : (pick : List Position → List Position) → after ≡ (next group).0 → (t : TypeRef) → t ≡ type_of (M.world after) T group → (at : Place) →
+      at ≡ key k ∷ [] → (v : Value) (es : List Listed) →
+      GroupCompleted whole pick (M.world after) at [] t (next group).1 group v es → (r rises : Bool) → r ≡ required t →
+      (held put_in : Entries) (errors listed : List Listed) →
       IsGiven k r v es rises held put_in errors listed → GroupRan M T pick k os before held errors rises put_in listed after
   group-ran pick stepped t typed at here v es completed r rises non_null held put_in errors listed given =
       let own : t ≡ type_in (with_key k os) = typed ∙ (ap (λ c. type_of (M.world c) T group) stepped ∙ ap type_in (sym is)) in

@@ -1,6 +1,7 @@
 pub mod Answering
 pub mod Choices
 pub mod Formats
+pub mod Questions
 pub mod RequestErrors
 pub mod RootFields
 pub mod RootView

@@ -1,6 +1,7 @@
 -- The root fields of a mutation, as its walk has them (6.2.2, 6.3.2).
-use Rattle.std.specs.Prelude.{◌≡◌, List, [], string_bytes, IsTrue}
-use Rattle.graphql_spec.specs.Shown.{Shown}
+use Rattle.std.specs.Prelude.{◌≡◌, List, []}
+use Rattle.graphql_spec.specs.Shown.{Shown, Name}
+use Rattle.graphql_spec.specs.Documents.{Head}
 use Rattle.graphql_spec.specs.Directives.{passes}
 use Rattle.graphql_spec.specs.Fields.{is_possible}
 use Rattle.graphql_spec.specs.Fragments.{HasNoCycle, expand}
@@ -12,12 +13,14 @@ use Rattle.juniper_collect.specs.declared.collecting.Collector.{Collector}
 use Rattle.juniper_errors.specs.PathView.{path_place}
 use Rattle.juniper_position.specs.declared.position.Span.{Span}
 use Rattle.juniper_position.specs.declared.position.Spanning.{Spanning}
+use Rattle.juniper_plan.specs.Plans.{IsStanding, IsStep}
+use Rattle.juniper_plan.specs.declared.plan.Plan.{Plan}
 use Rattle.juniper_syntax.specs.DocumentView.{view_selections, view_set}
 use Rattle.juniper_syntax.specs.InputView.{view_variables}
-use Rattle.juniper_syntax.specs.TypeView.{view_type}
 use Rattle.juniper_syntax.specs.declared.ast.Field.{Field, out-Field}
 use Rattle.juniper_walk.specs.FieldWords.{head_of}
-use Rattle.juniper.specs.Services.{is_undeclared}
+use Rattle.juniper.specs.Questions.{IsQuestion}
+use Rattle.juniper.specs.declared.question.Question.{Question}
 use Rattle.juniper.specs.declared.root_walk.RootWalk.{RootWalk}
 
 -- ## Only private clauses cite what follows
@@ -47,9 +50,20 @@ module _ {S : Type 0} (shown : S → Shown) (w : RootWalk S) where
   abbrev pub all_fields : Schema → List Occurrence
   all_fields s = occurrences (is_possible s) w.concrete.now selected_in
 
+  -- what the fields of a schema's types ask (6.4.1)
+  abbrev pub asks_in : Schema → Name → Head → Question S → Type 0
+  asks_in s = IsQuestion shown s values_in
+
+  -- a plan stands
+  abbrev pub IsRootPlan : Schema → Plan S (Question S) → Type 0
+  IsRootPlan s = IsStanding shown collector_in (asks_in s) (is_possible s)
+
+  -- it was added to, and stands
+  abbrev pub IsRootStep : Schema → Plan S (Question S) → Plan S (Question S) → Type 0
+  IsRootStep s = IsStep shown collector_in (asks_in s) (is_possible s)
+
   -- the fragments are those of a document without cycles, and the walk is at the root
   pub record IsReadyRoot : Type 0 where
     pub made : IsMade shown w.fragments.now
     pub acyclic : HasNoCycle (fragments_in shown w.fragments.now)
     pub at_root : path_place w.path.now.value ≡ []
-    pub unnamed : IsTrue (is_undeclared (view_type (λ n. string_bytes n) w.undeclared.now))

@@ -38,6 +38,11 @@ steps_at step torn m j = record { step = step m j; torn = torn m j }
 
 -- ## Only private clauses cite what follows
 
+module _ {Q C N : Type 0} (concrete : Q → C → N → Name) (answer : Q → C → N → Name → Members → Reply N) where
+  -- the same of a resolver that holds its info
+  abbrev pub world_with : Q → C → Schema → Variables → World N
+  world_with q c s vars = world_of s vars (concrete q c) (answer q c)
+
 -- the same with a root's nodes in place of the user's
 abbrev pub rooted_steps : {M J C N : Type 0} → (M → J → C → Name → Members → C × Reply N) → (M → J → C → Name → Members → C → Bool) → M → J →
     Steps C (RootedNode N)

@@ -24,12 +24,14 @@ ghost use Rattle.juniper.specs.Walkings.{Lists};
 
 use crate::error::GraphQLError;
 use crate::mutation::run_groups;
+use crate::node_resolver::WithInfo;
+use crate::question::undeclared_type;
 use crate::root_walk::RootWalk;
 use crate::served::Served;
-use crate::service::{Service, undeclared_type};
+use crate::service::Service;
 use crate::variables::coerce_variables;
 use crate::walking::Walking;
-use juniper_collect::{Collector, fragments_of};
+use juniper_collect::fragments_of;
 use juniper_intro::laws::root_replies;
 use juniper_intro::{RootNode, RootedNode};
 use juniper_language::{
@@ -37,7 +39,7 @@ use juniper_language::{
 };
 use juniper_types::{GraphQLMutationValue, GraphQLType, GraphQLValue};
 use juniper_values::ExecutionError;
-use juniper_walk::{Walk, root_path, sort_errors};
+use juniper_walk::{root_path, sort_errors};
 use std::alloc::{AllocError, Global};
 
 /// Executes an operation of a valid document with given values of its variables, which fit and hold no variables (6.1). A
@@ -111,12 +113,14 @@ pub(crate) fn execute_walked<
         (view_variables S.shown variables.now)) context.old r context.new × Lists walking r) result }
 {
     root_replies(root_node);
+    let undeclared = undeclared_type(alloc);
     let served = Served {
         query: root_node,
         query_info: root_node.query_info(),
         mutation: root_node.mutation(),
         mutation_info: root_node.mutation_info(),
         schema: root_node.schema(),
+        undeclared: &undeclared,
         is_introspection_disabled: root_node.is_introspection_disabled(),
         walking,
     };
@@ -200,25 +204,22 @@ fn execute_query<
         × Lists served.now.walking (responds (view_value S.shown p.0) (map (view_listed S.shown) p.1.items))) }
 {
     let fragments = fragments_of(alloc, document.as_slice())?;
-    let service = Service {
+    let resolver = WithInfo {
         resolver: served.query,
         info: served.query_info,
+    };
+    let service = Service {
+        resolver: &resolver,
         context,
         schema: served.schema,
         variables,
         query_type: served.query_type(),
-        undeclared: undeclared_type(alloc),
+        undeclared: served.undeclared,
     };
-    let walk = Walk {
+    let walked = service.answer(
         alloc,
-        collector: Collector {
-            fragments: &fragments,
-            variables,
-            possible: service,
-        },
-    };
-    let walked = served.walking.answer(
-        &walk,
+        served.walking,
+        &fragments,
         served.schema.query_name(),
         served.query.root_node(),
         operation.span.start,
@@ -260,7 +261,6 @@ fn execute_mutation<
 {
     let fragments = fragments_of(alloc, document.as_slice())?;
     let path = root_path(alloc, operation.span.start)?;
-    let undeclared = undeclared_type(alloc);
     let walk = RootWalk {
         alloc,
         concrete,
@@ -268,7 +268,6 @@ fn execute_mutation<
         fragments: &fragments,
         variables,
         path: &path,
-        undeclared: &undeclared,
     };
     match run_groups(served, &walk, context) {
         Err(error) => Err(error),

@@ -1,73 +1,59 @@
 //! The root groups of a mutation take their steps one after the other (ExecuteMutation, section 6.2.2 of the Specification).
 
-ghost use Rattle.std.specs.Prelude.{◌≡◌, ◌<◌, [], ◌∷◌, length, IfOk, MatchResult, map, string_bytes};
+ghost use Rattle.std.specs.Prelude.{◌≡◌, ◌<◌, [], ◌∷◌, codes, false, length, IfOk, MatchResult, map, string_bytes};
+ghost use Rattle.std.specs.Str.{bytes_eq};
+ghost use Rattle.graphql_spec.specs.Arguments.{coerced_arguments};
+ghost use Rattle.graphql_spec.specs.Documents as documents;
 ghost use Rattle.graphql_spec.specs.Documents.{response_key};
 ghost use Rattle.graphql_spec.specs.ExactAnswers.{whole};
-ghost use Rattle.graphql_spec.specs.Fields as fields;
 ghost use Rattle.graphql_spec.specs.Fields.{declared_arguments, field_of, is_possible};
 ghost use Rattle.graphql_spec.specs.GroupLaws.{GroupCompleted};
 ghost use Rattle.graphql_spec.specs.Laws.{Merges};
 ghost use Rattle.graphql_spec.specs.Mutation.{IsLeft, step_of};
 ghost use Rattle.graphql_spec.specs.MutationLaws.{HasRun};
-ghost use Rattle.graphql_spec.specs.Selections.{all_below, keys, with_key};
+ghost use Rattle.graphql_spec.specs.Selections.{all_below, keys, occurrences, with_key};
 ghost use Rattle.graphql_spec.specs.Types.{innermost};
 ghost use Rattle.juniper_collect.specs.Collected.{view_all};
-ghost use Rattle.juniper_plan.specs.Plans.{IsStanding, IsStep, all_expanded, fields_at, key_at};
+ghost use Rattle.juniper_plan.specs.Plans.{IsAskedAt, IsMade, all_expanded, fields_at, key_at};
 ghost use Rattle.juniper_plan.specs.PlanWalks.{HasFirst, IsGroupOf};
 ghost use Rattle.juniper_errors.specs.ErrorView.{view_listed};
 ghost use Rattle.juniper_errors.specs.PathView.{path_place};
 ghost use Rattle.juniper_lookahead.specs.Expansion.{IsAcyclic};
 ghost use Rattle.juniper_lookahead.specs.Sites.{IsFirstOf, IsWholeGroup};
-ghost use Rattle.juniper_meta.specs.MetaView.{view_argument};
 ghost use Rattle.juniper_resolvable.specs.ResolvedView.{Answers};
 ghost use Rattle.juniper_schema.specs.SchemaView.{view_schema};
 ghost use Rattle.juniper_syntax.specs.TypeView.{view_type};
 ghost use Rattle.juniper_syntax.specs.ValueView.{view_object, view_value};
 ghost use Rattle.juniper_types.specs.ExecutorView.{IsStepOf};
+ghost use Rattle.juniper_values.specs.ArgumentView.{view_arguments};
 ghost use Rattle.juniper_walk.specs.Completing.{IsTold};
 ghost use Rattle.juniper_walk.specs.FieldWords.{head_of};
 ghost use Rattle.juniper_walk.specs.Walking.{SelectionsAgree};
-ghost use Rattle.juniper.specs.RootFields.{IsReadyRoot, all_fields, collector_in, field_in, selected_in, values_in};
+ghost use Rattle.juniper.specs.RootFields.{IsReadyRoot, IsRootPlan, IsRootStep, all_fields, asks_in, collector_in, field_in, selected_in, values_in};
 ghost use Rattle.juniper.specs.ServedView.{mutation_root, schema_of};
 ghost use Rattle.juniper.specs.Stepping.{GroupRan, GroupStopped, IsGiven, StepLeaves};
 ghost use Rattle.juniper.specs.Walkings.{starts_by};
 
 use crate::coerce::coerce_arguments;
+use crate::node_resolver::WithInfo;
+use crate::question::{Question, arguments_of};
 use crate::root_walk::RootWalk;
 use crate::served::Served;
-use crate::service::{
-    Service, arguments_of, declared_type, first_of, shown_type, type_name, undeclared_type,
-};
-use juniper_collect::{Collector, Conditions};
+use crate::service::{Service, first_of, type_name};
 use juniper_intro::{RootedNode, rooted_answer};
-use juniper_language::{Field, Object, ScalarValue, Span, Spanning, Type, Value};
+use juniper_language::{Field, Object, ScalarValue, Span, Spanning, Value};
 use juniper_lookahead::Enclosing;
-use juniper_meta::meta::Argument;
-use juniper_plan::{GroupNo, Plan, root_groups};
-use juniper_schema::SchemaType;
+use juniper_plan::{GroupNo, GroupRange, Plan};
 use juniper_types::{Executor, FieldPath, GraphQLMutationValue, GraphQLValue, Resolved};
-use juniper_values::{ExecutionError, ResolveError};
-use juniper_walk::{Asked, Site, Walk, Walked, path_below};
+use juniper_values::{Arguments, ExecutionError, ResolveError};
+use juniper_walk::{Asked, Site, Walked, path_below};
 use std::alloc::{AllocError, Global};
 use std::rc::Rc;
-
-/// What the fields of a root are collected by: which object types are possible where.
-#[derive(Drop)]
-pub(crate) struct Possible<'r, S: ScalarValue> {
-    pub(crate) schema: &'r SchemaType<S>,
-}
-
-impl<'r, S: ScalarValue> Conditions for Possible<'r, S> {
-    ghost possible = { λ p. is_possible (view_schema S.shown p.schema.now) };
-
-    fn is_possible(&self, concrete: &str, condition: &str) -> bool {
-        self.schema.is_possible(concrete, condition)
-    }
-}
 
 /// Takes the step of a root field in the context; `__typename` leaves it (4.1).
 #[tactic(auto, unfolding(graphql_spec::specs::Mutation::step_of, graphql_spec::specs::Mutation::torn_of, graphql_spec::specs::Resolvers::world_of))]
 pub(crate) fn step<
+    's,
     'd,
     'a,
     Q: GraphQLValue<S, Node = RootedNode<N>>,
@@ -75,18 +61,62 @@ pub(crate) fn step<
     N: Drop,
     S: ScalarValue,
 >(
-    served: &Served<'_, Q, M, S>,
+    served: &Served<'s, Q, M, S>,
     walk: &RootWalk<'_, 'd, 'a, S>,
     site: &Site<'_, 'd, 'a, S>,
     written: &Spanning<Field<'a, S>, Span>,
-    declared: &Type<String>,
-    arguments: &[Argument<S>],
+    question: &Question<'s, S>,
     context: &mut Q::Context,
 ) -> Result<Resolved<Q::Node, S>, ResolveError<S>>
-    requires arguments { map (view_argument S.shown) arguments.now ≡ declared_arguments (field_of (view_schema S.shown (schema_of served.now))
-        walk.now.concrete.now (head_of S.shown written.now).name.item) }
-    requires declared { view_type (λ n. string_bytes n) declared.now
-        ≡ fields.declared_type (field_of (view_schema S.shown (schema_of served.now)) walk.now.concrete.now (head_of S.shown written.now).name.item) }
+    requires question { asks_in S.shown walk.now (view_schema S.shown (schema_of served.now)) walk.now.concrete.now (head_of S.shown written.now) question.now }
+    requires acyclic { IsAcyclic S.shown site.now.fragments.now }
+    requires first { IsFirstOf written.now site.now.occurrences.now }
+    requires path { IsStepOf (response_key (head_of S.shown written.now)) (path_place site.now.path.now) }
+    requires whole { IsWholeGroup S.shown (is_possible (view_schema S.shown (schema_of served.now))) walk.now.variables.now site.now.fragments.now
+        walk.now.concrete.now site.now.enclosing.now site.now.occurrences.now }
+    ensures answer { (os : _) → Answers S.shown result
+        (step_of (mutation_root Q.concrete Q.answer M.step M.torn S.shown served.now (values_in S.shown walk.now)) walk.now.concrete.now
+        context.old (field_in S.shown walk.now written.now ∷ os)).1 }
+    ensures context { (os : _) → StepLeaves (mutation_root Q.concrete Q.answer M.step M.torn S.shown served.now (values_in S.shown walk.now))
+        walk.now.concrete.now (field_in S.shown walk.now written.now ∷ os) context.old result context.new }
+{
+    if written.item.name.item == "__typename" {
+        return type_name(walk.alloc, walk.concrete);
+    }
+    match &question.arguments {
+        Some(arguments) => step_with(served, walk, site, written, question, arguments, context),
+        None => {
+            let declared = arguments_of(question.declaration);
+            let arguments = coerce_arguments(walk.alloc, declared, written, walk.variables)?;
+            step_with(served, walk, site, written, question, &arguments, context)
+        }
+    }
+}
+
+/// The same with these arguments, for a field of the resolver.
+#[tactic(auto, unfolding(graphql_spec::specs::Mutation::step_of, graphql_spec::specs::Mutation::torn_of, graphql_spec::specs::Resolvers::world_of))]
+fn step_with<
+    's,
+    'd,
+    'a,
+    Q: GraphQLValue<S, Node = RootedNode<N>>,
+    M: GraphQLMutationValue<S, Context = Q::Context, Node = N>,
+    N: Drop,
+    S: ScalarValue,
+>(
+    served: &Served<'s, Q, M, S>,
+    walk: &RootWalk<'_, 'd, 'a, S>,
+    site: &Site<'_, 'd, 'a, S>,
+    written: &Spanning<Field<'a, S>, Span>,
+    question: &Question<'s, S>,
+    arguments: &Arguments<S>,
+    context: &mut Q::Context,
+) -> Result<Resolved<Q::Node, S>, ResolveError<S>>
+    requires question { asks_in S.shown walk.now (view_schema S.shown (schema_of served.now)) walk.now.concrete.now (head_of S.shown written.now) question.now }
+    requires arguments { view_arguments S.shown arguments.now ≡ coerced_arguments (declared_arguments (field_of (view_schema S.shown (schema_of served.now))
+        walk.now.concrete.now (head_of S.shown written.now).name.item)) (values_in S.shown walk.now)
+        (documents.written (head_of S.shown written.now).arguments) }
+    requires own { bytes_eq (head_of S.shown written.now).name.item (codes "__typename") ≡ false }
     requires acyclic { IsAcyclic S.shown site.now.fragments.now }
     requires first { IsFirstOf written.now site.now.occurrences.now }
     requires path { IsStepOf (response_key (head_of S.shown written.now)) (path_place site.now.path.now) }
@@ -100,18 +130,13 @@ pub(crate) fn step<
 {
     let alloc = walk.alloc;
     let name = written.item.name.item;
-    if name == "__typename" {
-        return type_name(alloc, walk.concrete);
-    }
-    let arguments = coerce_arguments(alloc, arguments, written, walk.variables)?;
-    let shown = shown_type(alloc, served.schema, served.query_type(), declared)?;
     let executor = Executor::at_field(
         &(),
         served.schema,
         walk.variables,
         site.fragments,
         site.path,
-        &shown,
+        &question.shown,
         walk.concrete,
         site.enclosing,
         site.occurrences,
@@ -120,7 +145,7 @@ pub(crate) fn step<
         alloc,
         served.mutation_info,
         name,
-        &arguments,
+        arguments,
         &executor,
         context,
     );
@@ -129,6 +154,7 @@ pub(crate) fn step<
 
 /// Completes what a root field answered under the context that its step left (6.4.3).
 fn complete<
+    's,
     'd,
     'a,
     Q: GraphQLValue<S, Node = RootedNode<N>>,
@@ -136,23 +162,22 @@ fn complete<
     N: Drop,
     S: ScalarValue,
 >(
-    served: &Served<'_, Q, M, S>,
+    served: &Served<'s, Q, M, S>,
     walk: &RootWalk<'_, 'd, 'a, S>,
-    plan: &mut Plan<'d, 'a, S>,
+    plan: &mut Plan<'d, 'a, S, Question<'s, S>>,
     path: &Rc<FieldPath<'a>>,
     asked: Asked<'_, Q::Node, S>,
     group: GroupNo,
     context: &Q::Context,
 ) -> Result<Walked<S>, AllocError>
     requires ready { IsReadyRoot S.shown walk.now }
-    requires standing { IsStanding S.shown (collector_in S.shown walk.now) (is_possible (view_schema S.shown (schema_of served.now))) plan.old }
+    requires standing { IsRootPlan S.shown walk.now (view_schema S.shown (schema_of served.now)) plan.old }
     requires bound { group.0 < length plan.old.groups.items }
     requires some { HasFirst (view_all S.shown (collector_in S.shown walk.now) (fields_at plan.old group.0)) }
     requires merge { Merges ((mutation_root Q.concrete Q.answer M.step M.torn S.shown served.now (values_in S.shown walk.now)).world context.now)
         (innermost (view_type (λ n. string_bytes n) asked.declared.now))
         (all_below (view_all S.shown (collector_in S.shown walk.now) (fields_at plan.old group.0))) }
-    ensures plan { IfOk result (λ _. IsStep S.shown (collector_in S.shown walk.now) (is_possible (view_schema S.shown (schema_of served.now)))
-        plan.old plan.new) }
+    ensures plan { IfOk result (λ _. IsRootStep S.shown walk.now (view_schema S.shown (schema_of served.now)) plan.old plan.new) }
     ensures told { IfOk result (λ _. IsTold asked.entry.answer) }
     ensures completed { (reply : _) → Answers S.shown asked.entry.answer reply → IfOk result (λ w. GroupCompleted whole (starts_by served.now.walking)
         ((mutation_root Q.concrete Q.answer M.step M.torn S.shown served.now (values_in S.shown walk.now)).world context.now) (path_place path.now.value) []
@@ -160,26 +185,27 @@ fn complete<
         (view_all S.shown (collector_in S.shown walk.now) (fields_at plan.old group.0))
         (view_value S.shown w.value) (map (view_listed S.shown) w.errors.items)) }
 {
-    let service = Service {
+    let resolver = WithInfo {
         resolver: served.query,
         info: served.query_info,
+    };
+    let service = Service {
+        resolver: &resolver,
         context,
         schema: served.schema,
         variables: walk.variables,
         query_type: served.query_type(),
-        undeclared: undeclared_type(walk.alloc),
+        undeclared: served.undeclared,
     };
-    let below = Walk {
-        alloc: walk.alloc,
-        collector: Collector {
-            fragments: walk.fragments,
-            variables: walk.variables,
-            possible: service,
-        },
-    };
-    let walked = served
-        .walking
-        .complete_group(&below, plan, path, asked, group)?;
+    let walked = service.complete_group(
+        walk.alloc,
+        served.walking,
+        walk.fragments,
+        plan,
+        path,
+        asked,
+        group,
+    )?;
     Ok(walked)
 }
 
@@ -208,7 +234,7 @@ pub(crate) fn give<S: ScalarValue>(
 
 /// Runs a root group: its step, and what it answers; whether its null rises.
 fn run_group<
-    't,
+    's,
     'd,
     'a,
     Q: GraphQLValue<S, Node = RootedNode<N>>,
@@ -216,9 +242,9 @@ fn run_group<
     N: Drop,
     S: ScalarValue,
 >(
-    served: &'t Served<'_, Q, M, S>,
-    walk: &'t RootWalk<'_, 'd, 'a, S>,
-    plan: &mut Plan<'d, 'a, S>,
+    served: &Served<'s, Q, M, S>,
+    walk: &RootWalk<'_, 'd, 'a, S>,
+    plan: &mut Plan<'d, 'a, S, Question<'s, S>>,
     enclosing: &[Enclosing<'d, 'a, S>],
     group: GroupNo,
     context: &mut Q::Context,
@@ -226,15 +252,16 @@ fn run_group<
     errors: &mut Vec<ExecutionError<S>>,
 ) -> Result<bool, AllocError>
     requires ready { IsReadyRoot S.shown walk.now }
-    requires standing { IsStanding S.shown (collector_in S.shown walk.now) (is_possible (view_schema S.shown (schema_of served.now))) plan.old }
+    requires standing { IsRootPlan S.shown walk.now (view_schema S.shown (schema_of served.now)) plan.old }
     requires agree { (c : _) → SelectionsAgree ((mutation_root Q.concrete Q.answer M.step M.torn S.shown served.now (values_in S.shown walk.now)).world c)
         walk.now.concrete.now (selected_in S.shown walk.now) }
     requires bound { group.0 < length plan.old.groups.items }
     requires enclosing { all_expanded S.shown (collector_in S.shown walk.now) enclosing.now ≡ selected_in S.shown walk.now }
+    requires asked { IsAskedAt (asks_in S.shown walk.now (view_schema S.shown (schema_of served.now))) walk.now.concrete.now plan.old group.0
+        (view_all S.shown (collector_in S.shown walk.now) (fields_at plan.old group.0)) }
     requires group { IsGroupOf (key_at plan.old group.0) (all_fields S.shown walk.now (view_schema S.shown (schema_of served.now)))
         (view_all S.shown (collector_in S.shown walk.now) (fields_at plan.old group.0)) }
-    ensures plan { IfOk result (λ _. IsStep S.shown (collector_in S.shown walk.now) (is_possible (view_schema S.shown (schema_of served.now)))
-        plan.old plan.new) }
+    ensures plan { IfOk result (λ _. IsRootStep S.shown walk.now (view_schema S.shown (schema_of served.now)) plan.old plan.new) }
     ensures ran { MatchResult result
         (λ rises. GroupRan (mutation_root Q.concrete Q.answer M.step M.torn S.shown served.now (values_in S.shown walk.now)) walk.now.concrete.now
         (starts_by served.now.walking) (key_at plan.old group.0) (all_fields S.shown walk.now (view_schema S.shown (schema_of served.now))) context.old
@@ -247,23 +274,15 @@ fn run_group<
     let fields = plan.fields(group);
     let first = first_of(fields);
     let path = path_below(walk.alloc, walk.path, first)?;
-    let field = served.schema.field_of(walk.concrete, first.item.name.item);
-    let declared = declared_type(field, walk.undeclared);
+    let question = plan.question(group);
+    let declared = question.declared;
     let site = Site {
         fragments: walk.fragments.by_name(),
         path: path.as_ref(),
         enclosing,
         occurrences: fields,
     };
-    let answer = step(
-        served,
-        walk,
-        &site,
-        first,
-        declared,
-        arguments_of(field),
-        context,
-    );
+    let answer = step(served, walk, &site, first, question, context);
     let key = plan.key(group);
     let asked = Asked { declared, answer };
     let walked = match complete(served, walk, plan, &path, asked, group, context) {
@@ -283,9 +302,9 @@ fn run_group<
     }
 }
 
-/// Runs the root groups, up to and including the first whose null rises: the data, and the errors as they were met.
-pub(crate) fn run_groups<
-    't,
+/// The root groups, put into a plan (6.3.2).
+fn plan_root<
+    's,
     'd,
     'a,
     Q: GraphQLValue<S, Node = RootedNode<N>>,
@@ -293,8 +312,47 @@ pub(crate) fn run_groups<
     N: Drop,
     S: ScalarValue,
 >(
-    served: &'t Served<'_, Q, M, S>,
-    walk: &'t RootWalk<'_, 'd, 'a, S>,
+    served: &Served<'s, Q, M, S>,
+    walk: &RootWalk<'_, 'd, 'a, S>,
+    plan: &mut Plan<'d, 'a, S, Question<'s, S>>,
+    enclosing: &[Enclosing<'d, 'a, S>],
+    context: &Q::Context,
+) -> Result<GroupRange, AllocError>
+    requires ready { IsReadyRoot S.shown walk.now }
+    requires standing { IsRootPlan S.shown walk.now (view_schema S.shown (schema_of served.now)) plan.old }
+    ensures { IfOk result (λ r. IsMade S.shown (collector_in S.shown walk.now) (asks_in S.shown walk.now (view_schema S.shown (schema_of served.now)))
+        (is_possible (view_schema S.shown (schema_of served.now))) walk.now.concrete.now
+        (occurrences (is_possible (view_schema S.shown (schema_of served.now))) walk.now.concrete.now
+        (all_expanded S.shown (collector_in S.shown walk.now) enclosing.now)) plan.old plan.new r) }
+{
+    let resolver = WithInfo {
+        resolver: served.query,
+        info: served.query_info,
+    };
+    let service = Service {
+        resolver: &resolver,
+        context,
+        schema: served.schema,
+        variables: walk.variables,
+        query_type: served.query_type(),
+        undeclared: served.undeclared,
+    };
+    let groups = service.root_groups(walk.alloc, walk.fragments, plan, walk.concrete, enclosing)?;
+    Ok(groups)
+}
+
+/// Runs the root groups, up to and including the first whose null rises: the data, and the errors as they were met.
+pub(crate) fn run_groups<
+    's,
+    'd,
+    'a,
+    Q: GraphQLValue<S, Node = RootedNode<N>>,
+    M: GraphQLMutationValue<S, Context = Q::Context, Node = N>,
+    N: Drop,
+    S: ScalarValue,
+>(
+    served: &Served<'s, Q, M, S>,
+    walk: &RootWalk<'_, 'd, 'a, S>,
     context: &mut Q::Context,
 ) -> Result<Walked<S>, AllocError>
     requires ready { IsReadyRoot S.shown walk.now }
@@ -310,18 +368,11 @@ pub(crate) fn run_groups<
         (all_fields S.shown walk.now (view_schema S.shown (schema_of served.now)))
         context.old context.new) }
 {
-    let collector = Collector {
-        fragments: walk.fragments,
-        variables: walk.variables,
-        possible: Possible {
-            schema: served.schema,
-        },
-    };
     let mut plan = Plan::new(walk.alloc);
     let enclosing = [Enclosing {
         selections: walk.selections,
     }];
-    let groups = root_groups(walk.alloc, &collector, &mut plan, walk.concrete, &enclosing)?;
+    let groups = plan_root(served, walk, &mut plan, &enclosing, context)?;
     let mut entries = Object::with_capacity(walk.alloc, groups.end.0 - groups.first.0)?;
     let mut errors = Vec::new(walk.alloc);
     for number in groups.first.0..groups.end.0 {

@@ -1,7 +1,7 @@
 //! What the root groups of a mutation are run with (section 6.2.2 of the Specification).
 
 use juniper_collect::FragmentMap;
-use juniper_language::{Selection, Type, Variables};
+use juniper_language::{Selection, Variables};
 use juniper_types::FieldPath;
 use std::alloc::Global;
 use std::rc::Rc;
@@ -18,6 +18,4 @@ pub(crate) struct RootWalk<'r, 'd, 'a, S> {
     pub(crate) variables: &'r Variables<S>,
     /// The path of the root.
     pub(crate) path: &'r Rc<FieldPath<'a>>,
-    /// The type of a field that is not declared.
-    pub(crate) undeclared: &'r Type<String>,
 }

@@ -2,6 +2,7 @@
 use Rattle.std.proofs.Common.{◌≡◌, ◌==◌, ℕ, zero, suc, ◌+◌, ◌*◌, ◌-◌, ◌≤◌, ◌<◌, Bool, true, false, List, [], ◌∷◌, ◌++◌, length, take, refl, sym, ap, ◌∙◌, subst, arith}
 use Rattle.std.proofs.lemmas.Bool.{eqb-true}
 use Rattle.graphql_spec.specs.Shown.{Shown, Name}
+use Rattle.graphql_spec.specs.Documents.{Head}
 use Rattle.graphql_spec.specs.Values.{Value, Entries, null, object}
 use Rattle.graphql_spec.specs.Errors.{Place, Listed}
 use Rattle.graphql_spec.specs.Selections.{Forest, depth, Occurrence, all_below, keys, occurrences, with_key}
@@ -13,10 +14,10 @@ use Rattle.juniper_collect.specs.declared.collecting.Collector.{Collector}
 use Rattle.juniper_plan.specs.declared.plan.GroupRange.{GroupRange}
 use Rattle.juniper_plan.specs.declared.plan.Plan.{Plan}
 use Rattle.juniper_plan.specs.PlanWalks.{AreObjectsWalked, IsGroupOf, IsObjectWalked, IsPrepared, IsPut, IsWalking}
-use Rattle.juniper_plan.specs.Plans.{IsMade, IsStanding, IsStep, StandsFor, fields_at, key_at}
+use Rattle.juniper_plan.specs.Plans.{IsAskedAt, IsMade, IsStanding, IsStep, StandsFor, fields_at, key_at}
 use Rattle.juniper_plan.proofs.Depths.{group-shallower}
 use Rattle.juniper_plan.proofs.Keys.{key-has-one}
-use Rattle.juniper_plan.proofs.Standing.{IsPlaced, fields-kept, grown-none, grown-twice, longer, placed, range-length, stands-still}
+use Rattle.juniper_plan.proofs.Standing.{IsPlaced, asked-at, fields-kept, grown-none, grown-twice, longer, placed, range-length, stands-still}
 use Rattle.juniper_plan.proofs.Turns.{through-null, walking-ends, walking-on, walking-stops}
 use Rattle.juniper_plan.proofs.Nodes.{one-more}
 
@@ -46,32 +47,38 @@ pub no-items : {A : Type 0} (xs : List A) (b : Bool) → b ≡ (length xs == 0) 
 no-items [] b is yes_so = refl
 no-items (x ∷ xs) b is yes_so = let e : suc (length xs) ≡ 0 = eqb-true (suc (length xs)) 0 (sym is ∙ yes_so) in absurd (omega (arith, e))
 
-module _ {S P : Type 0} (shown : S → Shown) (c : Collector S P) (possible : Name → Name → Bool) where
-  pub no-step : (p : Plan S) → IsStanding shown c possible p → IsStep shown c possible p p
-  no-step p s = record { standing = s; grown = grown-none p p refl refl }
+module _ {S P Q : Type 0} (shown : S → Shown) (c : Collector S P) (asks : Name → Head → Q → Type 0) (possible : Name → Name → Bool) where
+  pub no-step : (p : Plan S Q) → IsStanding shown c asks possible p → IsStep shown c asks possible p p
+  no-step p s = record { standing = s; grown = grown-none p p refl refl refl }
 
-  pub more-steps : (p q r : Plan S) → IsStep shown c possible p q → IsStep shown c possible q r → IsStep shown c possible p r
+  pub more-steps : (p q r : Plan S Q) → IsStep shown c asks possible p q → IsStep shown c asks possible q r → IsStep shown c asks possible p r
   more-steps p q r a b = record { standing = b.standing; grown = grown-twice p q r a.grown b.grown }
 
-  group-of : (p : Plan S) (i n : ℕ) (os : List Occurrence) → IsPlaced shown c p i n os → IsGroupOf (key_at p i) os (view_all shown c (fields_at p i))
+  group-of : (p : Plan S Q) (i n : ℕ) (os : List Occurrence) → IsPlaced shown c p i n os → IsGroupOf (key_at p i) os (view_all shown c (fields_at p i))
   group-of p i n os at = let (first, others, some) = key-has-one os (take n (keys os)) at.rest (key_at p i) at.split in
       record { first = first; others = others; some = at.fields ∙ some; whole = at.fields }
 
   -- ## A group of an object
 
-  module _ (p q : Plan S) (r : GroupRange) (T : Name) (s : Forest) (standing : IsStanding shown c possible p)
-      (stands : StandsFor shown c p r (occurrences possible T s)) (step : IsStep shown c possible p q) (i : ℕ) (low : r.first.0 ≤ i) (high : i < r.end.0) where
+  module _ (p q : Plan S Q) (r : GroupRange) (T : Name) (s : Forest) (standing : IsStanding shown c asks possible p)
+      (stands : StandsFor shown c asks T p r (occurrences possible T s)) (step : IsStep shown c asks possible p q) (i : ℕ) (low : r.first.0 ≤ i) (high : i < r.end.0) where
     abbrev os : List Occurrence
     os = occurrences possible T s
 
+    still : StandsFor shown c asks T q r os
+    still = stands-still shown c asks T p q r os standing.within standing.asked step.grown stands
+
     at-group : IsPlaced shown c q i (i - r.first.0) os
-    at-group = placed shown c q r os i (i - r.first.0) (stands-still shown c p q r os standing.within step.grown stands) low high refl
+    at-group = placed shown c asks T q r os i (i - r.first.0) still low high refl
 
     pub group-bound : i < length q.groups.items
     group-bound = let long = longer p q step.grown in omega (arith, long, high, stands.inside)
 
     pub group-is : IsGroupOf (key_at q i) os (view_all shown c (fields_at q i))
     group-is = group-of q i (i - r.first.0) os at-group
+
+    pub group-asked : IsAskedAt asks T q i (view_all shown c (fields_at q i))
+    group-asked = asked-at shown c asks T q r os i (i - r.first.0) still low high refl step.standing.asked
 
     pub group-falls : 2 * depth (all_below (view_all shown c (fields_at q i))) + 1 < 2 * depth s
     group-falls =
@@ -122,19 +129,19 @@ module _ {S P : Type 0} (shown : S → Shown) (c : Collector S P) (possible : Na
           prepared_here nodes_here rises put_in s refl lost)
 
   -- all groups of an object
-  pub groups-walked : (p : Plan S) (r : GroupRange) (T : Name) (s : Forest) → StandsFor shown c p r (occurrences possible T s) → (i : ℕ) → r.end.0 ≤ i →
+  pub groups-walked : (p : Plan S Q) (r : GroupRange) (T : Name) (s : Forest) → StandsFor shown c asks T p r (occurrences possible T s) → (i : ℕ) → r.end.0 ≤ i →
       {N : Type 0} (W : World N) → possible ≡ W.possible → (at : Place) (m : N) (es : Entries) (v : Value) (errors : List Listed) → v ≡ object es →
       IsWalking W at T m (occurrences W.possible T s) (take (i - r.first.0) (keys (occurrences W.possible T s))) es errors →
       IsObjectWalked W at s T m v errors
   groups-walked p r T s stands i past W possible_is at m es v errors is walking =
       let ws = occurrences W.possible T s in
       let n : length (keys ws) ≡ r.end.0 - r.first.0 = sym (ap (λ f. length (keys (occurrences f T s))) possible_is)
-      ∙ range-length shown c p r (occurrences possible T s) stands in
+      ∙ range-length shown c asks T p r (occurrences possible T s) stands in
       walking-ends W at T m ws s refl (take (i - r.first.0) (keys ws)) (take-past (keys ws) (i - r.first.0) (omega (arith, n, past))) es v errors is walking
 
   -- ## A node of a group
 
-  module _ (p q : Plan S) (i : ℕ) (standing : IsStanding shown c possible p) (bound : i < length p.groups.items) (step : IsStep shown c possible p q)
+  module _ (p q : Plan S Q) (i : ℕ) (standing : IsStanding shown c asks possible p) (bound : i < length p.groups.items) (step : IsStep shown c asks possible p q)
       (s : Forest)
       (selected : s ≡ all_below (view_all shown c (fields_at p i))) where
     pub still-selected : s ≡ all_below (view_all shown c (fields_at q i))
@@ -146,8 +153,8 @@ module _ {S P : Type 0} (shown : S → Shown) (c : Collector S P) (possible : Na
     pub node-falls : 2 * depth s < 2 * depth (all_below (view_all shown c (fields_at p i))) + 1
     node-falls = let same = ap depth selected in omega (arith, same)
 
-    pub step-made : (r : Plan S) (held : List Occurrence) (g : GroupRange) → IsMade shown c possible held q r g → IsStep shown c possible p r
-    step-made r held g made = record { standing = made.standing; grown = grown-twice p q r step.grown made.grown }
+    pub step-made : (r : Plan S Q) (T : Name) (held : List Occurrence) (g : GroupRange) → IsMade shown c asks possible T held q r g → IsStep shown c asks possible p r
+    step-made r T held g made = record { standing = made.standing; grown = grown-twice p q r step.grown made.grown }
 
     pub node-walked : {N : Type 0} (W : World N) (ns next : List (Spot N)) (vs more : List Value) (es further listed : List Listed) (n : Spot N) (T : Name)
         (v : Value) → AreObjectsWalked W (all_below (view_all shown c (fields_at p i))) ns vs es → T ≡ W.concrete n.what →

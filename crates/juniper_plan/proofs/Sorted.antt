@@ -1,6 +1,7 @@
 -- What was walked of a request and then sorted is an answer to it (6.2, 7.1.2).
 use Rattle.std.proofs.Common.{◌≡◌, Bool, true, List, [], ◌∷◌, IsTrue, length, map, refl, sym, ap, ◌∙◌, subst, arith}
 use Rattle.graphql_spec.specs.Shown.{Name, Shown}
+use Rattle.graphql_spec.specs.Documents.{Head}
 use Rattle.graphql_spec.specs.Values.{Value, is_null}
 use Rattle.graphql_spec.specs.Errors.{Place, Listed, is_sorted}
 use Rattle.graphql_spec.specs.ExactAnswers.{IsExactAnswerFor, whole}
@@ -55,12 +56,14 @@ module _ {S P : Type 0} (shown : S → Shown) (c : Collector S P) where
   unfolding all_expanded
   one-enclosing e = chain-end (expansion shown c (view_selections shown e.selections.now))
 
+module _ {S P Q : Type 0} (shown : S → Shown) (c : Collector S P) (asks : Name → Head → Q → Type 0) where
   -- a plan without groups stands
-  pub bare-stands : (possible : Name → Name → Bool) (p : Plan S) → IsBare p → IsStanding shown c possible p
+  pub bare-stands : (possible : Name → Name → Bool) (p : Plan S Q) → IsBare p → IsStanding shown c asks possible p
   bare-stands possible p bare = record {
     within = subst (λ gs. AreWithin (length p.occurrences.items) gs) (sym bare.groups) tt;
     counted = ap length bare.below ∙ sym (ap length bare.groups);
-    below = subst (λ bss. AllRight shown c possible p 0 bss) (sym (ap (map (λ v. v.items)) bare.below)) tt;
+    asked = ap length bare.questions ∙ sym (ap length bare.groups);
+    below = subst (λ bss. AllRight shown c asks possible p 0 bss) (sym (ap (map (λ v. v.items)) bare.below)) tt;
   }
 
 module _ {N : Type 0} (W : World N) (T : Name) (m : N) (s u : Forest) (same_selected : u ≡ s) (at : Place) (top : at ≡ []) (v : Value) (es ds : List Listed)

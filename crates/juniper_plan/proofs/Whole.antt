@@ -1,7 +1,7 @@
 -- The fields of a group are all that the selections around them hold of its response key (6.3.2), and its answer is taken apart (6.4.3).
-use Rattle.std.proofs.Common.{◌≡◌, ◌<◌, Bool, List, [], ◌∷◌, ◌++◌, length, get_or, refl, sym, ap, ◌∙◌, subst, arith, inl}
+use Rattle.std.proofs.Common.{◌≡◌, ℕ, zero, suc, ◌<◌, Bool, List, [], ◌∷◌, ◌++◌, length, get_or, drop, refl, sym, ap, ◌∙◌, subst, arith, inl}
 use Rattle.graphql_spec.specs.Shown.{Shown, Name}
-use Rattle.graphql_spec.specs.Documents.{response_key}
+use Rattle.graphql_spec.specs.Documents.{Head, response_key}
 use Rattle.graphql_spec.specs.Types.{TypeRef, required}
 use Rattle.graphql_spec.specs.Errors.{Place, key, Listed}
 use Rattle.graphql_spec.specs.ExactAnswers.{whole}
@@ -18,10 +18,12 @@ use Rattle.juniper_collect.specs.Collected.{view_all, view_collected}
 use Rattle.juniper_collect.specs.declared.collecting.Collector.{Collector}
 use Rattle.juniper_lookahead.specs.declared.occurrences.Occurrence.{Occurrence as CodeOccurrence}
 use Rattle.juniper_walk.specs.Completing.{IsParted}
+use Rattle.juniper_walk.specs.Asking.{IsAskedOf}
 use Rattle.juniper_walk.specs.FieldWords.{head_of}
 use Rattle.juniper_walk.proofs.Preparation.{same-expansion, same-head, same-occurrence}
 use Rattle.juniper_lookahead.specs.declared.occurrences.Enclosing.{Enclosing}
-use Rattle.juniper_plan.specs.Plans.{all_expanded}
+use Rattle.juniper_plan.specs.declared.plan.Plan.{Plan}
+use Rattle.juniper_plan.specs.Plans.{IsAskedAt, all_expanded}
 use Rattle.juniper_plan.specs.PlanWalks.{HasFirst, IsGroupOf, IsPrepared}
 use Rattle.juniper_lookahead.specs.Sites.{IsWholeGroup, expanded_each, view_fields}
 
@@ -79,6 +81,26 @@ module _ {S P : Type 0} (shown : S → Shown) (c : Collector S P) where
   pub some-field : (fs : List (CodeOccurrence S)) (k : Name) (all : List Occurrence) → IsGroupOf k all (view_all shown c fs) → 0 < length fs
   some-field [] k all group = let e = group.some in absurd cc
   some-field (x ∷ xs) k all group = omega arith
+
+-- what is kept at a place is what is asked there
+cons-head : {A : Type 0} (x y : A) (xs ys : List A) → x ∷ xs ≡ y ∷ ys → x ≡ y
+cons-head x y xs ys e = cc
+
+pub asked-here : {S Q : Type 0} (asks : Name → Head → Q → Type 0) (T : Name) (p : Plan S Q) (i : ℕ) (os ps : List Occurrence) (q : Q) (more : List Q) →
+    IsAskedAt asks T p i os → drop i p.questions.items ≡ q ∷ more → os ≡ ps → IsAskedOf (asks T) ps q
+asked-here asks T p i os ps q more at here same =
+    subst (λ l. IsAskedOf (asks T) l q) same
+    (subst (IsAskedOf (asks T) os) (cons-head at.question q at.others more (sym at.kept ∙ here)) at.asked)
+
+pub still-asked : {S Q : Type 0} (asks : Name → Head → Q → Type 0) (T : Name) (p : Plan S Q) (i : ℕ) (os : List Occurrence) → IsAskedAt asks T p i os →
+    i < length p.questions.items
+still-asked asks T p i os at = drop-some p.questions.items i at.question at.others at.kept
+  where
+    drop-some : {A : Type 0} (xs : List A) (n : ℕ) (x : A) (more : List A) → drop n xs ≡ x ∷ more → n < length xs
+    drop-some [] zero x more e = absurd cc
+    drop-some [] (suc n) x more e = absurd cc
+    drop-some (y ∷ xs) zero x more e = omega arith
+    drop-some (y ∷ xs) (suc n) x more e = let r = drop-some xs n x more e in omega (arith, r)
 
 module _ {N : Type 0} (W : World N) (at : Place) (T : Name) (m : N) (k : Name) (all os : List Occurrence) (key_is : Name) (r : Bool) (s : Skeleton)
     (ns : List (Spot N)) (es : List Listed) where

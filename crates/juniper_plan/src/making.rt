@@ -1,32 +1,35 @@
 //! Groups are made: those of a request's root, and those below a group for the nodes of one object type (CollectFields and
 //! MergeSelectionSets, sections 6.3.2 and 6.4.3 of the Specification).
 
-ghost use Rattle.std.specs.Prelude.{◌≡◌, ◌<◌, [], ◌++◌, cond, IfOk};
+ghost use Rattle.std.specs.Prelude.{◌≡◌, ◌<◌, [], ◌++◌, cond, IfOk, OnOk, map, true};
+ghost use Rattle.std.specs.List.{IsDistinct};
 ghost use Rattle.std.specs.Str.{bytes_eq};
+ghost use Rattle.graphql_spec.specs.Documents.{response_key};
 ghost use Rattle.graphql_spec.specs.Shown.{Name};
 ghost use Rattle.graphql_spec.specs.Selections.{all_below, occurrences};
 ghost use Rattle.juniper_collect.specs.Collected.{IsReady, expansion, view_all};
 ghost use Rattle.juniper_syntax.specs.DocumentView.{view_selections};
-ghost use Rattle.juniper_walk.specs.FieldWords.{fields_at as fields_in};
-ghost use Rattle.juniper_plan.specs.Plans.{IsBare, IsMade, IsStanding, all_expanded, fields_at, group_count};
+ghost use Rattle.juniper_walk.specs.FieldWords.{fields_at as fields_in, head_of};
+ghost use Rattle.juniper_plan.specs.PlanLists.{name_number, rises};
+ghost use Rattle.juniper_plan.specs.Plans.{AreAdded, IsGroupAdded, IsMade, IsStanding, all_expanded, fields_at, group_count};
 
 use crate::plan::{GroupNo, GroupRange, Plan};
 use juniper_collect::{Collected, Collector, Conditions, collect};
 use juniper_lookahead::{Enclosing, Occurrence};
 use juniper_syntax::ScalarValue;
-use juniper_walk::{Groups, group_fields, response_key, selections_of};
+use juniper_walk::{Groups, Resolver, Walk, group_fields, response_key, selections_of};
 use std::alloc::{AllocError, Global};
 
 /// The fields that selections hold for an object type, one slice after the other.
-pub(crate) fn collect_all<'d, 'a, S: ScalarValue, P: Conditions>(
+pub(crate) fn collect_all<'d, 'a, S: ScalarValue, R: Conditions>(
     alloc: Global,
-    collector: &Collector<'_, 'd, 'a, S, P>,
+    collector: &Collector<'_, 'd, 'a, S, R>,
     concrete: &str,
     enclosing: &[Enclosing<'d, 'a, S>],
 ) -> Result<Collected<'d, 'a, S>, AllocError>
     requires { IsReady S.shown collector.now }
     ensures { IfOk result (λ r. view_all S.shown collector.now r.items
-        ≡ occurrences (P.possible collector.now.possible) concrete.now (all_expanded S.shown collector.now enclosing.now)) }
+        ≡ occurrences (R.possible collector.now.possible) concrete.now (all_expanded S.shown collector.now enclosing.now)) }
 {
     let mut fields = Vec::new(alloc);
     for around in enclosing {
@@ -51,78 +54,179 @@ fn take_fields<'d, 'a, S>(
     }
 }
 
-/// Adds the groups of these fields, in the order in which their response keys come first; the time grows with the number of
-/// fields.
-pub(crate) fn add_groups<'d, 'a, S: ScalarValue, P: Conditions>(
+/// Adds a group of a response key, with what its first field asks of the nodes of an object type; none where it has no fields.
+fn add_members<'d, 'a, S: ScalarValue, R: Resolver<S>>(
     alloc: Global,
-    collector: &Collector<'_, 'd, 'a, S, P>,
-    plan: &mut Plan<'d, 'a, S>,
+    collector: &Collector<'_, 'd, 'a, S, R>,
+    plan: &mut Plan<'d, 'a, S, R::Question>,
+    concrete: &str,
+    key: &'a str,
+    fields: Collected<'d, 'a, S>,
+) -> Result<(), AllocError>
+    ensures { OnOk result (IsGroupAdded S.shown (R.asks collector.now.possible concrete.now) key.now fields.entry.items plan.old plan.new) }
+{
+    if fields.is_empty() {
+        return Ok(());
+    }
+    let first = fields[0].field;
+    let question = collector.possible.question(alloc, concrete, first)?;
+    plan.add_group(alloc, key, fields, question)?;
+    Ok(())
+}
+
+/// Adds the groups of these fields of an object type, in the order in which their response keys come first; the time grows with the number of
+/// fields and its logarithm, whatever the keys are.
+pub(crate) fn add_groups<'d, 'a, S: ScalarValue, R: Resolver<S>>(
+    alloc: Global,
+    collector: &Collector<'_, 'd, 'a, S, R>,
+    plan: &mut Plan<'d, 'a, S, R::Question>,
+    concrete: &str,
     fields: &[Occurrence<'d, 'a, S>],
 ) -> Result<GroupRange, AllocError>
-    requires { IsStanding S.shown collector.now (P.possible collector.now.possible) plan.old }
-    ensures { IfOk result (λ r. IsMade S.shown collector.now (P.possible collector.now.possible) (view_all S.shown collector.now fields.now)
-        plan.old plan.new r) }
+    requires { IsStanding S.shown collector.now (R.asks collector.now.possible) (R.possible collector.now.possible) plan.old }
+    ensures { IfOk result (λ r. IsMade S.shown collector.now (R.asks collector.now.possible) (R.possible collector.now.possible) concrete.now
+        (view_all S.shown collector.now fields.now) plan.old plan.new r) }
 {
     let first = GroupNo(plan.groups.len());
-    let mut by_key = group_fields(alloc, fields)?;
-    for occurrence in fields {
-        let key = response_key(occurrence.field);
-        let members = take_fields(alloc, &mut by_key, key);
-        plan.add_group(alloc, key, members)?;
+    if keys_differ(alloc, fields)? {
+        add_each(alloc, collector, plan, concrete, fields)?;
+    } else {
+        add_grouped(alloc, collector, plan, concrete, fields)?;
     }
     let end = GroupNo(plan.groups.len());
     Ok(GroupRange { first, end })
 }
 
-/// The groups that selections hold for an object type, made anew.
-pub fn root_groups<'d, 'a, S: ScalarValue, P: Conditions>(
+/// Whether no two of the fields have one response key, as far as numbers of the keys tell: `false` also where two keys have one number.
+fn keys_differ<'d, 'a, S: ScalarValue>(
     alloc: Global,
-    collector: &Collector<'_, 'd, 'a, S, P>,
-    plan: &mut Plan<'d, 'a, S>,
+    fields: &[Occurrence<'d, 'a, S>],
+) -> Result<bool, AllocError>
+    ensures { IfOk result (λ b. b ≡ true → IsDistinct bytes_eq (map (λ o. response_key (head_of S.shown o.field.now)) fields.now)) }
+{
+    let mut numbers = Vec::with_capacity(alloc, fields.len())?;
+    for occurrence in fields {
+        numbers.push(name_number(response_key(occurrence.field)))?;
+    }
+    numbers.sort_unstable();
+    Ok(do_rise(&numbers))
+}
+
+/// A number of a name. Other names have other numbers, but for chance, or choice.
+fn name_number(name: &str) -> u64
+    ensures { result ≡ name_number name.now }
+{
+    let mut number: u64 = 0;
+    for byte in name.as_bytes() {
+        number = number
+            .wrapping_mul(1_099_511_628_211)
+            .wrapping_add(u64::from(*byte));
+    }
+    number
+}
+
+/// Whether each of the numbers is less than the next.
+fn do_rise(numbers: &[u64]) -> bool
+    ensures { result ≡ rises numbers.now }
+{
+    for index in 1..numbers.len() {
+        if numbers[index - 1] >= numbers[index] {
+            return false;
+        }
+    }
+    true
+}
+
+/// Adds the groups of fields of which no two have one response key: each is one field.
+fn add_each<'d, 'a, S: ScalarValue, R: Resolver<S>>(
+    alloc: Global,
+    collector: &Collector<'_, 'd, 'a, S, R>,
+    plan: &mut Plan<'d, 'a, S, R::Question>,
+    concrete: &str,
+    fields: &[Occurrence<'d, 'a, S>],
+) -> Result<(), AllocError>
+    requires standing { IsStanding S.shown collector.now (R.asks collector.now.possible) (R.possible collector.now.possible) plan.old }
+    requires differ { IsDistinct bytes_eq (map (λ o. response_key (head_of S.shown o.field.now)) fields.now) }
+    ensures { OnOk result (AreAdded S.shown collector.now (R.asks collector.now.possible) (R.possible collector.now.possible) concrete.now
+        (view_all S.shown collector.now fields.now) plan.old plan.new) }
+{
+    for occurrence in fields {
+        let field = occurrence.field;
+        let question = collector.possible.question(alloc, concrete, field)?;
+        plan.add_field(alloc, response_key(field), field, question)?;
+    }
+    Ok(())
+}
+
+/// Adds the groups of any fields, put together by their response keys.
+fn add_grouped<'d, 'a, S: ScalarValue, R: Resolver<S>>(
+    alloc: Global,
+    collector: &Collector<'_, 'd, 'a, S, R>,
+    plan: &mut Plan<'d, 'a, S, R::Question>,
+    concrete: &str,
+    fields: &[Occurrence<'d, 'a, S>],
+) -> Result<(), AllocError>
+    requires { IsStanding S.shown collector.now (R.asks collector.now.possible) (R.possible collector.now.possible) plan.old }
+    ensures { OnOk result (AreAdded S.shown collector.now (R.asks collector.now.possible) (R.possible collector.now.possible) concrete.now
+        (view_all S.shown collector.now fields.now) plan.old plan.new) }
+{
+    let mut by_key = group_fields(alloc, fields)?;
+    for occurrence in fields {
+        let key = response_key(occurrence.field);
+        let members = take_fields(alloc, &mut by_key, key);
+        add_members(alloc, collector, plan, concrete, key, members)?;
+    }
+    Ok(())
+}
+
+/// The groups that selections hold for an object type, made anew.
+pub fn root_groups<'d, 'a, S: ScalarValue, R: Resolver<S>>(
+    alloc: Global,
+    collector: &Collector<'_, 'd, 'a, S, R>,
+    plan: &mut Plan<'d, 'a, S, R::Question>,
     concrete: &str,
     enclosing: &[Enclosing<'d, 'a, S>],
 ) -> Result<GroupRange, AllocError>
     requires ready { IsReady S.shown collector.now }
-    requires standing { IsStanding S.shown collector.now (P.possible collector.now.possible) plan.old }
-    ensures { IfOk result (λ r. IsMade S.shown collector.now (P.possible collector.now.possible)
-        (occurrences (P.possible collector.now.possible) concrete.now (all_expanded S.shown collector.now enclosing.now)) plan.old plan.new r) }
+    requires standing { IsStanding S.shown collector.now (R.asks collector.now.possible) (R.possible collector.now.possible) plan.old }
+    ensures { IfOk result (λ r. IsMade S.shown collector.now (R.asks collector.now.possible) (R.possible collector.now.possible) concrete.now
+        (occurrences (R.possible collector.now.possible) concrete.now (all_expanded S.shown collector.now enclosing.now)) plan.old plan.new r) }
 {
     let fields = collect_all(alloc, collector, concrete, enclosing)?;
-    let groups = add_groups(alloc, collector, plan, &fields)?;
+    let groups = add_groups(alloc, collector, plan, concrete, &fields)?;
     Ok(groups)
 }
 
 /// The groups below a group for the nodes of an object type, of what all of its fields select, one after the other. They are made where
 /// such a node is met first.
-pub fn groups_below<'d, 'a, S: ScalarValue, P: Conditions>(
-    alloc: Global,
-    collector: &Collector<'_, 'd, 'a, S, P>,
-    plan: &mut Plan<'d, 'a, S>,
+pub fn groups_below<'d, 'a, S: ScalarValue, R: Resolver<S>>(
+    walk: &Walk<'_, 'd, 'a, S, R>,
+    plan: &mut Plan<'d, 'a, S, R::Question>,
     group: GroupNo,
     concrete: &str,
     enclosing: &[Enclosing<'d, 'a, S>],
 ) -> Result<GroupRange, AllocError>
-    requires ready { IsReady S.shown collector.now }
-    requires standing { IsStanding S.shown collector.now (P.possible collector.now.possible) plan.old }
+    requires ready { IsReady S.shown walk.now.collector }
+    requires standing { IsStanding S.shown walk.now.collector (R.asks walk.now.collector.possible) (R.possible walk.now.collector.possible) plan.old }
     requires bound { group.0 < group_count plan.old }
-    requires selected { all_expanded S.shown collector.now enclosing.now ≡ all_below (view_all S.shown collector.now (fields_at plan.old group.0)) }
-    ensures { IfOk result (λ r. IsMade S.shown collector.now (P.possible collector.now.possible)
-        (occurrences (P.possible collector.now.possible) concrete.now (all_expanded S.shown collector.now enclosing.now)) plan.old plan.new r) }
+    requires selected { all_expanded S.shown walk.now.collector enclosing.now ≡ all_below (view_all S.shown walk.now.collector (fields_at plan.old group.0)) }
+    ensures { IfOk result (λ r. IsMade S.shown walk.now.collector (R.asks walk.now.collector.possible) (R.possible walk.now.collector.possible) concrete.now
+        (occurrences (R.possible walk.now.collector.possible) concrete.now (all_expanded S.shown walk.now.collector enclosing.now)) plan.old plan.new r) }
 {
     match plan.made_below(group, concrete) {
         Some(groups) => Ok(groups),
         None => {
-            let groups = root_groups(alloc, collector, plan, concrete, enclosing)?;
-            plan.keep_below(alloc, group, concrete, groups)?;
+            let groups = root_groups(walk.alloc, &walk.collector, plan, concrete, enclosing)?;
+            plan.keep_below(walk.alloc, group, concrete, groups)?;
             Ok(groups)
         }
     }
 }
 
 /// What the fields select, one after the other.
-pub(crate) fn all_selections<'d, 'a, S: ScalarValue, P>(
+pub(crate) fn all_selections<'d, 'a, S: ScalarValue, R>(
     alloc: Global,
-    collector: &Collector<'_, 'd, 'a, S, P>,
+    collector: &Collector<'_, 'd, 'a, S, R>,
     fields: &[Occurrence<'d, 'a, S>],
 ) -> Result<Vec<Enclosing<'d, 'a, S>>, AllocError>
     ensures { IfOk result (λ made. all_expanded S.shown collector.now made.items ≡ all_below (view_all S.shown collector.now fields.now)) }

@@ -1,13 +1,13 @@
 //! The plan of a request: the response keys of its objects, and the fields of each (CollectFields, section 6.3.2 of the
 //! Specification).
 
-ghost use Rattle.std.specs.Prelude.{◌≡◌, ◌<◌, ◌≤◌, OnOk, length, slice_range};
-ghost use Rattle.juniper_plan.specs.Plans.{IsBare, IsGroupAdded, IsKept, IsWithin, fields_at, group_count, key_at, made_at};
+ghost use Rattle.std.specs.Prelude.{◌≡◌, ◌<◌, ◌≤◌, ◌+◌, ◌∷◌, OnOk, [], drop, length, slice_range};
+ghost use Rattle.juniper_plan.specs.Plans.{IsBare, IsEnded, IsKept, IsOneAdded, IsWithin, fields_at, group_count, key_at, made_at};
 ghost use Rattle.juniper_plan.specs.PlanLists.{named_in};
 
 use juniper_collect::Collected;
 use juniper_lookahead::Occurrence;
-use juniper_syntax::ScalarValue;
+use juniper_syntax::{Field, ScalarValue, Span, Spanning};
 use std::alloc::{AllocError, Global};
 
 /// The number of a group in a plan, counted from 0.
@@ -49,23 +49,26 @@ pub struct Below {
 
 /// All groups and all occurrences that were met in a request so far.
 #[derive(Drop)]
-pub struct Plan<'d, 'a, S> {
+pub struct Plan<'d, 'a, S, Q> {
     /// The groups; those of an object stand one behind the other.
     pub(crate) groups: Vec<Group<'a>>,
     /// The fields; those of a group stand one behind the other.
     pub(crate) occurrences: Vec<Occurrence<'d, 'a, S>>,
+    /// For each group, by its number: what is asked of every node.
+    pub(crate) questions: Vec<Q>,
     /// For each group, by its number: what was made below it.
     pub(crate) below: Vec<Vec<Below>>,
 }
 
-impl<'d, 'a, S: ScalarValue> Plan<'d, 'a, S> {
+impl<'d, 'a, S: ScalarValue, Q: Drop> Plan<'d, 'a, S, Q> {
     /// A plan without groups.
-    pub fn new(alloc: Global) -> Plan<'d, 'a, S>
+    pub fn new(alloc: Global) -> Plan<'d, 'a, S, Q>
         ensures { IsBare result }
     {
         Plan {
             groups: Vec::new(alloc),
             occurrences: Vec::new(alloc),
+            questions: Vec::new(alloc),
             below: Vec::new(alloc),
         }
     }
@@ -87,6 +90,14 @@ impl<'d, 'a, S: ScalarValue> Plan<'d, 'a, S> {
     {
         let found = self.groups[group.0];
         found.key
+    }
+
+    /// What is asked of every node for a group.
+    pub fn question(&self, group: GroupNo) -> &Q
+        requires { group.0 < length self.now.questions.items }
+        ensures { drop group.0 self.now.questions.items ≡ result.now ∷ drop (group.0 + 1) self.now.questions.items }
+    {
+        &self.questions[group.0]
     }
 
     /// What was made below a group for the nodes of an object type, if it was.
@@ -115,23 +126,52 @@ impl<'d, 'a, S: ScalarValue> Plan<'d, 'a, S> {
         Ok(())
     }
 
-    /// Adds a group of a response key; none where it has no fields.
+    /// Adds a group of a response key, with what is asked for it.
     pub(crate) fn add_group(
         &mut self,
         alloc: Global,
         key: &'a str,
         fields: Collected<'d, 'a, S>,
+        question: Q,
     ) -> Result<(), AllocError>
-        ensures { OnOk result (IsGroupAdded key.now fields.entry.items self.old self.new) }
+        ensures { OnOk result (IsOneAdded key.now fields.entry.items question self.old self.new) }
     {
-        if fields.is_empty() {
-            return Ok(());
-        }
         let mut added = fields;
         let first = OccNo(self.occurrences.len());
         self.occurrences.append(&mut added)?;
+        self.end_group(alloc, key, first, question)?;
+        Ok(())
+    }
+
+    /// Adds a group of one field, with what is asked for it.
+    pub(crate) fn add_field(
+        &mut self,
+        alloc: Global,
+        key: &'a str,
+        field: &'d Spanning<Field<'a, S>, Span>,
+        question: Q,
+    ) -> Result<(), AllocError>
+        ensures { OnOk result (IsOneAdded key.now (record { field = field.entry } ∷ []) question self.old self.new) }
+    {
+        let first = OccNo(self.occurrences.len());
+        self.occurrences.push(Occurrence { field })?;
+        self.end_group(alloc, key, first, question)?;
+        Ok(())
+    }
+
+    /// Makes a group of the fields from this one on.
+    fn end_group(
+        &mut self,
+        alloc: Global,
+        key: &'a str,
+        first: OccNo,
+        question: Q,
+    ) -> Result<(), AllocError>
+        ensures { OnOk result (IsEnded key.now first question self.old self.new) }
+    {
         let end = OccNo(self.occurrences.len());
         self.groups.push(Group { key, first, end })?;
+        self.questions.push(question)?;
         self.below.push(Vec::new(alloc))?;
         Ok(())
     }

@@ -8,7 +8,7 @@ ghost use Rattle.juniper_assemble.specs.SpotView.{view_nodes};
 ghost use Rattle.juniper_collect.specs.Collected.{view_all};
 ghost use Rattle.juniper_errors.specs.ErrorView.{view_listed};
 ghost use Rattle.juniper_errors.specs.PathView.{path_place};
-ghost use Rattle.juniper_plan.specs.Plans.{IsStanding, all_expanded, fields_at, group_count, key_at};
+ghost use Rattle.juniper_plan.specs.Plans.{IsAskedAt, IsStanding, all_expanded, fields_at, group_count, key_at};
 ghost use Rattle.juniper_plan.specs.PlanWalks.{IsGroupOf, IsPrepared};
 ghost use Rattle.juniper_walk.specs.Walking.{IsReadyWalk};
 
@@ -39,7 +39,7 @@ pub(crate) struct Prepared<'a, N, S> {
 /// A group of a node: its answer, taken apart. What fails is listed where the first of its fields starts.
 pub(crate) fn prepare<'d, 'a, S: ScalarValue, R: Resolver<S>>(
     walk: &Walk<'_, 'd, 'a, S, R>,
-    plan: &Plan<'d, 'a, S>,
+    plan: &Plan<'d, 'a, S, R::Question>,
     path: &Rc<FieldPath<'a>>,
     concrete: &str,
     node: &R::Node,
@@ -47,10 +47,12 @@ pub(crate) fn prepare<'d, 'a, S: ScalarValue, R: Resolver<S>>(
     group: GroupNo,
 ) -> Result<Prepared<'a, R::Node, S>, AllocError>
     requires ready { IsReadyWalk S.shown R.possible R.values (R.world walk.now.collector.possible) walk.now }
-    requires standing { IsStanding S.shown walk.now.collector (R.possible walk.now.collector.possible) plan.now }
+    requires standing { IsStanding S.shown walk.now.collector (R.asks walk.now.collector.possible) (R.possible walk.now.collector.possible) plan.now }
     requires bound { group.0 < group_count plan.now }
     requires whole { IsGroupOf (key_at plan.now group.0) (occurrences (R.possible walk.now.collector.possible) concrete.now
         (all_expanded S.shown walk.now.collector enclosing.now)) (view_all S.shown walk.now.collector (fields_at plan.now group.0)) }
+    requires asked { IsAskedAt (R.asks walk.now.collector.possible) concrete.now plan.now group.0
+        (view_all S.shown walk.now.collector (fields_at plan.now group.0)) }
     ensures { IfOk result (λ p. IsPrepared (R.world walk.now.collector.possible) (path_place path.now.value) concrete.now node.now
         (key_at plan.now group.0) (view_all S.shown walk.now.collector (fields_at plan.now group.0)) p.key.now
         p.is_non_null (view_skeleton S.shown p.skeleton) (view_nodes p.nodes.items) (map (view_listed S.shown) p.errors.items)) }
@@ -65,12 +67,14 @@ pub(crate) fn prepare<'d, 'a, S: ScalarValue, R: Resolver<S>>(
         enclosing,
         occurrences: fields,
     };
-    let Asked { declared, answer } = walk.collector.possible.ask(alloc, concrete, node, &site);
+    let question = plan.question(group);
+    let resolver = &walk.collector.possible;
+    let Asked { declared, answer } = resolver.ask(alloc, question, concrete, node, &site);
     let Parted {
         skeleton,
         nodes,
         errors,
-    } = part_reply(alloc, &walk.collector.possible, declared, answer, &here)?;
+    } = part_reply(alloc, resolver, declared, answer, &here)?;
     let listed = list_errors(alloc, first.span.start, &errors)?;
     Ok(Prepared {
         key: plan.key(group),

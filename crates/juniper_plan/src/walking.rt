@@ -36,7 +36,7 @@ pub(crate) struct AllWalked<S> {
 #[cycle(walking)]
 pub fn object<'d, 'a, S: ScalarValue, R: Resolver<S>>(
     walk: &Walk<'_, 'd, 'a, S, R>,
-    plan: &mut Plan<'d, 'a, S>,
+    plan: &mut Plan<'d, 'a, S, R::Question>,
     path: &Rc<FieldPath<'a>>,
     concrete: &str,
     node: &R::Node,
@@ -44,10 +44,10 @@ pub fn object<'d, 'a, S: ScalarValue, R: Resolver<S>>(
     groups: GroupRange,
 ) -> Result<Walked<S>, AllocError>
     requires ready { IsReadyWalk S.shown R.possible R.values (R.world walk.now.collector.possible) walk.now }
-    requires standing { IsStanding S.shown walk.now.collector (R.possible walk.now.collector.possible) plan.old }
-    requires groups { StandsFor S.shown walk.now.collector plan.old groups (occurrences (R.possible walk.now.collector.possible) concrete.now
-        (all_expanded S.shown walk.now.collector enclosing.now)) }
-    ensures plan { IfOk result (λ _. IsStep S.shown walk.now.collector (R.possible walk.now.collector.possible) plan.old plan.new) }
+    requires standing { IsStanding S.shown walk.now.collector (R.asks walk.now.collector.possible) (R.possible walk.now.collector.possible) plan.old }
+    requires groups { StandsFor S.shown walk.now.collector (R.asks walk.now.collector.possible) concrete.now plan.old groups
+        (occurrences (R.possible walk.now.collector.possible) concrete.now (all_expanded S.shown walk.now.collector enclosing.now)) }
+    ensures plan { IfOk result (λ _. IsStep S.shown walk.now.collector (R.asks walk.now.collector.possible) (R.possible walk.now.collector.possible) plan.old plan.new) }
     ensures walked { IfOk result (λ r. IsObjectWalked (R.world walk.now.collector.possible) (path_place path.now.value)
         (all_expanded S.shown walk.now.collector enclosing.now) concrete.now node.now
         (view_value S.shown r.value) (map (view_listed S.shown) r.errors.items)) }
@@ -76,14 +76,14 @@ pub fn object<'d, 'a, S: ScalarValue, R: Resolver<S>>(
 #[cycle(walking)]
 pub(crate) fn objects_of<'d, 'a, S: ScalarValue, R: Resolver<S>>(
     walk: &Walk<'_, 'd, 'a, S, R>,
-    plan: &mut Plan<'d, 'a, S>,
+    plan: &mut Plan<'d, 'a, S, R::Question>,
     nodes: &[Spot<'a, R::Node>],
     group: GroupNo,
 ) -> Result<AllWalked<S>, AllocError>
     requires ready { IsReadyWalk S.shown R.possible R.values (R.world walk.now.collector.possible) walk.now }
-    requires standing { IsStanding S.shown walk.now.collector (R.possible walk.now.collector.possible) plan.old }
+    requires standing { IsStanding S.shown walk.now.collector (R.asks walk.now.collector.possible) (R.possible walk.now.collector.possible) plan.old }
     requires bound { group.0 < group_count plan.old }
-    ensures plan { IfOk result (λ _. IsStep S.shown walk.now.collector (R.possible walk.now.collector.possible) plan.old plan.new) }
+    ensures plan { IfOk result (λ _. IsStep S.shown walk.now.collector (R.asks walk.now.collector.possible) (R.possible walk.now.collector.possible) plan.old plan.new) }
     ensures walked { IfOk result (λ r. AreObjectsWalked (R.world walk.now.collector.possible)
         (all_below (view_all S.shown walk.now.collector (fields_at plan.old group.0))) (view_nodes nodes.now)
         (map (view_value S.shown) r.values.items) (map (view_listed S.shown) r.errors.items)) }
@@ -97,14 +97,7 @@ pub(crate) fn objects_of<'d, 'a, S: ScalarValue, R: Resolver<S>>(
     for spot in nodes {
         let node = &spot.what;
         let concrete = walk.collector.possible.concrete_type_name(node);
-        let groups = groups_below(
-            walk.alloc,
-            &walk.collector,
-            plan,
-            group,
-            concrete,
-            &enclosing,
-        )?;
+        let groups = groups_below(walk, plan, group, concrete, &enclosing)?;
         let walked = object(walk, plan, &spot.path, concrete, node, &enclosing, groups)?;
         add_object(&mut values, &mut errors, walked)?;
     }

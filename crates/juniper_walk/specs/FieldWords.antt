@@ -2,8 +2,9 @@
 use Rattle.std.specs.Prelude.{ℕ, List, [], Vec}
 use Rattle.std.specs.Option.{option_map_or}
 use Rattle.std.specs.Borrow.{Bor}
-use Rattle.std.specs.HashMap.{HashMap, get_by}
-use Rattle.std.specs.Str.{bytes_eq}
+use Rattle.std.specs.BTreeMap.{BTreeMap, get_by}
+use Rattle.std.specs.Cmp.Lexicographic.{slice_cmp}
+use Rattle.std.specs.Ordering.{nat_cmp}
 use Rattle.std.specs.declared.alloc.Global.{Global}
 use Rattle.graphql_spec.specs.Shown.{Shown, Name}
 use Rattle.graphql_spec.specs.Documents.{Head}
@@ -18,5 +19,5 @@ abbrev pub head_of : {S : Type 0} → (S → Shown) → Spanning (Field S) Span 
 head_of {S} shown f = view_head shown (out-Field S f.item) (view_span f.span)
 
 -- the fields that a map has at a response key
-abbrev pub fields_at : {O H : Type 0} → HashMap (Bor (List ℕ)) (Vec O Global) H → Name → List O
-fields_at groups q = option_map_or (λ g. g.items) (get_by (λ n. bytes_eq q n.now) groups) []
+abbrev pub fields_at : {O : Type 0} → BTreeMap (Bor (List ℕ)) (Vec O Global) → Name → List O
+fields_at groups q = option_map_or (λ g. g.items) (get_by (λ n. slice_cmp nat_cmp q n.now) groups) []

@@ -1,21 +1,22 @@
 //! What a request gives to its walk.
 
-ghost use Rattle.std.specs.Prelude.{◌≡◌, string_bytes};
+ghost use Rattle.std.specs.Prelude.{◌≡◌, IfOk, string_bytes};
 ghost use Rattle.graphql_spec.specs.Execution.{reply_of, type_of};
 ghost use Rattle.juniper_syntax.specs.TypeView.{view_type};
 ghost use Rattle.juniper_lookahead.specs.Expansion.{IsAcyclic};
 ghost use Rattle.juniper_lookahead.specs.Sites.{IsWholeGroup, view_fields};
 ghost use Rattle.juniper_errors.specs.PathView.{path_place};
 ghost use Rattle.juniper_resolvable.specs.ResolvedView.{Answers};
-ghost use Rattle.juniper_walk.specs.Asking.{IsPathOf};
+ghost use Rattle.juniper_walk.specs.Asking.{IsAskedOf, IsPathOf};
+ghost use Rattle.juniper_walk.specs.FieldWords.{head_of};
 
 use juniper_assemble::Completer;
 use juniper_collect::{Collector, Conditions};
 use juniper_errors::{FieldPath, ResolveError};
 use juniper_lookahead::{Enclosing, Occurrence};
 use juniper_resolvable::Resolved;
-use juniper_syntax::{Fragments, ScalarValue, Type};
-use std::alloc::Global;
+use juniper_syntax::{Field, Fragments, ScalarValue, Span, Spanning, Type};
+use std::alloc::{AllocError, Global};
 
 /// Where a field is asked for.
 #[derive(Drop)]
@@ -41,25 +42,46 @@ pub struct Asked<'t, N, S> {
 
 /// What answers the fields of nodes; it stands for the schema, the variables and the resolver of a request.
 pub trait Resolver<S: ScalarValue>: Completer<S> + Conditions {
+    ghost use Rattle.graphql_spec.specs.Shown.{Name};
+    ghost use Rattle.graphql_spec.specs.Documents.{Head};
     ghost use Rattle.juniper_lookahead.specs.Expansion.{VariableMap};
+
+    /// What a field is for all nodes of an object type: what it declares, and its arguments.
+    type Question: Drop;
+
+    /// Whether this is asked for a field, as it is written, of the nodes of an object type.
+    ghost asks: { Self → Name → Head → Self.Question → Type 0 };
 
     /// The values of variables (6.1.2).
     ghost values: { Self → VariableMap S };
+
+    /// What is asked for a field of the nodes of an object type, by the schema and the values of variables alone; an error where memory is
+    /// refused.
+    fn question(
+        &self,
+        alloc: Global,
+        concrete: &str,
+        field: &Spanning<Field<S>, Span>,
+    ) -> Result<Self::Question, AllocError>
+        ensures { IfOk result (λ q. asks self.now concrete.now (head_of S.shown field.now) q) };
 
     /// The name of a node's object type.
     fn concrete_type_name<'n>(&'n self, node: &'n Self::Node) -> &'n str
         ensures { result.now ≡ (Self.world self.now).concrete node.now };
 
     /// What the first occurrence of a field of a node answers, `__typename` too (ResolveFieldValue, 6.4.2), with its declared type. The
-    /// occurrences are all that the selections around them hold of one response key for the object type (6.3.2), with which the path ends.
+    /// occurrences are all that the selections around them hold of one response key for the object type (6.3.2), and the question is theirs.
     fn ask<'t, 'd, 'a>(
         &'t self,
         alloc: Global,
+        question: &'t Self::Question,
         concrete: &str,
         node: &Self::Node,
         site: &Site<'_, 'd, 'a, S>,
     ) -> Asked<'t, Self::Node, S>
         requires acyclic { IsAcyclic S.shown site.now.fragments.now }
+        requires question { IsAskedOf (asks self.now concrete.now)
+            (view_fields S.shown (values self.now) site.now.fragments.now site.now.occurrences.now) question.now }
         requires path { IsPathOf (view_fields S.shown (values self.now) site.now.fragments.now site.now.occurrences.now) (path_place site.now.path.now) }
         requires whole { IsWholeGroup S.shown (Self.possible self.now) (values self.now) site.now.fragments.now concrete.now site.now.enclosing.now
             site.now.occurrences.now }

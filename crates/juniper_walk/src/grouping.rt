@@ -12,10 +12,10 @@ use juniper_collect::Collected;
 use juniper_lookahead::Occurrence;
 use juniper_syntax::{Field, ScalarValue, Span, Spanning};
 use std::alloc::{AllocError, Global};
-use std::collections::HashMap;
+use std::collections::BTreeMap;
 
 /// The fields of each response key, in the order of the document.
-pub type Groups<'d, 'a, S> = HashMap<&'a str, Collected<'d, 'a, S>>;
+pub type Groups<'d, 'a, S> = BTreeMap<&'a str, Collected<'d, 'a, S>>;
 
 /// The fields of one response key.
 #[derive(Drop)]
@@ -26,14 +26,14 @@ pub struct Group<'g, 'd, 'a, S> {
     pub others: &'g [Occurrence<'d, 'a, S>],
 }
 
-/// Fields by their response keys; the time grows with their number. An error where memory is refused.
+/// Fields by their response keys; the time grows with their number, and with its logarithm, whatever the keys are. An error where memory is refused.
 pub fn group_fields<'d, 'a, S: ScalarValue>(
     alloc: Global,
     fields: &[Occurrence<'d, 'a, S>],
 ) -> Result<Groups<'d, 'a, S>, AllocError>
     ensures { IfOk result (λ groups. (q : Name) → fields_at groups q ≡ filter (λ o. bytes_eq q (key_of (head_of S.shown o.field.now))) fields.now) }
 {
-    let mut groups = HashMap::new(alloc);
+    let mut groups = BTreeMap::new(alloc);
     for occurrence in fields {
         let field = occurrence.field;
         let key = response_key(field);
@@ -46,7 +46,7 @@ pub fn group_fields<'d, 'a, S: ScalarValue>(
 }
 
 /// Those of a response key behind the first of them.
-pub fn others_of<'g, 'a, T>(groups: &'g HashMap<&'a str, Vec<T>>, key: &str) -> &'g [T]
+pub fn others_of<'g, 'a, T>(groups: &'g BTreeMap<&'a str, Vec<T>>, key: &str) -> &'g [T]
     ensures { result.now ≡ drop 1 (fields_at groups.now key.now) }
 {
     match groups.get(key) {

@@ -97,12 +97,14 @@ pub(crate) fn prepare<'d, 'a, S: ScalarValue, R: Resolver<S>>(
         enclosing: &enclosing,
         occurrences: &occurrences,
     };
-    let Asked { declared, answer } = walk.collector.possible.ask(alloc, concrete, node, &site);
+    let resolver = &walk.collector.possible;
+    let question = resolver.question(alloc, concrete, field)?;
+    let Asked { declared, answer } = resolver.ask(alloc, &question, concrete, node, &site);
     let Parted {
         skeleton,
         nodes,
         errors,
-    } = part_reply(alloc, &walk.collector.possible, declared, answer, &here)?;
+    } = part_reply(alloc, resolver, declared, answer, &here)?;
     let listed = list_errors(alloc, field.span.start, &errors)?;
     Ok(Prepared {
         is_non_null: declared.is_non_null(),

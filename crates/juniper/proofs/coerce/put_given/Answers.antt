@@ -7,23 +7,23 @@ use Rattle.juniper.proofs.coerce.put_given.Goals as goal
 
 pub returns-then-contains_key : goal.returns-then-contains_key
 returns-then-contains_key g c =
-    rw (there g.S.ScalarValue.shown c.args.items.now c.args.argument.now.0.item.now ∙ (sym c.contains_key.ensures ∙ c.if-contains_key.true)) refl
+    rw (there g.S.ScalarValue.shown c.args.items.now c.args.name.now ∙ (sym c.contains_key.ensures ∙ c.if-contains_key.true)) refl
 
 pub returns-in-None : goal.returns-in-None
 returns-in-None g c =
     let shown = g.S.ScalarValue.shown in
     rw (
-      there shown c.args.items.now c.args.argument.now.0.item.now ∙ (sym c.contains_key.ensures ∙ c.if-contains_key.false),
+      there shown c.args.items.now c.args.name.now ∙ (sym c.contains_key.ensures ∙ c.if-contains_key.false),
       ← c.in_ok-into_const.ensures,
       c.in-None.is,
     )
-    (sym (given-none c.args.argument.now.0.item.now (members_of shown c.args.items.now.entries)))
+    (sym (given-none c.args.name.now (members_of shown c.args.items.now.entries)))
 
 pub returns-in_ok-insert-in-Some : goal.returns-in_ok-insert-in-Some
 returns-in_ok-insert-in-Some g c =
     let shown = g.S.ScalarValue.shown in
     let m = c.args.items.now in
-    let k = c.args.argument.now.0.item in
+    let k = c.args.name in
     let absent = sym c.contains_key.ensures ∙ c.if-contains_key.false in
     rw (there shown m k.now ∙ absent, ← c.in_ok-into_const.ensures, c.in-Some.is)
     (ap (members_of shown) c.in_ok-insert-in-Some.ensures.entries ∙ (put_new shown m k c.new-value.result absent

@@ -10,7 +10,7 @@ use Rattle.graphql_spec.specs.Selections.{keys}
 use Rattle.juniper_syntax.specs.DocumentView.{view_definition, view_document, view_operation, view_selections}
 use Rattle.juniper_syntax.specs.InputView.{view_variables}
 use Rattle.juniper_schema.specs.SchemaView.{view_schema}
-use Rattle.juniper.specs.Services.{is_undeclared, mutation_on, rooted_steps}
+use Rattle.juniper.specs.Services.{mutation_on, rooted_steps}
 use Rattle.juniper.specs.Walkings.{starts_by}
 use Rattle.juniper.proofs.Executing.{left-moves, mutation-agrees, no-cycle, run-is-answer, run-left}
 use Rattle.juniper.proofs.RootPlans.{left-same, on-err}
@@ -47,7 +47,6 @@ returns-in_err-path g c =
     on-err _ _ _ c.from_residual-in_err-path.ensures.0 (left-same M T (keys (root_fields M T all start)) (root_fields M T all start) start)
 
 pub run_groups-requires-clause-ready : goal.run_groups-requires-clause-ready
-unfolding is_undeclared
 run_groups-requires-clause-ready g c =
     let shown = g.S.ScalarValue.shown in
     let s = view_schema shown c.args.served.now.schema.now in
@@ -57,8 +56,6 @@ run_groups-requires-clause-ready g c =
       made = c.in_ok-fragments.ensures.made;
       acyclic = no-cycle s c.args.served.now.is_introspection_disabled d c.requires.valid _ is;
       at_root = c.in_ok-path.ensures;
-      unnamed =
-          ap is_undeclared c.undeclared_type-undeclared.ensures;
     }
 
 pub run_groups-requires-clause-agree : goal.run_groups-requires-clause-agree

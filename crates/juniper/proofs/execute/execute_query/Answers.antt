@@ -1,35 +1,28 @@
-use Rattle.std.proofs.Common.{map, refl, ap, ◌∙◌}
+use Rattle.std.proofs.Common.{map, ap, ◌∙◌}
 use Rattle.graphql_spec.specs.Documents.{fragments}
 use Rattle.graphql_spec.specs.Directives.{passes}
 use Rattle.graphql_spec.specs.Fragments.{expand}
 use Rattle.graphql_spec.specs.Requests.{selected}
-use Rattle.graphql_spec.specs.Resolvers.{world_of}
 use Rattle.juniper_syntax.specs.DocumentView.{view_definition, view_document, view_operation, view_selections}
 use Rattle.juniper_syntax.specs.InputView.{view_variables}
 use Rattle.juniper_schema.specs.SchemaView.{view_schema}
 use Rattle.juniper_collect.specs.Collected.{expansion}
-use Rattle.juniper.specs.Services.{is_undeclared, world_in}
+use Rattle.juniper.specs.Services.{world_in}
 use Rattle.juniper.proofs.Executing.{answer-moves, no-cycle, query-agrees}
 use Rattle.juniper.proofs.execute.execute_query.Goals as goal
 
 pub invariant_of-service : goal.invariant_of-service
-unfolding is_undeclared
-invariant_of-service g c = record { executable = c.args.served.now.executable; unnamed = ap is_undeclared c.undeclared_type.ensures }
+invariant_of-service g c = record { executable = c.args.served.now.executable; unnamed = c.args.served.now.unnamed }
 
 pub answer-requires-clause-ready : goal.answer-requires-clause-ready
-unfolding world_of
 answer-requires-clause-ready g c =
     let shown = g.S.ScalarValue.shown in
     let s = view_schema shown c.args.served.now.schema.now in
     let d = view_document shown c.args.document.now in
     let is = c.in_ok-fragments.ensures.is ∙ ap (λ ds. fragments (map (view_definition shown) ds)) c.as_slice.ensures.value in
     record {
-      collector = record {
-        made = c.in_ok-fragments.ensures.made;
-        acyclic = no-cycle s c.args.served.now.is_introspection_disabled d c.requires.valid _ is;
-      };
-      same = refl;
-      variables = refl;
+      made = c.in_ok-fragments.ensures.made;
+      acyclic = no-cycle s c.args.served.now.is_introspection_disabled d c.requires.valid _ is;
     }
 
 pub answer-requires-clause-agree : goal.answer-requires-clause-agree

@@ -1,13 +1,22 @@
-use Rattle.std.proofs.Common.{ap}
+use Rattle.std.proofs.Common.{IsTrue, ap, subst, sym}
+use Rattle.graphql_spec.specs.Executable.{is_executable}
 use Rattle.juniper_intro.specs.RootView.{resolver_of, view_node_of}
 use Rattle.juniper_schema.specs.SchemaView.{view_schema}
 use Rattle.juniper_syntax.specs.DocumentView.{view_document, view_operation}
 use Rattle.juniper_syntax.specs.InputView.{view_variables}
 use Rattle.juniper.specs.Answering.{outcome_of}
+use Rattle.juniper.specs.Services.{is_undeclared}
 use Rattle.juniper.specs.Walkings.{Lists}
 use Rattle.juniper.proofs.Composing.{answers-beside}
 use Rattle.juniper.proofs.RootOutcomes.{outcome-moved}
 use Rattle.juniper.proofs.execute.execute_walked.Goals as goal
+
+pub invariant_of-served : goal.invariant_of-served
+unfolding is_undeclared
+invariant_of-served g c = record {
+  executable = subst (λ s. IsTrue (is_executable s)) (sym (ap (view_schema g.S.ScalarValue.shown) c.schema.ensures)) c.root_replies.ensures.executable;
+  unnamed = ap is_undeclared c.undeclared_type-undeclared.ensures;
+}
 
 pub returns : goal.returns
 returns g c =

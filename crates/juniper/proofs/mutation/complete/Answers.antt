@@ -1,29 +1,26 @@
-use Rattle.std.proofs.Common.{string_bytes, refl, ap, subst}
+use Rattle.std.proofs.Common.{string_bytes, refl, subst}
 use Rattle.graphql_spec.specs.Fields.{is_possible}
-use Rattle.graphql_spec.specs.Resolvers.{world_of}
 use Rattle.graphql_spec.specs.Types.{innermost}
 use Rattle.juniper_schema.specs.SchemaView.{view_schema}
 use Rattle.juniper_syntax.specs.TypeView.{view_type}
 use Rattle.juniper_plan.proofs.Elsewhere.{standing-elsewhere}
 use Rattle.juniper_plan.specs.PlanWalks.{HasFirst}
 use Rattle.juniper_plan.specs.Plans.{fields_at}
-use Rattle.juniper.specs.RootFields.{collector_in, values_in}
-use Rattle.juniper.specs.Services.{is_undeclared, mutation_on, rooted_steps}
+use Rattle.juniper.specs.RootFields.{asks_in, collector_in, values_in}
+use Rattle.juniper.specs.Services.{mutation_on, rooted_steps}
 use Rattle.juniper.proofs.RootGroups.{completed-elsewhere, merges-elsewhere, root-ready, same-fields-elsewhere, step-elsewhere}
 use Rattle.juniper.proofs.mutation.complete.Goals as goal
 
 pub invariant_of-service : goal.invariant_of-service
-unfolding is_undeclared
-invariant_of-service g c = record { executable = c.args.served.now.executable; unnamed = ap is_undeclared c.undeclared_type.ensures }
+invariant_of-service g c = record { executable = c.args.served.now.executable; unnamed = c.args.served.now.unnamed }
 
 pub complete_group-requires-clause-ready : goal.complete_group-requires-clause-ready
-unfolding world_of
-complete_group-requires-clause-ready g c =
-    record { collector = root-ready g.S.ScalarValue.shown c.args.walk.now _ refl refl c.requires.ready; same = refl; variables = refl }
+complete_group-requires-clause-ready g c = root-ready g.S.ScalarValue.shown c.args.walk.now _ refl refl c.requires.ready
 
 pub complete_group-requires-clause-standing : goal.complete_group-requires-clause-standing
 complete_group-requires-clause-standing g c =
     standing-elsewhere g.S.ScalarValue.shown (collector_in g.S.ScalarValue.shown c.args.walk.now) _ refl refl
+    (asks_in g.S.ScalarValue.shown c.args.walk.now (view_schema g.S.ScalarValue.shown c.args.served.now.schema.now))
     (is_possible (view_schema g.S.ScalarValue.shown c.args.served.now.schema.now)) c.args.plan.now c.requires.standing
 
 pub complete_group-requires-clause-some : goal.complete_group-requires-clause-some
@@ -43,7 +40,7 @@ complete_group-requires-clause-merge g c =
 
 pub returns-clause-plan : goal.returns-clause-plan
 returns-clause-plan g c =
-    step-elsewhere g.S.ScalarValue.shown _ (collector_in g.S.ScalarValue.shown c.args.walk.now) refl refl _ _ _ c.in_ok-walked.ensures.plan
+    step-elsewhere g.S.ScalarValue.shown _ (collector_in g.S.ScalarValue.shown c.args.walk.now) refl refl _ _ _ _ c.in_ok-walked.ensures.plan
 
 pub returns-clause-completed : goal.returns-clause-completed
 returns-clause-completed g c = λ reply given.

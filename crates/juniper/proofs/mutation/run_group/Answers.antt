@@ -1,17 +1,18 @@
 use Rattle.std.proofs.Common.{◌∷◌, sym, ap, ◌∙◌, subst}
-use Rattle.graphql_spec.specs.Fields.{declared_type, is_possible}
+use Rattle.graphql_spec.specs.Fields.{is_possible}
 use Rattle.graphql_spec.specs.Mutation.{step_of}
 use Rattle.graphql_spec.specs.Resolvers.{world_of}
 use Rattle.juniper_collect.specs.Collected.{view_all}
 use Rattle.juniper_errors.specs.PathView.{path_place}
 use Rattle.juniper_plan.specs.PlanWalks.{IsGroupOf}
 use Rattle.juniper_plan.specs.Plans.{fields_at, key_at}
-use Rattle.juniper_plan.proofs.Whole.{some-field}
+use Rattle.juniper_plan.proofs.Whole.{asked-here, some-field, still-asked}
 use Rattle.juniper_schema.specs.SchemaView.{view_schema}
-use Rattle.juniper.specs.RootFields.{all_fields, collector_in, field_in, selected_in, values_in}
+use Rattle.juniper.specs.RootFields.{all_fields, asks_in, collector_in, field_in, selected_in, values_in}
 use Rattle.juniper.specs.Services.{mutation_on, rooted_steps}
 use Rattle.juniper.specs.Walkings.{starts_by}
-use Rattle.juniper.proofs.RootGroups.{completed-for, given-at, group-key, group-merges, group-others, group-ran, group-type, has-first, left-stopped, place-at, root-whole, stopped-in, told-leaves}
+use Rattle.juniper.proofs.RootGroups.{completed-for, given-at, group-asked, group-key, group-merges, group-others, group-ran, group-type, has-first}
+use Rattle.juniper.proofs.RootGroups.{left-stopped, place-at, root-whole, stopped-in, told-leaves}
 use Rattle.juniper.proofs.mutation.run_group.Goals as goal
 
 pub fields-fields-requires-clause-within : goal.fields-fields-requires-clause-within
@@ -26,8 +27,20 @@ first_of-first-requires g c =
     some-field shown (collector_in shown walk) c.fields-fields.result.now k os
     (subst (λ l. IsGroupOf k os (view_all shown (collector_in shown walk) l)) (sym c.fields-fields.ensures) c.requires.group)
 
-pub step-answer-requires-clause-declared : goal.step-answer-requires-clause-declared
-step-answer-requires-clause-declared g c = c.declared_type-declared.ensures ∙ ap declared_type c.field_of-field.ensures
+pub question-question-requires : goal.question-question-requires
+question-question-requires g c =
+    still-asked (asks_in g.S.ScalarValue.shown c.args.walk.now (view_schema g.S.ScalarValue.shown c.args.served.now.schema.now)) c.args.walk.now.concrete.now
+    c.args.plan.now c.args.group.0 _ c.requires.asked
+
+pub step-answer-requires-clause-question : goal.step-answer-requires-clause-question
+step-answer-requires-clause-question g c =
+    let shown = g.S.ScalarValue.shown in
+    let walk = c.args.walk.now in
+    let asks = asks_in shown walk (view_schema shown c.args.served.now.schema.now) in
+    group-asked shown walk (asks walk.concrete.now) c.fields-fields.result.now c.first_of-first.result.now c.question-question.result.now
+    c.first_of-first.ensures
+    (asked-here asks walk.concrete.now c.args.plan.now c.args.group.0 _ _ c.question-question.result.now _ c.requires.asked c.question-question.ensures
+    (ap (view_all shown (collector_in shown walk)) (sym c.fields-fields.ensures)))
 
 pub step-answer-requires-clause-path : goal.step-answer-requires-clause-path
 step-answer-requires-clause-path g c = record {
@@ -55,6 +68,7 @@ complete-requires-clause-merge g c =
     let s = view_schema shown root.schema.now in
     let M = mutation_on g.Q.GraphQLValue.concrete g.Q.GraphQLValue.answer root.query.now root.query_info.now
     (rooted_steps g.M.GraphQLMutationValue.step g.M.GraphQLMutationValue.torn root.mutation.now root.mutation_info.now) s (values_in shown walk) in
+    let asks = asks_in shown walk s in
     let os = all_fields shown walk s in
     let k = key_at c.args.plan.now c.args.group.0 in
     let fs = c.fields-fields.result.now in
@@ -63,7 +77,9 @@ complete-requires-clause-merge g c =
     let all = group-others shown walk fs f k os c.first_of-first.ensures group in
     let after = c.step-answer.new.context in
     group-merges (M.world after) walk.concrete.now (field_in shown walk f) all.0 _
-    (c.declared_type-declared.ensures ∙ ap declared_type c.field_of-field.ensures) (selected_in shown walk)
+    (group-asked shown walk (asks walk.concrete.now) fs f c.question-question.result.now c.first_of-first.ensures
+    (asked-here asks walk.concrete.now c.args.plan.now c.args.group.0 _ _ c.question-question.result.now _ c.requires.asked c.question-question.ensures
+    (ap (view_all shown (collector_in shown walk)) (sym c.fields-fields.ensures)))).declared (selected_in shown walk)
     (c.requires.agree after) k all.1 _ (c.requires.group.whole ∙ all.1)
 
 pub returns-in-Err-clause-ran : goal.returns-in-Err-clause-ran
@@ -75,6 +91,7 @@ returns-in-Err-clause-ran g c =
     let M = mutation_on g.Q.GraphQLValue.concrete g.Q.GraphQLValue.answer root.query.now root.query_info.now
     (rooted_steps g.M.GraphQLMutationValue.step g.M.GraphQLMutationValue.torn root.mutation.now root.mutation_info.now) s (values_in shown walk) in
     let T = walk.concrete.now in
+    let asks = asks_in shown walk s in
     let os = all_fields shown walk s in
     let k = key_at c.args.plan.now c.args.group.0 in
     let fs = c.fields-fields.result.now in
@@ -94,6 +111,7 @@ returns-in-Err-give-clause-ran g c =
     let M = mutation_on g.Q.GraphQLValue.concrete g.Q.GraphQLValue.answer root.query.now root.query_info.now
     (rooted_steps g.M.GraphQLMutationValue.step g.M.GraphQLMutationValue.torn root.mutation.now root.mutation_info.now) s (values_in shown walk) in
     let T = walk.concrete.now in
+    let asks = asks_in shown walk s in
     let os = all_fields shown walk s in
     let k = key_at c.args.plan.now c.args.group.0 in
     let fs = c.fields-fields.result.now in
@@ -114,6 +132,7 @@ returns-clause-ran g c =
     let M = mutation_on g.Q.GraphQLValue.concrete g.Q.GraphQLValue.answer root.query.now root.query_info.now
     (rooted_steps g.M.GraphQLMutationValue.step g.M.GraphQLMutationValue.torn root.mutation.now root.mutation_info.now) s (values_in shown walk) in
     let T = walk.concrete.now in
+    let asks = asks_in shown walk s in
     let os = all_fields shown walk s in
     let k = key_at c.args.plan.now c.args.group.0 in
     let fs = c.fields-fields.result.now in
@@ -124,7 +143,9 @@ returns-clause-ran g c =
     let after = c.step-answer.new.context in
     let all_of = field_in shown walk f ∷ all.0 in
     let stepped = told-leaves M T all_of before after c.step-answer.result c.in-Ok.ensures.told (c.step-answer.ensures.context all.0) in
-    let declared = c.declared_type-declared.ensures ∙ ap declared_type c.field_of-field.ensures in
+    let declared = (group-asked shown walk (asks walk.concrete.now) fs f c.question-question.result.now c.first_of-first.ensures
+    (asked-here asks walk.concrete.now c.args.plan.now c.args.group.0 _ _ c.question-question.result.now _ c.requires.asked c.question-question.ensures
+    (ap (view_all shown (collector_in shown walk)) (sym c.fields-fields.ensures)))).declared in
     let typed = group-type (M.world after) T (field_in shown walk f) all.0 _ declared in
     let at = place-at _ _ _ k c.in_ok-path.ensures c.requires.ready.at_root (group-key shown walk fs f k os c.first_of-first.ensures group) in
     let completed = completed-for (starts_by root.walking) (M.world after) _ _ (step_of M T before all_of).1 _ all_of _ _ (c.requires.group.whole ∙ all.1)

@@ -6,19 +6,18 @@ use Rattle.juniper_plan.proofs.Sorted.{bare-stands}
 use Rattle.juniper_schema.specs.SchemaView.{view_schema}
 use Rattle.juniper_syntax.specs.ValueView.{view_object}
 use Rattle.juniper_syntax.proofs.Values.{view-Null, view-Object}
-use Rattle.juniper.specs.RootFields.{all_fields, values_in}
+use Rattle.juniper.specs.RootFields.{all_fields, asks_in, collector_in, values_in}
 use Rattle.juniper.specs.Services.{mutation_on, rooted_steps}
 use Rattle.juniper.specs.Walkings.{starts_by}
-use Rattle.juniper.proofs.RootGroups.{root-ready}
-use Rattle.juniper.proofs.RootPlans.{before-end, left-same, on-err, past-end, plan-begins, plan-bound, plan-ends, plan-group, plan-kept, plan-lost, plan-moves, plan-stopped, root-expanded}
+use Rattle.juniper.proofs.RootPlans.{before-end, left-same, on-err, past-end, plan-asked, plan-begins, plan-bound, plan-ends, plan-group, plan-kept, plan-lost}
+use Rattle.juniper.proofs.RootPlans.{plan-moves, plan-stopped, root-expanded}
 use Rattle.juniper.proofs.mutation.run_groups.Goals as goal
 
-pub root_groups-requires-clause-ready : goal.root_groups-requires-clause-ready
-root_groups-requires-clause-ready g c = root-ready g.S.ScalarValue.shown c.args.walk.now _ refl refl c.requires.ready
-
-pub root_groups-requires-clause-standing : goal.root_groups-requires-clause-standing
-root_groups-requires-clause-standing g c =
-    bare-stands g.S.ScalarValue.shown _ (is_possible (view_schema g.S.ScalarValue.shown c.args.served.now.schema.now)) c.new-plan.result c.new-plan.ensures
+pub plan_root-requires-clause-standing : goal.plan_root-requires-clause-standing
+plan_root-requires-clause-standing g c =
+    bare-stands g.S.ScalarValue.shown (collector_in g.S.ScalarValue.shown c.args.walk.now)
+    (asks_in g.S.ScalarValue.shown c.args.walk.now (view_schema g.S.ScalarValue.shown c.args.served.now.schema.now))
+    (is_possible (view_schema g.S.ScalarValue.shown c.args.served.now.schema.now)) c.new-plan.result c.new-plan.ensures
 
 pub returns-in_err-groups : goal.returns-in_err-groups
 returns-in_err-groups g c =
@@ -110,6 +109,27 @@ run_group-requires-clause-group g c =
     let ran = c.loop-number.invariant.2 in
     let high = before-end r i _ c.loop-number.invariant.1 c.loop-number-test.true in
     plan-group M (starts_by root.walking) shown walk s r before i p es errors now ran high
+
+pub run_group-requires-clause-asked : goal.run_group-requires-clause-asked
+run_group-requires-clause-asked g c =
+    let shown = g.S.ScalarValue.shown in
+    let root = c.args.served.now in
+    let walk = c.args.walk.now in
+    let s = view_schema shown root.schema.now in
+    let M = mutation_on g.Q.GraphQLValue.concrete g.Q.GraphQLValue.answer root.query.now root.query_info.now
+    (rooted_steps g.M.GraphQLMutationValue.step g.M.GraphQLMutationValue.torn root.mutation.now root.mutation_info.now) s (values_in shown walk) in
+    let T = walk.concrete.now in
+    let os = all_fields shown walk s in
+    let before = c.args.context.now in
+    let r = c.loop-number.invariant.0 in
+    let i = c.loop-number.number in
+    let p = c.loop-number.plan in
+    let es = view_object shown c.loop-number.entries in
+    let errors = map (view_listed shown) c.loop-number.errors.items in
+    let now = c.loop-number.context in
+    let ran = c.loop-number.invariant.2 in
+    let high = before-end r i _ c.loop-number.invariant.1 c.loop-number-test.true in
+    plan-asked M (starts_by root.walking) shown walk s r before i p es errors now ran high
 
 pub returns-in-Err : goal.returns-in-Err
 returns-in-Err g c =

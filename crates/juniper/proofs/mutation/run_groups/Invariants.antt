@@ -17,5 +17,5 @@ invariant-loop-number g l =
     let s = view_schema shown root.schema.now in
     let M = mutation_on g.Q.GraphQLValue.concrete g.Q.GraphQLValue.answer root.query.now root.query_info.now
     (rooted_steps g.M.GraphQLMutationValue.step g.M.GraphQLMutationValue.torn root.mutation.now root.mutation_info.now) s (values_in shown l.walk) in
-    (r : GroupRange) × (r.end.0 ≡ l.number-end) × RanPlan M (starts_by root.walking) shown l.walk s r l.initial.context l.number l.plan (view_object shown l.entries)
-    (map (view_listed shown) l.errors.items) l.context
+    (r : GroupRange) × (r.end.0 ≡ l.number-end) × RanPlan M (starts_by root.walking) shown l.walk s r l.initial.context l.number l.plan
+    (view_object shown l.entries) (map (view_listed shown) l.errors.items) l.context

@@ -1,21 +1,22 @@
-use Rattle.std.proofs.Common.{◌∙◌}
-use Rattle.juniper_plan.proofs.Gathering.{all-added, one-added, start-adding}
+use Rattle.std.proofs.Common.{◌∙◌, subst, sym}
+use Rattle.juniper_collect.specs.Collected.{view_all}
+use Rattle.juniper_plan.specs.Plans.{AreAdded}
+use Rattle.juniper_plan.proofs.Gathering.{made-added}
 use Rattle.juniper_plan.proofs.making.add_groups.Goals as goal
-
-pub loop-occurrence-init : goal.loop-occurrence-init
-loop-occurrence-init g c =
-    start-adding g.S.ScalarValue.shown c.args.collector.now (g.P.Conditions.possible c.args.collector.now.possible) c.args.fields.now c.args.plan.now _
-    c.requires c.in_ok-by_key.ensures
-
-pub loop-occurrence-preserved : goal.loop-occurrence-preserved
-loop-occurrence-preserved g c =
-    one-added g.S.ScalarValue.shown c.args.collector.now (g.P.Conditions.possible c.args.collector.now.possible) c.args.fields.now
-    c.loop-occurrence.occurrence-index c.args.plan.now c.loop-occurrence.plan c.add_group.new.self _ _ c.loop-occurrence.invariant c.occurrence-item.result
-    c.loop-occurrence-test.true c.occurrence-item.is c.response_key-key.result.now c.response_key-key.ensures c.take_fields-members.result.items
-    c.take_fields-members.ensures.fields c.take_fields-members.ensures.taken c.in_ok-add_group.ensures
+use Rattle.juniper_plan.proofs.making.add_groups.Goals.{then-branch+in_ok-add_each, else-branch+in_ok-add_grouped}
 
 pub returns : goal.returns
 returns g c =
-    all-added g.S.ScalarValue.shown c.args.collector.now (g.P.Conditions.possible c.args.collector.now.possible) c.args.fields.now
-    c.loop-occurrence.occurrence-index c.args.plan.now c.loop-occurrence.plan _ _ c.loop-occurrence.invariant c.loop-occurrence-test.false
-    (c.len.ensures ∙ c.args.plan.now.groups.ok.0) (c.len-2.ensures ∙ c.loop-occurrence.plan.groups.ok.0)
+    let shown = g.S.ScalarValue.shown in
+    let collector = c.args.collector.now in
+    let asks = g.R.Resolver.asks collector.possible in
+    let possible = g.R.Conditions.possible collector.possible in
+    let fields = view_all shown collector c.args.fields.now in
+    let added : AreAdded shown collector asks possible c.args.concrete.now fields c.args.plan.now c.if-branch.plan = elim c.if-branch.branch [
+      | then-branch+in_ok-add_each w ↦
+          subst (λ p. AreAdded shown collector asks possible c.args.concrete.now fields c.args.plan.now p) (sym w.plan-is) w.in_ok-add_each.ensures
+      | else-branch+in_ok-add_grouped w ↦
+          subst (λ p. AreAdded shown collector asks possible c.args.concrete.now fields c.args.plan.now p) (sym w.plan-is) w.in_ok-add_grouped.ensures
+    ] in
+    made-added shown collector asks possible c.args.concrete.now fields c.args.plan.now c.if-branch.plan _ added
+    (c.len.ensures ∙ c.args.plan.now.groups.ok.0) (c.len-2.ensures ∙ c.if-branch.plan.groups.ok.0)

@@ -10,11 +10,11 @@ loop-around-init g c = none-collected g.S.ScalarValue.shown c.args.collector.now
 
 pub loop-around-preserved : goal.loop-around-preserved
 loop-around-preserved g c =
-    more-collected g.S.ScalarValue.shown c.args.collector.now (g.P.Conditions.possible c.args.collector.now.possible) c.args.concrete.now
+    more-collected g.S.ScalarValue.shown c.args.collector.now (g.R.Conditions.possible c.args.collector.now.possible) c.args.concrete.now
     _ c.in_ok-more.more.items _ c.args.enclosing.now c.loop-around.around-index c.around-item.result c.loop-around-test.true c.around-item.is
     c.loop-around.invariant c.in_ok-more.ensures c.in_ok-append.ensures.items
 
 pub returns : goal.returns
 returns g c =
-    c.loop-around.invariant ∙ ap (λ l. occurrences (g.P.Conditions.possible c.args.collector.now.possible) c.args.concrete.now
+    c.loop-around.invariant ∙ ap (λ l. occurrences (g.R.Conditions.possible c.args.collector.now.possible) c.args.concrete.now
     (all_expanded g.S.ScalarValue.shown c.args.collector.now l)) (take_all c.loop-around.around-index c.args.enclosing.now c.loop-around-test.false)

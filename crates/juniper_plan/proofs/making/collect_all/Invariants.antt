@@ -7,5 +7,5 @@ use Rattle.juniper_plan.proofs.making.collect_all.Given as goal
 abbrev pub invariant-loop-around : goal.invariant-loop-around
 invariant-loop-around g l =
     let shown = g.S.ScalarValue.shown in
-    view_all shown l.collector l.fields.items ≡ occurrences (g.P.Conditions.possible l.collector.possible) l.concrete
+    view_all shown l.collector l.fields.items ≡ occurrences (g.R.Conditions.possible l.collector.possible) l.concrete
     (all_expanded shown l.collector (take l.around-index l.enclosing))

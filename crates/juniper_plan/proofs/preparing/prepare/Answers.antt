@@ -13,7 +13,7 @@ use Rattle.juniper_walk.proofs.Preparation.{listed-same}
 use Rattle.juniper_plan.specs.Plans.{all_expanded, fields_at, key_at}
 use Rattle.juniper_plan.specs.PlanWalks.{IsGroupOf}
 use Rattle.juniper_lookahead.specs.Sites.{view_fields}
-use Rattle.juniper_plan.proofs.Whole.{first-field, prepared-group, same-fields, whole-at}
+use Rattle.juniper_plan.proofs.Whole.{asked-here, first-field, prepared-group, same-fields, still-asked, whole-at}
 use Rattle.juniper_plan.proofs.preparing.prepare.Goals as goal
 
 pub ask-answer-requires-clause-whole : goal.ask-answer-requires-clause-whole
@@ -25,6 +25,20 @@ ask-answer-requires-clause-whole g c =
     whole-at shown collector c.by_name.result.now c.by_name.ensures.alike possible (g.R.Resolver.values c.args.walk.now.collector.possible)
     c.args.concrete.now c.args.enclosing.now c.fields-fields.result.now (key_at c.args.plan.now c.args.group.0) c.requires.ready.variables
     (subst (λ fs. IsGroupOf (key_at c.args.plan.now c.args.group.0) all (view_all shown collector fs)) (sym c.fields-fields.ensures) c.requires.whole)
+
+pub question-question-requires : goal.question-question-requires
+question-question-requires g c =
+    still-asked (g.R.Resolver.asks c.args.walk.now.collector.possible) c.args.concrete.now c.args.plan.now c.args.group.0 _ c.requires.asked
+
+pub ask-answer-requires-clause-question : goal.ask-answer-requires-clause-question
+ask-answer-requires-clause-question g c =
+    let shown = g.S.ScalarValue.shown in
+    let collector = c.args.walk.now.collector in
+    let fields = ap (view_all shown collector) (sym c.fields-fields.ensures)
+    ∙ (same-fields shown collector c.by_name.result.now c.by_name.ensures.alike c.fields-fields.result.now
+    ∙ ap (λ vars. view_fields shown vars c.by_name.result.now c.fields-fields.result.now) (sym c.requires.ready.variables)) in
+    asked-here (g.R.Resolver.asks collector.possible) c.args.concrete.now c.args.plan.now c.args.group.0 _ _ c.question-question.result.now _ c.requires.asked
+    c.question-question.ensures fields
 
 pub ask-answer-requires-clause-path : goal.ask-answer-requires-clause-path
 ask-answer-requires-clause-path g c =

@@ -17,6 +17,19 @@ ask-answer-requires-clause-whole g c =
     (g.R.Conditions.possible c.args.walk.now.collector.possible) c.args.concrete.now c.args.single.now.alone c.args.single.now.field c.requires.alone
     (g.R.Resolver.values c.args.walk.now.collector.possible) c.requires.ready.variables
 
+pub ask-answer-requires-clause-question : goal.ask-answer-requires-clause-question
+ask-answer-requires-clause-question g c =
+    let shown = g.S.ScalarValue.shown in
+    let collector = c.args.walk.now.collector in
+    let field = c.args.single.now.field in
+    let asks = g.R.Resolver.asks collector.possible c.args.concrete.now in
+    record {
+      first = view_collected shown collector field.now;
+      others = [];
+      some = same-single shown collector c.by_name.result.now c.by_name.ensures.alike (g.R.Resolver.values collector.possible) field c.requires.ready.variables;
+      asked = subst (λ h. asks h c.in_ok-question.question) (sym (same-head shown collector field.now)) c.in_ok-question.ensures;
+    }
+
 pub ask-answer-requires-clause-path : goal.ask-answer-requires-clause-path
 ask-answer-requires-clause-path g c =
     let shown = g.S.ScalarValue.shown in

@@ -24,7 +24,7 @@ pub object-prepare-requires-clause-alone : goal.object-prepare-requires-clause-a
 object-prepare-requires-clause-alone g t c =
     let x = c.single-item.result in
     let alone : AreAlone g.S.ScalarValue.shown c.args.walk.now.collector (g.R.Conditions.possible c.args.walk.now.collector.possible) c.args.concrete.now
-    c.args.fields.now = c.requires.1.1.1.1.1.1.1 in
+    c.args.fields.now = c.requires.1.1.1.1.1.1.1.1 in
     subst (λ s. IsAlone g.S.ScalarValue.shown c.args.walk.now.collector (g.R.Conditions.possible c.args.walk.now.collector.possible) c.args.concrete.now s)
     (sym c.single-item.is) (alone c.loop-single.single-index x c.loop-single-test.true)
 
@@ -39,7 +39,7 @@ object-objects_of-requires g t c κs within =
     let x = c.single-item.result in
     let split = split-one view os i x c.loop-single-test.true c.single-item.is in
     let less : depth (view x).below < deepest (map view os) = shallower-than (map view os) (map view (take i os)) (map view (drop (i + 1) os)) (view x) split in
-    let agree : AllAgree W T (map view os) = c.requires.1.1.1.1.1.1.0 in
+    let agree : AllAgree W T (map view os) = c.requires.1.1.1.1.1.1.1.0 in
     let reached : AreReached W (view_nodes c.deref.result.now) (view x).below =
     reached-at W (view x).below _ _ (ap view_nodes c.deref.ensures.value) (reached-agree W _ T c.args.node.now (map view os) agree _ _
     (view x) split _ _ _ _ c.in_ok-prepared.ensures) in
@@ -58,7 +58,7 @@ object-loop-single-preserved g t c =
     let os = c.args.fields.now in
     let x = c.single-item.result in
     let split = split-one view os i x c.loop-single-test.true c.single-item.is in
-    let agree : AllAgree W T (map view os) = c.requires.1.1.1.1.1.1.0 in
+    let agree : AllAgree W T (map view os) = c.requires.1.1.1.1.1.1.1.0 in
     let nodes = nodes-at W _ _ _ _ _ (ap view_nodes c.deref.ensures.value) c.in_ok-walked.ensures in
     let head = same-head shown c.args.walk.now.collector x.field.now in
     let added = added-for _ _ _ _ _ _ _ _ _ _ _ (ap response_key (sym head)) c.in_ok-rises.ensures in
@@ -75,7 +75,7 @@ object-returns-then-rises g t c =
     let os = c.args.fields.now in
     let x = c.single-item.result in
     let split = split-one view os i x c.loop-single-test.true c.single-item.is in
-    let agree : AllAgree W T (map view os) = c.requires.1.1.1.1.1.1.0 in
+    let agree : AllAgree W T (map view os) = c.requires.1.1.1.1.1.1.1.0 in
     let nodes = nodes-at W _ _ _ _ _ (ap view_nodes c.deref.ensures.value) c.in_ok-walked.ensures in
     let head = same-head shown c.args.walk.now.collector x.field.now in
     let added = added-for _ _ _ _ _ _ _ _ _ _ _ (ap response_key (sym head)) c.in_ok-rises.ensures in

@@ -1,5 +1,4 @@
-use Rattle.juniper.proofs.Joining.{on-any}
-use Rattle.juniper.proofs.RootPlans.{still}
+use Rattle.juniper.proofs.RootPlans.{on-any, still}
 use Rattle.juniper.proofs.walking.Walking.complete_group.Goals as goal
 
 pub returns-in-Joined-clause-plan : goal.returns-in-Joined-clause-plan

@@ -8,6 +8,7 @@ pub returns : goal.returns
 returns g c = record {
   groups = refl;
   occurrences = refl;
+  questions = refl;
   kept = record { concrete = c.in_ok-concrete.concrete; groups = c.args.groups };
   made_for = c.in_ok-concrete.ensures.ok;
   made = refl;

@@ -3,7 +3,7 @@ use Rattle.graphql_spec.specs.Fields.{declared_type}
 use Rattle.juniper_meta.specs.MetaView.{view_field}
 use Rattle.juniper_syntax.specs.TypeView.{view_type}
 use Rattle.juniper.proofs.Undeclared.{undeclared-is}
-use Rattle.juniper.proofs.service.declared_type.Goals as goal
+use Rattle.juniper.proofs.question.declared_type.Goals as goal
 
 pub returns-in-None : goal.returns-in-None
 returns-in-None g c =
