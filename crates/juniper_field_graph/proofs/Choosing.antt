@@ -39,24 +39,25 @@ module _ (test : ℕ → Bool) (ks : List ℕ) where
       passed : (rest : List ℕ) → find test (get_or ks n 0 ∷ rest) ≡ find test rest
       passed rest = let t : test (get_or ks n 0) ≡ false = sym told ∙ no' in rw t refl
 
-  module _ (number : FieldAt → ℕ) (vertices : List Vertex) where
+  module _ (number : FieldAt → ℕ) (vertices : List Vertex) (t : List (List ℕ)) where
     pub kind-taken : (n : ℕ) (b : Bool) (m : ℕ) → n < length ks → b ≡ test (get_or ks n 0) → b ≡ true →
-        m ≡ number_or number (length vertices) (slice_get (map view_vertex vertices) (get_or ks n 0)) → IsLeft n →
-        m ≡ number_among number (map view_vertex vertices) test ks
+        m ≡ number_or number (length vertices) (slice_get (map (view_vertex t) vertices) (get_or ks n 0)) → IsLeft n →
+        m ≡ number_among number (map (view_vertex t) vertices) test ks
     unfolding number_among first_alike
     kind-taken n b m l told yes' is i =
-        is ∙ (ap (λ k. number_or number k (slice_get (map view_vertex vertices) (get_or ks n 0))) (sym (length-map vertices view_vertex))
-        ∙ ap (λ o. number_or number (length (map view_vertex vertices)) (first_alike (map view_vertex vertices) o))
+        is ∙ (ap (λ k. number_or number k (slice_get (map (view_vertex t) vertices) (get_or ks n 0))) (sym (length-map vertices (view_vertex t)))
+        ∙ ap (λ o. number_or number (length (map (view_vertex t) vertices)) (first_alike (map (view_vertex t) vertices) o))
         (sym (ap (find test) (drop_more ks n 0 l) ∙ taken (drop (n + 1) ks)) ∙ i))
       where
         taken : (rest : List ℕ) → find test (get_or ks n 0 ∷ rest) ≡ Some (get_or ks n 0)
         taken rest = let t : test (get_or ks n 0) ≡ true = sym told ∙ yes' in rw t refl
 
-    pub kind-missing : (n : ℕ) → length ks ≤ n → IsLeft n → length vertices ≡ number_among number (map view_vertex vertices) test ks
+    pub kind-missing : (n : ℕ) → length ks ≤ n → IsLeft n → length vertices ≡ number_among number (map (view_vertex t) vertices) test ks
     unfolding number_among first_alike number_or
     kind-missing n l i =
-        sym (length-map vertices view_vertex)
-        ∙ ap (λ o. number_or number (length (map view_vertex vertices)) (first_alike (map view_vertex vertices) o)) (sym (ap (find test) (drop_all n ks l)) ∙ i)
+        sym (length-map vertices (view_vertex t))
+        ∙ ap (λ o. number_or number (length (map (view_vertex t) vertices)) (first_alike (map (view_vertex t) vertices) o)) (sym (ap (find test)
+        (drop_all n ks l)) ∙ i)
 
 -- the same lists give the same number
 pub among-same : {A : Type 0} (number : FieldAt → ℕ) (test : Option A → Bool) (vs ws : List FieldAt) (xs ys : List A) (ks ms ls : List ℕ) (n : ℕ) → vs ≡ ws →

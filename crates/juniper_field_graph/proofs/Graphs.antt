@@ -1,8 +1,9 @@
 -- An empty graph, and one with a vertex more.
-use Rattle.std.specs.Prelude.{ℕ, List, [], ◌∷◌, ◌++◌, ◌≡◌, Some, length, map}
+use Rattle.std.specs.Prelude.{ℕ, List, [], ◌∷◌, ◌++◌, ◌≡◌, Option, Some, length, map}
 use Rattle.std.specs.List.{slice_get}
+use Rattle.std.specs.Option.{unwrap_or}
 use Rattle.std.proofs.lemmas.List.{length-map, map-append}
-use Rattle.std.proofs.Common.{refl, sym, ap, ◌∙◌, subst}
+use Rattle.std.proofs.Common.{refl, sym, ap, ◌∙◌, inl, inr, subst}
 use Rattle.graphql_spec.specs.Shown.{Shown}
 use Rattle.graphql_spec.specs.Types.{TypeRef}
 use Rattle.graphql_spec.specs.Documents.{Head, response_key}
@@ -12,24 +13,28 @@ use Rattle.graphql_spec.specs.Laws.{In}
 use Rattle.juniper_merging.specs.MergingGraph.{FieldAt, view_vertex}
 use Rattle.juniper_merging.specs.Standing.{AreNumbered, Grows}
 use Rattle.juniper_merging.specs.Groups.{group_in}
+use Rattle.juniper_merging.specs.Sets.{IsInside, IsTable}
+use Rattle.juniper_merging.specs.Tables.{table_of}
 use Rattle.juniper_merging.specs.declared.graph.Vertex.{Vertex}
+use Rattle.juniper_merging.specs.declared.sets.FieldSet.{FieldSet}
 use Rattle.juniper_merging.proofs.Grouping.{empty-groups}
 use Rattle.juniper_meta.specs.MetaView.{view_type}
 use Rattle.juniper_written.specs.WrittenView.{view_field}
-use Rattle.juniper_field_graph.specs.GraphView.{IsGraphOf, IsPushed, head_or_none, heads_of, vertices_of, written_of}
-use Rattle.juniper_field_graph.specs.KindsView.{AreKept, IsOnce, IsOwn, has_call, has_type, heads_in, number_among, types_in}
+use Rattle.juniper_field_graph.specs.GraphView.{IsGraphOf, IsPushed, head_or_none, heads_of, table_in, vertices_of, written_of}
+use Rattle.juniper_field_graph.specs.KindsView.{AreKept, IsOnce, has_call, has_type, heads_in, number_among, types_in}
 use Rattle.juniper_field_graph.specs.declared.graph.FieldGraph.{FieldGraph}
 use Rattle.juniper_field_graph.specs.declared.graph.WrittenField.{WrittenField}
 use Rattle.juniper_field_graph.proofs.Numbering.{last-is}
-use Rattle.juniper_field_graph.proofs.Pushing.{IsAdded, has-grown, head_in, still-kept, still-numbered}
+use Rattle.juniper_field_graph.proofs.SetTables.{empty-table, one-of}
+use Rattle.juniper_field_graph.proofs.Pushing.{IsAdded, first-same, has-grown, head_in, still-kept, still-numbered}
 
 none-at : {A B : Type 0} (xs : List A) → xs ≡ [] → (i : ℕ) (x : A) → slice_get xs i ≡ Some x → B
 none-at xs none i x e = let f : slice_get [] i ≡ Some x = subst (λ ys. slice_get ys i ≡ Some x) none e in cc
 
 module _ {S : Type 0} (shown : S → Shown) (s : Schema) where
-  pub empty-graph : (g : FieldGraph S) → g.vertices.items ≡ [] → g.fields.items ≡ [] → g.kinds.entries ≡ [] → IsGraphOf shown s g
-  empty-graph g none fieldless kindless =
-      let bare : vertices_of shown g ≡ [] = ap (map view_vertex) none in
+  pub empty-graph : (g : FieldGraph S) → g.vertices.items ≡ [] → g.sets.items ≡ [] → g.fields.items ≡ [] → g.kinds.entries ≡ [] → IsGraphOf shown s g
+  empty-graph g none setless fieldless kindless =
+      let bare : vertices_of shown g ≡ [] = ap (map (view_vertex (table_in shown g))) none in
       let headless : written_of shown g ≡ [] = ap (heads_in shown) fieldless in
       record {
         numbered = record {
@@ -42,11 +47,12 @@ module _ {S : Type 0} (shown : S → Shown) (s : Schema) where
           types = λ i v e. none-at (vertices_of shown g) bare i v e;
           once = λ i h e. none-at (written_of shown g) headless i h e;
           keyed = λ k r i. absurd (subst (In r) (empty-groups g.kinds kindless k) i);
-          own = λ k r i v e. none-at (vertices_of shown g) bare r v e;
           shapes = λ i v e. none-at (vertices_of shown g) bare i v e;
           calls = λ i v e. none-at (vertices_of shown g) bare i v e;
           below = λ i v e. none-at (vertices_of shown g) bare i v e;
         };
+        table = empty-table g.sets.items setless;
+        inside = λ i v b e. none-at g.vertices.items none i v e;
       }
 
   -- the field's vertex is put at the end, with its numbers
@@ -62,9 +68,10 @@ module _ {S : Type 0} (shown : S → Shown) (s : Schema) where
         (group_in old.kinds v.key.now)
 
   module _ (old new : FieldGraph S) (v : Vertex) (f : WrittenField S) (g : IsGraphOf shown s old) (made : IsMade old v f) (n : ℕ)
+      (sets : new.sets.items ≡ old.sets.items) (below : (b : ℕ) → v.below ≡ Some b → IsInside (table_in shown old) b)
       (count : n ≡ length old.vertices.items)
       (vertices : new.vertices.items ≡ old.vertices.items ++ v ∷ []) (fields : new.fields.items ≡ old.fields.items ++ f ∷ [])
-      (added : IsAdded (IsOwn n (view_vertex v)) v.key.now n (group_in old.kinds) (group_in new.kinds))
+      (added : IsAdded (n ≡ n) v.key.now n (group_in old.kinds) (group_in new.kinds))
       (own-shape : v.shape ≡ n → In n (group_in new.kinds v.key.now)) (own-call : v.call ≡ n → In n (group_in new.kinds v.key.now)) where
     abbrev vs : List FieldAt
     vs = vertices_of shown old
@@ -76,7 +83,7 @@ module _ {S : Type 0} (shown : S → Shown) (s : Schema) where
     hs = written_of shown old
 
     abbrev x : FieldAt
-    x = view_vertex v
+    x = view_vertex (table_in shown old) v
 
     abbrev t : TypeRef
     t = view_type f.declared_type.now
@@ -85,10 +92,11 @@ module _ {S : Type 0} (shown : S → Shown) (s : Schema) where
     h = view_field shown f.field.now
 
     is : n ≡ length vs
-    is = count ∙ sym (length-map old.vertices.items view_vertex)
+    is = count ∙ sym (length-map old.vertices.items (view_vertex (table_in shown old)))
 
     vertices-are : vertices_of shown new ≡ vs ++ x ∷ []
-    vertices-are = ap (map view_vertex) vertices ∙ map-append view_vertex old.vertices.items (v ∷ [])
+    vertices-are = (λ k. map (view_vertex (table_of (sets k))) (vertices k))
+        ∙ map-append (view_vertex (table_in shown old)) old.vertices.items (v ∷ [])
 
     types-are : types_in shown new.fields.items ≡ ts ++ t ∷ []
     types-are = ap (types_in shown) fields ∙ map-append (λ (f : WrittenField S). view_type f.declared_type.now) old.fields.items (f ∷ [])
@@ -96,9 +104,9 @@ module _ {S : Type 0} (shown : S → Shown) (s : Schema) where
     heads-are : written_of shown new ≡ hs ++ h ∷ []
     heads-are = ap (heads_in shown) fields ∙ map-append (λ (f : WrittenField S). view_field shown f.field.now) old.fields.items (f ∷ [])
 
-    added' : IsAdded (IsOwn (length vs) x) x.key (length vs) (group_in old.kinds) (group_in new.kinds)
+    added' : IsAdded (length vs ≡ length vs) x.key (length vs) (group_in old.kinds) (group_in new.kinds)
     unfolding view_vertex
-    added' = subst (λ m. IsAdded (IsOwn m x) v.key.now m (group_in old.kinds) (group_in new.kinds)) is added
+    added' = subst (λ m. IsAdded (m ≡ m) v.key.now m (group_in old.kinds) (group_in new.kinds)) is added
 
     own-shape' : x.shape ≡ length vs → In (length vs) (group_in new.kinds x.key)
     unfolding view_vertex
@@ -133,16 +141,26 @@ module _ {S : Type 0} (shown : S → Shown) (s : Schema) where
     unfolding head_or_none
     head-now = ap (λ gs. head_or_none (slice_get gs n)) heads-are ∙ ap head_or_none (last-is hs h n (g.kept.headed ∙ sym is))
 
-    pub pushed : (i : ℕ) → slice_get (vertices_of shown new) i ≡ slice_get (vertices_of shown new) n → IsPushed shown s old new v.parent.now h v.below.items i
+    inside-now : (i : ℕ) (w : Vertex) (b : ℕ) → slice_get new.vertices.items i ≡ Some w → w.below ≡ Some b → IsInside (table_in shown new) b
+    inside-now i w b e is = subst (λ (xs : List FieldSet). IsInside (table_of xs) b) (sym sets)
+        (elim (one-of old.vertices.items v w i (subst (λ ws. slice_get ws i ≡ Some w) vertices e)) [
+          | inl q ↦ g.inside i w b q is
+          | inr q ↦ below b (ap (λ (y : Vertex). y.below) q ∙ is)
+        ])
+
+    pub pushed : (first : Option ℕ) → ((r : ℕ) → first ≡ Some r → slice_get vs r ≡ Some x) → (i : ℕ) → i ≡ unwrap_or first n →
+        IsPushed shown s old new v.parent.now h v.below i
     unfolding view_vertex
-    pushed i same = record {
-      graph = record { numbered = numbered-now; kept = kept-now };
+    pushed first like i chosen = record {
+      graph = record { numbered = numbered-now; kept = kept-now; table = subst IsTable (sym sets) g.table; inside = inside-now };
+      sets = ap table_of sets;
       grows = grown-now;
       vertex = x;
       added = vertices-are;
       selects = refl;
       stands = λ y p e. record {
-        there = same ∙ there-now;
+        there = ap (λ ws. slice_get ws i) vertices-are
+            ∙ (ap (slice_get (vs ++ x ∷ [])) chosen ∙ (first-same vs x first n is like ∙ last-is vs x n (sym is)));
         like = n;
         like_there = there-now;
         head = head-now ∙ sym e;

@@ -9,10 +9,11 @@ use Rattle.graphql_spec.specs.Laws.{In}
 use Rattle.graphql_spec.proofs.Grouping.{in_append}
 use Rattle.graphql_spec.proofs.Lists.{same_refl, same_true}
 use Rattle.juniper_merging.specs.MergingGraph.{FieldAt}
-use Rattle.juniper_merging.specs.Standing.{Covers, Grows}
-use Rattle.juniper_merging.proofs.Covering.{covers-more}
+use Rattle.juniper_merging.specs.Standing.{Grows}
+use Rattle.juniper_merging.specs.Sets.{Extends}
 use Rattle.juniper_spreads.specs.Order.{IsInOrder, StandsBehind}
-use Rattle.juniper_field_graph.specs.Gathering.{AreHeld, AreWritten, IsKnown, IsReady}
+use Rattle.juniper_field_graph.specs.Gathering.{AreHeld, AreWritten, HoldsFragment, IsKnown, IsReady}
+use Rattle.juniper_field_graph.proofs.Readiness.{holds-more}
 
 none-some : {A : Type 0} {x : A} → None ≡ Some x → ⊥
 none-some e = cc
@@ -31,61 +32,63 @@ own-name (g ∷ fs) k f e = elim (cases_Bool (bytes_eq k g.name.item)) [
 
 module _ (s : Schema) (fs : List Fragment) where
   -- a name whose fragment, if there is one, has numbers is known
-  known-by : (vs : List FieldAt) (words : ℕ → Head) (held : Name → Option (List ℕ)) (before : List Fragment) → AreHeld s fs vs words held before → (k : Name) →
-      ((g : Fragment) → fragment_of fs k ≡ Some g → In g before) → IsKnown s fs vs words held k
-  known-by vs words held before are k there = go (held k) (fragment_of fs k) refl refl
+  known-by : (vs : List FieldAt) (words : ℕ → Head) (t : List (List ℕ)) (held : Name → Option ℕ) (before : List Fragment) →
+      AreHeld s fs vs words t held before → (k : Name) →
+      ((g : Fragment) → fragment_of fs k ≡ Some g → In g before) → IsKnown s fs vs words t held k
+  known-by vs words t held before are k there = go (held k) (fragment_of fs k) refl refl
     where
-      go : (o : Option (List ℕ)) (p : Option Fragment) → held k ≡ o → fragment_of fs k ≡ p → IsKnown s fs vs words held k
-      go (Some js) p h e = let r = are.right k js h in inr (r.0, js, h, r.1, r.2)
+      go : (o : Option ℕ) (p : Option Fragment) → held k ≡ o → fragment_of fs k ≡ p → IsKnown s fs vs words t held k
+      go (Some b) p h e = let r = are.right k b h in inr (r.0, b, h, r.1, r.2)
       go None None h e = inl (h, e)
       go None (Some g) h e = let r = are.there g (there g e) in absurd (none-some (sym h ∙ (ap held (own-name fs k g e) ∙ r.1)))
 
-  pub held-ready : (vs : List FieldAt) (words : ℕ → Head) (held : Name → Option (List ℕ)) (before : List Fragment) (f : Fragment) →
-      AreHeld s fs vs words held before → AreWritten fs → StandsBehind fs before f →
-      IsReady s fs vs words held f.selections
-  held-ready vs words held before f are once behind = record {
+  pub held-ready : (vs : List FieldAt) (words : ℕ → Head) (t : List (List ℕ)) (held : Name → Option ℕ) (before : List Fragment) (f : Fragment) →
+      AreHeld s fs vs words t held before → AreWritten fs → StandsBehind fs before f →
+      IsReady s fs vs words t held f.selections
+  held-ready vs words t held before f are once behind = record {
     once = once f.name.item f behind.first;
-    known = λ k i. known-by vs words held before are k (λ g e. behind.spread k g i e);
+    known = λ k i. known-by vs words t held before are k (λ g e. behind.spread k g i e);
   }
 
-  pub held-none : (vs : List FieldAt) (words : ℕ → Head) (held : Name → Option (List ℕ)) → ((k : Name) → held k ≡ None) → AreHeld s fs vs words held []
-  held-none vs words held none = record { right = λ k js e. absurd (none-some (sym (none k) ∙ e)); there = λ f i. absurd i }
+  pub held-none : (vs : List FieldAt) (words : ℕ → Head) (t : List (List ℕ)) (held : Name → Option ℕ) → ((k : Name) → held k ≡ None) →
+      AreHeld s fs vs words t held []
+  held-none vs words t held none = record { right = λ k b e. absurd (none-some (sym (none k) ∙ e)); there = λ f i. absurd i }
 
-  pub held-next : (vs ws : List FieldAt) (words further : ℕ → Head) → Grows vs ws words further →
-      (held more : Name → Option (List ℕ)) (before : List Fragment) (f : Fragment) (n : List ℕ) → fragment_of fs f.name.item ≡ Some f →
-      ((k : Name) → more k ≡ cond (bytes_eq f.name.item k) (Some n) (held k)) → Covers s ws further fs f.condition.item f.selections n →
-      AreHeld s fs vs words held before → AreHeld s fs ws further more (before ++ f ∷ [])
-  held-next vs ws words further g held more before f n first added c are = record {
-    right = λ k js e. right k js e;
-    there = λ x i. elim (in_append x before (f ∷ []) i) [
-      | inl j ↦ there x (are.there x j)
+  pub held-next : (vs ws : List FieldAt) (words further : ℕ → Head) (t u : List (List ℕ)) → Grows vs ws words further → Extends t u →
+      (held more : Name → Option ℕ) (before : List Fragment) (f : Fragment) (n : ℕ) → fragment_of fs f.name.item ≡ Some f →
+      ((k : Name) → more k ≡ cond (bytes_eq f.name.item k) (Some n) (held k)) → HoldsFragment s fs ws further u f n →
+      AreHeld s fs vs words t held before → AreHeld s fs ws further u more (before ++ f ∷ [])
+  held-next vs ws words further t u g x held more before f n first added c are = record {
+    right = λ k b e. right k b e;
+    there = λ y i. elim (in_append y before (f ∷ []) i) [
+      | inl j ↦ there y (are.there y j)
       | inr (inl e) ↦ (
         n,
-        ap (λ (y : Fragment). more y.name.item) e
+        ap (λ (z : Fragment). more z.name.item) e
             ∙ (added f.name.item ∙ ap (λ b. cond b (Some n) (held f.name.item)) (same_refl f.name.item)),
       )
       | inr (inr j) ↦ absurd j
     ];
   }
     where
-      right : (k : Name) (js : List ℕ) → more k ≡ Some js → (x : Fragment) × (fragment_of fs k ≡ Some x)
-          × Covers s ws further fs x.condition.item x.selections js
-      right k js e = elim (cases_Bool (bytes_eq f.name.item k)) [
-        | inl y ↦ (let z : Some n ≡ Some js = sym (added k ∙ ap (λ b. cond b (Some n) (held k)) y) ∙ e in (
+      right : (k : Name) (b : ℕ) → more k ≡ Some b → (y : Fragment) × (fragment_of fs k ≡ Some y) × HoldsFragment s fs ws further u y b
+      right k b e = elim (cases_Bool (bytes_eq f.name.item k)) [
+        | inl y ↦ (let z : Some n ≡ Some b = sym (added k ∙ ap (λ c. cond c (Some n) (held k)) y) ∙ e in (
           f,
           subst (λ i. fragment_of fs i ≡ Some f) (same_true f.name.item k y) first,
-          subst (Covers s ws further fs f.condition.item f.selections) (some-same z) c,
+          subst (HoldsFragment s fs ws further u f) (some-same z) c,
         ))
-        | inr y ↦ (let z : held k ≡ Some js = sym (added k ∙ ap (λ b. cond b (Some n) (held k)) y) ∙ e in let r = are.right k js z in
-            (r.0, r.1, covers-more s vs ws words further fs g r.0.condition.item r.0.selections js r.2))
+        | inr y ↦ (let z : held k ≡ Some b = sym (added k ∙ ap (λ c. cond c (Some n) (held k)) y) ∙ e in let r = are.right k b z in
+            (r.0, r.1, holds-more s fs vs ws words further t u g x r.0 b r.2))
       ]
 
-      there : (x : Fragment) → ((js : List ℕ) × (held x.name.item ≡ Some js)) → (js : List ℕ) × (more x.name.item ≡ Some js)
-      there x r = elim (cases_Bool (bytes_eq f.name.item x.name.item)) [
-        | inl y ↦ (n, added x.name.item ∙ ap (λ b. cond b (Some n) (held x.name.item)) y)
-        | inr y ↦ (r.0, added x.name.item ∙ (ap (λ b. cond b (Some n) (held x.name.item)) y ∙ r.1))
+      there : (y : Fragment) → ((b : ℕ) × (held y.name.item ≡ Some b)) → (b : ℕ) × (more y.name.item ≡ Some b)
+      there y r = elim (cases_Bool (bytes_eq f.name.item y.name.item)) [
+        | inl q ↦ (n, added y.name.item ∙ ap (λ b. cond b (Some n) (held y.name.item)) q)
+        | inr q ↦ (r.0, added y.name.item ∙ (ap (λ b. cond b (Some n) (held y.name.item)) q ∙ r.1))
       ]
 
-  pub held-all : (vs : List FieldAt) (words : ℕ → Head) (held : Name → Option (List ℕ)) (order : List Fragment) → HasNoCycle fs → IsInOrder fs order →
-      AreHeld s fs vs words held order → (k : Name) → IsKnown s fs vs words held k
-  held-all vs words held order ends in_order are k = known-by vs words held order are k (λ g e. in_order.all k g e (ends k))
+  pub held-all : (vs : List FieldAt) (words : ℕ → Head) (t : List (List ℕ)) (held : Name → Option ℕ) (order : List Fragment) → HasNoCycle fs →
+      IsInOrder fs order →
+      AreHeld s fs vs words t held order → (k : Name) → IsKnown s fs vs words t held k
+  held-all vs words t held order ends in_order are k = known-by vs words t held order are k (λ g e. in_order.all k g e (ends k))

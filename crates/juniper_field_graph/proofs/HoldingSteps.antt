@@ -5,72 +5,67 @@ use Rattle.graphql_spec.specs.Shown.{Shown, Name}
 use Rattle.graphql_spec.specs.Documents as spec
 use Rattle.graphql_spec.specs.Fragments.{HasNoCycle}
 use Rattle.graphql_spec.specs.Schema.{Schema}
-use Rattle.juniper_merging.specs.Standing.{Grows}
 use Rattle.juniper_position.specs.declared.position.Spanning.{Spanning}
 use Rattle.juniper_position.specs.declared.position.Span.{Span}
 use Rattle.juniper_spreads.specs.Order.{IsInOrder, StandBehind}
 use Rattle.juniper_syntax.specs.DocumentView.{view_fragment}
 use Rattle.juniper_syntax.specs.declared.ast.Fragment.{Fragment}
-use Rattle.juniper_field_graph.specs.Gathering.{AllKnown, AreHeld, AreWritten, IsHeld, IsReadyIn, IsSetGathered}
-use Rattle.juniper_field_graph.specs.GraphView.{IsGraphOf, heads_of, vertices_of}
+use Rattle.juniper_field_graph.specs.Gathering.{AllKnown, AreHeld, AreWritten, IsHeld, IsMore, IsReadyIn, IsSetGatheredAt}
+use Rattle.juniper_field_graph.specs.GraphView.{IsGraphOf, heads_of, table_in, vertices_of}
 use Rattle.juniper_field_graph.specs.declared.graph.FieldGraph.{FieldGraph}
 use Rattle.juniper_field_graph.proofs.HeldFragments.{held-all, held-next, held-none, held-ready}
-use Rattle.juniper_field_graph.proofs.Leading.{grows-further, grows-itself}
+use Rattle.juniper_field_graph.proofs.More.{more-further, more-itself}
 use Rattle.juniper_field_graph.proofs.Taken.{left-more, taken-more}
 
 module _ {S : Type 0} (shown : S → Shown) (s : Schema) (fs : List spec.Fragment) where
-  pub fragment-held : (old new : FieldGraph S) (sets then : List (List ℕ)) (held more : Name → Option (List ℕ)) (f : spec.Fragment) (n : List ℕ) →
-      IsSetGathered shown s fs old new sets then f.condition.item f.selections n →
+  pub fragment-held : (old new : FieldGraph S) (sets then : List ℕ) (held more : Name → Option ℕ) (f : spec.Fragment) (n : ℕ) →
+      IsSetGatheredAt shown s fs old new sets then f.condition.item f.selections n →
       ((k : Name) → more k ≡ cond (bytes_eq f.name.item k) (Some n) (held k)) → IsHeld shown s fs old new held more f
-  fragment-held old new sets then held more f n a put = record { graph = a.graph; grows = a.grows; numbers = n; added = put; covered = a.stands }
+  fragment-held old new sets then held more f n a put = record { grown = a.2.grown; set = n; added = put; holds = (a.0, a.1, a.2.stands) }
 
   abbrev view : Bor (Spanning (Fragment S) Span) → spec.Fragment
   view f = view_fragment shown f.now
 
   -- the fragments before an index are held, and the others stand behind them
-  pub record AreHeldSoFar (old now : FieldGraph S) (numbers : Name → Option (List ℕ)) (order : List (Bor (Spanning (Fragment S) Span))) (i : ℕ) : Type 0 where
-    pub graph : IsGraphOf shown s now
-    pub grows : Grows (vertices_of shown old) (vertices_of shown now) (heads_of shown old) (heads_of shown now)
-    pub held : AreHeld s fs (vertices_of shown now) (heads_of shown now) numbers (map view (take i order))
+  pub record AreHeldSoFar (old now : FieldGraph S) (sets : Name → Option ℕ) (order : List (Bor (Spanning (Fragment S) Span))) (i : ℕ) : Type 0 where
+    pub grown : IsMore shown s old now
+    pub held : AreHeld s fs (vertices_of shown now) (heads_of shown now) (table_in shown now) sets (map view (take i order))
     pub behind : StandBehind fs (map view (take i order)) (map view (drop i order))
 
-  pub held-so-far-none : (g : FieldGraph S) (held : Name → Option (List ℕ)) (order : List (Bor (Spanning (Fragment S) Span))) → IsGraphOf shown s g →
+  pub held-so-far-none : (g : FieldGraph S) (held : Name → Option ℕ) (order : List (Bor (Spanning (Fragment S) Span))) → IsGraphOf shown s g →
       ((k : Name) → held k ≡ None) → IsInOrder fs (map view order) →
       AreHeldSoFar g g held order zero
   held-so-far-none g held order is none in_order = record {
-    graph = is;
-    grows = grows-itself (vertices_of shown g) (heads_of shown g);
-    held = held-none s fs (vertices_of shown g) (heads_of shown g) held none;
+    grown = more-itself shown s g is;
+    held = held-none s fs (vertices_of shown g) (heads_of shown g) (table_in shown g) held none;
     behind = in_order.behind;
   }
 
-  module _ (old now : FieldGraph S) (held : Name → Option (List ℕ)) (order : List (Bor (Spanning (Fragment S) Span))) (i : ℕ)
+  module _ (old now : FieldGraph S) (held : Name → Option ℕ) (order : List (Bor (Spanning (Fragment S) Span))) (i : ℕ)
       (x : Bor (Spanning (Fragment S) Span)) (below : i < length order) (is : x ≡ get_or order i x)
       (before : AreHeldSoFar old now held order i) where
     next-behind : StandBehind fs (map view (take i order)) (view x ∷ map view (drop (i + 1) order))
     next-behind = subst (StandBehind fs (map view (take i order))) (left-more view order i x below is) before.behind
 
     pub next-ready : AreWritten fs → IsReadyIn shown s fs now held (view x).selections
-    next-ready once = held-ready s fs (vertices_of shown now) (heads_of shown now) held (map view (take i order)) (view x) before.held once next-behind.0
+    next-ready once = held-ready s fs (vertices_of shown now) (heads_of shown now) (table_in shown now) held (map view (take i order)) (view x) before.held once
+        next-behind.0
 
-    pub held-so-far-next : (new : FieldGraph S) (more : Name → Option (List ℕ)) → IsHeld shown s fs now new held more (view x) →
+    pub held-so-far-next : (new : FieldGraph S) (more : Name → Option ℕ) → IsHeld shown s fs now new held more (view x) →
         AreHeldSoFar old new more order (i + 1)
     held-so-far-next new more a = record {
-      graph = a.graph;
-      grows = grows-further (vertices_of shown old) (vertices_of shown now) (vertices_of shown new) (heads_of shown old) (heads_of shown now)
-          (heads_of shown new) before.grows a.grows;
-      held = subst (AreHeld s fs (vertices_of shown new) (heads_of shown new) more) (sym (taken-more view order i x below is))
-          (held-next s fs (vertices_of shown now) (vertices_of shown new) (heads_of shown now) (heads_of shown new) a.grows held more (map view (take i order))
-          (view x) a.numbers next-behind.0.first a.added a.covered before.held);
+      grown = more-further shown s old now new before.grown a.grown;
+      held = subst (AreHeld s fs (vertices_of shown new) (heads_of shown new) (table_in shown new) more) (sym (taken-more view order i x below is))
+          (held-next s fs (vertices_of shown now) (vertices_of shown new) (heads_of shown now) (heads_of shown new) (table_in shown now) (table_in shown new)
+          a.grown.grows a.grown.more held more (map view (take i order)) (view x) a.set next-behind.0.first a.added a.holds before.held);
       behind = subst (λ l. StandBehind fs l (map view (drop (i + 1) order))) (sym (taken-more view order i x below is)) next-behind.1;
     }
 
-  pub held-so-far-all : (old now : FieldGraph S) (held : Name → Option (List ℕ)) (order : List (Bor (Spanning (Fragment S) Span))) (i : ℕ) → length order ≤ i →
+  pub held-so-far-all : (old now : FieldGraph S) (held : Name → Option ℕ) (order : List (Bor (Spanning (Fragment S) Span))) (i : ℕ) → length order ≤ i →
       HasNoCycle fs → IsInOrder fs (map view order) →
       AreHeldSoFar old now held order i → AllKnown shown s fs old now held
   held-so-far-all old now held order i done ends in_order a = record {
-    graph = a.graph;
-    grows = a.grows;
-    known = held-all s fs (vertices_of shown now) (heads_of shown now) held (map view order) ends in_order
-        (subst (λ l. AreHeld s fs (vertices_of shown now) (heads_of shown now) held (map view l)) (take_all i order done) a.held);
+    grown = a.grown;
+    known = held-all s fs (vertices_of shown now) (heads_of shown now) (table_in shown now) held (map view order) ends in_order
+        (subst (λ l. AreHeld s fs (vertices_of shown now) (heads_of shown now) (table_in shown now) held (map view l)) (take_all i order done) a.held);
   }

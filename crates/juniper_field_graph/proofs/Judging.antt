@@ -1,11 +1,11 @@
 -- Whether all sets of a definition merge.
-use Rattle.std.proofs.Common.{◌≡◌, ℕ, Bool, true, false, ◌&&◌, List, [], ◌∷◌, Some, None, inl, inr, refl, sym, ap, ◌∙◌}
+use Rattle.std.proofs.Common.{◌≡◌, ℕ, Bool, true, false, not, ◌&&◌, List, [], ◌∷◌, Option, Some, None, map, inl, inr, refl, sym, ap, ◌∙◌}
 use Rattle.std.specs.List.{list_all}
 use Rattle.std.proofs.lemmas.Bool.{cases_Bool}
 use Rattle.std.proofs.lemmas.List.Folds.{list_all-append}
 use Rattle.graphql_spec.specs.Shown.{Name}
 use Rattle.graphql_spec.specs.Types.{innermost}
-use Rattle.graphql_spec.specs.Documents.{operation, fragment, Document, Fragment, fragments, Head, Operation, Selections, end, field, spread, inline, name_or}
+use Rattle.graphql_spec.specs.Documents.{operation, fragment, Definition, Document, Fragment, fragments, Head, Operation, Selections, end, field, spread, inline, name_or}
 use Rattle.graphql_spec.specs.Schema.{Schema}
 use Rattle.graphql_spec.specs.Fields.{declared_type, field_of}
 use Rattle.graphql_spec.specs.Placed.{root_type}
@@ -14,9 +14,11 @@ use Rattle.graphql_spec.specs.Merging.{definition_merges, each_two, set_merges, 
 use Rattle.graphql_spec.specs.ValidityLaws.{PlacedSet, sets_below, sets_from}
 use Rattle.juniper_merging.specs.MergingGraph.{FieldAt, each_pair_at, set_merges_at}
 use Rattle.juniper_merging.specs.Standing.{AreNumbered, Covers}
-use Rattle.juniper_merging.proofs.Searching.{all-from}
+use Rattle.juniper_merging.proofs.Tests.{all-from}
 use Rattle.juniper_merging.proofs.Whole.{whole}
-use Rattle.juniper_field_graph.specs.Gathering.{AreCovered}
+use Rattle.graphql_spec.specs.Rules.{cannot_merge}
+use Rattle.juniper_field_graph.specs.Gathering.{AreCovered, AreSets, IsAnswer, IsListed, Pairwise, sets_if, sets_in}
+use Rattle.juniper_field_graph.proofs.SetTables.{list-of, number-of}
 
 and-assoc : (a b c : Bool) → (a && b && c) ≡ (a && (b && c))
 and-assoc true b c = refl
@@ -77,31 +79,52 @@ module _ (s : Schema) (fs : List Fragment) where
         never : false ≡ true → ⊥
         never e = cc
 
-    pub all-judged : (xs : List PlacedSet) (ns : List (List ℕ)) → AreCovered s fs vs words xs ns → (b : Bool) →
-        (b ≡ true → (n : List ℕ) → In n ns → (d : ℕ) → set_merges_at vs d n ≡ true) →
-        (b ≡ false → (n : List ℕ) × In n ns × ((d : ℕ) × (set_merges_at vs d n ≡ false))) → b ≡ list_all merges xs
-    all-judged xs ns c true all some = sym (all-from merges xs (λ x i. let r = c.one x i in merges-by x r.0 r.2 (each r.0 r.1)))
+    pub all-judged : (t : List (List ℕ)) (xs : List PlacedSet) (bs : List ℕ) (ms : List (List ℕ)) → AreSets t bs ms → AreCovered s fs vs words xs ms →
+        (c : Bool) →
+        IsAnswer vs t bs c → not c ≡ list_all merges xs
+    all-judged t xs bs ms are c false (all, some) = sym (all-from merges xs (λ x i. let r = c.one x i in merges-by x r.0 r.2 (each r.0 r.1)))
       where
-        each : (n : List ℕ) → In n ([] ∷ ns) → (d : ℕ) → set_merges_at vs d n ≡ true
-        each n (inl e) d = ap (set_merges_at vs d) e ∙ none-merge d
-        each n (inr i) d = all refl n i d
-    all-judged xs ns c false all some = let w = some refl in let r = c.back w.0 w.1 in sym (all-fails merges xs r.0 r.1 (fails-by r.0 w.0 r.2 w.2))
+        each : (m : List ℕ) → In m ([] ∷ ms) → (d : ℕ) → set_merges_at vs d m ≡ true
+        each m (inl e) d = ap (set_merges_at vs d) e ∙ none-merge d
+        each m (inr i) d = let r = number-of t bs ms are m i in ap (set_merges_at vs d) (sym r.2) ∙ all refl r.0 r.1 d
+    all-judged t xs bs ms are c true (all, some) =
+        let w = some refl in
+        let l = list-of t bs ms are w.0 w.1 in
+        let r = c.back l.0 l.1 in
+        sym (all-fails merges xs r.0 r.1 (fails-by r.0 l.0 r.2 (w.2.0, ap (set_merges_at vs w.2.0) (sym l.2) ∙ w.2.1)))
 
 -- ## Definitions
 
-pub operation-judged : (s : Schema) (d : Document) (o : Operation) (p : Name) → Some p ≡ root_type s o.kind →
-    definition_merges s d (operation o) ≡ list_all (merges s (fragments d)) (sets_from s p o.selections)
-unfolding definition_merges
-operation-judged s d o p r = with-root ∙ from-all s (fragments d) p o.selections
-  where
-    with-root : definition_merges s d (operation o) ≡ (set_merges s (fragments d) p o.selections && sets_merge s (fragments d) p o.selections)
-    with-root = rw (sym r, definition_merges) refl
+module _ (s : Schema) (d : Document) where
+  operation-judged : (o : Operation) (p : Option Name) → p ≡ root_type s o.kind →
+      definition_merges s d (operation o) ≡ list_all (merges s (fragments d)) (sets_if s p o.selections)
+  unfolding definition_merges sets_if
+  operation-judged o (Some p) r = with-root ∙ from-all s (fragments d) p o.selections
+    where
+      with-root : definition_merges s d (operation o) ≡ (set_merges s (fragments d) p o.selections && sets_merge s (fragments d) p o.selections)
+      with-root = rw (sym r, definition_merges) refl
+  operation-judged o None r = rw (sym r, definition_merges) refl
 
-pub rootless-judged : (s : Schema) (d : Document) (o : Operation) → None ≡ root_type s o.kind → definition_merges s d (operation o) ≡ true
-unfolding definition_merges
-rootless-judged s d o r = rw (sym r, definition_merges) refl
+  -- a definition merges where each of its sets does
+  pub definition-judged : (x : Definition) → definition_merges s d x ≡ list_all (merges s (fragments d)) (sets_in s x)
+  unfolding definition_merges sets_in
+  definition-judged (operation o) = operation-judged o (root_type s o.kind) refl
+  definition-judged (fragment f) = from-all s (fragments d) f.condition.item f.selections
 
-pub fragment-judged : (s : Schema) (d : Document) (f : Fragment) →
-    definition_merges s d (fragment f) ≡ list_all (merges s (fragments d)) (sets_from s f.condition.item f.selections)
-unfolding definition_merges
-fragment-judged s d f = from-all s (fragments d) f.condition.item f.selections
+  -- the answers for the sets of all definitions
+  pub definitions-judged : (vs : List FieldAt) (words : ℕ → Head) (t : List (List ℕ)) → AreNumbered s vs words → (xs : List Definition) (ls : List (List ℕ))
+      (cs : List Bool) → Pairwise (IsListed s (fragments d) vs words t) xs ls → Pairwise (IsAnswer vs t) ls cs → cs ≡ map (cannot_merge s d) xs
+  unfolding cannot_merge
+  definitions-judged vs words t numbered [] [] [] a b = refl
+  definitions-judged vs words t numbered [] [] (c ∷ cs) a b = absurd b
+  definitions-judged vs words t numbered [] (l ∷ ls) cs a b = absurd a
+  definitions-judged vs words t numbered (x ∷ xs) [] cs a b = absurd a
+  definitions-judged vs words t numbered (x ∷ xs) (l ∷ ls) [] a b = absurd b
+  definitions-judged vs words t numbered (x ∷ xs) (l ∷ ls) (c ∷ cs) a b =
+      let r = a.0 in
+      let e : not c ≡ definition_merges s d x = all-judged s (fragments d) vs words numbered t (sets_in s x) l r.0 r.1 r.2 c b.0 ∙ sym (definition-judged x) in
+      λ k. (twice c ∙ ap not e) k ∷ definitions-judged vs words t numbered xs ls cs a.1 b.1 k
+    where
+      twice : (c : Bool) → c ≡ not (not c)
+      twice true = refl
+      twice false = refl

@@ -1,4 +1,7 @@
+pub mod SetTables
 mod Leading
+mod More
+mod Made
 mod Readiness
 mod Steps
 mod Holding
@@ -6,7 +9,8 @@ mod HeldFragments
 mod HoldingSteps
 mod Taken
 mod Judging
-mod JudgingSteps
+mod ListingSteps
+mod Whole
 mod WrittenOnce
 mod Choosing
 mod Numbering

@@ -1,8 +1,9 @@
 -- A graph that is given one vertex more.
-use Rattle.std.specs.Prelude.{ℕ, zero, suc, Bool, true, false, ◌||◌, List, [], ◌∷◌, ◌++◌, ◌≡◌, ◌⊎◌, ◌<◌, Option, Some, length, nat_eq, cond}
+use Rattle.std.specs.Prelude.{ℕ, zero, suc, Bool, true, false, not, ◌||◌, List, [], ◌∷◌, ◌++◌, ◌≡◌, ◌⊎◌, ◌<◌, Option, Some, None, length, nat_eq, cond}
 use Rattle.std.specs.List.{slice_get}
+use Rattle.std.specs.Option.{unwrap_or}
 use Rattle.std.specs.Str.{bytes_eq}
-use Rattle.std.proofs.lemmas.Bool.{both_ways, cases_Bool, or_parts}
+use Rattle.std.proofs.lemmas.Bool.{and_parts, both_ways, cases_Bool, or_parts}
 use Rattle.std.proofs.lemmas.List.{length-append}
 use Rattle.std.proofs.Common.{refl, sym, ap, ◌∙◌, inl, inr, subst, arith, rules}
 use Rattle.graphql_spec.specs.Shown.{Name}
@@ -21,7 +22,7 @@ use Rattle.juniper_merging.specs.Standing.{AreNumbered, Grows}
 use Rattle.juniper_overlapping_fields.proofs.Alike.{types-same, types-turned, types-across, calls-itself, calls-turned, calls-across}
 use Rattle.juniper_overlapping_fields.proofs.Alike as alike
 use Rattle.juniper_field_graph.specs.GraphView.{head_or_none}
-use Rattle.juniper_field_graph.specs.KindsView.{AreKept, HasKind, IsOnce, IsOwn, has_call, has_type, number_among}
+use Rattle.juniper_field_graph.specs.KindsView.{AreKept, HasKind, IsOnce, IsOwn, are_alike, has_call, has_type, number_among}
 use Rattle.juniper_field_graph.proofs.Numbering.{chosen, last-is, number-itself, old-or-last, stays, tells-chosen, tells-more}
 
 -- ## Kinds
@@ -86,6 +87,44 @@ not-own x n b told no' (inr e) =
     let f : (nat_eq x.shape n || nat_eq n n) ≡ false = subst (λ m. (nat_eq x.shape n || nat_eq m n) ≡ false) e (sym told ∙ no') in
     both_ways (nat_eq n n) (or_parts (nat_eq x.shape n) (nat_eq n n) f).1 (number-itself n)
 
+pub never-both : {b : Bool} → b ≡ true → b ≡ false → ⊥
+never-both e f = both-ways (sym e ∙ f)
+  where
+    both-ways : true ≡ false → ⊥
+    both-ways g = cc
+
+-- ## A vertex that was there before
+
+-- two fields that are alike and select nothing have one vertex
+one-truth : (a b : Bool) → cond a b (not b) ≡ true → a ≡ b
+one-truth true true e = refl
+one-truth false false e = refl
+one-truth true false e = cc
+one-truth false true e = cc
+
+same-number : (m n : ℕ) → nat_eq m n ≡ true → m ≡ n
+same-number m n e = search rules
+
+pub alike-same : (v w : FieldAt) → are_alike v w ≡ true → v.below ≡ w.below → v ≡ w
+unfolding are_alike
+alike-same v w e below =
+    let shapes = and_parts (nat_eq v.shape w.shape) _ e in
+    let calls = and_parts (nat_eq v.call w.call) _ shapes.1 in
+    let objects = and_parts (cond v.on_object w.on_object (not w.on_object)) _ calls.1 in
+    let names = and_parts (bytes_eq v.parent w.parent) (bytes_eq v.key w.key) objects.1 in
+    let key = same_true v.key w.key names.1 in
+    let parent = same_true v.parent w.parent names.0 in
+    let on_object = one-truth v.on_object w.on_object objects.0 in
+    let shape = same-number v.shape w.shape shapes.0 in
+    let call = same-number v.call w.call calls.0 in
+    λ t. record { key = key t; parent = parent t; on_object = on_object t; shape = shape t; call = call t; below = below t }
+
+-- the number of a vertex that is the same, if there is one, else that of the new one
+pub first-same : (vs : List FieldAt) (x : FieldAt) (o : Option ℕ) (n : ℕ) → n ≡ length vs → ((r : ℕ) → o ≡ Some r → slice_get vs r ≡ Some x) →
+    slice_get (vs ++ x ∷ []) (unwrap_or o n) ≡ slice_get (vs ++ x ∷ []) n
+first-same vs x None n count found = refl
+first-same vs x (Some r) n count found = stays vs x r x (found r refl) ∙ sym (last-is vs x n (sym count))
+
 -- ## Lists of one length
 
 beside : {A B : Type 0} (xs : List A) (ys : List B) → length ys ≡ length xs → (i : ℕ) (x : A) → slice_get xs i ≡ Some x → (y : B) × (slice_get ys i ≡ Some y)
@@ -102,7 +141,7 @@ head_in hs i = head_or_none (slice_get hs i)
 module _ (s : Schema) (vs : List FieldAt) (ts : List TypeRef) (hs : List Head) (kinds more : Name → List ℕ) (x : FieldAt) (t : TypeRef) (h : Head)
     (numbered : AreNumbered s vs (head_in hs)) (kept : AreKept s vs ts hs (head_in hs) kinds) (typed : t ≡ declared_type (field_of s x.parent h.name.item))
     (once : IsOnce h)
-    (added : IsAdded (IsOwn (length vs) x) x.key (length vs) kinds more)
+    (added : IsAdded (length vs ≡ length vs) x.key (length vs) kinds more)
     (shape : x.shape ≡ number_among (λ v. v.shape) vs (λ r. has_type s t (slice_get ts r)) (kinds x.key))
     (own-shape : x.shape ≡ length vs → In (length vs) (more x.key))
     (call : x.call ≡ number_among (λ v. v.call) vs (λ r. has_call h (slice_get hs r)) (kinds x.key))
@@ -198,11 +237,6 @@ module _ (s : Schema) (vs : List FieldAt) (ts : List TypeRef) (hs : List Head) (
     keyed = λ k r i. elim (added.only k r i) [
       | inl j ↦ (let (v, there, e) = kept.keyed k r j in (v, stays vs x r v there, e))
       | inr (p, q, o) ↦ (x, subst (λ m. slice_get (vs ++ x ∷ []) m ≡ Some x) (sym q) last-there, sym p)
-    ];
-    own = λ k r i v e. elim (added.only k r i) [
-      | inl j ↦ (let (w, there, is) = kept.keyed k r j in kept.own k r j v (there ∙ (sym (stays vs x r w there) ∙ e)))
-      | inr (p, q, o) ↦ (let f : Some x ≡ Some v = sym last-there ∙ subst (λ m. slice_get (vs ++ x ∷ []) m ≡ Some v) q e in let g : x ≡ v = cc in
-          subst (λ m. IsOwn m v) (sym q) (subst (IsOwn (length vs)) g o))
     ];
     shapes = has-kind (λ v. v.shape) (λ r. has_type s t (slice_get ts r)) shape own-shape kept.shapes;
     calls = has-kind (λ v. v.call) (λ r. has_call h (slice_get hs r)) call own-call kept.calls;

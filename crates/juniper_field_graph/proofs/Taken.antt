@@ -27,3 +27,19 @@ module _ {A B : Type 0} (view : A → B) (xs : List A) where
   in-taken i x below is = subst (λ l. In (view x) (map view l)) (take-append-drop i xs)
       (subst (In (view x)) (sym (map-append view (take i xs) (drop i xs)))
       (in_second (view x) (map view (take i xs)) (map view (drop i xs)) (subst (In (view x)) (sym (left-more i x below is)) (inl refl))))
+
+-- the same, of numbers as they stand
+module _ (P : ℕ → Type 0) (xs : List ℕ) (i : ℕ) where
+  pub each-next : (x : ℕ) → i < length xs → x ≡ get_or xs i x → ((y : ℕ) → In y (take i xs) → P y) → P x → (y : ℕ) → In y (take (i + 1) xs) → P y
+  each-next x below is before now y j =
+      elim (in_append y (take i xs) (x ∷ []) (subst (In y) (take_more xs i x below ∙ ap (λ z. take i xs ++ z ∷ []) (sym is)) j)) [
+        | inl k ↦ before y k
+        | inr (inl e) ↦ subst P (sym e) now
+        | inr (inr k) ↦ absurd k
+      ]
+
+  pub each-all : length xs ≤ i → ((y : ℕ) → In y (take i xs) → P y) → (y : ℕ) → In y xs → P y
+  each-all done all y j = all y (subst (In y) (sym (take_all i xs done)) j)
+
+pub each-in : (xs : List ℕ) (i x : ℕ) → i < length xs → x ≡ get_or xs i x → In x xs
+each-in xs i x below is = subst (In x) (take-append-drop i xs) (in_second x (take i xs) (drop i xs) (subst (In x) (sym (left-is xs i x below is)) (inl refl)))

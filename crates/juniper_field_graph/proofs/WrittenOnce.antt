@@ -31,7 +31,8 @@ module _ (s : Schema) (disabled : Bool) (d : Document) (names : HasGoodNames s d
   are-written k f e = written-once (fragment f) (found-fragment d k f e).0
 
   -- where all fragments are known, each definition is ready
-  pub definitions-ready : (vs : List FieldAt) (words : ℕ → Head) (held : Name → Option (List ℕ)) → ((k : Name) → IsKnown s (fragments d) vs words held k) →
+  pub definitions-ready : (vs : List FieldAt) (words : ℕ → Head) (t : List (List ℕ)) (held : Name → Option ℕ) →
+      ((k : Name) → IsKnown s (fragments d) vs words t held k) →
       (x : Definition) → In x d →
-      IsReady s (fragments d) vs words held (selections_of x)
-  definitions-ready vs words held known x i = record { once = written-once x i; known = λ k j. known k }
+      IsReady s (fragments d) vs words t held (selections_of x)
+  definitions-ready vs words t held known x i = record { once = written-once x i; known = λ k j. known k }

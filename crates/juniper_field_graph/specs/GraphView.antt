@@ -9,6 +9,9 @@ use Rattle.graphql_spec.specs.Overlap.{Field}
 use Rattle.juniper_merging.specs.MergingGraph.{FieldAt, view_vertex}
 use Rattle.juniper_merging.specs.Standing.{AreNumbered, Grows, IsAt}
 use Rattle.juniper_merging.specs.Groups.{group_in}
+use Rattle.juniper_merging.specs.Sets.{IsInside, IsTable}
+use Rattle.juniper_merging.specs.Tables.{below_in, table_of}
+use Rattle.juniper_merging.specs.declared.graph.Vertex.{Vertex}
 use Rattle.juniper_field_graph.specs.KindsView.{AreKept, heads_in, types_in}
 use Rattle.juniper_field_graph.specs.declared.graph.FieldGraph.{FieldGraph}
 
@@ -25,8 +28,12 @@ head_or_none None = no_head
 head_or_none (Some h) = h
 
 module _ {S : Type 0} (shown : S → Shown) where
+  -- the fields of each of its sets
+  abbrev pub table_in : FieldGraph S → List (List ℕ)
+  table_in g = table_of g.sets.items
+
   abbrev pub vertices_of : FieldGraph S → List FieldAt
-  vertices_of g = map view_vertex g.vertices.items
+  vertices_of g = map (view_vertex (table_in g)) g.vertices.items
 
   -- the fields that they stand for
   abbrev pub written_of : FieldGraph S → List Head
@@ -35,17 +42,23 @@ module _ {S : Type 0} (shown : S → Shown) where
   abbrev pub heads_of : FieldGraph S → ℕ → Head
   heads_of g i = head_or_none (slice_get (written_of g) i)
 
+  -- each set that a field selects is there
+  abbrev pub AreInside : FieldGraph S → Type 0
+  AreInside g = (i : ℕ) (v : Vertex) (b : ℕ) → slice_get g.vertices.items i ≡ Some v → v.below ≡ Some b → IsInside (table_in g) b
+
   -- equal numbers say that types agree, and that names and arguments are the same; and what new numbers are found by is kept
   pub record IsGraphOf (s : Schema) (g : FieldGraph S) : Type 0 where
     pub numbered : AreNumbered s (vertices_of g) (heads_of g)
     pub kept : AreKept s (vertices_of g) (types_in shown g.fields.items) (written_of g) (heads_of g) (group_in g.kinds)
+    pub table : IsTable g.sets.items
+    pub inside : AreInside g
 
-  -- a field on the type p, which selects the fields of these numbers, now stands at i: at the vertex that was added, or at
-  -- one that is the same
-  pub record IsPushed (s : Schema) (old new : FieldGraph S) (p : Name) (h : Head) (below : List ℕ) (i : ℕ) : Type 0 where
+  -- a field on the type p, which selects the fields of this set, now stands at i
+  pub record IsPushed (s : Schema) (old new : FieldGraph S) (p : Name) (h : Head) (below : Option ℕ) (i : ℕ) : Type 0 where
     pub graph : IsGraphOf s new
+    pub sets : table_in new ≡ table_in old
     pub grows : Grows (vertices_of old) (vertices_of new) (heads_of old) (heads_of new)
     pub vertex : FieldAt
     pub added : vertices_of new ≡ vertices_of old ++ vertex ∷ []
-    pub selects : vertex.below ≡ below
+    pub selects : vertex.below ≡ below_in (table_in old) below
     pub stands : (x : Field) → x.parent ≡ p → x.occurrence.head ≡ h → IsAt s (vertices_of new) (heads_of new) x i vertex

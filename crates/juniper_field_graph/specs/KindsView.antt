@@ -1,5 +1,5 @@
 -- How a new vertex gets its numbers, and what a graph keeps for this.
-use Rattle.std.specs.Prelude.{ℕ, Bool, false, ◌&&◌, List, Option, Some, None, map, length, ◌≡◌, ◌⊎◌, ◌<◌}
+use Rattle.std.specs.Prelude.{ℕ, Bool, false, not, cond, nat_eq, ◌&&◌, List, Option, Some, None, map, length, ◌≡◌, ◌⊎◌, ◌<◌}
 use Rattle.std.specs.List.{slice_get, find}
 use Rattle.std.specs.Str.{bytes_eq}
 use Rattle.graphql_spec.specs.Shown.{Shown, Name}
@@ -64,15 +64,18 @@ IsOwn n v = (v.shape ≡ n) ⊎ (v.call ≡ n)
 abbrev pub HasKind : (FieldAt → ℕ) → List FieldAt → List ℕ → FieldAt → Type 0
 HasKind number vs kinds v = (r : ℕ) × (w : FieldAt) × In r kinds × (slice_get vs r ≡ Some w) × (number w ≡ number v)
 
--- each vertex has its field's declared type; kinds are vertices of their response key, one for each number there, and each has
--- a number of its own
+-- two fields agree in everything but what they select
+unfoldable pub are_alike : FieldAt → FieldAt → Bool
+are_alike v w =
+    nat_eq v.shape w.shape && (nat_eq v.call w.call && (cond v.on_object w.on_object (not w.on_object) && (bytes_eq v.parent w.parent && bytes_eq v.key w.key)))
+
+-- each vertex has its field's declared type; kinds are vertices of their response key, one at least for each number there
 pub record AreKept (s : Schema) (vs : List FieldAt) (ts : List TypeRef) (hs : List Head) (heads : ℕ → Head) (kinds : Name → List ℕ) : Type 0 where
   pub typed : length ts ≡ length vs
   pub headed : length hs ≡ length vs
   pub types : (i : ℕ) (v : FieldAt) → slice_get vs i ≡ Some v → slice_get ts i ≡ Some (declared_type (field_of s v.parent (heads i).name.item))
   pub once : (i : ℕ) (h : Head) → slice_get hs i ≡ Some h → IsOnce h
   pub keyed : (k : Name) (r : ℕ) → In r (kinds k) → (v : FieldAt) × (slice_get vs r ≡ Some v) × (v.key ≡ k)
-  pub own : (k : Name) (r : ℕ) → In r (kinds k) → (v : FieldAt) → slice_get vs r ≡ Some v → IsOwn r v
   pub shapes : (i : ℕ) (v : FieldAt) → slice_get vs i ≡ Some v → HasKind (λ w. w.shape) vs (kinds v.key) v
   pub calls : (i : ℕ) (v : FieldAt) → slice_get vs i ≡ Some v → HasKind (λ w. w.call) vs (kinds v.key) v
   pub below : (i : ℕ) (v : FieldAt) → slice_get vs i ≡ Some v → (v.shape < length vs) × (v.call < length vs)

@@ -1,25 +1,26 @@
 //! The fields of selection sets, gathered into a graph.
 
-ghost use Rattle.std.specs.Prelude.{◌≡◌, ◌++◌, ◌∷◌, ℕ, IfOk, List, None, OnOk, false, []};
+ghost use Rattle.std.specs.Prelude.{◌≡◌, ◌++◌, ◌∷◌, ℕ, IfOk, List, None, OnOk, Some, false, []};
 ghost use Rattle.graphql_spec.specs.Documents.{Fragment as SpecFragment, Selections, name_or, written};
 ghost use Rattle.graphql_spec.specs.Fields as fields;
 ghost use Rattle.graphql_spec.specs.Fields.{field_of};
 ghost use Rattle.graphql_spec.specs.Fragments.{HasNoCycle};
 ghost use Rattle.graphql_spec.specs.Written.{arguments_repeat};
 ghost use Rattle.juniper_meta.specs.MetaView.{view_type};
-ghost use Rattle.juniper_merging.specs.Kept.{IsSetOf};
+ghost use Rattle.graphql_spec.specs.Schema.{Schema};
+ghost use Rattle.juniper_merging.specs.Sets.{IsInside, IsSetOf};
 ghost use Rattle.juniper_schema.specs.SchemaView.{view_schema};
 ghost use Rattle.juniper_syntax.specs.DocumentView.{put_selection, view_selections};
 ghost use Rattle.juniper_written.specs.WrittenView.{view_field, view_inline};
-ghost use Rattle.juniper_field_graph.specs.Gathering.{IsGathered, IsReadyIn, IsSetGathered, numbers_at, view_sets};
-ghost use Rattle.juniper_field_graph.specs.GraphView.{IsGraphOf, IsPushed};
+ghost use Rattle.juniper_field_graph.specs.Gathering.{IsGathered, IsReadyIn, IsPutTo, IsSetGatheredAt, IsSetMade, set_named};
+ghost use Rattle.juniper_field_graph.specs.GraphView.{IsGraphOf, IsPushed, table_in};
 
 use crate::graph::FieldGraph;
-use juniper_merging::Numbers;
+use juniper_merging::Gathering;
 use juniper_schema::SchemaType;
 use juniper_syntax::{Field, InlineFragment, ScalarValue, Selection, Span, Spanning, Type};
 use std::alloc::{AllocError, Global};
-use std::collections::HashMap;
+use std::collections::BTreeMap;
 
 /// What is known before selections are gathered.
 #[derive(Drop)]
@@ -28,20 +29,22 @@ pub(crate) struct Known<'d, 'k, S: ScalarValue> {
     pub(crate) schema: &'d SchemaType<S>,
     /// The type of a field that is not declared.
     pub(crate) undeclared: &'d Type<String>,
-    /// The fields that each fragment holds, by its name.
-    pub(crate) fragments: &'k HashMap<&'d str, Vec<usize>>,
+    /// The set of the fields that each fragment holds, by its name.
+    pub(crate) fragments: &'k BTreeMap<&'d str, usize>,
 }
 
 /// What is gathered.
 #[derive(Drop)]
 pub(crate) struct Gathered<'d, 'a, S: ScalarValue> {
-    /// The fields.
+    /// The fields and sets.
     pub(crate) graph: FieldGraph<'d, 'a, S>,
-    /// The sets, each as the fields that it holds, fragments put in.
-    pub(crate) sets: Vec<Vec<usize>>,
+    /// The numbers of the sets that were gathered.
+    pub(crate) sets: Vec<usize>,
+    /// How many numbers of fields were copied out of sets into other sets.
+    pub(crate) copied: usize,
 }
 
-/// Gathers a selection set on a type, and all sets in it; gives the fields that it holds.
+/// Gathers a selection set on a type, and all sets in it; gives the number of the set of the fields that it holds.
 #[cycle(gathering)]
 pub(crate) fn gather_set<'d, 'a, S: ScalarValue>(
     alloc: Global,
@@ -49,19 +52,19 @@ pub(crate) fn gather_set<'d, 'a, S: ScalarValue>(
     parent: &'d str,
     selections: &'d [Selection<'a, S>],
     gathered: &mut Gathered<'d, 'a, S>,
-) -> Result<Vec<usize>, AllocError>
+) -> Result<usize, AllocError>
     ensures { IfOk result (λ v. (fs : List SpecFragment) → HasNoCycle fs → view_type known.now.undeclared.now ≡ fields.declared_type None →
         IsGraphOf S.shown (view_schema S.shown known.now.schema.now) gathered.old.graph
-        → IsReadyIn S.shown (view_schema S.shown known.now.schema.now) fs gathered.old.graph (numbers_at known.now.fragments.now)
+        → IsReadyIn S.shown (view_schema S.shown known.now.schema.now) fs gathered.old.graph (set_named known.now.fragments.now)
         (view_selections S.shown selections.now)
-        → IsSetGathered S.shown (view_schema S.shown known.now.schema.now) fs gathered.old.graph gathered.new.graph (view_sets gathered.old.sets)
-        (view_sets gathered.new.sets) parent.now (view_selections S.shown selections.now) v.items) }
+        → IsSetGatheredAt S.shown (view_schema S.shown known.now.schema.now) fs gathered.old.graph gathered.new.graph gathered.old.sets.items
+        gathered.new.sets.items parent.now (view_selections S.shown selections.now) v) }
 {
-    let mut numbers = Numbers::new(alloc);
+    let mut numbers = Gathering::new(alloc);
     for selection in selections {
         gather_selection(alloc, known, parent, selection, &mut numbers, gathered)?;
     }
-    let set = put_set(alloc, numbers, &mut gathered.sets)?;
+    let set = put_set(numbers, gathered)?;
     Ok(set)
 }
 
@@ -72,15 +75,15 @@ fn gather_selection<'d, 'a, S: ScalarValue>(
     known: &Known<'d, '_, S>,
     parent: &'d str,
     selection: &'d Selection<'a, S>,
-    numbers: &mut Numbers,
+    numbers: &mut Gathering,
     gathered: &mut Gathered<'d, 'a, S>,
 ) -> Result<(), AllocError>
     ensures { OnOk result ((fs : List SpecFragment) → HasNoCycle fs → view_type known.now.undeclared.now ≡ fields.declared_type None →
         IsGraphOf S.shown (view_schema S.shown known.now.schema.now) gathered.old.graph
-        → (rest : Selections) → IsReadyIn S.shown (view_schema S.shown known.now.schema.now) fs gathered.old.graph (numbers_at known.now.fragments.now)
+        → (rest : Selections) → IsReadyIn S.shown (view_schema S.shown known.now.schema.now) fs gathered.old.graph (set_named known.now.fragments.now)
         (put_selection S.shown selection.now rest)
-        → IsGathered S.shown (view_schema S.shown known.now.schema.now) fs gathered.old.graph gathered.new.graph (view_sets gathered.old.sets)
-        (view_sets gathered.new.sets) numbers.old numbers.new parent.now rest (put_selection S.shown selection.now rest)) }
+        → IsGathered S.shown (view_schema S.shown known.now.schema.now) fs gathered.old.graph gathered.new.graph gathered.old.sets.items
+        gathered.new.sets.items numbers.old numbers.new parent.now rest (put_selection S.shown selection.now rest)) }
 {
     match selection {
         Selection::Field(field) => {
@@ -91,7 +94,7 @@ fn gather_selection<'d, 'a, S: ScalarValue>(
             let fragments = known.fragments;
             match fragments.get(spread.item.name.item) {
                 Some(held) => {
-                    numbers.extend(held)?;
+                    put_held(&gathered.graph, *held, numbers, &mut gathered.copied)?;
                     Ok(())
                 }
                 None => Ok(()),
@@ -100,7 +103,7 @@ fn gather_selection<'d, 'a, S: ScalarValue>(
         Selection::InlineFragment(inline) => {
             let inner = type_inside(parent, inline);
             let held = gather_set(alloc, known, inner, &inline.item.selection_set, gathered)?;
-            numbers.extend(&held)?;
+            put_held(&gathered.graph, held, numbers, &mut gathered.copied)?;
             Ok(())
         }
     }
@@ -113,23 +116,24 @@ fn gather_field<'d, 'a, S: ScalarValue>(
     known: &Known<'d, '_, S>,
     parent: &'d str,
     field: &'d Spanning<Field<'a, S>, Span>,
-    numbers: &mut Numbers,
+    numbers: &mut Gathering,
     gathered: &mut Gathered<'d, 'a, S>,
 ) -> Result<(), AllocError>
     ensures { OnOk result ((fs : List SpecFragment) → HasNoCycle fs → view_type known.now.undeclared.now ≡ fields.declared_type None →
         IsGraphOf S.shown (view_schema S.shown known.now.schema.now) gathered.old.graph
-        → (rest : Selections) → IsReadyIn S.shown (view_schema S.shown known.now.schema.now) fs gathered.old.graph (numbers_at known.now.fragments.now)
+        → (rest : Selections) → IsReadyIn S.shown (view_schema S.shown known.now.schema.now) fs gathered.old.graph (set_named known.now.fragments.now)
         (put_selection S.shown (Selection.Field field.now) rest)
-        → IsGathered S.shown (view_schema S.shown known.now.schema.now) fs gathered.old.graph gathered.new.graph (view_sets gathered.old.sets)
-        (view_sets gathered.new.sets) numbers.old numbers.new parent.now rest (put_selection S.shown (Selection.Field field.now) rest)) }
+        → IsGathered S.shown (view_schema S.shown known.now.schema.now) fs gathered.old.graph gathered.new.graph gathered.old.sets.items
+        gathered.new.sets.items numbers.old numbers.new parent.now rest (put_selection S.shown (Selection.Field field.now) rest)) }
 {
     let declared_type = declared_type(known, parent, field.item.name.item);
     let below = match &field.item.selection_set {
         Some(selections) => {
             let inner = declared_type.innermost_name();
-            gather_set(alloc, known, inner, selections, gathered)?
+            let set = gather_set(alloc, known, inner, selections, gathered)?;
+            Some(set)
         }
-        None => Vec::new(alloc),
+        None => None,
     };
     let graph = &mut gathered.graph;
     put_field(
@@ -145,6 +149,26 @@ fn gather_field<'d, 'a, S: ScalarValue>(
     Ok(())
 }
 
+/// Puts the fields of a set to what is gathered: as fields, as long as hardly more are copied than the graph has, else as a set. So
+/// sets hold few fields more than are written, however often fragments are spread.
+fn put_held<'d, 'a, S: ScalarValue>(
+    graph: &FieldGraph<'d, 'a, S>,
+    held: usize,
+    numbers: &mut Gathering,
+    copied: &mut usize,
+) -> Result<(), AllocError>
+    ensures { OnOk result ((s : Schema) → IsGraphOf S.shown s graph.now → IsPutTo (table_in S.shown graph.now) numbers.old numbers.new held) }
+{
+    let most = graph.vertices.len().saturating_add(SPARE);
+    let room = most.saturating_sub(*copied);
+    let more = numbers.put(&graph.sets, held, room)?;
+    *copied = copied.saturating_add(more);
+    Ok(())
+}
+
+/// How many fields are copied beyond one for each field of the graph.
+const SPARE: usize = 64;
+
 /// Puts a field, which selects these fields, to the graph, and to the numbers.
 fn put_field<'d, 'a, S: ScalarValue>(
     alloc: Global,
@@ -152,19 +176,25 @@ fn put_field<'d, 'a, S: ScalarValue>(
     parent: &'d str,
     field: &'d Spanning<Field<'a, S>, Span>,
     declared_type: &'d Type<String>,
-    below: Vec<usize>,
+    below: Option<usize>,
     graph: &mut FieldGraph<'d, 'a, S>,
-    numbers: &mut Numbers,
+    numbers: &mut Gathering,
 ) -> Result<(), AllocError>
     ensures { OnOk result (IsGraphOf S.shown (view_schema S.shown known.now.schema.now) graph.old
         → view_type declared_type.now ≡ fields.declared_type (field_of (view_schema S.shown known.now.schema.now) parent.now
         (view_field S.shown field.now).name.item)
         → arguments_repeat (written (view_field S.shown field.now).arguments) ≡ false
-        → (i : ℕ) × IsPushed S.shown (view_schema S.shown known.now.schema.now) graph.old graph.new parent.now (view_field S.shown field.now) below.items i
-        × ((all : List ℕ) → IsSetOf numbers.old all → IsSetOf numbers.new (all ++ i ∷ []))) }
+        → ((b : ℕ) → below ≡ Some b → IsInside (table_in S.shown graph.old) b)
+        → (i : ℕ) × IsPushed S.shown (view_schema S.shown known.now.schema.now) graph.old graph.new parent.now (view_field S.shown field.now) below i
+        × ((t : List (List ℕ)) (all : List ℕ) → IsSetOf t numbers.old all → IsSetOf t numbers.new (all ++ i ∷ []))) }
 {
+    let fresh = graph.vertices.len();
     let number = graph.push(alloc, known.schema, parent, field, declared_type, below)?;
-    numbers.push(number)?;
+    if number < fresh {
+        numbers.push_again(number)?;
+    } else {
+        numbers.push(number)?;
+    }
     Ok(())
 }
 
@@ -199,16 +229,16 @@ fn type_inside<'d, 'a, S: ScalarValue>(
     }
 }
 
-/// Puts a set, of each field of which there are at most two, to the others, and gives it.
-fn put_set(
-    alloc: Global,
-    numbers: Numbers,
-    sets: &mut Vec<Vec<usize>>,
-) -> Result<Vec<usize>, AllocError>
-    ensures { IfOk result (λ v. (v.items ≡ numbers.numbers.items) × (view_sets sets.new ≡ view_sets sets.old ++ numbers.numbers.items ∷ [])) }
+/// Makes the set of what was gathered, puts its number to the others, and gives it.
+fn put_set<'d, 'a, S: ScalarValue>(
+    numbers: Gathering,
+    gathered: &mut Gathered<'d, 'a, S>,
+) -> Result<usize, AllocError>
+    ensures { IfOk result (λ b. (s : Schema) → IsGraphOf S.shown s gathered.old.graph → (all : List ℕ) →
+        IsSetOf (table_in S.shown gathered.old.graph) numbers all
+        → IsSetMade S.shown s gathered.old.graph gathered.new.graph gathered.old.sets.items gathered.new.sets.items all b) }
 {
-    let mut set = Vec::new(alloc);
-    set.extend_from_slice(&numbers.numbers)?;
-    sets.push(set)?;
-    Ok(numbers.numbers)
+    let set = numbers.put_into(&mut gathered.graph.sets)?;
+    gathered.sets.push(set)?;
+    Ok(set)
 }

@@ -1,6 +1,6 @@
 //! A graph of written fields.
 
-ghost use Rattle.std.specs.Prelude.{◌≡◌, ◌||◌, ℕ, IfOk, List, Some, false, length, map, nat_eq, []};
+ghost use Rattle.std.specs.Prelude.{◌≡◌, ◌||◌, ℕ, IfOk, List, None, Some, cond, false, length, map, nat_eq, not, true, []};
 ghost use Rattle.std.specs.List.{find, slice_get};
 ghost use Rattle.graphql_spec.specs.Documents as documents;
 ghost use Rattle.graphql_spec.specs.Documents.{Head, written};
@@ -12,11 +12,13 @@ ghost use Rattle.juniper_merging.specs.MergingGraph.{view_vertex};
 ghost use Rattle.juniper_meta.specs.MetaView.{view_type};
 ghost use Rattle.juniper_schema.specs.SchemaView.{view_schema};
 ghost use Rattle.juniper_written.specs.WrittenView.{view_field};
-ghost use Rattle.juniper_field_graph.specs.GraphView.{IsGraphOf, IsPushed, vertices_of};
+ghost use Rattle.juniper_field_graph.specs.GraphView.{IsGraphOf, IsPushed, table_in, vertices_of};
+ghost use Rattle.juniper_merging.specs.Sets.{IsInside, IsTable};
+ghost use Rattle.juniper_merging.specs.Tables.{below_in, table_of};
 ghost use Rattle.juniper_field_graph.specs.KindsView as kinds_view;
-ghost use Rattle.juniper_field_graph.specs.KindsView.{IsOnce, heads_in, number_among, number_or, types_in};
+ghost use Rattle.juniper_field_graph.specs.KindsView.{IsOnce, IsOwn, heads_in, number_among, number_or, types_in};
 
-use juniper_merging::{Groups, Leaves, Vertex, put_group, take_group};
+use juniper_merging::{FieldSet, Graph, Groups, Vertex, are_same, put_group, take_group};
 use juniper_overlapping_fields::{same_call, types_agree};
 use juniper_schema::SchemaType;
 use juniper_syntax::{Field, ScalarValue, Span, Spanning, Type};
@@ -37,12 +39,12 @@ struct WrittenField<'d, 'a, S> {
 pub struct FieldGraph<'d, 'a, S> {
     /// The vertices.
     pub vertices: Vec<Vertex<'d>>,
+    /// The sets of vertices.
+    pub sets: Vec<FieldSet>,
     /// The field that each of them stands for.
     fields: Vec<WrittenField<'d, 'a, S>>,
-    /// For each response key the numbers of vertices of which each differs from those before it in its type or its call.
+    /// For each response key the numbers of vertices that differ from one another.
     kinds: Groups<'d>,
-    /// The fields that select nothing.
-    leaves: Leaves<'d>,
 }
 
 impl<'d, 'a, S: ScalarValue> FieldGraph<'d, 'a, S> {
@@ -53,14 +55,14 @@ impl<'d, 'a, S: ScalarValue> FieldGraph<'d, 'a, S> {
     {
         FieldGraph {
             vertices: Vec::new(alloc),
+            sets: Vec::new(alloc),
             fields: Vec::new(alloc),
             kinds: HashMap::new(alloc),
-            leaves: Leaves::new(alloc),
         }
     }
 
-    /// Adds a field of this declared type on its parent type, which selects the fields of these numbers, and gives its
-    /// number: that of the first field with the same vertex, where it selects nothing. An error where memory is refused.
+    /// Adds a field of this declared type on its parent type, which selects the fields of this set, and gives its number: that of
+    /// an earlier field with the same vertex, if one is found. An error where memory is refused.
     pub fn push(
         &mut self,
         alloc: Global,
@@ -68,36 +70,48 @@ impl<'d, 'a, S: ScalarValue> FieldGraph<'d, 'a, S> {
         parent: &'d str,
         field: &'d Spanning<Field<'a, S>, Span>,
         declared_type: &'d Type<String>,
-        below: Vec<usize>,
+        below: Option<usize>,
     ) -> Result<usize, AllocError>
         ensures { IfOk result (λ i. IsGraphOf S.shown (view_schema S.shown schema.now) self.old
             → view_type declared_type.now ≡ fields.declared_type (field_of (view_schema S.shown schema.now) parent.now (view_field S.shown field.now).name.item)
             → arguments_repeat (written (view_field S.shown field.now).arguments) ≡ false
-            → IsPushed S.shown (view_schema S.shown schema.now) self.old self.new parent.now (view_field S.shown field.now) below.items i) }
+            → ((b : ℕ) → below ≡ Some b → IsInside (table_in S.shown self.old) b)
+            → IsPushed S.shown (view_schema S.shown schema.now) self.old self.new parent.now (view_field S.shown field.now) below i) }
     {
         let number = self.vertices.len();
         let key = response_key(field);
         let mut kinds = take_group(alloc, &mut self.kinds, key);
         let shape = shape_among(schema, &self.vertices, &self.fields, &kinds, declared_type);
         let call = call_among(&self.vertices, &self.fields, &kinds, field);
-        if is_own(number, shape, call) {
-            kinds.push(number)?;
-        }
-        put_group(&mut self.kinds, key, kinds)?;
-        self.vertices.push(Vertex {
+        let vertex = Vertex {
             key,
             parent,
             on_object: names_object(schema, parent),
             shape,
             call,
             below,
-        })?;
+        };
+        let first = first_like(&self.vertices, &self.sets, &kinds, &vertex);
+        if is_kind(number, &vertex, first, kinds.len()) {
+            kinds.push(number)?;
+        }
+        put_group(&mut self.kinds, key, kinds)?;
+        self.vertices.push(vertex)?;
         self.fields.push(WrittenField {
             field,
             declared_type,
         })?;
-        let first = self.leaves.first_like(&self.vertices, number)?;
-        Ok(first)
+        Ok(first.unwrap_or(number))
+    }
+
+    /// The fields and the sets.
+    pub fn as_graph(&self) -> Graph<'_, 'd>
+        ensures { (result.vertices.now ≡ self.now.vertices.items) × (result.sets.now ≡ self.now.sets.items) }
+    {
+        Graph {
+            vertices: &self.vertices,
+            sets: &self.sets,
+        }
     }
 }
 
@@ -130,6 +144,95 @@ fn is_own(number: usize, shape: usize, call: usize) -> bool
     shape == number || call == number
 }
 
+/// The first of these kinds that has the same vertex.
+fn first_like(
+    vertices: &[Vertex<'_>],
+    sets: &[FieldSet],
+    kinds: &[usize],
+    vertex: &Vertex<'_>,
+) -> Option<usize>
+    ensures { (r : ℕ) → result ≡ Some r → IsTable sets.now →
+        slice_get (map (view_vertex (table_of sets.now)) vertices.now) r ≡ Some (view_vertex (table_of sets.now) vertex.now) }
+{
+    for kind in kinds {
+        if is_like(vertices, sets, *kind, vertex) {
+            return Some(*kind);
+        }
+    }
+    None
+}
+
+/// Whether the vertex of this number is the same, as far as one sees at once.
+fn is_like(vertices: &[Vertex<'_>], sets: &[FieldSet], number: usize, vertex: &Vertex<'_>) -> bool
+    ensures { result ≡ true → IsTable sets.now →
+        slice_get (map (view_vertex (table_of sets.now)) vertices.now) number ≡ Some (view_vertex (table_of sets.now) vertex.now) }
+{
+    match vertices.get(number) {
+        Some(other) => {
+            if are_alike(other, vertex) {
+                return select_same(sets, other.below, vertex.below);
+            }
+            false
+        }
+        None => false,
+    }
+}
+
+/// Whether two fields select the same, as far as one sees at once.
+fn select_same(sets: &[FieldSet], first: Option<usize>, second: Option<usize>) -> bool
+    ensures { result ≡ true → IsTable sets.now → below_in (table_of sets.now) first ≡ below_in (table_of sets.now) second }
+{
+    match (first, second) {
+        (Some(a), Some(b)) => are_same(sets, a, b),
+        (None, None) => true,
+        (Some(_), None) => false,
+        (None, Some(_)) => false,
+    }
+}
+
+/// Whether both are the same but for what they select.
+#[tactic(auto, unfolding(crate::specs::KindsView::are_alike, juniper_merging::specs::MergingGraph::view_vertex))]
+fn are_alike(x: &Vertex<'_>, y: &Vertex<'_>) -> bool
+    ensures { result ≡ kinds_view.are_alike (view_vertex [] x.now) (view_vertex [] y.now) }
+{
+    x.shape == y.shape
+        && x.call == y.call
+        && is_same_truth(x.on_object, y.on_object)
+        && x.parent == y.parent
+        && x.key == y.key
+}
+
+/// Whether both hold, or neither.
+fn is_same_truth(a: bool, b: bool) -> bool
+    ensures { result ≡ cond a b (not b) }
+{
+    if a { b } else { !b }
+}
+
+/// Whether a field selects something.
+fn selects(vertex: &Vertex<'_>) -> bool
+    ensures { result ≡ false → vertex.now.below ≡ None }
+{
+    match vertex.below {
+        Some(_) => true,
+        None => false,
+    }
+}
+
+/// Whether a new vertex is a kind: the first of its shape or of its call, or like none before it, where it selects nothing or kinds
+/// are few.
+fn is_kind(number: usize, vertex: &Vertex<'_>, first: Option<usize>, kinds: usize) -> bool
+    ensures { IsOwn number (view_vertex [] vertex.now) → result ≡ true }
+{
+    if is_own(number, vertex.shape, vertex.call) {
+        return true;
+    }
+    first.is_none() && (kinds < FEW || !selects(vertex))
+}
+
+/// How many kinds are few.
+const FEW: usize = 8;
+
 /// The shape of the first kind whose declared type agrees, else the number of a new vertex.
 fn shape_among<S: ScalarValue>(
     schema: &SchemaType<S>,
@@ -138,7 +241,7 @@ fn shape_among<S: ScalarValue>(
     kinds: &[usize],
     declared_type: &Type<String>,
 ) -> usize
-    ensures { result ≡ number_among (λ v. v.shape) (map view_vertex vertices.now)
+    ensures { (t : List (List ℕ)) → result ≡ number_among (λ v. v.shape) (map (view_vertex t) vertices.now)
         (λ r. kinds_view.has_type (view_schema S.shown schema.now) (view_type declared_type.now) (slice_get (types_in S.shown fields.now) r)) kinds.now }
 {
     for kind in kinds {
@@ -157,7 +260,7 @@ fn call_among<S: ScalarValue>(
     field: &Spanning<Field<'_, S>, Span>,
 ) -> usize
     ensures { ((i : ℕ) (h : Head) → slice_get (heads_in S.shown fields.now) i ≡ Some h → IsOnce h) → IsOnce (view_field S.shown field.now)
-        → result ≡ number_among (λ v. v.call) (map view_vertex vertices.now)
+        → (t : List (List ℕ)) → result ≡ number_among (λ v. v.call) (map (view_vertex t) vertices.now)
         (λ r. kinds_view.has_call (view_field S.shown field.now) (slice_get (heads_in S.shown fields.now) r)) kinds.now }
 {
     for kind in kinds {
@@ -171,7 +274,7 @@ fn call_among<S: ScalarValue>(
 /// The shape of a vertex, else the number of a new one.
 #[tactic(auto, unfolding(crate::specs::KindsView::number_or, juniper_merging::specs::MergingGraph::view_vertex))]
 fn shape_at(vertices: &[Vertex<'_>], number: usize) -> usize
-    ensures { result ≡ number_or (λ v. v.shape) (length vertices.now) (slice_get (map view_vertex vertices.now) number) }
+    ensures { (t : List (List ℕ)) → result ≡ number_or (λ v. v.shape) (length vertices.now) (slice_get (map (view_vertex t) vertices.now) number) }
 {
     match vertices.get(number) {
         Some(vertex) => vertex.shape,
@@ -182,7 +285,7 @@ fn shape_at(vertices: &[Vertex<'_>], number: usize) -> usize
 /// The call of a vertex, else the number of a new one.
 #[tactic(auto, unfolding(crate::specs::KindsView::number_or, juniper_merging::specs::MergingGraph::view_vertex))]
 fn call_at(vertices: &[Vertex<'_>], number: usize) -> usize
-    ensures { result ≡ number_or (λ v. v.call) (length vertices.now) (slice_get (map view_vertex vertices.now) number) }
+    ensures { (t : List (List ℕ)) → result ≡ number_or (λ v. v.call) (length vertices.now) (slice_get (map (view_vertex t) vertices.now) number) }
 {
     match vertices.get(number) {
         Some(vertex) => vertex.call,

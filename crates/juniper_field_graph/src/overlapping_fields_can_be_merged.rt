@@ -1,7 +1,6 @@
 //! Whether the fields of each selection set can be merged (FieldsInSetCanMerge, section 5.3.2).
 
 ghost use Rattle.std.specs.Prelude.{◌≡◌, Bool, IfOk, List, None, OnOk, Some, ℕ, cond, false, map, true, []};
-ghost use Rattle.std.specs.List.{list_all};
 ghost use Rattle.std.specs.Str.{bytes_eq};
 ghost use Rattle.graphql_spec.specs.Shown.{Name};
 ghost use Rattle.graphql_spec.specs.Documents as documents;
@@ -9,30 +8,31 @@ ghost use Rattle.graphql_spec.specs.Documents.{Document};
 ghost use Rattle.graphql_spec.specs.Fields as fields;
 ghost use Rattle.graphql_spec.specs.Fragments.{HasNoCycle};
 ghost use Rattle.graphql_spec.specs.Laws.{In};
-ghost use Rattle.graphql_spec.specs.Merging as merging;
 ghost use Rattle.graphql_spec.specs.Rules as rules;
 ghost use Rattle.graphql_spec.specs.Schema.{Schema};
 ghost use Rattle.graphql_spec.specs.Rules.{at_each};
-ghost use Rattle.graphql_spec.specs.ValidityLaws.{sets_from};
 ghost use Rattle.graphql_spec.specs.Written.{selections_of};
 ghost use Rattle.juniper_meta.specs.MetaView.{view_type};
-ghost use Rattle.juniper_merging.specs.MergingGraph.{set_merges_at, view_vertex};
+ghost use Rattle.juniper_merging.specs.MergingGraph.{set_merges_at};
+ghost use Rattle.juniper_merging.specs.Questions.{IsSoundIn, fields_of};
+ghost use Rattle.juniper_merging.specs.Sets.{IsTable};
+ghost use Rattle.juniper_merging.specs.Tables.{set_at, table_of};
 ghost use Rattle.juniper_schema.specs.SchemaView.{view_schema};
 ghost use Rattle.juniper_spreads.specs.Order.{IsInOrder};
 ghost use Rattle.juniper_spreads.specs.SpreadsView.{AreFragmentsOf};
 ghost use Rattle.juniper_syntax.specs.DocumentView.{view_definition, view_fragment, view_selections};
-ghost use Rattle.juniper_field_graph.specs.Gathering.{AllKnown, AreWritten, IsHeld, IsJudged, IsKnown, IsReadyIn, numbers_at};
-ghost use Rattle.juniper_field_graph.specs.GraphView.{IsGraphOf, heads_of, vertices_of};
+ghost use Rattle.juniper_field_graph.specs.Gathering.{AllKnown, AreGathered, AreWritten, IsAnswer, IsDefinitionGathered, IsHeld, IsReadyIn, Pairwise, set_named};
+ghost use Rattle.juniper_field_graph.specs.GraphView.{IsGraphOf};
 
 use crate::gathering::{Gathered, Known, gather_set};
 use crate::graph::FieldGraph;
-use juniper_merging::{Vertex, set_merges};
+use juniper_merging::{Graph, Known as Answers, set_merges};
 use juniper_placed::root_name;
 use juniper_schema::SchemaType;
 use juniper_spreads::FragmentsByName;
 use juniper_syntax::{Definition, Fragment, ScalarValue, Selection, Span, Spanning, Type};
 use std::alloc::{AllocError, Global};
-use std::collections::HashMap;
+use std::collections::BTreeMap;
 
 /// For each definition of a document with these fragments, whether two fields in one of its selection sets cannot be merged
 /// (5.3.2), where the rules on names find nothing. Each field of the document is looked at once where it is written and
@@ -71,7 +71,7 @@ fn judge_all<'u, 'd: 'u, 'a: 'u, S: ScalarValue>(
         (map (view_definition S.shown) document.now)) }
 {
     let order = fragments.in_order(alloc)?;
-    let mut held: HashMap<&'u str, Vec<usize>> = HashMap::new(alloc);
+    let mut held: BTreeMap<&'u str, usize> = BTreeMap::new(alloc);
     let mut gathered = nothing_gathered(alloc);
     hold_fragments(alloc, schema, undeclared, &order, &mut held, &mut gathered)?;
     let known = Known {
@@ -79,7 +79,9 @@ fn judge_all<'u, 'd: 'u, 'a: 'u, S: ScalarValue>(
         undeclared,
         fragments: &held,
     };
-    let found = judge_each(alloc, &known, document, &mut gathered)?;
+    let lists = gather_each(alloc, &known, document, &mut gathered)?;
+    let graph = gathered.graph.as_graph();
+    let found = judge_each(alloc, &graph, &lists)?;
     Ok(found)
 }
 
@@ -98,6 +100,7 @@ fn nothing_gathered<'d, 'a, S: ScalarValue>(alloc: Global) -> Gathered<'d, 'a, S
     Gathered {
         graph: FieldGraph::new(alloc),
         sets: Vec::new(alloc),
+        copied: 0,
     }
 }
 
@@ -107,13 +110,13 @@ fn hold_fragments<'d, 'f: 'd, 'a, S: ScalarValue>(
     schema: &'d SchemaType<S>,
     undeclared: &'d Type<String>,
     order: &Vec<&'f Spanning<Fragment<'a, S>, Span>>,
-    held: &mut HashMap<&'d str, Vec<usize>>,
+    held: &mut BTreeMap<&'d str, usize>,
     gathered: &mut Gathered<'d, 'a, S>,
 ) -> Result<(), AllocError>
     ensures { OnOk result ((fs : List documents.Fragment) → HasNoCycle fs → view_type undeclared.now ≡ fields.declared_type None → AreWritten fs
-        → IsInOrder fs (map (λ f. view_fragment S.shown f.now) order.now.items) → ((k : Name) → numbers_at held.old k ≡ None) →
+        → IsInOrder fs (map (λ f. view_fragment S.shown f.now) order.now.items) → ((k : Name) → set_named held.old k ≡ None) →
         IsGraphOf S.shown (view_schema S.shown schema.now) gathered.old.graph
-        → AllKnown S.shown (view_schema S.shown schema.now) fs gathered.old.graph gathered.new.graph (numbers_at held.new)) }
+        → AllKnown S.shown (view_schema S.shown schema.now) fs gathered.old.graph gathered.new.graph (set_named held.new)) }
 {
     for index in 0..order.len() {
         let fragment = order[index];
@@ -128,13 +131,13 @@ fn hold_fragment<'d, 'a, S: ScalarValue>(
     schema: &'d SchemaType<S>,
     undeclared: &'d Type<String>,
     fragment: &'d Spanning<Fragment<'a, S>, Span>,
-    held: &mut HashMap<&'d str, Vec<usize>>,
+    held: &mut BTreeMap<&'d str, usize>,
     gathered: &mut Gathered<'d, 'a, S>,
 ) -> Result<(), AllocError>
     ensures { OnOk result ((fs : List documents.Fragment) → HasNoCycle fs → view_type undeclared.now ≡ fields.declared_type None →
         IsGraphOf S.shown (view_schema S.shown schema.now) gathered.old.graph
-        → IsReadyIn S.shown (view_schema S.shown schema.now) fs gathered.old.graph (numbers_at held.old) (view_fragment S.shown fragment.now).selections
-        → IsHeld S.shown (view_schema S.shown schema.now) fs gathered.old.graph gathered.new.graph (numbers_at held.old) (numbers_at held.new)
+        → IsReadyIn S.shown (view_schema S.shown schema.now) fs gathered.old.graph (set_named held.old) (view_fragment S.shown fragment.now).selections
+        → IsHeld S.shown (view_schema S.shown schema.now) fs gathered.old.graph gathered.new.graph (set_named held.old) (set_named held.new)
         (view_fragment S.shown fragment.now)) }
 {
     let known = Known {
@@ -143,120 +146,121 @@ fn hold_fragment<'d, 'a, S: ScalarValue>(
         fragments: &*held,
     };
     let condition = fragment.item.type_condition.item;
-    let numbers = gather_set(
+    let set = gather_set(
         alloc,
         &known,
         condition,
         &fragment.item.selection_set,
         gathered,
     )?;
-    put_numbers(held, fragment.item.name.item, numbers)?;
+    put_set_at(held, fragment.item.name.item, set)?;
     Ok(())
 }
 
-/// Puts the numbers at a name.
-fn put_numbers<'d>(
-    held: &mut HashMap<&'d str, Vec<usize>>,
+/// Puts the set at a name.
+fn put_set_at<'d>(
+    held: &mut BTreeMap<&'d str, usize>,
     name: &'d str,
-    numbers: Vec<usize>,
+    set: usize,
 ) -> Result<(), AllocError>
-    ensures { OnOk result ((k : Name) → numbers_at held.new k ≡ cond (bytes_eq name.now k) (Some numbers.items) (numbers_at held.old k)) }
+    ensures { OnOk result ((k : Name) → set_named held.new k ≡ cond (bytes_eq name.now k) (Some set) (set_named held.old k)) }
 {
-    drop(held.insert(name, numbers)?);
+    held.insert(name, set)?;
     Ok(())
 }
 
-/// For each definition, whether one of its sets cannot be merged.
-fn judge_each<'d, 'a, S: ScalarValue>(
+/// For each definition the sets in it.
+fn gather_each<'d, 'a, S: ScalarValue>(
     alloc: Global,
     known: &Known<'d, '_, S>,
     document: &'d [Definition<'a, S>],
     gathered: &mut Gathered<'d, 'a, S>,
-) -> Result<Vec<bool>, AllocError>
-    ensures { IfOk result (λ found. (d : Document) → HasNoCycle (documents.fragments d) → view_type known.now.undeclared.now ≡ fields.declared_type None →
+) -> Result<Vec<Vec<usize>>, AllocError>
+    ensures { IfOk result (λ lists. (fs : List documents.Fragment) → HasNoCycle fs → view_type known.now.undeclared.now ≡ fields.declared_type None →
         IsGraphOf S.shown (view_schema S.shown known.now.schema.now) gathered.old.graph
         → ((x : documents.Definition) → In x (map (view_definition S.shown) document.now) →
-        IsReadyIn S.shown (view_schema S.shown known.now.schema.now) (documents.fragments d) gathered.old.graph (numbers_at known.now.fragments.now)
-        (selections_of x))
-        → found.items ≡ map (rules.cannot_merge (view_schema S.shown known.now.schema.now) d) (map (view_definition S.shown) document.now)) }
+        IsReadyIn S.shown (view_schema S.shown known.now.schema.now) fs gathered.old.graph (set_named known.now.fragments.now) (selections_of x))
+        → AreGathered S.shown (view_schema S.shown known.now.schema.now) fs gathered.old.graph gathered.new.graph (map (view_definition S.shown) document.now)
+        (map (λ l. l.items) lists.items)) }
 {
-    let mut found = Vec::new(alloc);
+    let mut lists = Vec::new(alloc);
     for definition in document {
-        let merges = definition_merges(alloc, known, definition, gathered)?;
-        found.push(!merges)?;
+        gathered.sets.clear();
+        gather_definition(alloc, known, definition, gathered)?;
+        let mut sets = Vec::new(alloc);
+        sets.extend_from_slice(&gathered.sets)?;
+        lists.push(sets)?;
     }
-    Ok(found)
+    Ok(lists)
 }
 
-/// Whether each selection set of a definition can be merged.
-fn definition_merges<'d, 'a, S: ScalarValue>(
+/// Gathers the sets of a definition.
+fn gather_definition<'d, 'a, S: ScalarValue>(
     alloc: Global,
     known: &Known<'d, '_, S>,
     definition: &'d Definition<'a, S>,
     gathered: &mut Gathered<'d, 'a, S>,
-) -> Result<bool, AllocError>
-    ensures { IfOk result (λ b. (d : Document) → HasNoCycle (documents.fragments d) → view_type known.now.undeclared.now ≡ fields.declared_type None →
+) -> Result<(), AllocError>
+    ensures { OnOk result ((fs : List documents.Fragment) → HasNoCycle fs → view_type known.now.undeclared.now ≡ fields.declared_type None →
         IsGraphOf S.shown (view_schema S.shown known.now.schema.now) gathered.old.graph
-        → IsReadyIn S.shown (view_schema S.shown known.now.schema.now) (documents.fragments d) gathered.old.graph (numbers_at known.now.fragments.now)
+        → IsReadyIn S.shown (view_schema S.shown known.now.schema.now) fs gathered.old.graph (set_named known.now.fragments.now)
         (selections_of (view_definition S.shown definition.now))
-        → IsJudged S.shown (view_schema S.shown known.now.schema.now) (documents.fragments d) gathered.old.graph gathered.new.graph
-        (merging.definition_merges (view_schema S.shown known.now.schema.now) d (view_definition S.shown definition.now)) b) }
+        → IsDefinitionGathered S.shown (view_schema S.shown known.now.schema.now) fs gathered.old.graph gathered.new.graph gathered.old.sets.items
+        gathered.new.sets.items (view_definition S.shown definition.now)) }
 {
     match definition {
         Definition::Operation(operation) => {
             match root_name(known.schema, operation.item.operation_type) {
                 Some(root) => {
                     let selections = operation.item.selection_set.as_slice();
-                    let merges = sets_merge(alloc, known, root, selections, gathered)?;
-                    Ok(merges)
+                    gather_set(alloc, known, root, selections, gathered)?;
+                    Ok(())
                 }
-                None => Ok(true),
+                None => Ok(()),
             }
         }
         Definition::Fragment(fragment) => {
             let condition = fragment.item.type_condition.item;
             let selections = fragment.item.selection_set.as_slice();
-            let merges = sets_merge(alloc, known, condition, selections, gathered)?;
-            Ok(merges)
+            gather_set(alloc, known, condition, selections, gathered)?;
+            Ok(())
         }
     }
 }
 
-/// Whether a selection set on a type, and each set in it, can be merged.
-fn sets_merge<'d, 'a, S: ScalarValue>(
+/// For each list of sets, whether one of them cannot be merged.
+fn judge_each(
     alloc: Global,
-    known: &Known<'d, '_, S>,
-    parent: &'d str,
-    selections: &'d [Selection<'a, S>],
-    gathered: &mut Gathered<'d, 'a, S>,
-) -> Result<bool, AllocError>
-    ensures { IfOk result (λ b. (fs : List documents.Fragment) → HasNoCycle fs → view_type known.now.undeclared.now ≡ fields.declared_type None →
-        IsGraphOf S.shown (view_schema S.shown known.now.schema.now) gathered.old.graph
-        → IsReadyIn S.shown (view_schema S.shown known.now.schema.now) fs gathered.old.graph (numbers_at known.now.fragments.now)
-        (view_selections S.shown selections.now)
-        → IsJudged S.shown (view_schema S.shown known.now.schema.now) fs gathered.old.graph gathered.new.graph
-        (list_all (λ x. merging.set_merges (view_schema S.shown known.now.schema.now) fs x.parent x.selections)
-        (sets_from (view_schema S.shown known.now.schema.now) parent.now (view_selections S.shown selections.now))) b) }
+    graph: &Graph<'_, '_>,
+    lists: &[Vec<usize>],
+) -> Result<Vec<bool>, AllocError>
+    ensures { IfOk result (λ found. IsTable graph.now.sets.now
+        → Pairwise (IsAnswer (fields_of graph.now) (table_of graph.now.sets.now)) (map (λ l. l.items) lists.now) found.items) }
 {
-    gathered.sets.clear();
-    drop(gather_set(alloc, known, parent, selections, gathered)?);
-    let merge = all_merge(alloc, &gathered.graph.vertices, &gathered.sets)?;
-    Ok(merge)
+    let mut answers = Answers::new(alloc);
+    let mut found = Vec::new(alloc);
+    for sets in lists {
+        let merge = all_merge(alloc, graph, sets, &mut answers)?;
+        found.push(!merge)?;
+    }
+    Ok(found)
 }
 
-/// Whether each set of vertices can be merged.
+/// Whether each of the sets can be merged.
 fn all_merge(
     alloc: Global,
-    vertices: &[Vertex<'_>],
-    sets: &[Vec<usize>],
+    graph: &Graph<'_, '_>,
+    sets: &[usize],
+    answers: &mut Answers,
 ) -> Result<bool, AllocError>
-    ensures merges { IfOk result (λ b. b ≡ true → (set : List ℕ) → In set (map (λ l. l.items) sets.now) → (n : ℕ) →
-        set_merges_at (map view_vertex vertices.now) n set ≡ true) }
-    ensures differs { IfOk result (λ b. b ≡ false → (set : List ℕ) × In set (map (λ l. l.items) sets.now)
-        × ((n : ℕ) × (set_merges_at (map view_vertex vertices.now) n set ≡ false))) }
+    ensures sound { OnOk result (IsTable graph.now.sets.now → IsSoundIn graph.now answers.old → IsSoundIn graph.now answers.new) }
+    ensures merges { IfOk result (λ b. IsTable graph.now.sets.now → IsSoundIn graph.now answers.old → b ≡ true → (set : ℕ) → In set sets.now → (n : ℕ) →
+        set_merges_at (fields_of graph.now) n (set_at (table_of graph.now.sets.now) set) ≡ true) }
+    ensures differs { IfOk result (λ b. IsTable graph.now.sets.now → IsSoundIn graph.now answers.old → b ≡ false → (set : ℕ) × In set sets.now
+        × ((n : ℕ) × (set_merges_at (fields_of graph.now) n (set_at (table_of graph.now.sets.now) set) ≡ false))) }
 {
     for set in sets {
-        if !set_merges(alloc, vertices, set)? {
+        if !set_merges(alloc, graph, *set, answers)? {
             return Ok(false);
         }
     }

@@ -1,14 +1,19 @@
-pub mod Searching
-mod Taking
+mod Numbers
+pub mod Tests
 pub mod Grouping
-mod Looking
-mod Passing
-mod Depths
 pub mod Places
 mod Telling
+mod Told
+mod Plain
+mod Sound
+mod Vertices
+mod Passed
+pub mod Tables
+mod Below
+mod Asked
+mod Keyed
+pub mod Gathered
 mod Settling
 pub mod Whole
-pub mod Keeping
 pub mod Growing
 pub mod Covering
-pub mod SameVertices

@@ -7,7 +7,7 @@ use Rattle.graphql_spec.specs.Merging.{each_two}
 use Rattle.graphql_spec.specs.Laws.{In}
 use Rattle.graphql_spec.proofs.Grouping.{in_append, in_first, in_second}
 use Rattle.juniper_merging.specs.Standing.{Both, AreAlike}
-use Rattle.juniper_merging.proofs.Searching.{all-from}
+use Rattle.juniper_merging.proofs.Tests.{all-from}
 
 pub same-truth : (a b : Bool) → (a ≡ true → b ≡ true) → (b ≡ true → a ≡ true) → a ≡ b
 same-truth true b f g = sym (f refl)

@@ -17,7 +17,7 @@ use Rattle.graphql_spec.proofs.Lists.{same_sym}
 use Rattle.graphql_spec.proofs.SameMeanings.{same_members-true}
 use Rattle.juniper_merging.specs.MergingGraph.{FieldAt, can_meet, agree, same_key_at, agree_at, meet_at, below_both, each_pair_at, merge_at, set_merges_at}
 use Rattle.juniper_merging.specs.Standing.{AreAlike, AreNumbered, IsAt, StandsFor, NumbersTell}
-use Rattle.juniper_merging.proofs.Taking.{itself, same-number}
+use Rattle.juniper_merging.proofs.Numbers.{itself, same-number}
 use Rattle.juniper_merging.proofs.Places.{same-truth, two-swapped, two-true, two-from, alike-two, alike-both}
 
 -- ## Both ways round
@@ -157,12 +157,12 @@ module _ (vs : List FieldAt) where
       (below-turn (merge_at vs n (m && meet_at (slice_get vs j) (slice_get vs i))) (merge-at-turn n (m && meet_at (slice_get vs j) (slice_get vs i)))
       (slice_get vs i) (slice_get vs j))
 
-  found-pair : (n : ℕ) (m : Bool) (i j : ℕ) (v w : FieldAt) → slice_get vs i ≡ Some v → slice_get vs j ≡ Some w →
+  pub found-pair : (n : ℕ) (m : Bool) (i j : ℕ) (v w : FieldAt) → slice_get vs i ≡ Some v → slice_get vs j ≡ Some w →
       merge_at vs (suc n) m i j ≡ (agree m v w && each_pair_at vs (merge_at vs n (m && can_meet v w)) (v.below ++ w.below))
   unfolding merge_at agree_at meet_at below_both
   found-pair n m i j v w e f = λ t. agree_at m (e t) (f t) && each_pair_at vs (merge_at vs n (m && meet_at (e t) (f t))) (below_both (e t) (f t))
 
-  found-alone : (m : Bool) (i j : ℕ) (v w : FieldAt) → slice_get vs i ≡ Some v → slice_get vs j ≡ Some w → merge_at vs zero m i j ≡ agree m v w
+  pub found-alone : (m : Bool) (i j : ℕ) (v w : FieldAt) → slice_get vs i ≡ Some v → slice_get vs j ≡ Some w → merge_at vs zero m i j ≡ agree m v w
   unfolding merge_at agree_at
   found-alone m i j v w e f = λ t. agree_at m (e t) (f t)
 

@@ -1,6 +1,6 @@
+pub mod Tables
 pub mod MergingGraph
 pub mod Groups
-pub mod LeavesView
-pub mod SearchView
 pub mod Standing
-pub mod Kept
+pub mod Sets
+pub mod Questions

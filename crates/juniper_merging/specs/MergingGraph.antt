@@ -4,6 +4,7 @@ use Rattle.std.specs.List.{slice_get}
 use Rattle.std.specs.Str.{bytes_eq}
 use Rattle.graphql_spec.specs.Shown.{Name}
 use Rattle.graphql_spec.specs.Merging.{each_two}
+use Rattle.juniper_merging.specs.Tables.{below_in}
 use Rattle.juniper_merging.specs.declared.graph.Vertex.{Vertex}
 
 -- a field on its parent type: fields of one shape have types that agree, and those of one call have one name and the same
@@ -16,8 +17,10 @@ pub record FieldAt : Type 0 where
   pub call : ℕ
   pub below : List ℕ
 
-unfoldable pub view_vertex : Vertex → FieldAt
-view_vertex v = record { key = v.key.now; parent = v.parent.now; on_object = v.on_object; shape = v.shape; call = v.call; below = v.below.items }
+-- what the sets hold is given by a table
+unfoldable pub view_vertex : List (List ℕ) → Vertex → FieldAt
+view_vertex t v =
+    record { key = v.key.now; parent = v.parent.now; on_object = v.on_object; shape = v.shape; call = v.call; below = below_in t v.below }
 
 -- the parent types are the same, or one of them is no object type
 unfoldable pub can_meet : FieldAt → FieldAt → Bool

@@ -14,6 +14,6 @@ pub struct Vertex<'a> {
     pub shape: usize,
     /// The number of the field's name with its arguments.
     pub call: usize,
-    /// The fields that it selects, fragments put in.
-    pub below: Vec<usize>,
+    /// The number of the set of fields that it selects, if it selects any.
+    pub below: Option<usize>,
 }

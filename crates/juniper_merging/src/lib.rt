@@ -1,17 +1,17 @@
-//! Which written fields can be merged (section 5.3.2 of the Specification): a search over pairs of fields, each looked at
-//! a few times, however often fragments are spread.
+//! Which written fields can be merged (section 5.3.2 of the Specification): questions on sets of fields, each answered once,
+//! however often fragments are spread.
 #![tactic(auto)]
 
 mod graph;
 mod groups;
+mod known;
 mod laws;
-mod leaves;
-mod numbers;
 mod search;
+mod sets;
 
 pub use graph::Vertex;
 pub use groups::{Groups, put_group, take_group};
+pub use known::Known;
 pub use laws::{numbers_tell, sets_tell};
-pub use leaves::Leaves;
-pub use numbers::Numbers;
-pub use search::set_merges;
+pub use search::{Graph, set_merges};
+pub use sets::{FieldSet, Gathering, are_same};

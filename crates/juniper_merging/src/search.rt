@@ -1,191 +1,864 @@
-//! The search over pairs.
+//! The search over sets of fields.
 
-ghost use Rattle.std.specs.Prelude.{◌≡◌, ◌∷◌, ◌&&◌, ℕ, IfOk, List, OnOk, cond, false, map, nat_eq, not, true, []};
-ghost use Rattle.juniper_merging.specs.MergingGraph.{agree, below_both, can_meet, meet_at, set_merges_at, view_vertex};
-ghost use Rattle.juniper_merging.specs.SearchView.{Looks, Takes, has_pair, pairs_below, pairs_of, pairs_with};
+ghost use Rattle.std.specs.Prelude.{◌≡◌, ◌++◌, ◌∷◌, ◌&&◌, Bool, ℕ, IfOk, List, None, OnOk, Some, cond, false, map, true, []};
+ghost use Rattle.std.specs.List.{list_all, slice_get};
+ghost use Rattle.std.specs.Str.{bytes_eq};
+ghost use Rattle.graphql_spec.specs.Shown.{Name};
+ghost use Rattle.juniper_merging.specs.Groups.{group_in};
+ghost use Rattle.juniper_merging.specs.MergingGraph.{FieldAt, agree, can_meet, each_pair_at, merge_at, set_merges_at, view_vertex};
+ghost use Rattle.juniper_merging.specs.Questions.{ArePlain, IsFound, IsSound, IsSoundIn, IsTold, between_at, between_test, fields_of, join, number_in, tested_at, test_of, with_key_at, within_test};
+ghost use Rattle.juniper_merging.specs.Sets.{IsTable};
+ghost use Rattle.juniper_merging.specs.Tables.{below_in, set_at, table_of};
 
 use crate::graph::Vertex;
 use crate::groups::{Groups, put_group, take_group};
+use crate::known::{Known, Question};
+use crate::sets::{FieldSet, Part, part_of};
 use std::alloc::{AllocError, Global};
-use std::collections::{HashMap, HashSet};
+use std::collections::HashMap;
 
-/// Two fields of one response key, an earlier and a later one.
-#[derive(Clone, Copy)]
-pub(crate) struct Pair {
-    pub(crate) first: usize,
-    pub(crate) second: usize,
-    /// Whether they have to merge where they may meet, or need to agree in shape only.
-    pub(crate) must_merge: bool,
-}
-
-/// Pairs that were seen, and of these the ones that were not followed yet.
+/// A graph of fields and sets of them.
 #[derive(Drop)]
-pub(crate) struct Search {
-    shapes: HashSet<(usize, usize)>,
-    merges: HashSet<(usize, usize)>,
-    left: Vec<Pair>,
+pub struct Graph<'g, 'a> {
+    /// The fields.
+    pub vertices: &'g [Vertex<'a>],
+    /// The sets.
+    pub sets: &'g [FieldSet],
 }
 
-/// Whether each two fields of the set with one response key can be merged (FieldsInSetCanMerge, section 5.3.2). The set
-/// and what a field selects are numbers in `vertices`; a number that has no vertex counts for nothing. Each pair of fields
-/// is followed at most twice in each order. An error where memory is refused.
-pub fn set_merges(alloc: Global, vertices: &[Vertex<'_>], set: &[usize]) -> Result<bool, AllocError>
-    ensures merges { IfOk result (λ b. b ≡ true → (n : ℕ) → set_merges_at (map view_vertex vertices.now) n set.now ≡ true) }
-    ensures differs { IfOk result (λ b. b ≡ false → (n : ℕ) × (set_merges_at (map view_vertex vertices.now) n set.now ≡ false)) }
-{
-    let mut search = Search {
-        shapes: HashSet::new(alloc),
-        merges: HashSet::new(alloc),
-        left: Vec::new(alloc),
-    };
-    if !look_through(alloc, vertices, set, true, &mut search)? {
-        return Ok(false);
-    }
-    while let Some(pair) = search.left.pop() {
-        if !follow(alloc, vertices, pair, &mut search)? {
-            return Ok(false);
-        }
-    }
-    Ok(true)
-}
-
-/// Looks at the pairs of what two fields select.
-fn follow(
+/// Whether each two fields of the set with one response key can be merged (FieldsInSetCanMerge, section 5.3.2). A number that
+/// has no vertex or no set counts for nothing. Each question on one or two sets of the graph is answered once, for all sets
+/// that are asked of with the same `known`. An error where memory is refused, or where 2^64 turns did not end the search.
+pub fn set_merges(
     alloc: Global,
-    vertices: &[Vertex<'_>],
-    pair: Pair,
-    search: &mut Search,
+    graph: &Graph<'_, '_>,
+    set: usize,
+    known: &mut Known,
 ) -> Result<bool, AllocError>
-    ensures { IfOk result (λ b. Looks (map view_vertex vertices.now) (pairs_below (map view_vertex vertices.now) pair) search.old search.new b) }
+    ensures sound { OnOk result (IsTable graph.now.sets.now → IsSoundIn graph.now known.old → IsSoundIn graph.now known.new) }
+    ensures merges { IfOk result (λ b. IsTable graph.now.sets.now → IsSoundIn graph.now known.old → b ≡ true → (n : ℕ) →
+        set_merges_at (fields_of graph.now) n (set_at (table_of graph.now.sets.now) set) ≡ true) }
+    ensures differs { IfOk result (λ b. IsTable graph.now.sets.now → IsSoundIn graph.now known.old → b ≡ false →
+        (n : ℕ) × (set_merges_at (fields_of graph.now) n (set_at (table_of graph.now.sets.now) set) ≡ false)) }
 {
-    match (vertices.get(pair.first), vertices.get(pair.second)) {
-        (Some(x), Some(y)) => {
-            let must_merge = pair.must_merge && may_meet(x, y);
-            let mut below = Vec::new(alloc);
-            below.extend_from_slice(&x.below)?;
-            below.extend_from_slice(&y.below)?;
-            let passes = look_through(alloc, vertices, &below, must_merge, search)?;
-            Ok(passes)
-        }
-        _ => Ok(true),
+    if is_plain(alloc, graph, set)? {
+        return Ok(true);
+    }
+    let question = Question {
+        first: set,
+        second: set,
+        must_merge: true,
+        within: true,
+    };
+    let mut open = Vec::new(alloc);
+    open.push(question)?;
+    for _turn in 0..u64::MAX {
+        let Some(next) = open.pop() else {
+            break;
+        };
+        settle(graph, next, known, &mut open)?;
+    }
+    match known.answer(question) {
+        Some(answer) => Ok(answer),
+        None => Err(AllocError),
     }
 }
 
-/// Looks at each two numbers of a set that have one response key.
-fn look_through<'a>(
+/// Whether the set is made of fields of which no two have one response key, but such that select nothing and have one number.
+fn is_plain(alloc: Global, graph: &Graph<'_, '_>, set: usize) -> Result<bool, AllocError>
+    ensures { IfOk result (λ b. b ≡ true → IsTable graph.now.sets.now → (n : ℕ) →
+        set_merges_at (fields_of graph.now) n (set_at (table_of graph.now.sets.now) set) ≡ true) }
+{
+    if is_single(graph, set) {
+        return Ok(true);
+    }
+    match part_of(graph.sets, set) {
+        Part::Fields(fields) => {
+            let are_plain = are_plain(alloc, graph.vertices, fields)?;
+            Ok(are_plain)
+        }
+        Part::Both(_, _) => Ok(false),
+        Part::Nothing => Ok(false),
+    }
+}
+
+/// The same, of these fields.
+fn are_plain<'a>(
     alloc: Global,
     vertices: &[Vertex<'a>],
-    set: &[usize],
-    must_merge: bool,
-    search: &mut Search,
+    fields: &[usize],
 ) -> Result<bool, AllocError>
-    ensures { IfOk result (λ b. Looks (map view_vertex vertices.now) (pairs_of (map view_vertex vertices.now) must_merge set.now) search.old search.new b) }
+    ensures { IfOk result (λ b. b ≡ true → (t : List (List ℕ)) (n : ℕ) → set_merges_at (map (view_vertex t) vertices.now) n fields.now ≡ true) }
 {
-    let mut groups: Groups<'a> = HashMap::new(alloc);
-    for second in set {
-        if let Some(vertex) = vertices.get(*second) {
-            let mut group = take_group(alloc, &mut groups, vertex.key);
-            if !look_at_each(vertices, &group, *second, must_merge, search)? {
-                return Ok(false);
-            }
-            group.push(*second)?;
-            put_group(&mut groups, vertex.key, group)?;
-        }
-    }
-    Ok(true)
-}
-
-/// Looks at the pairs of each number of a group with one number.
-fn look_at_each(
-    vertices: &[Vertex<'_>],
-    group: &[usize],
-    second: usize,
-    must_merge: bool,
-    search: &mut Search,
-) -> Result<bool, AllocError>
-    ensures { IfOk result (λ b. Looks (map view_vertex vertices.now)
-        (pairs_with (map view_vertex vertices.now) must_merge second group.now) search.old search.new b) }
-{
-    for first in group {
-        let pair = Pair {
-            first: *first,
-            second,
-            must_merge,
-        };
-        if !look_at(vertices, pair, search)? {
+    let mut keys: HashMap<&'a str, usize> = HashMap::new(alloc);
+    for field in fields {
+        if !is_plain_beside(vertices, &mut keys, *field)? {
             return Ok(false);
         }
     }
     Ok(true)
 }
 
-/// Looks at one pair, and leaves it to be followed where it has to be.
-fn look_at(vertices: &[Vertex<'_>], pair: Pair, search: &mut Search) -> Result<bool, AllocError>
-    ensures { IfOk result (λ b. Looks (map view_vertex vertices.now) (pair ∷ []) search.old search.new b) }
+/// Whether the field is plain beside those at their response keys. It is put there.
+fn is_plain_beside<'a>(
+    vertices: &[Vertex<'a>],
+    keys: &mut HashMap<&'a str, usize>,
+    field: usize,
+) -> Result<bool, AllocError>
+    ensures { IfOk result (λ b. b ≡ true → (t : List (List ℕ)) (is : List ℕ) → ArePlain (map (view_vertex t) vertices.now) (number_in keys.old) is
+        → ArePlain (map (view_vertex t) vertices.now) (number_in keys.new) (is ++ field ∷ [])) }
 {
-    match (vertices.get(pair.first), vertices.get(pair.second)) {
-        (Some(x), Some(y)) => {
-            if !agree(pair.must_merge, x, y) {
-                return Ok(false);
-            }
-            if selects_nothing(x) && selects_nothing(y) {
-                return Ok(true);
-            }
-            if is_new(search, pair)? {
-                search.left.push(pair)?;
-            }
-            Ok(true)
+    match vertices.get(field) {
+        Some(vertex) => {
+            let before = put_number(keys, vertex.key, field)?;
+            Ok(is_same_leaf(vertices, before, field))
         }
-        _ => Ok(true),
+        None => Ok(true),
     }
 }
 
-/// Whether the pair was not seen yet; afterwards it was.
-fn is_new(search: &mut Search, pair: Pair) -> Result<bool, AllocError>
-    ensures { IfOk result (λ b. Takes pair search.old search.new b) }
+/// Puts a number at a response key, and gives the one that was there.
+fn put_number<'a>(
+    keys: &mut HashMap<&'a str, usize>,
+    key: &'a str,
+    number: usize,
+) -> Result<Option<usize>, AllocError>
+    ensures before { IfOk result (λ o. o ≡ number_in keys.old key.now) }
+    ensures put { OnOk result ((k : Name) → number_in keys.new k ≡ cond (bytes_eq key.now k) (Some number) (number_in keys.old k)) }
 {
-    if pair.must_merge {
-        let is_new = put_pair(&mut search.merges, pair.first, pair.second)?;
-        Ok(is_new)
-    } else {
-        let is_new = put_pair(&mut search.shapes, pair.first, pair.second)?;
-        Ok(is_new)
+    Ok(keys.insert(key, number)?)
+}
+
+/// Whether there is no other number, but that of the field itself, which then selects nothing.
+fn is_same_leaf(vertices: &[Vertex<'_>], before: Option<usize>, field: usize) -> bool
+    ensures { result ≡ true → (i : ℕ) → before ≡ Some i → (i ≡ field) × ((t : List (List ℕ)) (n : ℕ) →
+        tested_at (map (view_vertex t) vertices.now) (merge_at (map (view_vertex t) vertices.now) n true) field field ≡ true) }
+{
+    match before {
+        Some(other) => {
+            if other != field {
+                return false;
+            }
+            passes(vertices, field, field, true)
+        }
+        None => true,
     }
 }
 
-/// Whether the numbers were not in the set; afterwards they are.
-fn put_pair(
-    set: &mut HashSet<(usize, usize)>,
+/// Answers a question where what it rests on is known; else it is opened again, and then what is not known.
+fn settle(
+    graph: &Graph<'_, '_>,
+    question: Question,
+    known: &mut Known,
+    open: &mut Vec<Question>,
+) -> Result<(), AllocError>
+    ensures { OnOk result (IsTable graph.now.sets.now → IsSoundIn graph.now known.old → IsSoundIn graph.now known.new) }
+{
+    if known.answer(question).is_some() {
+        return Ok(());
+    }
+    let before = open.len();
+    open.push(question)?;
+    match look(graph, question, known, open)? {
+        Some(answer) => {
+            open.truncate(before);
+            known.keep(question, answer)?;
+            Ok(())
+        }
+        None => Ok(()),
+    }
+}
+
+/// The answer to a question by those to others; where it is not known, the others are opened.
+fn look(
+    graph: &Graph<'_, '_>,
+    question: Question,
+    known: &Known,
+    open: &mut Vec<Question>,
+) -> Result<Option<bool>, AllocError>
+    ensures { IfOk result (λ o. IsFound graph.now known.now (test_of (fields_of graph.now) (table_of graph.now.sets.now) question) o) }
+{
+    if question.within {
+        let found = look_inside(graph, question.first, question.must_merge, known, open)?;
+        Ok(found)
+    } else {
+        let found = look_across(
+            graph,
+            question.first,
+            question.second,
+            question.must_merge,
+            known,
+            open,
+        )?;
+        Ok(found)
+    }
+}
+
+/// The answer for each two fields of a set by those for its parts; where it is not known, questions on these are opened.
+fn look_inside(
+    graph: &Graph<'_, '_>,
+    set: usize,
+    must_merge: bool,
+    known: &Known,
+    open: &mut Vec<Question>,
+) -> Result<Option<bool>, AllocError>
+    ensures { IfOk result (λ o. IsFound graph.now known.now (within_test (fields_of graph.now) (table_of graph.now.sets.now) must_merge set) o) }
+{
+    match part_of(graph.sets, set) {
+        Part::Fields(fields) => {
+            let found = look_within(graph, fields, must_merge, known, open)?;
+            Ok(found)
+        }
+        Part::Both(a, b) => {
+            let first = ask_within(graph, a, must_merge, known, open)?;
+            let second = ask_within(graph, b, must_merge, known, open)?;
+            let across = ask_between(graph, a, b, must_merge, known, open)?;
+            Ok(join(first, join(second, across)))
+        }
+        Part::Nothing => Ok(Some(true)),
+    }
+}
+
+/// The answer for the fields of a set with those of a second one, so.
+fn look_across(
+    graph: &Graph<'_, '_>,
     first: usize,
     second: usize,
-) -> Result<bool, AllocError>
-    ensures found { IfOk result (λ b. b ≡ not (has_pair set.old first second)) }
-    ensures added { OnOk result ((i j : ℕ) → has_pair set.new i j ≡ cond (nat_eq first i && nat_eq second j) true (has_pair set.old i j)) }
+    must_merge: bool,
+    known: &Known,
+    open: &mut Vec<Question>,
+) -> Result<Option<bool>, AllocError>
+    ensures { IfOk result (λ o. IsFound graph.now known.now (between_test (fields_of graph.now) (table_of graph.now.sets.now) must_merge first second) o) }
 {
-    Ok(set.insert((first, second))?)
+    match part_of(graph.sets, first) {
+        Part::Fields(fields) => {
+            let found = look_beside(graph, first, fields, second, must_merge, known, open)?;
+            Ok(found)
+        }
+        Part::Both(a, b) => {
+            let x = ask_between(graph, a, second, must_merge, known, open)?;
+            let y = ask_between(graph, b, second, must_merge, known, open)?;
+            Ok(join(x, y))
+        }
+        Part::Nothing => Ok(Some(true)),
+    }
 }
 
-/// Whether the field selects nothing.
-#[tactic(auto, unfolding(crate::specs::MergingGraph::view_vertex))]
-pub(crate) fn selects_nothing(vertex: &Vertex<'_>) -> bool
-    ensures { result ≡ true → (view_vertex vertex.now).below ≡ [] }
+/// The same, where the first set is made of these fields.
+fn look_beside(
+    graph: &Graph<'_, '_>,
+    first: usize,
+    fields: &[usize],
+    second: usize,
+    must_merge: bool,
+    known: &Known,
+    open: &mut Vec<Question>,
+) -> Result<Option<bool>, AllocError>
+    ensures { IfOk result (λ o. set_at (table_of graph.now.sets.now) first ≡ fields.now
+        → IsFound graph.now known.now (between_test (fields_of graph.now) (table_of graph.now.sets.now) must_merge first second) o) }
 {
-    let below: &[usize] = &vertex.below;
-    below.is_empty()
+    match part_of(graph.sets, second) {
+        Part::Fields(others) => {
+            let found = look_between(graph, fields, others, must_merge, known, open)?;
+            Ok(found)
+        }
+        Part::Both(a, b) => {
+            let x = ask_between(graph, first, a, must_merge, known, open)?;
+            let y = ask_between(graph, first, b, must_merge, known, open)?;
+            Ok(join(x, y))
+        }
+        Part::Nothing => Ok(Some(true)),
+    }
+}
+
+/// Asks for each two fields of a set; where the answer is not known, the question is opened.
+fn ask_within(
+    graph: &Graph<'_, '_>,
+    set: usize,
+    must_merge: bool,
+    known: &Known,
+    open: &mut Vec<Question>,
+) -> Result<Option<bool>, AllocError>
+    ensures { IfOk result (λ o. IsFound graph.now known.now (within_test (fields_of graph.now) (table_of graph.now.sets.now) must_merge set) o) }
+{
+    if is_single(graph, set) {
+        return Ok(Some(true));
+    }
+    let found = ask(
+        Question {
+            first: set,
+            second: set,
+            must_merge,
+            within: true,
+        },
+        known,
+        open,
+    )?;
+    Ok(found)
+}
+
+/// Whether the set is one field, or none.
+fn is_single(graph: &Graph<'_, '_>, set: usize) -> bool
+    ensures { result ≡ true → IsTable graph.now.sets.now → (R : ℕ → ℕ → Bool) →
+        each_pair_at (fields_of graph.now) R (set_at (table_of graph.now.sets.now) set) ≡ true }
+{
+    match part_of(graph.sets, set) {
+        Part::Fields(fields) => fields.len() < 2,
+        Part::Both(_, _) => false,
+        Part::Nothing => true,
+    }
+}
+
+/// Asks for each field of a set with each of a second one; where the answer is not known, the question is opened.
+fn ask_between(
+    graph: &Graph<'_, '_>,
+    first: usize,
+    second: usize,
+    must_merge: bool,
+    known: &Known,
+    open: &mut Vec<Question>,
+) -> Result<Option<bool>, AllocError>
+    ensures { IfOk result (λ o. IsFound graph.now known.now (between_test (fields_of graph.now) (table_of graph.now.sets.now) must_merge first second) o) }
+{
+    if are_apart(graph, first, second, must_merge) {
+        return Ok(Some(true));
+    }
+    let left = first_without_apart(graph, first, second, must_merge);
+    let right = without_apart(graph, left, second, must_merge);
+    if are_apart(graph, left, right, must_merge) {
+        return Ok(Some(true));
+    }
+    let found = ask(
+        Question {
+            first: left,
+            second: right,
+            must_merge,
+            within: false,
+        },
+        known,
+        open,
+    )?;
+    Ok(found)
+}
+
+/// The same as `without_apart`, of the first set beside the second.
+fn first_without_apart(
+    graph: &Graph<'_, '_>,
+    first: usize,
+    second: usize,
+    must_merge: bool,
+) -> usize
+    ensures { IsTable graph.now.sets.now → (n : ℕ) →
+        between_at (fields_of graph.now) (merge_at (fields_of graph.now) n must_merge) (set_at (table_of graph.now.sets.now) first)
+        (set_at (table_of graph.now.sets.now) second)
+        ≡ between_at (fields_of graph.now) (merge_at (fields_of graph.now) n must_merge) (set_at (table_of graph.now.sets.now) result)
+        (set_at (table_of graph.now.sets.now) second) }
+{
+    let mut set = first;
+    for _step in 0..PARTS_LEFT_OUT {
+        match first_part_that_meets(graph, set, second, must_merge) {
+            Some(part) => {
+                set = part;
+            }
+            None => {
+                return set;
+            }
+        }
+    }
+    set
+}
+
+/// The one of the two parts of the first set that can stand for it beside the second, where the other is apart from the second.
+fn first_part_that_meets(
+    graph: &Graph<'_, '_>,
+    first: usize,
+    second: usize,
+    must_merge: bool,
+) -> Option<usize>
+    ensures { (i : ℕ) → result ≡ Some i → IsTable graph.now.sets.now → (n : ℕ) →
+        between_at (fields_of graph.now) (merge_at (fields_of graph.now) n must_merge) (set_at (table_of graph.now.sets.now) first)
+        (set_at (table_of graph.now.sets.now) second)
+        ≡ between_at (fields_of graph.now) (merge_at (fields_of graph.now) n must_merge) (set_at (table_of graph.now.sets.now) i)
+        (set_at (table_of graph.now.sets.now) second) }
+{
+    match part_of(graph.sets, first) {
+        Part::Fields(_) => None,
+        Part::Both(a, b) => {
+            if are_apart(graph, a, second, must_merge) {
+                return Some(b);
+            }
+            if are_apart(graph, b, second, must_merge) {
+                return Some(a);
+            }
+            None
+        }
+        Part::Nothing => None,
+    }
+}
+
+/// A set that can stand for the second one beside the first: parts that are apart from the first are left out, up to a bound,
+/// so that these need no question.
+fn without_apart(graph: &Graph<'_, '_>, first: usize, second: usize, must_merge: bool) -> usize
+    ensures { IsTable graph.now.sets.now → (n : ℕ) →
+        between_at (fields_of graph.now) (merge_at (fields_of graph.now) n must_merge) (set_at (table_of graph.now.sets.now) first) (set_at
+        (table_of graph.now.sets.now) second)
+        ≡ between_at (fields_of graph.now) (merge_at (fields_of graph.now) n must_merge) (set_at (table_of graph.now.sets.now) first) (set_at
+        (table_of graph.now.sets.now) result) }
+{
+    let mut set = second;
+    for _step in 0..PARTS_LEFT_OUT {
+        match part_that_meets(graph, first, set, must_merge) {
+            Some(part) => {
+                set = part;
+            }
+            None => {
+                return set;
+            }
+        }
+    }
+    set
+}
+
+/// How many parts are left out at most without a question.
+const PARTS_LEFT_OUT: usize = 32;
+
+/// The one of the two parts of the second set that can stand for it beside the first, where the other is apart from the first.
+fn part_that_meets(
+    graph: &Graph<'_, '_>,
+    first: usize,
+    second: usize,
+    must_merge: bool,
+) -> Option<usize>
+    ensures { (i : ℕ) → result ≡ Some i → IsTable graph.now.sets.now → (n : ℕ) →
+        between_at (fields_of graph.now) (merge_at (fields_of graph.now) n must_merge) (set_at (table_of graph.now.sets.now) first) (set_at
+        (table_of graph.now.sets.now) second)
+        ≡ between_at (fields_of graph.now) (merge_at (fields_of graph.now) n must_merge) (set_at (table_of graph.now.sets.now) first) (set_at
+        (table_of graph.now.sets.now) i) }
+{
+    match part_of(graph.sets, second) {
+        Part::Fields(_) => None,
+        Part::Both(a, b) => {
+            if are_apart(graph, first, a, must_merge) {
+                return Some(b);
+            }
+            if are_apart(graph, first, b, must_merge) {
+                return Some(a);
+            }
+            None
+        }
+        Part::Nothing => None,
+    }
+}
+
+/// Whether both are sets of few fields, and nothing between them can go wrong, whatever is known.
+fn are_apart(graph: &Graph<'_, '_>, first: usize, second: usize, must_merge: bool) -> bool
+    ensures { result ≡ true → IsTable graph.now.sets.now → (n : ℕ) →
+        between_at (fields_of graph.now) (merge_at (fields_of graph.now) n must_merge) (set_at (table_of graph.now.sets.now) first) (set_at
+        (table_of graph.now.sets.now) second) ≡ true }
+{
+    match part_of(graph.sets, first) {
+        Part::Fields(fields) => is_apart(graph, fields, second, must_merge),
+        Part::Both(_, _) => false,
+        Part::Nothing => true,
+    }
+}
+
+/// Whether the set has few fields, as these are, and nothing between them can go wrong.
+fn is_apart(graph: &Graph<'_, '_>, fields: &[usize], set: usize, must_merge: bool) -> bool
+    ensures { result ≡ true → IsTable graph.now.sets.now → (n : ℕ) →
+        between_at (fields_of graph.now) (merge_at (fields_of graph.now) n must_merge) fields.now (set_at (table_of graph.now.sets.now) set) ≡ true }
+{
+    match part_of(graph.sets, set) {
+        Part::Fields(others) => {
+            if fields.len() > FEW || others.len() > FEW {
+                return false;
+            }
+            all_pass(graph.vertices, fields, others, must_merge)
+        }
+        Part::Both(_, _) => false,
+        Part::Nothing => true,
+    }
+}
+
+/// How many fields are few.
+const FEW: usize = 8;
+
+/// Whether each field of the one list can be merged with each of the other, as is seen without a look at what they select.
+fn all_pass(vertices: &[Vertex<'_>], xs: &[usize], ys: &[usize], must_merge: bool) -> bool
+    ensures { result ≡ true → (t : List (List ℕ)) (n : ℕ) →
+        between_at (map (view_vertex t) vertices.now) (merge_at (map (view_vertex t) vertices.now) n must_merge) xs.now ys.now ≡ true }
+{
+    for y in ys {
+        if !each_passes(vertices, xs, *y, must_merge) {
+            return false;
+        }
+    }
+    true
+}
+
+/// Whether each field of the list can be merged with this one, so.
+fn each_passes(vertices: &[Vertex<'_>], xs: &[usize], y: usize, must_merge: bool) -> bool
+    ensures { result ≡ true → (t : List (List ℕ)) (n : ℕ) →
+        list_all (λ i. tested_at (map (view_vertex t) vertices.now) (merge_at (map (view_vertex t) vertices.now) n must_merge) i y) xs.now ≡ true }
+{
+    for x in xs {
+        if !passes(vertices, *x, y, must_merge) {
+            return false;
+        }
+    }
+    true
+}
+
+/// Whether two fields have two response keys, or agree and select nothing.
+fn passes(vertices: &[Vertex<'_>], first: usize, second: usize, must_merge: bool) -> bool
+    ensures { result ≡ true → (t : List (List ℕ)) (n : ℕ) →
+        tested_at (map (view_vertex t) vertices.now) (merge_at (map (view_vertex t) vertices.now) n must_merge) first second ≡ true }
+{
+    match (vertices.get(first), vertices.get(second)) {
+        (Some(x), Some(y)) => {
+            if x.key != y.key {
+                return true;
+            }
+            if selects(x) || selects(y) {
+                return false;
+            }
+            agree(must_merge, x, y)
+        }
+        (Some(_), None) => true,
+        (None, _) => true,
+    }
+}
+
+/// Whether a field selects something.
+fn selects(vertex: &Vertex<'_>) -> bool
+    ensures { result ≡ false → vertex.now.below ≡ None }
+{
+    match vertex.below {
+        Some(_) => true,
+        None => false,
+    }
+}
+
+/// The answer, if it is known; else the question is opened.
+fn ask(
+    question: Question,
+    known: &Known,
+    open: &mut Vec<Question>,
+) -> Result<Option<bool>, AllocError>
+    ensures { IfOk result (λ o. (vs : List FieldAt) (t : List (List ℕ)) → IsSound vs t known.now → IsTold (test_of vs t question) o) }
+{
+    match known.answer(question) {
+        Some(answer) => Ok(Some(answer)),
+        None => {
+            open.push(question)?;
+            Ok(None)
+        }
+    }
+}
+
+/// The answer for each two of these fields.
+fn look_within(
+    graph: &Graph<'_, '_>,
+    fields: &[usize],
+    must_merge: bool,
+    known: &Known,
+    open: &mut Vec<Question>,
+) -> Result<Option<bool>, AllocError>
+    ensures { IfOk result (λ o. IsFound graph.now known.now (λ n. each_pair_at (fields_of graph.now) (merge_at
+        (fields_of graph.now) n must_merge) fields.now) o) }
+{
+    if fields.len() > FEW {
+        let found = look_within_many(graph, fields, must_merge, known, open)?;
+        Ok(found)
+    } else {
+        let found = look_within_few(graph, fields, must_merge, known, open)?;
+        Ok(found)
+    }
+}
+
+/// The answer for each field of the one list with each of the other.
+fn look_between(
+    graph: &Graph<'_, '_>,
+    xs: &[usize],
+    ys: &[usize],
+    must_merge: bool,
+    known: &Known,
+    open: &mut Vec<Question>,
+) -> Result<Option<bool>, AllocError>
+    ensures { IfOk result (λ o. IsFound graph.now known.now (λ n. between_at (fields_of graph.now) (merge_at
+        (fields_of graph.now) n must_merge) xs.now ys.now) o) }
+{
+    if xs.len() > FEW {
+        let found = look_between_many(graph, xs, ys, must_merge, known, open)?;
+        Ok(found)
+    } else {
+        let found = look_between_few(graph, xs, ys, must_merge, known, open)?;
+        Ok(found)
+    }
+}
+
+/// The same, each looked at with those before it that have its response key.
+fn look_within_many<'a>(
+    graph: &Graph<'_, 'a>,
+    fields: &[usize],
+    must_merge: bool,
+    known: &Known,
+    open: &mut Vec<Question>,
+) -> Result<Option<bool>, AllocError>
+    ensures { IfOk result (λ o. IsFound graph.now known.now (λ n. each_pair_at (fields_of graph.now) (merge_at
+        (fields_of graph.now) n must_merge) fields.now) o) }
+{
+    let mut groups: Groups<'a> = HashMap::new(known.alloc);
+    let mut found = Some(true);
+    for second in fields {
+        let more = look_at_group(graph, &groups, *second, must_merge, known, open)?;
+        found = join(found, more);
+        put_into_group(known.alloc, graph.vertices, &mut groups, *second)?;
+    }
+    Ok(found)
+}
+
+/// The same, each looked at with those of the other list that have its response key.
+fn look_between_many(
+    graph: &Graph<'_, '_>,
+    xs: &[usize],
+    ys: &[usize],
+    must_merge: bool,
+    known: &Known,
+    open: &mut Vec<Question>,
+) -> Result<Option<bool>, AllocError>
+    ensures { IfOk result (λ o. IsFound graph.now known.now (λ n. between_at (fields_of graph.now) (merge_at
+        (fields_of graph.now) n must_merge) xs.now ys.now) o) }
+{
+    let groups = grouped(known.alloc, graph.vertices, xs)?;
+    let mut found = Some(true);
+    for second in ys {
+        let more = look_at_group(graph, &groups, *second, must_merge, known, open)?;
+        found = join(found, more);
+    }
+    Ok(found)
+}
+
+/// The answer for each field of a list, which is in groups, with one field.
+fn look_at_group(
+    graph: &Graph<'_, '_>,
+    groups: &Groups<'_>,
+    second: usize,
+    must_merge: bool,
+    known: &Known,
+    open: &mut Vec<Question>,
+) -> Result<Option<bool>, AllocError>
+    ensures { IfOk result (λ o. (xs : List ℕ) → ((k : Name) → group_in groups.now k ≡ with_key_at (fields_of graph.now) k xs)
+        → IsFound graph.now known.now (λ n. list_all (λ i. tested_at (fields_of graph.now) (merge_at (fields_of graph.now) n must_merge) i second) xs) o) }
+{
+    match graph.vertices.get(second) {
+        Some(vertex) => match groups.get(vertex.key) {
+            Some(group) => {
+                let found = look_at_each(graph, group, second, must_merge, known, open)?;
+                Ok(found)
+            }
+            None => Ok(Some(true)),
+        },
+        None => Ok(Some(true)),
+    }
+}
+
+/// These fields, in groups by their response keys.
+fn grouped<'a>(
+    alloc: Global,
+    vertices: &[Vertex<'a>],
+    fields: &[usize],
+) -> Result<Groups<'a>, AllocError>
+    ensures { IfOk result (λ groups. (t : List (List ℕ)) (k : Name) → group_in groups k ≡ with_key_at (map (view_vertex t) vertices.now) k fields.now) }
+{
+    let mut groups: Groups<'a> = HashMap::new(alloc);
+    for field in fields {
+        put_into_group(alloc, vertices, &mut groups, *field)?;
+    }
+    Ok(groups)
+}
+
+/// Puts a field into the group of its response key.
+fn put_into_group<'a>(
+    alloc: Global,
+    vertices: &[Vertex<'a>],
+    groups: &mut Groups<'a>,
+    field: usize,
+) -> Result<(), AllocError>
+    ensures { OnOk result ((t : List (List ℕ)) (xs : List ℕ) → ((k : Name) → group_in groups.old k ≡ with_key_at (map (view_vertex t) vertices.now) k xs)
+        → (k : Name) → group_in groups.new k ≡ with_key_at (map (view_vertex t) vertices.now) k (xs ++ field ∷ [])) }
+{
+    match vertices.get(field) {
+        Some(vertex) => {
+            let mut group = take_group(alloc, groups, vertex.key);
+            group.push(field)?;
+            put_group(groups, vertex.key, group)?;
+            Ok(())
+        }
+        None => Ok(()),
+    }
+}
+
+/// The same, each looked at with all before it.
+fn look_within_few(
+    graph: &Graph<'_, '_>,
+    fields: &[usize],
+    must_merge: bool,
+    known: &Known,
+    open: &mut Vec<Question>,
+) -> Result<Option<bool>, AllocError>
+    ensures { IfOk result (λ o. IsFound graph.now known.now (λ n. each_pair_at (fields_of graph.now) (merge_at
+        (fields_of graph.now) n must_merge) fields.now) o) }
+{
+    let mut found = Some(true);
+    for index in 0..fields.len() {
+        let more = look_at_each(
+            graph,
+            &fields[..index],
+            fields[index],
+            must_merge,
+            known,
+            open,
+        )?;
+        found = join(found, more);
+    }
+    Ok(found)
+}
+
+/// The same, each looked at with all of the other list.
+fn look_between_few(
+    graph: &Graph<'_, '_>,
+    xs: &[usize],
+    ys: &[usize],
+    must_merge: bool,
+    known: &Known,
+    open: &mut Vec<Question>,
+) -> Result<Option<bool>, AllocError>
+    ensures { IfOk result (λ o. IsFound graph.now known.now (λ n. between_at (fields_of graph.now) (merge_at
+        (fields_of graph.now) n must_merge) xs.now ys.now) o) }
+{
+    let mut found = Some(true);
+    for second in ys {
+        let more = look_at_each(graph, xs, *second, must_merge, known, open)?;
+        found = join(found, more);
+    }
+    Ok(found)
+}
+
+/// The answer for each field of a list with one field.
+fn look_at_each(
+    graph: &Graph<'_, '_>,
+    fields: &[usize],
+    second: usize,
+    must_merge: bool,
+    known: &Known,
+    open: &mut Vec<Question>,
+) -> Result<Option<bool>, AllocError>
+    ensures { IfOk result (λ o. IsFound graph.now known.now
+        (λ n. list_all (λ i. tested_at (fields_of graph.now) (merge_at (fields_of graph.now) n must_merge) i second) fields.now) o) }
+{
+    let mut found = Some(true);
+    for first in fields {
+        let more = look_at(graph, *first, second, must_merge, known, open)?;
+        found = join(found, more);
+    }
+    Ok(found)
+}
+
+/// The answer for two fields, if they have one response key.
+fn look_at(
+    graph: &Graph<'_, '_>,
+    first: usize,
+    second: usize,
+    must_merge: bool,
+    known: &Known,
+    open: &mut Vec<Question>,
+) -> Result<Option<bool>, AllocError>
+    ensures { IfOk result (λ o. IsFound graph.now known.now (λ n. tested_at (fields_of graph.now) (merge_at
+        (fields_of graph.now) n must_merge) first second) o) }
+{
+    match (graph.vertices.get(first), graph.vertices.get(second)) {
+        (Some(x), Some(y)) => {
+            if x.key != y.key {
+                return Ok(Some(true));
+            }
+            if !agree(must_merge, x, y) {
+                return Ok(Some(false));
+            }
+            let m = must_merge_below(must_merge, x, y);
+            let found = look_below(graph, x.below, y.below, m, known, open)?;
+            Ok(found)
+        }
+        (Some(_), None) => Ok(Some(true)),
+        (None, _) => Ok(Some(true)),
+    }
+}
+
+/// The answer for what two fields select.
+fn look_below(
+    graph: &Graph<'_, '_>,
+    first: Option<usize>,
+    second: Option<usize>,
+    must_merge: bool,
+    known: &Known,
+    open: &mut Vec<Question>,
+) -> Result<Option<bool>, AllocError>
+    ensures { IfOk result (λ o. IsFound graph.now known.now (λ n. each_pair_at (fields_of graph.now) (merge_at (fields_of graph.now) n must_merge)
+        (below_in (table_of graph.now.sets.now) first ++ below_in (table_of graph.now.sets.now) second)) o) }
+{
+    match (first, second) {
+        (Some(a), Some(b)) => {
+            let x = ask_within(graph, a, must_merge, known, open)?;
+            let y = ask_within(graph, b, must_merge, known, open)?;
+            let across = ask_between(graph, a, b, must_merge, known, open)?;
+            Ok(join(x, join(y, across)))
+        }
+        (Some(a), None) => {
+            let x = ask_within(graph, a, must_merge, known, open)?;
+            Ok(x)
+        }
+        (None, Some(b)) => {
+            let y = ask_within(graph, b, must_merge, known, open)?;
+            Ok(y)
+        }
+        (None, None) => Ok(Some(true)),
+    }
+}
+
+/// The answer to two questions together.
+#[tactic(auto, unfolding(crate::specs::Questions::join))]
+fn join(a: Option<bool>, b: Option<bool>) -> Option<bool>
+    ensures { result ≡ join a b }
+{
+    match (a, b) {
+        (Some(true), other) => other,
+        (Some(false), _) => Some(false),
+        (None, Some(false)) => Some(false),
+        (None, Some(true)) => None,
+        (None, None) => None,
+    }
 }
 
 /// Whether two fields agree, whatever they select.
 #[tactic(auto, unfolding(crate::specs::MergingGraph::agree, crate::specs::MergingGraph::can_meet, crate::specs::MergingGraph::view_vertex))]
 fn agree(must_merge: bool, x: &Vertex<'_>, y: &Vertex<'_>) -> bool
-    ensures { result ≡ agree must_merge (view_vertex x.now) (view_vertex y.now) }
+    ensures { result ≡ agree must_merge (view_vertex [] x.now) (view_vertex [] y.now) }
 {
     x.shape == y.shape && (!(must_merge && may_meet(x, y)) || x.call == y.call)
+}
+
+/// Whether what two fields select has to merge, where they have to if they may meet.
+#[tactic(auto, unfolding(crate::specs::MergingGraph::can_meet, crate::specs::MergingGraph::view_vertex))]
+fn must_merge_below(must_merge: bool, x: &Vertex<'_>, y: &Vertex<'_>) -> bool
+    ensures { result ≡ (must_merge && can_meet (view_vertex [] x.now) (view_vertex [] y.now)) }
+{
+    must_merge && may_meet(x, y)
 }
 
 /// Whether the fields' parent types are the same, or one of them is no object type.
 #[tactic(auto, unfolding(crate::specs::MergingGraph::can_meet, crate::specs::MergingGraph::view_vertex))]
 fn may_meet(x: &Vertex<'_>, y: &Vertex<'_>) -> bool
-    ensures { result ≡ can_meet (view_vertex x.now) (view_vertex y.now) }
+    ensures { result ≡ can_meet (view_vertex [] x.now) (view_vertex [] y.now) }
 {
     x.parent == y.parent || !x.on_object || !y.on_object
 }

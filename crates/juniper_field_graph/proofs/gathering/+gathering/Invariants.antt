@@ -6,7 +6,7 @@ use Rattle.graphql_spec.specs.Fragments.{HasNoCycle}
 use Rattle.juniper_meta.specs.MetaView.{view_type}
 use Rattle.juniper_schema.specs.SchemaView.{view_schema}
 use Rattle.juniper_syntax.specs.DocumentView.{view_selections}
-use Rattle.juniper_field_graph.specs.Gathering.{IsReadyIn, numbers_at, view_sets}
+use Rattle.juniper_field_graph.specs.Gathering.{IsReadyIn, set_named}
 use Rattle.juniper_field_graph.specs.GraphView.{IsGraphOf}
 use Rattle.juniper_field_graph.proofs.Steps.{IsSoFar}
 use Rattle.juniper_field_graph.proofs.gathering.+gathering.Given as goal
@@ -17,6 +17,6 @@ invariant-gather_set-loop-selection g l =
     let s = view_schema shown l.known.schema.now in
     (fs : List SpecFragment) (ends : HasNoCycle fs) → view_type l.known.undeclared.now ≡ fields.declared_type None →
     IsGraphOf shown s l.initial.gathered.graph →
-    IsReadyIn shown s fs l.initial.gathered.graph (numbers_at l.known.fragments.now) (view_selections shown l.selections) →
-    IsSoFar shown s fs ends (numbers_at l.known.fragments.now) l.parent l.initial.gathered.graph l.gathered.graph (view_sets l.initial.gathered.sets)
-    (view_sets l.gathered.sets) l.initial.numbers l.numbers l.selections l.selection-index
+    IsReadyIn shown s fs l.initial.gathered.graph (set_named l.known.fragments.now) (view_selections shown l.selections) →
+    IsSoFar shown s fs ends (set_named l.known.fragments.now) l.parent l.initial.gathered.graph l.gathered.graph l.initial.gathered.sets.items
+    l.gathered.sets.items l.initial.numbers l.numbers l.selections l.selection-index

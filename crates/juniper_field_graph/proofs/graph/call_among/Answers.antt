@@ -13,14 +13,14 @@ loop-kind-preserved g c once own =
     (c.loop-kind.invariant once own)
 
 pub returns-then-has_call : goal.returns-then-has_call
-returns-then-has_call g c once own =
+returns-then-has_call g c once own t =
     let shown = g.S.ScalarValue.shown in
     let test : ℕ → Bool = λ r. has_call (view_field shown c.args.field.now) (slice_get (heads_in shown c.args.fields.now) r) in
-    kind-taken test c.args.kinds.now (λ v. v.call) c.args.vertices.now c.loop-kind.kind-index c.has_call.result c.call_at.result
-    c.loop-kind-test.true (c.has_call.ensures once own) c.if-has_call.true c.call_at.ensures (c.loop-kind.invariant once own)
+    kind-taken test c.args.kinds.now (λ v. v.call) c.args.vertices.now t c.loop-kind.kind-index c.has_call.result c.call_at.result
+    c.loop-kind-test.true (c.has_call.ensures once own) c.if-has_call.true (c.call_at.ensures t) (c.loop-kind.invariant once own)
 
 pub returns : goal.returns
-returns g c once own =
+returns g c once own t =
     let shown = g.S.ScalarValue.shown in
     let test : ℕ → Bool = λ r. has_call (view_field shown c.args.field.now) (slice_get (heads_in shown c.args.fields.now) r) in
-    kind-missing test c.args.kinds.now (λ v. v.call) c.args.vertices.now c.loop-kind.kind-index c.loop-kind-test.false (c.loop-kind.invariant once own)
+    kind-missing test c.args.kinds.now (λ v. v.call) c.args.vertices.now t c.loop-kind.kind-index c.loop-kind-test.false (c.loop-kind.invariant once own)

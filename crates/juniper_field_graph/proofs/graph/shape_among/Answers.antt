@@ -15,16 +15,16 @@ loop-kind-preserved g c =
     c.loop-kind.invariant
 
 pub returns-then-has_type : goal.returns-then-has_type
-returns-then-has_type g c =
+returns-then-has_type g c t =
     let shown = g.S.ScalarValue.shown in
     let test : ℕ → Bool = λ r. has_type (view_schema shown c.args.schema.now) (view_type c.args.declared_type.now)
     (slice_get (types_in shown c.args.fields.now) r) in
-    kind-taken test c.args.kinds.now (λ v. v.shape) c.args.vertices.now c.loop-kind.kind-index c.has_type.result c.shape_at.result
-    c.loop-kind-test.true c.has_type.ensures c.if-has_type.true c.shape_at.ensures c.loop-kind.invariant
+    kind-taken test c.args.kinds.now (λ v. v.shape) c.args.vertices.now t c.loop-kind.kind-index c.has_type.result c.shape_at.result
+    c.loop-kind-test.true c.has_type.ensures c.if-has_type.true (c.shape_at.ensures t) c.loop-kind.invariant
 
 pub returns : goal.returns
-returns g c =
+returns g c t =
     let shown = g.S.ScalarValue.shown in
     let test : ℕ → Bool = λ r. has_type (view_schema shown c.args.schema.now) (view_type c.args.declared_type.now)
     (slice_get (types_in shown c.args.fields.now) r) in
-    kind-missing test c.args.kinds.now (λ v. v.shape) c.args.vertices.now c.loop-kind.kind-index c.loop-kind-test.false c.loop-kind.invariant
+    kind-missing test c.args.kinds.now (λ v. v.shape) c.args.vertices.now t c.loop-kind.kind-index c.loop-kind-test.false c.loop-kind.invariant

@@ -1,32 +1,43 @@
-use Rattle.juniper_schema.specs.SchemaView.{view_schema}
-use Rattle.juniper_field_graph.specs.Gathering.{numbers_at}
-use Rattle.juniper_field_graph.proofs.JudgingSteps.{definition-ready, judged-so-far-all, judged-so-far-next, judged-so-far-none}
+use Rattle.std.proofs.Common.{◌++◌, ◌∷◌, [], map, take, not, sym, subst}
+use Rattle.std.proofs.lemmas.List.{take_all}
+use Rattle.graphql_spec.specs.Laws.{In}
+use Rattle.juniper_merging.specs.Questions.{fields_of}
+use Rattle.juniper_merging.specs.Tables.{table_of}
+use Rattle.juniper_field_graph.specs.Gathering.{IsAnswer, Pairwise}
+use Rattle.juniper_field_graph.proofs.SetTables.{pairwise-both, pairwise-none, pairwise-one, was-false, was-true}
+use Rattle.juniper_field_graph.proofs.Taken.{taken-more}
 use Rattle.juniper_field_graph.proofs.overlapping_fields_can_be_merged.judge_each.Goals as goal
 
-pub loop-definition-init : goal.loop-definition-init
-loop-definition-init g c d ends unknown is ready =
-    let shown = g.S.ScalarValue.shown in
-    judged-so-far-none shown (view_schema shown c.args.known.now.schema.now) d c.args.gathered.now.graph c.new-found.result.items c.args.document.now is
-    c.new-found.ensures.items
+pub loop-sets-init : goal.loop-sets-init
+loop-sets-init c is =
+    let graph = c.args.graph.now in
+    let Is = IsAnswer (fields_of graph) (table_of graph.sets.now) in (
+      c.new-answers.ensures (fields_of graph) (table_of graph.sets.now),
+      subst (Pairwise Is []) (sym c.new-found.ensures.items) (pairwise-none Is),
+    )
 
-pub loop-definition-preserved : goal.loop-definition-preserved
-loop-definition-preserved g c d ends unknown is ready =
-    let shown = g.S.ScalarValue.shown in
-    let s = view_schema shown c.args.known.now.schema.now in
-    let before = c.loop-definition.invariant d ends unknown is ready in
-    judged-so-far-next shown s d c.args.gathered.now.graph c.loop-definition.gathered.graph c.definition_merges.new.gathered.graph c.loop-definition.found.items
-    c.push.new.self.items c.args.document.now c.loop-definition.definition-index
-    c.definition-item.result c.in_ok-merges.merges c.loop-definition-test.true c.definition-item.is before
-    (c.in_ok-merges.ensures d ends unknown before.graph
-    (definition-ready shown s d c.args.gathered.now.graph c.loop-definition.gathered.graph
-    (numbers_at c.args.known.now.fragments.now) c.loop-definition.found.items c.args.document.now c.loop-definition.definition-index
-    c.definition-item.result
-    c.loop-definition-test.true c.definition-item.is ready before))
-    c.in_ok-push.ensures.items
+pub loop-sets-preserved : goal.loop-sets-preserved
+loop-sets-preserved c is =
+    let graph = c.args.graph.now in
+    let Is = IsAnswer (fields_of graph) (table_of graph.sets.now) in
+    let lists = c.args.lists.now in
+    let i = c.loop-sets.sets-index in
+    let item = c.sets-item.result in
+    let before = c.loop-sets.invariant is in
+    let merge = c.in_ok-merge.merge in
+    let own : Is item.items (not merge) = (
+      λ e set j. c.in_ok-merge.ensures.merges is before.0 (was-true merge e) set (subst (In set) (sym c.deref.ensures.value) j),
+      λ e. let w = c.in_ok-merge.ensures.differs is before.0 (was-false merge e) in (w.0, subst (In w.0) c.deref.ensures.value w.1, w.2),
+    ) in (
+      c.in_ok-merge.ensures.sound is before.0,
+      subst (λ l. Pairwise Is l c.push.new.self.items) (sym (taken-more (λ v. v.items) lists i item c.loop-sets-test.true c.sets-item.is))
+          (subst (Pairwise Is (map (λ v. v.items) (take i lists) ++ item.items ∷ [])) (sym c.in_ok-push.ensures.items)
+          (pairwise-both Is (map (λ v. v.items) (take i lists)) (item.items ∷ []) c.loop-sets.found.items (not merge ∷ []) before.1
+          (pairwise-one Is item.items (not merge) own))),
+    )
 
 pub returns : goal.returns
-returns g c d ends unknown is ready =
-    let shown = g.S.ScalarValue.shown in
-    judged-so-far-all shown (view_schema shown c.args.known.now.schema.now) d c.args.gathered.now.graph c.loop-definition.gathered.graph
-    c.loop-definition.found.items c.args.document.now c.loop-definition.definition-index
-    c.loop-definition-test.false (c.loop-definition.invariant d ends unknown is ready)
+returns c is =
+    let graph = c.args.graph.now in
+    subst (λ l. Pairwise (IsAnswer (fields_of graph) (table_of graph.sets.now)) (map (λ v. v.items) l) c.loop-sets.found.items)
+    (take_all c.loop-sets.sets-index c.args.lists.now c.loop-sets-test.false) (c.loop-sets.invariant is).1

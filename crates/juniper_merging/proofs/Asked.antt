@@ -1,0 +1,29 @@
+-- Questions of either kind.
+use Rattle.std.specs.Prelude.{ℕ, Bool, true, false, List, ◌≡◌, Option, Some, cond}
+use Rattle.std.proofs.Common.{ap, ◌∙◌}
+use Rattle.juniper_merging.specs.MergingGraph.{FieldAt, set_merges_at}
+use Rattle.juniper_merging.specs.Questions.{IsTold, between_test, test_of, within_test}
+use Rattle.juniper_merging.specs.Tables.{set_at}
+use Rattle.juniper_merging.specs.declared.known.Question.{Question}
+use Rattle.juniper_merging.proofs.Told.{told-same}
+
+module _ (t : List (List ℕ)) (vs : List FieldAt) (q : Question) (o : Option Bool) where
+  pub asked-inside : q.within ≡ true → IsTold (within_test vs t q.must_merge q.first) o → IsTold (test_of vs t q) o
+  unfolding test_of
+  asked-inside e = told-same (within_test vs t q.must_merge q.first) (test_of vs t q) o
+      (λ n. ap (λ b. cond b (within_test vs t q.must_merge q.first n) (between_test vs t q.must_merge q.first q.second n)) e)
+
+  pub asked-across : q.within ≡ false → IsTold (between_test vs t q.must_merge q.first q.second) o → IsTold (test_of vs t q) o
+  unfolding test_of
+  asked-across e = told-same (between_test vs t q.must_merge q.first q.second) (test_of vs t q) o
+      (λ n. ap (λ b. cond b (within_test vs t q.must_merge q.first n) (between_test vs t q.must_merge q.first q.second n)) e)
+
+module _ (t : List (List ℕ)) (vs : List FieldAt) (set : ℕ) (o : Option Bool) (b : Bool)
+    (told : IsTold (test_of vs t (record { first = set; second = set; must_merge = true; within = true })) o) (is : o ≡ Some b) where
+  pub set-merges : b ≡ true → (n : ℕ) → set_merges_at vs n (set_at t set) ≡ true
+  unfolding test_of within_test set_merges_at
+  set-merges e n = told.yes (is ∙ ap Some e) n
+
+  pub set-differs : b ≡ false → (n : ℕ) × (set_merges_at vs n (set_at t set) ≡ false)
+  unfolding test_of within_test set_merges_at
+  set-differs e = told.no (is ∙ ap Some e)

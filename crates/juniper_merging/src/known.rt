@@ -1,0 +1,106 @@
+//! What is known of sets of fields.
+
+ghost use Rattle.std.specs.Prelude.{◌≡◌, ◌&&◌, Bool, IfOk, List, OnOk, cond, false, nat_eq, not, true, ℕ};
+ghost use Rattle.juniper_merging.specs.MergingGraph.{FieldAt};
+ghost use Rattle.juniper_merging.specs.Questions.{IsSound, IsTold, has, kind_of, test_of};
+
+use std::alloc::{AllocError, Global};
+use std::collections::HashSet;
+
+/// Whether each two fields of one response key can be merged or, where they need not merge, agree in shape: each two within a
+/// set, or each of a set with each of a second one.
+#[derive(Clone, Copy)]
+pub(crate) struct Question {
+    pub(crate) first: usize,
+    pub(crate) second: usize,
+    pub(crate) must_merge: bool,
+    pub(crate) within: bool,
+}
+
+/// The answers that were found, each for good: as long as no field and no set of the graph changes.
+#[derive(Drop)]
+pub struct Known {
+    /// Where memory comes from.
+    pub(crate) alloc: Global,
+    yes: HashSet<(usize, usize, usize)>,
+    no: HashSet<(usize, usize, usize)>,
+}
+
+impl Known {
+    /// None.
+    pub fn new(alloc: Global) -> Self
+        ensures { (vs : List FieldAt) (t : List (List ℕ)) → IsSound vs t result }
+    {
+        Known {
+            alloc,
+            yes: HashSet::new(alloc),
+            no: HashSet::new(alloc),
+        }
+    }
+
+    /// The answer, if it is known.
+    pub(crate) fn answer(&self, question: Question) -> Option<bool>
+        ensures { (vs : List FieldAt) (t : List (List ℕ)) → IsSound vs t self.now → IsTold (test_of vs t question) result }
+    {
+        let kind = kind_of(question.within, question.must_merge);
+        if has(&self.yes, question.first, question.second, kind) {
+            return Some(true);
+        }
+        if has(&self.no, question.first, question.second, kind) {
+            return Some(false);
+        }
+        None
+    }
+
+    /// Keeps an answer. An error where memory is refused.
+    pub(crate) fn keep(&mut self, question: Question, answer: bool) -> Result<(), AllocError>
+        ensures { OnOk result ((vs : List FieldAt) (t : List (List ℕ)) → IsSound vs t self.old
+            → (answer ≡ true → (n : ℕ) → test_of vs t question n ≡ true) → (answer ≡ false → (n : ℕ) × (test_of vs t question n ≡ false))
+            → IsSound vs t self.new) }
+    {
+        let kind = kind_of(question.within, question.must_merge);
+        if answer {
+            put(&mut self.yes, question.first, question.second, kind)?;
+        } else {
+            put(&mut self.no, question.first, question.second, kind)?;
+        }
+        Ok(())
+    }
+}
+
+/// A number for each of the four kinds of questions.
+#[tactic(auto, unfolding(crate::specs::Questions::kind_of))]
+fn kind_of(within: bool, must_merge: bool) -> usize
+    ensures { result ≡ kind_of within must_merge }
+{
+    if within {
+        if must_merge { 0 } else { 1 }
+    } else if must_merge {
+        2
+    } else {
+        3
+    }
+}
+
+/// Whether the numbers are in the set.
+fn has(set: &HashSet<(usize, usize, usize)>, first: usize, second: usize, kind: usize) -> bool
+    ensures { result ≡ has set.now first second kind }
+{
+    if set.is_empty() {
+        return false;
+    }
+    set.contains(&(first, second, kind))
+}
+
+/// Puts the numbers into the set.
+fn put(
+    set: &mut HashSet<(usize, usize, usize)>,
+    first: usize,
+    second: usize,
+    kind: usize,
+) -> Result<(), AllocError>
+    ensures { OnOk result ((i j k : ℕ) → has set.new i j k ≡ cond ((nat_eq first i && nat_eq second j) && nat_eq kind k) true (has set.old i j k)) }
+{
+    set.insert((first, second, kind))?;
+    Ok(())
+}
