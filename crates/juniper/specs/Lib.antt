@@ -9,3 +9,4 @@ pub mod ServedView
 pub mod Services
 pub mod Stepping
 pub mod Walkings
+pub use Rattle.juniper_words.specs.Server

@@ -17,6 +17,7 @@ mod service;
 pub mod twin;
 mod variables;
 mod walking;
+pub mod words;
 
 pub use error::GraphQLError;
 pub use execute::execute_validated_query;

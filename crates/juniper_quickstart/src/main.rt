@@ -1,62 +1,92 @@
-//! A server in a page: a schema with an argument, its resolver, a request, and its printed answer.
+//! A server in a page: a type with an argument, its resolver, a request, and its printed answer.
 #![tactic(auto)]
 
-ghost use Rattle.std.specs.Prelude.{◌≡◌, IfOk};
-ghost use Rattle.juniper_meta.specs.MetaView.{view_meta};
-ghost use Rattle.juniper_resolvable.specs.ResolvedView.{Answers};
-ghost use Rattle.juniper_values.specs.ArgumentView.{view_arguments};
+ghost use Rattle.std.specs.Prelude.{codes};
 ghost use Rattle.juniper_quickstart.specs.Quickstart as server;
 
-mod query;
-
+use juniper::words::{
+    Declared, Named, NamedType, QueryType, TypeName, int, int_argument, null, text,
+};
 use juniper::{
-    Arguments, DefaultScalarValue, EmptyMutation, EmptySubscription, MetaType, Registry,
+    Arguments, DefaultScalarValue, EmptyMutation, EmptySubscription, Executor, Registry,
     ResolveError, Resolved, RootNode, ScalarValue, Variables, execute_sync,
 };
 use juniper_response::answer_line;
-use query::Query;
 use std::alloc::{AllocError, Global};
 use std::io;
 
-/// The schema: `type Query { hello: String!, echo(number: Int!): Int! }`.
-fn declare<S: ScalarValue>(registry: &mut Registry<S>) -> Result<MetaType<S>, AllocError>
-    ensures { IfOk result (λ meta. view_meta S.shown meta ≡ server.query_declaration) }
-{
-    let number = registry.arg::<i32>("number", &())?;
-    let fields = [
-        registry.field::<String>("hello", &())?,
-        registry.field_with::<i32>("echo", number, &())?,
-    ];
-    registry.object_type("Query", fields)
+/// `type Query { hello: String!, echo(number: Int!): Int! }`.
+#[derive(Debug, Drop)]
+struct Query;
+
+impl TypeName for Query {
+    ghost named = { codes "Query" };
+
+    fn graphql_name() -> &'static str {
+        "Query"
+    }
+}
+
+impl NamedType for Query {
+    ghost declared = { server.query };
+
+    fn declare<S: ScalarValue>(_alloc: Global, name: &str, types: &mut Registry<S>) -> Declared<S> {
+        let number = types.arg::<i32>("number", &())?;
+        let fields = [
+            types.field::<String>("hello", &())?,
+            types.field_with::<i32>("echo", number, &())?,
+        ];
+        types.object_type(name, fields)
+    }
 }
 
 /// The resolver: what it answers is proved to be what its definition says.
-fn resolve<S: ScalarValue>(
-    alloc: Global,
-    field_name: &str,
-    arguments: &Arguments<'_, S>,
-) -> Result<Resolved<(), S>, ResolveError<S>>
-    ensures { Answers S.shown result (server.query_reply field_name.now (view_arguments S.shown arguments.now)) }
-{
-    match field_name {
-        "hello" => Ok(Resolved::Scalar(S::from_text(String::from_str(alloc, "world")?)?)),
-        "echo" => match arguments.get::<i32>(alloc, "number")? {
-            Some(number) => Ok(Resolved::Scalar(S::from_int(number))),
-            None => Ok(Resolved::Null),
-        },
-        _ => Ok(Resolved::Null),
+impl<S: ScalarValue> QueryType<S> for Query {
+    type Context = ();
+
+    type Node = ();
+
+    ghost concrete = { λ _. codes "Query" };
+
+    ghost answer = { λ _ _. server.query_reply };
+
+    ghost root = { λ _. tt };
+
+    fn root_node(&self) -> &() {
+        &()
+    }
+
+    fn concrete_type_name(_node: &()) -> &'static str {
+        "Query"
+    }
+
+    fn resolve_field(
+        alloc: Global,
+        _node: &(),
+        field_name: &str,
+        arguments: &Arguments<'_, S>,
+        _executor: &Executor<(), S>,
+    ) -> Result<Resolved<(), S>, ResolveError<S>> {
+        match field_name {
+            "hello" => text(alloc, "world"),
+            "echo" => match int_argument(alloc, arguments, "number")? {
+                Some(number) => int(number),
+                None => null(),
+            },
+            _ => null(),
+        }
     }
 }
 
 /// The answer to a request, as a line of JSON, or why there is none.
 fn answer(alloc: Global, request: &str) -> Result<String, AllocError> {
     let mut registry = Registry::empty(alloc);
-    if registry.register::<Query>(&()).is_err() {
+    if registry.register::<Named<Query>>(&()).is_err() {
         return Err(AllocError);
     }
-    let query = Query { root: () };
     let mutation = EmptyMutation::<(), ()>::new();
     let subscription = EmptySubscription::<()>::new();
+    let query = Named(Query);
     let root = match RootNode::new(alloc, query, mutation, subscription, registry, (), (), ()) {
         Ok(root) => root,
         Err(error) => return error.to_string(alloc),

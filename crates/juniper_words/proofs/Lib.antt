@@ -1,0 +1,3 @@
+mod EnumNames
+mod FoundFields
+mod ReadLists

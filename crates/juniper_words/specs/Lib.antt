@@ -1,0 +1,3 @@
+pub mod InputsRead
+pub mod Nodes
+pub mod Server
