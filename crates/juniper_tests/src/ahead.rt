@@ -151,11 +151,22 @@ sees: hero: hero { x }
 variables: {"n": "x"}
 sees: hero: hero { id }
 query Q($n: Int) { hero(id: $n) { id } } => refused: Variable `$n` has no fitting value sees: nothing
+sees: hero: hero { id }
+{ hero { id } => refused: Unexpected end of input sees: nothing
+sees: hero: hero { id }
+query Q { hero { id } } query R { hero { id } } => refused: Multiple operations provided sees: nothing
+name: S
+sees: hero: hero { id }
+query Q { hero { id } } query R { hero { id } } => refused: Unknown operation name sees: nothing
+sees: hero: hero { id }
+subscription { hero { id } } => refused: Operation is a subscription sees: nothing
+sees: hero: hero { id }
+mutation { hero { id } } => refused: Mutations are not supported sees: nothing
 "#;
 
 #[test]
 fn resolvers_see_ahead(rt: HostRuntime) -> Result<(), Fail> {
-    assert_eq!(rt; report(rt.alloc(), AHEAD)?.as_str(), "36 rows, 0 differ");
+    assert_eq!(rt; report(rt.alloc(), AHEAD)?.as_str(), "41 rows, 0 differ");
     Ok(())
 }
 
