@@ -1,0 +1,4 @@
+pub mod Catalogue
+pub mod Entries
+pub mod Replies
+pub mod Schema

@@ -1,0 +1,128 @@
+//! The catalogue, which requests bring along: books, films and authors.
+
+ghost use Rattle.std.specs.Prelude.{◌≡◌, ◌++◌, ◌∷◌, [], MatchResult, string_bytes};
+
+use juniper::Context;
+use juniper::words::EnumType;
+use std::alloc::{AllocError, Global};
+use std::marker::Model;
+
+/// `enum Genre { NOVEL POETRY SCIENCE }`.
+#[derive(Clone, Copy, Debug, PartialEq, Eq, Drop)]
+pub enum Genre {
+    Novel,
+    Poetry,
+    Science,
+}
+
+impl EnumType for Genre {
+    ghost use Rattle.juniper_library.specs.Catalogue.{genre_name};
+    ghost use Rattle.juniper_library.specs.declared.catalogue.Genre.TheVariants.{Novel, Poetry, Science};
+
+    ghost values = { Novel ∷ Poetry ∷ Science ∷ [] };
+
+    ghost name_of = { genre_name };
+
+    fn values() -> &'static [Genre] {
+        &[Genre::Novel, Genre::Poetry, Genre::Science]
+    }
+
+    fn value_name(&self) -> &'static str {
+        match self {
+            Genre::Novel => "NOVEL",
+            Genre::Poetry => "POETRY",
+            Genre::Science => "SCIENCE",
+        }
+    }
+}
+
+/// A film or an author: what has a number and a name alone.
+#[derive(Drop)]
+pub struct Entry {
+    pub id: String,
+    pub name: String,
+}
+
+impl Model for Entry {
+    ghost use Rattle.std.specs.Prelude.{string_bytes};
+    ghost use Rattle.juniper_library.specs.Entries.{Named};
+
+    ghost Value = { Named };
+
+    ghost view = { λ e. record { id = string_bytes e.id; name = string_bytes e.name } };
+}
+
+impl Entry {
+    /// Its number.
+    pub fn id(&self) -> &str
+        ensures { result.now ≡ self.now.id }
+    {
+        self.id.as_str()
+    }
+
+    /// Its name.
+    pub fn name(&self) -> &str
+        ensures { result.now ≡ self.now.name }
+    {
+        self.name.as_str()
+    }
+}
+
+/// A book: its title, and the place of its author among the authors.
+#[derive(Drop)]
+pub struct Book {
+    pub titled: Entry,
+    pub genre: Genre,
+    pub author: usize,
+}
+
+/// The catalogue of a library.
+#[derive(Drop)]
+pub struct Library {
+    pub books: Vec<Book>,
+    pub films: Vec<Entry>,
+    pub authors: Vec<Entry>,
+}
+
+impl Model for Library {
+    ghost use Rattle.juniper_library.specs.Catalogue.{Catalogue};
+
+    ghost Value = { Catalogue };
+
+    ghost view = { λ l. record { books = l.books.items; films = l.films.items; authors = l.authors.items } };
+}
+
+impl Context for Library {}
+
+impl Library {
+    /// The books.
+    pub fn books(&self) -> &[Book]
+        ensures { result.now ≡ self.now.books }
+    {
+        self.books.as_slice()
+    }
+
+    /// The films.
+    pub fn films(&self) -> &[Entry]
+        ensures { result.now ≡ self.now.films }
+    {
+        self.films.as_slice()
+    }
+
+    /// The authors.
+    pub fn authors(&self) -> &[Entry]
+        ensures { result.now ≡ self.now.authors }
+    {
+        self.authors.as_slice()
+    }
+
+    /// Adds a book behind the others. Where memory is refused nothing changes.
+    pub fn add(&mut self, book: Book) -> Result<(), AllocError>
+        ensures { MatchResult result
+            (λ _. self.new ≡ record self.old { books = self.old.books ++ book ∷ [] })
+            (λ _. self.new ≡ self.old) }
+    {
+        self.books.push(book)?;
+        Ok(())
+    }
+}
