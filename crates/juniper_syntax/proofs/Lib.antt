@@ -12,3 +12,4 @@ pub mod Mapped
 pub mod ValueEquality
 pub mod ValueKeys
 pub mod TypeTexts
+pub mod Indexes

@@ -25,9 +25,12 @@ pair_eq E p q = string_eq p.0 q.0 && E p.1 q.1
 abbrev pub fields_eq : {X : Type 0} → (X → X → Bool) → List (String Global × X) → List (String Global × X) → Bool
 fields_eq E = pointwise (pair_eq E)
 
--- how the logic stores a key, and keys with values
+-- how the logic stores a key, keys, and keys with values
 abbrev pub key_code : Coded (String Global)
 key_code = (text.the_row heap.the_row ghosts).coded
+
+abbrev pub names_code : Coded (List (String Global))
+names_code = coded_list key_code
 
 abbrev pub entries_code : {X : Type 0} → Coded X → Coded (List (String Global × X))
 entries_code c = coded_list (coded× key_code c)

@@ -2,6 +2,8 @@ pub mod Scalars
 pub mod InputView
 pub mod Escapes
 pub mod FieldWords
+pub mod NameNumbers
+pub mod Indexes
 pub mod ValueView
 pub mod TypeView
 pub mod DocumentView

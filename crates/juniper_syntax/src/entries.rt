@@ -4,7 +4,6 @@ ghost use Rattle.std.specs.Prelude.{◌≡◌, length, zip};
 ghost use Rattle.std.specs.Iterator.{at_most};
 ghost use Rattle.std.specs.Map.Iter.{TakesFirst, deref_pair};
 
-use indexmap::{IndexSet, set};
 use std::alloc::Global;
 use std::marker::Model;
 use std::{slice, vec};
@@ -56,7 +55,7 @@ impl<'a, V> Iterator for Entries<'a, V> {
 /// Keys with values, handed over.
 #[derive(Drop)]
 pub struct IntoEntries<V> {
-    keys: set::IntoIter<String>,
+    keys: vec::IntoIter<String>,
     values: vec::IntoIter<V>,
 }
 
@@ -67,15 +66,15 @@ impl<V> Model for IntoEntries<V> {
 
     ghost Value = { List (String Global × V) };
 
-    ghost view = { λ e. zip e.keys (into_iter_items e.values) };
+    ghost view = { λ e. zip (into_iter_items e.keys) (into_iter_items e.values) };
 
-    ghost invariant = { λ e. length (into_iter_items e.values) ≡ length e.keys };
+    ghost invariant = { λ e. length (into_iter_items e.values) ≡ length (into_iter_items e.keys) };
 }
 
 impl<V> IntoEntries<V> {
-    pub(crate) fn new(keys: IndexSet<String>, values: Vec<V>) -> IntoEntries<V>
-        requires { length values.items ≡ length keys.keys }
-        ensures { result ≡ zip keys.keys values.items }
+    pub(crate) fn new(keys: Vec<String>, values: Vec<V>) -> IntoEntries<V>
+        requires { length values.items ≡ length keys.items }
+        ensures { result ≡ zip keys.items values.items }
     {
         IntoEntries {
             keys: keys.into_iter(),

@@ -11,7 +11,7 @@ ghost use Rattle.indexmap.specs.IndexMap.{insert_entry};
 ghost use Rattle.juniper_syntax.specs.FieldWords.{is_key, names, fields_eq};
 
 use crate::entries::{Entries, IntoEntries};
-use indexmap::IndexSet;
+use crate::keys::Keys;
 use std::alloc::{AllocError, Global};
 use std::marker::Model;
 use std::{fmt, mem};
@@ -19,7 +19,7 @@ use std::{fmt, mem};
 /// Keys with values. It is seen as the list of them; inside, the keys and the values stand in two lists of one length.
 #[derive(Drop)]
 pub struct Fields<V> {
-    keys: IndexSet<String>,
+    keys: Keys,
     values: Vec<V>,
 }
 
@@ -32,9 +32,9 @@ impl<V> Model for Fields<V> {
 
     ghost coded = { entries_code V.code };
 
-    ghost view = { λ f. zip f.keys.keys f.values.items };
+    ghost view = { λ f. zip f.keys f.values.items };
 
-    ghost invariant = { λ f. length f.values.items ≡ length f.keys.keys };
+    ghost invariant = { λ f. length f.values.items ≡ length f.keys };
 }
 
 impl<V> Fields<V> {
@@ -43,7 +43,7 @@ impl<V> Fields<V> {
         ensures { IfOk result (λ fields. fields ≡ []) }
     {
         Ok(Fields {
-            keys: IndexSet::with_capacity(alloc, capacity)?,
+            keys: Keys::with_capacity(alloc, capacity)?,
             values: Vec::with_capacity(alloc, capacity)?,
         })
     }
@@ -118,7 +118,7 @@ impl<V: Drop> Fields<V> {
         ensures keys { IfOk result (λ made. names made ≡ names self.now) }
         ensures values { IfOk result (λ made. values_of made ≡ values.items) }
     {
-        let keys = self.keys.clone()?;
+        let keys = self.keys.try_clone()?;
         Ok(Fields { keys, values })
     }
 
@@ -126,7 +126,7 @@ impl<V: Drop> Fields<V> {
     pub fn into_entries(self) -> IntoEntries<V>
         ensures { result ≡ self }
     {
-        IntoEntries::new(self.keys, self.values)
+        IntoEntries::new(self.keys.into_names(), self.values)
     }
 }
 

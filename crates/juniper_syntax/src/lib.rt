@@ -7,8 +7,10 @@ mod display;
 mod entries;
 mod fields;
 mod input;
+mod keys;
 pub mod laws;
 mod map_scalars;
+mod places;
 mod scalar;
 mod types;
 mod value;
@@ -20,6 +22,7 @@ pub use ast::{
 pub use entries::{Entries, IntoEntries};
 pub use input::{InputValue, Variables};
 pub use juniper_position::{LexerError, ParseError, RuleError, SourcePosition, Span, Spanning};
+pub use places::name_number;
 pub use scalar::{DefaultScalarValue, ScalarValue};
 pub use types::Type;
 pub use value::{Object, Value};

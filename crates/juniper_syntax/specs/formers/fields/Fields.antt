@@ -21,9 +21,6 @@ use Rattle.std.specs.formers.vec.Vec as vec
 use Rattle.std.specs.contracts.alloc.Global as heap
 use Rattle.std.specs.contracts.impls.GlobalAllocator.TheImpl.{ghosts}
 use Rattle.std.specs.declared.cmp.PartialEq as eq
-use Rattle.std.specs.declared.hash.BuildHasherDefault.{BuildHasherDefault}
-use Rattle.std.specs.declared.hash.FoldHasher.{FoldHasher}
-use Rattle.indexmap.specs.declared.set.IndexSet.{IndexSet}
 use Rattle.juniper_syntax.specs.FieldWords.{key_code, fields_eq}
 use Rattle.juniper_syntax.specs.declared.fields.Fields.TheInside.{Inside}
 use Rattle.juniper_syntax.specs.declared.fields.Fields.TheView.{view, invariant}
@@ -58,11 +55,8 @@ pub the_items_listed : (X : Type 0) (es : List (String Global × X)) → listed 
 the_items_listed X [] = refl
 the_items_listed X (e ∷ es) = ap (λ l. e.1 ∷ l) (the_items_listed X es)
 
-abbrev Keys : Type 0
-Keys = IndexSet (String Global) (BuildHasherDefault FoldHasher) Global FoldHasher
-
 abbrev fields : Former {0}
-fields = via (pair (const Keys) (vec.the_former this Global)) Inside (λ X a. (a.keys, a.values)) (λ X v. record { keys = v.0; values = v.1 })
+fields = via (pair (const (List (String Global))) (vec.the_former this Global)) Inside (λ X a. (a.keys, a.values)) (λ X v. record { keys = v.0; values = v.1 })
     (λ X a. refl) (λ X v. refl)
 
 -- the entry, with h applied to its value
@@ -83,9 +77,9 @@ zip-held X (k ∷ ks) (v ∷ vs) e = λ i. (one_more (zip-held X ks vs (omega ar
 module _ (R R' : RattleType) (h : R.Denot → R'.Denot) where
   pub the_places : Alike R R' h → Alike (F.the_row R) (F.the_row R') ((the_former this).map R.Denot R'.Denot h)
   the_places a = view_places_where fields (the_former this) view
-      (λ X Y k u. zip-map k u.keys.keys u.values.items)
-      (λ X u. length u.values.items ≡ length u.keys.keys) (λ X Y k u e. sym (length-map u.values.items k) ∙ e)
-      (λ X u e. zip-held X u.keys.keys u.values.items e)
+      (λ X Y k u. zip-map k u.keys u.values.items)
+      (λ X u. length u.values.items ≡ length u.keys) (λ X Y k u e. sym (length-map u.values.items k) ∙ e)
+      (λ X u e. zip-held X u.keys u.values.items e)
       R.Denot R'.Denot h (F.the_row R).coded (F.the_row R').coded
       (invariant R.Denot) (invariant R'.Denot) (λ u. ℕ_set _ _) (λ u. ℕ_set _ _)
       (λ u e. length-map u.values.items h ∙ e) (λ u e. sym (length-map u.values.items h) ∙ e) (λ u e. e)

@@ -7,5 +7,5 @@ use Rattle.juniper_syntax.proofs.fields.Fields.keys_differ.Goals as goal
 
 pub returns : goal.returns
 returns g c =
-    subst (IsDistinct string_eq) (sym (firsts-zip c.self.inside.keys.keys c.self.inside.values.items c.self.invariant) ∙ ap keys_of c.self.view_is)
+    subst (IsDistinct string_eq) (sym (firsts-zip c.self.inside.keys c.self.inside.values.items c.self.invariant) ∙ ap keys_of c.self.view_is)
     c.as_slice.ensures.unique

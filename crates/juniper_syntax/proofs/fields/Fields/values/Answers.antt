@@ -4,4 +4,4 @@ use Rattle.std.specs.Map.{values_of}
 use Rattle.juniper_syntax.proofs.fields.Fields.values.Goals as goal
 
 pub returns : goal.returns
-returns g c = c.as_slice.ensures.value ∙ sym (seconds-zip c.self.inside.keys.keys c.self.inside.values.items c.self.invariant) ∙ ap values_of c.self.view_is
+returns g c = c.as_slice.ensures.value ∙ sym (seconds-zip c.self.inside.keys c.self.inside.values.items c.self.invariant) ∙ ap values_of c.self.view_is

@@ -7,9 +7,9 @@ use Rattle.juniper_syntax.proofs.fields.FieldsPartialEq.eq.Goals as goal
 
 pub returns-then-eq : goal.returns-then-eq
 returns-then-eq g c =
-    let ks = c.self.inside.keys.keys in
+    let ks = c.self.inside.keys in
     let vs = c.self.inside.values.items in
-    let ls = c.other.inside.keys.keys in
+    let ls = c.other.inside.keys in
     let ws = c.other.inside.values.items in
     let E = g.V.PartialEq.eq in
     let each = pointwise-zip string_eq E ks ls vs ws (sym c.self.invariant) (sym c.other.invariant) in
@@ -20,9 +20,9 @@ returns-then-eq g c =
 
 pub returns-else-eq : goal.returns-else-eq
 returns-else-eq g c =
-    let ks = c.self.inside.keys.keys in
+    let ks = c.self.inside.keys in
     let vs = c.self.inside.values.items in
-    let ls = c.other.inside.keys.keys in
+    let ls = c.other.inside.keys in
     let ws = c.other.inside.values.items in
     let E = g.V.PartialEq.eq in
     let each = pointwise-zip string_eq E ks ls vs ws (sym c.self.invariant) (sym c.other.invariant) in
