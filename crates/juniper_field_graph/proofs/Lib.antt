@@ -17,3 +17,4 @@ mod Numbering
 mod Pushing
 mod Graphs
 mod Found
+mod Places

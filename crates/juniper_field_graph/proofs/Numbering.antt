@@ -1,11 +1,8 @@
 -- A vertex that gets the number of the first kind that is alike, else one of its own, keeps equal numbers telling.
 use Rattle.std.specs.Prelude.{ℕ, zero, suc, Bool, true, false, List, [], ◌∷◌, ◌++◌, ◌≡◌, ◌⊎◌, ◌<◌, Option, Some, None, length, nat_eq}
 use Rattle.std.specs.List.{slice_get, find}
-use Rattle.std.specs.Str.{bytes_eq}
 use Rattle.std.proofs.Common.{refl, sym, ap, ◌∙◌, inl, inr, subst, rules}
-use Rattle.graphql_spec.specs.Shown.{Name}
 use Rattle.graphql_spec.specs.Laws.{In}
-use Rattle.graphql_spec.proofs.Lists.{same_refl, same_true, same_sym}
 use Rattle.juniper_merging.specs.MergingGraph.{FieldAt}
 use Rattle.juniper_field_graph.specs.KindsView.{HasKind, number_or, first_alike, number_among}
 use Rattle.juniper_field_graph.proofs.Choosing.{find-some, find-none}
@@ -42,11 +39,14 @@ number-turned m n = search rules
 pub number-itself : (n : ℕ) → nat_eq n n ≡ true
 number-itself n = search rules
 
+pub same-number : (m n : ℕ) → nat_eq m n ≡ true → m ≡ n
+same-number m n e = search rules
+
 number-below : (m n : ℕ) → m < n → nat_eq m n ≡ false
 number-below m n l = search rules
 
 -- what a number is chosen from: the kinds of the key, and which of them are alike
-module _ (number : FieldAt → ℕ) (vs : List FieldAt) (alike : ℕ → Bool) (ks : List ℕ) (key : Name)
+module _ (number : FieldAt → ℕ) (vs : List FieldAt) (alike : ℕ → Bool) (ks : List ℕ) (key : ℕ)
     (keyed : (r : ℕ) → In r ks → (w : FieldAt) × (slice_get vs r ≡ Some w) × (w.key ≡ key)) where
   -- the number of a kind that is alike, or that of a new vertex
   abbrev pub IsChosen : ℕ → Type 0
@@ -69,17 +69,17 @@ module _ {T : Type 0} (E : T → T → Bool) (itself : (t : T) → E t t ≡ tru
     (across : (t u w : T) → E t u ≡ true → E u w ≡ E t w) (number : FieldAt → ℕ) where
   -- of vertices with one response key equal numbers say that what they stand for is the same
   abbrev pub Tells : List FieldAt → (ℕ → FieldAt → T) → Type 0
-  Tells vs things = (i j : ℕ) (v w : FieldAt) → slice_get vs i ≡ Some v → slice_get vs j ≡ Some w → bytes_eq v.key w.key ≡ true →
+  Tells vs things = (i j : ℕ) (v w : FieldAt) → slice_get vs i ≡ Some v → slice_get vs j ≡ Some w → nat_eq v.key w.key ≡ true →
       nat_eq (number v) (number w) ≡ E (things i v) (things j w)
 
-  pub tells-chosen : (vs : List FieldAt) (things : ℕ → FieldAt → T) (alike : ℕ → Bool) (ks : List ℕ) (key : Name) (t : T) → Tells vs things →
+  pub tells-chosen : (vs : List FieldAt) (things : ℕ → FieldAt → T) (alike : ℕ → Bool) (ks : List ℕ) (key : ℕ) (t : T) → Tells vs things →
       ((r : ℕ) → In r ks → (w : FieldAt) × (slice_get vs r ≡ Some w) × (w.key ≡ key)) →
       ((r : ℕ) (w : FieldAt) → slice_get vs r ≡ Some w → alike r ≡ E (things r w) t) →
       (n : ℕ) → n ≡ number_among number vs alike ks →
       (i : ℕ) (v : FieldAt) → slice_get vs i ≡ Some v → v.key ≡ key → number v < length vs → HasKind number vs ks v → nat_eq (number v) n ≡ E (things i v) t
   tells-chosen vs things alike ks key t tells keyed told n is i v at same below (s, u, inside, there, equal) = elim (chosen number vs alike ks key keyed n is) [
     | inl (r, w, in', there', key', yes', n-is) ↦
-        (let one : bytes_eq v.key w.key ≡ true = subst (λ z. bytes_eq v.key z ≡ true) (same ∙ sym key') (same_refl v.key) in
+        (let one : nat_eq v.key w.key ≡ true = subst (λ z. nat_eq v.key z ≡ true) (same ∙ sym key') (number-itself v.key) in
         let yes'' : E (things r w) t ≡ true = sym (told r w there') ∙ yes' in
         let e : E (things i v) (things r w) ≡ E (things i v) t = turned (things i v) (things r w)
         ∙ (sym (across (things r w) t (things i v) yes'') ∙ turned t (things i v)) in
@@ -87,7 +87,7 @@ module _ {T : Type 0} (E : T → T → Bool) (itself : (t : T) → E t t ≡ tru
     | inr (n-is, none') ↦
         (let u-key : u.key ≡ key = (let q = keyed s inside in let g : Some q.0 ≡ Some u = sym q.1 ∙ there in let h : q.0 ≡ u = cc in
         ap (λ (z : FieldAt). z.key) (sym h) ∙ q.2) in
-        let one : bytes_eq v.key u.key ≡ true = subst (λ z. bytes_eq v.key z ≡ true) (same ∙ sym u-key) (same_refl v.key) in
+        let one : nat_eq v.key u.key ≡ true = subst (λ z. nat_eq v.key z ≡ true) (same ∙ sym u-key) (number-itself v.key) in
         let e : E (things i v) (things s u) ≡ true = sym (tells i s v u at there one)
         ∙ subst (λ z. nat_eq (number v) z ≡ true) (sym equal) (number-itself (number v)) in
         let f : E (things s u) t ≡ false = sym (told s u there) ∙ none' s inside in
@@ -101,14 +101,14 @@ module _ {T : Type 0} (E : T → T → Bool) (itself : (t : T) → E t t ≡ tru
       Tells (vs ++ x ∷ []) more
   tells-more vs x things more kept tells new i j v w f g e = go (old-or-last vs x i v f) (old-or-last vs x j w g)
     where
-      with-last : (i : ℕ) (v : FieldAt) → slice_get vs i ≡ Some v → bytes_eq v.key x.key ≡ true →
+      with-last : (i : ℕ) (v : FieldAt) → slice_get vs i ≡ Some v → nat_eq v.key x.key ≡ true →
           nat_eq (number v) (number x) ≡ E (more i v) (more (length vs) x)
-      with-last i v f e = new i v f (same_true v.key x.key e) ∙ ap (λ z. E z (more (length vs) x)) (kept i v f)
+      with-last i v f e = new i v f (same-number v.key x.key e) ∙ ap (λ z. E z (more (length vs) x)) (kept i v f)
 
       go : (slice_get vs i ≡ Some v) ⊎ ((i ≡ length vs) × (v ≡ x)) → (slice_get vs j ≡ Some w) ⊎ ((j ≡ length vs) × (w ≡ x)) →
           nat_eq (number v) (number w) ≡ E (more i v) (more j w)
       go (inl a) (inl b) = tells i j v w a b e ∙ (ap (λ z. E z (things j w)) (kept i v a) ∙ ap (E (more i v)) (kept j w b))
       go (inl a) (inr (p, q)) = rw (p, q) (with-last i v a (rw q at e))
       go (inr (p, q)) (inl b) =
-          rw (p, q) (number-turned (number x) (number w) ∙ (with-last j w b (same_sym w.key x.key ∙ (rw q at e)) ∙ turned (more j w) (more (length vs) x)))
+          rw (p, q) (number-turned (number x) (number w) ∙ (with-last j w b (number-turned w.key x.key ∙ (rw q at e)) ∙ turned (more j w) (more (length vs) x)))
       go (inr (p, q)) (inr (r, t)) = rw (p, q, r, t) (number-itself (number x) ∙ sym (itself (more (length vs) x)))

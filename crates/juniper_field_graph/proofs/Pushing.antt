@@ -5,10 +5,10 @@ use Rattle.std.specs.Option.{unwrap_or}
 use Rattle.std.specs.Str.{bytes_eq}
 use Rattle.std.proofs.lemmas.Bool.{and_parts, both_ways, cases_Bool, or_parts}
 use Rattle.std.proofs.lemmas.List.{length-append}
-use Rattle.std.proofs.Common.{refl, sym, ap, ◌∙◌, inl, inr, subst, arith, rules}
+use Rattle.std.proofs.Common.{refl, sym, ap, ◌∙◌, inl, inr, subst, arith}
 use Rattle.graphql_spec.specs.Shown.{Name}
 use Rattle.graphql_spec.specs.Types.{TypeRef}
-use Rattle.graphql_spec.specs.Documents.{Head, written}
+use Rattle.graphql_spec.specs.Documents.{Head, response_key, written}
 use Rattle.graphql_spec.specs.Arguments.{written_meaning}
 use Rattle.graphql_spec.specs.Constants.{Members}
 use Rattle.graphql_spec.specs.Schema.{Schema}
@@ -19,45 +19,47 @@ use Rattle.graphql_spec.proofs.Grouping.{in_append, in_first, in_second}
 use Rattle.graphql_spec.proofs.Lists.{same_refl, same_true}
 use Rattle.juniper_merging.specs.MergingGraph.{FieldAt}
 use Rattle.juniper_merging.specs.Standing.{AreNumbered, Grows}
+use Rattle.juniper_merging.proofs.Places.{same-truth}
 use Rattle.juniper_overlapping_fields.proofs.Alike.{types-same, types-turned, types-across, calls-itself, calls-turned, calls-across}
 use Rattle.juniper_overlapping_fields.proofs.Alike as alike
 use Rattle.juniper_field_graph.specs.GraphView.{head_or_none}
+use Rattle.juniper_field_graph.specs.Keys.{IsNumbered}
 use Rattle.juniper_field_graph.specs.KindsView.{AreKept, HasKind, IsOnce, IsOwn, are_alike, has_call, has_type, number_among}
-use Rattle.juniper_field_graph.proofs.Numbering.{chosen, last-is, number-itself, old-or-last, stays, tells-chosen, tells-more}
+use Rattle.juniper_field_graph.proofs.Numbering.{chosen, last-is, number-itself, old-or-last, same-number, stays, tells-chosen, tells-more}
 
 -- ## Kinds
 
 -- a number is added to the kinds of a key, for which C holds, or nothing is
-pub record IsAdded (C : Type 0) (key : Name) (n : ℕ) (old new : Name → List ℕ) : Type 0 where
-  pub grown : (k : Name) (r : ℕ) → In r (old k) → In r (new k)
-  pub only : (k : Name) (r : ℕ) → In r (new k) → In r (old k) ⊎ ((k ≡ key) × (r ≡ n) × C)
+pub record IsAdded (C : Type 0) (key : ℕ) (n : ℕ) (old new : ℕ → List ℕ) : Type 0 where
+  pub grown : (k r : ℕ) → In r (old k) → In r (new k)
+  pub only : (k r : ℕ) → In r (new k) → In r (old k) ⊎ ((k ≡ key) × (r ≡ n) × C)
 
-pub put-back : {C : Type 0} (old mid new : Name → List ℕ) (key : Name) (ks ls : List ℕ) (n : ℕ) → ks ≡ old key →
-    ((k : Name) → mid k ≡ cond (bytes_eq key k) [] (old k)) → ((k : Name) → new k ≡ cond (bytes_eq key k) ls (mid k)) →
+pub put-back : {C : Type 0} (old mid new : ℕ → List ℕ) (key : ℕ) (ks ls : List ℕ) (n : ℕ) → ks ≡ old key →
+    ((k : ℕ) → mid k ≡ cond (nat_eq key k) [] (old k)) → ((k : ℕ) → new k ≡ cond (nat_eq key k) ls (mid k)) →
     ((ls ≡ ks ++ n ∷ []) × C) ⊎ (ls ≡ ks) → IsAdded C key n old new
 put-back {C} old mid new key ks ls n is taken put added = record {
-  grown = λ k r i. elim (cases_Bool (bytes_eq key k)) [
+  grown = λ k r i. elim (cases_Bool (nat_eq key k)) [
     | inl e ↦ subst (In r) (sym (here k e)) (more added r (subst (In r) (old-here k e) i))
     | inr e ↦ subst (In r) (sym (there k e)) i
   ];
-  only = λ k r i. elim (cases_Bool (bytes_eq key k)) [
+  only = λ k r i. elim (cases_Bool (nat_eq key k)) [
     | inl e ↦ elim (less added r (subst (In r) (here k e) i)) [
       | inl j ↦ inl (subst (In r) (sym (old-here k e)) j)
       | inr f ↦
-          inr (sym (same_true key k e), f.0, f.1)
+          inr (sym (same-number key k e), f.0, f.1)
     ]
     | inr e ↦ inl (subst (In r) (there k e) i)
   ];
 }
   where
-    here : (k : Name) → bytes_eq key k ≡ true → new k ≡ ls
+    here : (k : ℕ) → nat_eq key k ≡ true → new k ≡ ls
     here k e = put k ∙ (rw e refl)
 
-    there : (k : Name) → bytes_eq key k ≡ false → new k ≡ old k
+    there : (k : ℕ) → nat_eq key k ≡ false → new k ≡ old k
     there k e = put k ∙ (rw e (taken k ∙ (rw e refl)))
 
-    old-here : (k : Name) → bytes_eq key k ≡ true → old k ≡ ks
-    old-here k e = ap old (sym (same_true key k e)) ∙ sym is
+    old-here : (k : ℕ) → nat_eq key k ≡ true → old k ≡ ks
+    old-here k e = ap old (sym (same-number key k e)) ∙ sym is
 
     more : ((ls ≡ ks ++ n ∷ []) × C) ⊎ (ls ≡ ks) → (r : ℕ) → In r ks → In r ls
     more (inl e) r i = subst (In r) (sym e.0) (in_first r ks (n ∷ []) i)
@@ -68,17 +70,11 @@ put-back {C} old mid new key ks ls n is taken put added = record {
     less (inr e) r i = inl (subst (In r) e i)
 
 -- a number that was put at the end of a key's kinds stands there
-pub put-last : (mid new : Name → List ℕ) (key : Name) (ks ls : List ℕ) (n : ℕ) → ((k : Name) → new k ≡ cond (bytes_eq key k) ls (mid k)) → ls ≡ ks ++ n ∷ [] →
+pub put-last : (mid new : ℕ → List ℕ) (key : ℕ) (ks ls : List ℕ) (n : ℕ) → ((k : ℕ) → new k ≡ cond (nat_eq key k) ls (mid k)) → ls ≡ ks ++ n ∷ [] →
     In n (new key)
-put-last mid new key ks ls n put e = subst (In n) (sym (put key ∙ (rw (same_refl key) e))) (in_second n ks (n ∷ []) (inl refl))
+put-last mid new key ks ls n put e = subst (In n) (sym (put key ∙ (rw (number-itself key) e))) (in_second n ks (n ∷ []) (inl refl))
 
 -- whether a vertex has a number of its own
-pub is-own : (x : FieldAt) (n : ℕ) (b : Bool) → b ≡ (nat_eq x.shape n || nat_eq x.call n) → b ≡ true → IsOwn n x
-is-own x n b told yes' = elim (cases_Bool (nat_eq x.shape n)) [
-  | inl e ↦ inl (search rules)
-  | inr e ↦ (let f : nat_eq x.call n ≡ true = rw e at (sym told ∙ yes') in inr (search rules))
-]
-
 pub not-own : (x : FieldAt) (n : ℕ) (b : Bool) → b ≡ (nat_eq x.shape n || nat_eq x.call n) → b ≡ false → IsOwn n x → ⊥
 not-own x n b told no' (inl e) =
     let f : (nat_eq n n || nat_eq x.call n) ≡ false = subst (λ m. (nat_eq m n || nat_eq x.call n) ≡ false) e (sym told ∙ no') in
@@ -102,17 +98,14 @@ one-truth false false e = refl
 one-truth true false e = cc
 one-truth false true e = cc
 
-same-number : (m n : ℕ) → nat_eq m n ≡ true → m ≡ n
-same-number m n e = search rules
-
 pub alike-same : (v w : FieldAt) → are_alike v w ≡ true → v.below ≡ w.below → v ≡ w
 unfolding are_alike
 alike-same v w e below =
     let shapes = and_parts (nat_eq v.shape w.shape) _ e in
     let calls = and_parts (nat_eq v.call w.call) _ shapes.1 in
     let objects = and_parts (cond v.on_object w.on_object (not w.on_object)) _ calls.1 in
-    let names = and_parts (bytes_eq v.parent w.parent) (bytes_eq v.key w.key) objects.1 in
-    let key = same_true v.key w.key names.1 in
+    let names = and_parts (bytes_eq v.parent w.parent) (nat_eq v.key w.key) objects.1 in
+    let key = same-number v.key w.key names.1 in
     let parent = same_true v.parent w.parent names.0 in
     let on_object = one-truth v.on_object w.on_object objects.0 in
     let shape = same-number v.shape w.shape shapes.0 in
@@ -133,14 +126,25 @@ beside (z ∷ xs) [] l i x e = absurd (omega (arith, l))
 beside (z ∷ xs) (y ∷ ys) l zero x e = (y, refl)
 beside (z ∷ xs) (y ∷ ys) l (suc i) x e = beside xs ys (omega (arith, l)) i x e
 
+-- names of which no two have one number are the same where their numbers are
+keys-told : (numbers : Name → Option ℕ) → ((k l : Name) (n : ℕ) → numbers k ≡ Some n → numbers l ≡ Some n → k ≡ l) →
+    (k l : Name) (m n : ℕ) → numbers k ≡ Some m → numbers l ≡ Some n → nat_eq m n ≡ bytes_eq k l
+keys-told numbers apart k l m n e f = same-truth (nat_eq m n) (bytes_eq k l)
+    (λ q. let g : numbers l ≡ Some m = f ∙ ap Some (sym (same-number m n q)) in subst (λ z. bytes_eq k z ≡ true) (apart k l m e g) (same_refl k))
+    (λ q. let g : Some m ≡ Some n = sym e ∙ (ap numbers (same_true k l q) ∙ f) in let h : m ≡ n = cc in
+    subst (λ z. nat_eq m z ≡ true) h (number-itself m))
+
 -- ## A vertex more
 
 abbrev pub head_in : List Head → ℕ → Head
 head_in hs i = head_or_none (slice_get hs i)
 
-module _ (s : Schema) (vs : List FieldAt) (ts : List TypeRef) (hs : List Head) (kinds more : Name → List ℕ) (x : FieldAt) (t : TypeRef) (h : Head)
-    (numbered : AreNumbered s vs (head_in hs)) (kept : AreKept s vs ts hs (head_in hs) kinds) (typed : t ≡ declared_type (field_of s x.parent h.name.item))
+module _ (s : Schema) (vs : List FieldAt) (ts : List TypeRef) (hs : List Head) (numbers after : Name → Option ℕ)
+    (kinds more : ℕ → List ℕ) (x : FieldAt) (t : TypeRef) (h : Head)
+    (numbered : AreNumbered s vs (head_in hs)) (kept : AreKept s vs ts hs (head_in hs) numbers kinds)
+    (typed : t ≡ declared_type (field_of s x.parent h.name.item))
     (once : IsOnce h)
+    (keys : IsNumbered (response_key h) x.key (length vs) numbers after)
     (added : IsAdded (length vs ≡ length vs) x.key (length vs) kinds more)
     (shape : x.shape ≡ number_among (λ v. v.shape) vs (λ r. has_type s t (slice_get ts r)) (kinds x.key))
     (own-shape : x.shape ≡ length vs → In (length vs) (more x.key))
@@ -175,8 +179,41 @@ module _ (s : Schema) (vs : List FieldAt) (ts : List TypeRef) (hs : List Head) (
       ap (has_call h) q.1 ∙ sym (ap (λ (o : Option Head). alike.same_call
       ((head_or_none o).name.item, written_meaning (written (head_or_none o).arguments)) asked) q.1)
 
+  -- ## Numbers of response keys
+
+  names-now : (i : ℕ) (v : FieldAt) → slice_get (vs ++ x ∷ []) i ≡ Some v → after (response_key (now i)) ≡ Some v.key
+  names-now i v e = elim (old-or-last vs x i v e) [
+    | inl f ↦ keys.grown _ v.key (subst (λ (g : Head). numbers (response_key g) ≡ Some v.key) (head-kept i v f) (kept.names i v f))
+    | inr (p, q) ↦ rw (p, q) (ap (λ (g : Head). after (response_key g)) head-last ∙ keys.own)
+  ]
+
+  apart-now : (k l : Name) (n : ℕ) → after k ≡ Some n → after l ≡ Some n → k ≡ l
+  apart-now k l n e f = elim (keys.only k n e) [
+    | inl p ↦ elim (keys.only l n f) [
+      | inl q ↦ kept.apart k l n p q
+      | inr (q, r) ↦ (let b = kept.least k n p in absurd (omega (arith, b, r)))
+    ]
+    | inr (p, q) ↦ elim (keys.only l n f) [
+      | inl r ↦ (let b = kept.least l n r in absurd (omega (arith, b, q)))
+      | inr (r, t) ↦ p ∙ sym r
+    ]
+  ]
+
+  least-now : (k : Name) (n : ℕ) → after k ≡ Some n → n < length (vs ++ x ∷ [])
+  least-now k n e = let l = length-append vs (x ∷ []) in elim (keys.only k n e) [
+    | inl p ↦ (let b = kept.least k n p in omega (arith, b, l))
+    | inr (p, q) ↦ omega (arith, q, l)
+  ]
+
+  keys-now : (i j : ℕ) (v w : FieldAt) → slice_get (vs ++ x ∷ []) i ≡ Some v → slice_get (vs ++ x ∷ []) j ≡ Some w →
+      nat_eq v.key w.key ≡ bytes_eq (response_key (now i)) (response_key (now j))
+  keys-now i j v w e f = keys-told after apart-now (response_key (now i)) (response_key (now j)) v.key w.key (names-now i v e) (names-now j w f)
+
+  -- ## What numbers say
+
   pub still-numbered : AreNumbered s (vs ++ x ∷ []) now
   still-numbered = record {
+    keys = keys-now;
     shapes = tells-more (types_agree s) (types-same s) (types-turned s) (types-across s) (λ v. v.shape) vs x (type_of (head_in hs)) (type_of now)
         (λ i v e. ap (λ (g : Head). declared_type (field_of s v.parent g.name.item)) (head-kept i v e)) numbered.shapes
         (λ i v e k. tells-chosen (types_agree s) (types-same s) (types-turned s) (types-across s) (λ v. v.shape) vs (type_of (head_in hs))
@@ -224,7 +261,7 @@ module _ (s : Schema) (vs : List FieldAt) (ts : List TypeRef) (hs : List Head) (
     ])
   ]
 
-  pub still-kept : AreKept s (vs ++ x ∷ []) (ts ++ t ∷ []) (hs ++ h ∷ []) now more
+  pub still-kept : AreKept s (vs ++ x ∷ []) (ts ++ t ∷ []) (hs ++ h ∷ []) now after more
   still-kept = record {
     typed = longer ts t kept.typed;
     headed = longer hs h kept.headed;
@@ -234,6 +271,9 @@ module _ (s : Schema) (vs : List FieldAt) (ts : List TypeRef) (hs : List Head) (
           ∙ ap Some (typed ∙ ap (λ (g : Head). declared_type (field_of s x.parent g.name.item)) (sym head-last)))
     ];
     once = λ i g e. elim (old-or-last hs h i g e) [ inl f ↦ kept.once i g f | inr (p, q) ↦ subst IsOnce (sym q) once ];
+    names = names-now;
+    apart = apart-now;
+    least = least-now;
     keyed = λ k r i. elim (added.only k r i) [
       | inl j ↦ (let (v, there, e) = kept.keyed k r j in (v, stays vs x r v there, e))
       | inr (p, q, o) ↦ (x, subst (λ m. slice_get (vs ++ x ∷ []) m ≡ Some x) (sym q) last-there, sym p)

@@ -56,7 +56,7 @@ module _ (t u : List (List ℕ)) (more : Extends t u) where
   vertex-still : (v : Vertex) → ((b : ℕ) → v.below ≡ Some b → IsInside t b) → view_vertex u v ≡ view_vertex t v
   unfolding view_vertex
   vertex-still v f = λ k. record {
-    key = v.key.now;
+    key = v.key;
     parent = v.parent.now;
     on_object = v.on_object;
     shape = v.shape;

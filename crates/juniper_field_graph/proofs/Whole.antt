@@ -9,7 +9,7 @@ use Rattle.juniper_merging.specs.MergingGraph.{view_vertex}
 use Rattle.juniper_merging.specs.Questions.{fields_of}
 use Rattle.juniper_merging.specs.Sets.{IsTable}
 use Rattle.juniper_merging.specs.Tables.{table_of}
-use Rattle.juniper_merging.specs.declared.search.Graph.{Graph}
+use Rattle.juniper_merging.specs.declared.graph.Graph.{Graph}
 use Rattle.juniper_field_graph.specs.Gathering.{AreGathered, IsAnswer, Pairwise}
 use Rattle.juniper_field_graph.specs.GraphView.{heads_of, table_in, vertices_of}
 use Rattle.juniper_field_graph.specs.declared.graph.FieldGraph.{FieldGraph}

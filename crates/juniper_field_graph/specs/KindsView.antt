@@ -4,7 +4,7 @@ use Rattle.std.specs.List.{slice_get, find}
 use Rattle.std.specs.Str.{bytes_eq}
 use Rattle.graphql_spec.specs.Shown.{Shown, Name}
 use Rattle.graphql_spec.specs.Types.{TypeRef}
-use Rattle.graphql_spec.specs.Documents.{Head, written}
+use Rattle.graphql_spec.specs.Documents.{Head, response_key, written}
 use Rattle.graphql_spec.specs.Written.{arguments_repeat}
 use Rattle.graphql_spec.specs.Constants.{same_members}
 use Rattle.graphql_spec.specs.Arguments.{written_meaning}
@@ -67,15 +67,20 @@ HasKind number vs kinds v = (r : ℕ) × (w : FieldAt) × In r kinds × (slice_g
 -- two fields agree in everything but what they select
 unfoldable pub are_alike : FieldAt → FieldAt → Bool
 are_alike v w =
-    nat_eq v.shape w.shape && (nat_eq v.call w.call && (cond v.on_object w.on_object (not w.on_object) && (bytes_eq v.parent w.parent && bytes_eq v.key w.key)))
+    nat_eq v.shape w.shape && (nat_eq v.call w.call && (cond v.on_object w.on_object (not w.on_object) && (bytes_eq v.parent w.parent && nat_eq v.key w.key)))
 
--- each vertex has its field's declared type; kinds are vertices of their response key, one at least for each number there
-pub record AreKept (s : Schema) (vs : List FieldAt) (ts : List TypeRef) (hs : List Head) (heads : ℕ → Head) (kinds : Name → List ℕ) : Type 0 where
+-- each vertex has its field's declared type and the number of its response key, and no two of these have one number; kinds are vertices
+-- of their response key, one at least for each number there
+pub record AreKept (s : Schema) (vs : List FieldAt) (ts : List TypeRef) (hs : List Head) (heads : ℕ → Head) (numbers : Name → Option ℕ)
+    (kinds : ℕ → List ℕ) : Type 0 where
   pub typed : length ts ≡ length vs
   pub headed : length hs ≡ length vs
   pub types : (i : ℕ) (v : FieldAt) → slice_get vs i ≡ Some v → slice_get ts i ≡ Some (declared_type (field_of s v.parent (heads i).name.item))
   pub once : (i : ℕ) (h : Head) → slice_get hs i ≡ Some h → IsOnce h
-  pub keyed : (k : Name) (r : ℕ) → In r (kinds k) → (v : FieldAt) × (slice_get vs r ≡ Some v) × (v.key ≡ k)
+  pub names : (i : ℕ) (v : FieldAt) → slice_get vs i ≡ Some v → numbers (response_key (heads i)) ≡ Some v.key
+  pub apart : (k l : Name) (n : ℕ) → numbers k ≡ Some n → numbers l ≡ Some n → k ≡ l
+  pub least : (k : Name) (n : ℕ) → numbers k ≡ Some n → n < length vs
+  pub keyed : (k r : ℕ) → In r (kinds k) → (v : FieldAt) × (slice_get vs r ≡ Some v) × (v.key ≡ k)
   pub shapes : (i : ℕ) (v : FieldAt) → slice_get vs i ≡ Some v → HasKind (λ w. w.shape) vs (kinds v.key) v
   pub calls : (i : ℕ) (v : FieldAt) → slice_get vs i ≡ Some v → HasKind (λ w. w.call) vs (kinds v.key) v
   pub below : (i : ℕ) (v : FieldAt) → slice_get vs i ≡ Some v → (v.shape < length vs) × (v.call < length vs)

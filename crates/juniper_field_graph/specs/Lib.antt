@@ -1,3 +1,4 @@
 pub mod GraphView
 pub mod Gathering
 pub mod KindsView
+pub mod Keys

@@ -18,12 +18,13 @@ ghost use Rattle.juniper_merging.specs.Tables.{below_in, table_of};
 ghost use Rattle.juniper_field_graph.specs.KindsView as kinds_view;
 ghost use Rattle.juniper_field_graph.specs.KindsView.{IsOnce, IsOwn, heads_in, number_among, number_or, types_in};
 
+use crate::keys::{KeyNumbers, number_of_key};
 use juniper_merging::{FieldSet, Graph, Groups, Vertex, are_same, put_group, take_group};
 use juniper_overlapping_fields::{same_call, types_agree};
 use juniper_schema::SchemaType;
 use juniper_syntax::{Field, ScalarValue, Span, Spanning, Type};
 use std::alloc::{AllocError, Global};
-use std::collections::HashMap;
+use std::collections::{BTreeMap, HashMap};
 
 /// A field as it is written, with the type that is declared for it.
 #[derive(Drop)]
@@ -34,7 +35,7 @@ struct WrittenField<'d, 'a, S> {
     declared_type: &'d Type<String>,
 }
 
-/// Written fields on their parent types, each a vertex with numbers for its type and for its name and arguments.
+/// Written fields on their parent types, each a vertex with numbers for its response key, for its type, and for its name and arguments.
 #[derive(Drop)]
 pub struct FieldGraph<'d, 'a, S> {
     /// The vertices.
@@ -43,8 +44,10 @@ pub struct FieldGraph<'d, 'a, S> {
     pub sets: Vec<FieldSet>,
     /// The field that each of them stands for.
     fields: Vec<WrittenField<'d, 'a, S>>,
-    /// For each response key the numbers of vertices that differ from one another.
-    kinds: Groups<'d>,
+    /// The number of each response key: that of the first vertex that has it.
+    keys: KeyNumbers<'d>,
+    /// For the number of each response key the numbers of vertices that differ from one another.
+    kinds: Groups,
 }
 
 impl<'d, 'a, S: ScalarValue> FieldGraph<'d, 'a, S> {
@@ -57,6 +60,7 @@ impl<'d, 'a, S: ScalarValue> FieldGraph<'d, 'a, S> {
             vertices: Vec::new(alloc),
             sets: Vec::new(alloc),
             fields: Vec::new(alloc),
+            keys: BTreeMap::new(alloc),
             kinds: HashMap::new(alloc),
         }
     }
@@ -79,7 +83,7 @@ impl<'d, 'a, S: ScalarValue> FieldGraph<'d, 'a, S> {
             → IsPushed S.shown (view_schema S.shown schema.now) self.old self.new parent.now (view_field S.shown field.now) below i) }
     {
         let number = self.vertices.len();
-        let key = response_key(field);
+        let key = number_of_key(&mut self.keys, response_key(field), number)?;
         let mut kinds = take_group(alloc, &mut self.kinds, key);
         let shape = shape_among(schema, &self.vertices, &self.fields, &kinds, declared_type);
         let call = call_among(&self.vertices, &self.fields, &kinds, field);

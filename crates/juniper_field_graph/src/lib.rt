@@ -3,6 +3,7 @@
 
 mod gathering;
 mod graph;
+mod keys;
 mod overlapping_fields_can_be_merged;
 
 pub use graph::FieldGraph;

@@ -34,7 +34,6 @@ module _ (s : Schema) (vs ws : List FieldAt) (heads more : ℕ → Head) (g : Gr
     like_there = g.kept a.like v a.like_there;
     head = sym (g.words a.like v a.like_there) ∙ a.head;
     parent = a.parent;
-    key = a.key;
     on_object = a.on_object;
   }
 
@@ -51,6 +50,5 @@ at-same s vs heads x i j v same a = record {
   like_there = a.like_there;
   head = a.head;
   parent = a.parent;
-  key = a.key;
   on_object = a.on_object;
 }

@@ -1,14 +1,12 @@
 -- Fields in groups, by their response keys.
-use Rattle.std.specs.Prelude.{ℕ, Bool, true, false, cond, not, ◌&&◌, ◌||◌, List, [], ◌∷◌, ◌++◌, ◌≡◌, Option, Some, None}
+use Rattle.std.specs.Prelude.{ℕ, Bool, true, false, cond, not, ◌&&◌, ◌||◌, List, [], ◌∷◌, ◌++◌, ◌≡◌, Option, Some, None, nat_eq}
 use Rattle.std.specs.List.{list_all, slice_get}
-use Rattle.std.specs.Str.{bytes_eq}
 use Rattle.std.proofs.lemmas.Bool.{cases_Bool}
 use Rattle.std.proofs.lemmas.List.{append-nil}
 use Rattle.std.proofs.Common.{refl, sym, ap, ◌∙◌, inl, inr}
-use Rattle.graphql_spec.specs.Shown.{Name}
-use Rattle.graphql_spec.proofs.Lists.{same_true}
 use Rattle.juniper_merging.specs.MergingGraph.{FieldAt, merge_at, same_key_at}
 use Rattle.juniper_merging.specs.Questions.{IsTold, has_key, tested_at, with_key_at}
+use Rattle.juniper_merging.proofs.Numbers.{same-number}
 use Rattle.juniper_merging.proofs.Told.{told-same, told-true}
 
 same-key-some : (o : Option FieldAt) (y : FieldAt) → same_key_at o (Some y) ≡ has_key y.key o
@@ -45,7 +43,7 @@ module _ (vs : List FieldAt) where
           | inr q ↦ let k : same_key_at (slice_get vs i) (slice_get vs j) ≡ false = h ∙ q in rw q (rw k t)
         ]
 
-  module _ (m : Bool) (j : ℕ) (xs : List ℕ) (f : Name → List ℕ) (groups : (k : Name) → f k ≡ with_key_at vs k xs) where
+  module _ (m : Bool) (j : ℕ) (xs : List ℕ) (f : ℕ → List ℕ) (groups : (k : ℕ) → f k ≡ with_key_at vs k xs) where
     abbrev All : ℕ → Bool
     All n = list_all (λ i. tested_at vs (merge_at vs n m) i j) xs
 
@@ -62,27 +60,27 @@ module _ (vs : List FieldAt) where
 
   -- ## Groups that grow
 
-  with-key-more : (k : Name) (is : List ℕ) (j : ℕ) → with_key_at vs k (is ++ j ∷ []) ≡ with_key_at vs k is ++ cond (has_key k (slice_get vs j)) (j ∷ []) []
+  with-key-more : (k : ℕ) (is : List ℕ) (j : ℕ) → with_key_at vs k (is ++ j ∷ []) ≡ with_key_at vs k is ++ cond (has_key k (slice_get vs j)) (j ∷ []) []
   unfolding with_key_at
   with-key-more k [] j = refl
   with-key-more k (i ∷ is) j =
       elim (cases_Bool (has_key k (slice_get vs i))) [ inl q ↦ rw q (ap (λ l. i ∷ l) (with-key-more k is j)) | inr q ↦ rw q (with-key-more k is j) ]
 
   -- a number that has no field is in no group
-  pub groups-skip : (j : ℕ) (before : List ℕ) (f : Name → List ℕ) → slice_get vs j ≡ None → ((k : Name) → f k ≡ with_key_at vs k before) → (k : Name) →
+  pub groups-skip : (j : ℕ) (before : List ℕ) (f : ℕ → List ℕ) → slice_get vs j ≡ None → ((k : ℕ) → f k ≡ with_key_at vs k before) → (k : ℕ) →
       f k ≡ with_key_at vs k (before ++ j ∷ [])
   unfolding has_key
   groups-skip j before f none is k = is k ∙ sym (with-key-more k before j ∙ rw none (append-nil (with_key_at vs k before)))
 
   -- a number is put into the group of its key
-  pub groups-put : (j : ℕ) (x : FieldAt) (before group : List ℕ) (f g h : Name → List ℕ) → slice_get vs j ≡ Some x →
-      ((k : Name) → f k ≡ with_key_at vs k before) → group ≡ f x.key ++ j ∷ [] →
-      ((k : Name) → g k ≡ cond (bytes_eq x.key k) [] (f k)) → ((k : Name) → h k ≡ cond (bytes_eq x.key k) group (g k)) → (k : Name) →
+  pub groups-put : (j : ℕ) (x : FieldAt) (before group : List ℕ) (f g h : ℕ → List ℕ) → slice_get vs j ≡ Some x →
+      ((k : ℕ) → f k ≡ with_key_at vs k before) → group ≡ f x.key ++ j ∷ [] →
+      ((k : ℕ) → g k ≡ cond (nat_eq x.key k) [] (f k)) → ((k : ℕ) → h k ≡ cond (nat_eq x.key k) group (g k)) → (k : ℕ) →
       h k ≡ with_key_at vs k (before ++ j ∷ [])
   unfolding has_key
-  groups-put j x before group f g h some is grown taken put k = elim (cases_Bool (bytes_eq x.key k)) [
+  groups-put j x before group f g h some is grown taken put k = elim (cases_Bool (nat_eq x.key k)) [
     | inl q ↦
-        let e : x.key ≡ k = same_true x.key k q in
+        let e : x.key ≡ k = same-number x.key k q in
         let own : h k ≡ group = put k ∙ rw q refl in
         let at : group ≡ with_key_at vs k before ++ j ∷ [] = grown ∙ ap (λ l. l ++ j ∷ []) (ap f e ∙ is k) in
         own ∙ (at ∙ sym (with-key-more k before j ∙ rw some (rw q refl)))
@@ -91,6 +89,6 @@ module _ (vs : List FieldAt) where
         other ∙ (is k ∙ sym (with-key-more k before j ∙ rw some (rw q (append-nil (with_key_at vs k before)))))
   ]
 
-  pub no-groups : (f : Name → List ℕ) → ((k : Name) → f k ≡ []) → (k : Name) → f k ≡ with_key_at vs k []
+  pub no-groups : (f : ℕ → List ℕ) → ((k : ℕ) → f k ≡ []) → (k : ℕ) → f k ≡ with_key_at vs k []
   unfolding with_key_at
   no-groups f e k = e k

@@ -4,7 +4,7 @@ pub mod Grouping
 pub mod Places
 mod Telling
 mod Told
-mod Plain
+mod Alone
 mod Sound
 mod Vertices
 mod Passed

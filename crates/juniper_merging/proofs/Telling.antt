@@ -130,7 +130,7 @@ unfolding same_key_at
 key-at-turn None None = refl
 key-at-turn None (Some w) = refl
 key-at-turn (Some v) None = refl
-key-at-turn (Some v) (Some w) = same_sym v.key w.key
+key-at-turn (Some v) (Some w) = number-turn v.key w.key
 
 module _ (vs : List FieldAt) where
   abbrev keyed-at : (ℕ → ℕ → Bool) → ℕ → ℕ → Bool
@@ -197,9 +197,12 @@ module _ (s : Schema) (vs : List FieldAt) (heads : ℕ → Head) (numbered : Are
   stands-at (suc n) x i r = (r.0, r.1)
 
   module _ (x y : Field) (i j : ℕ) (v w : FieldAt) (a : IsAt s vs heads x i v) (b : IsAt s vs heads y j w) where
-    one-key : same_key x y ≡ true → bytes_eq v.key w.key ≡ true
+    key-numbers : nat_eq v.key w.key ≡ same_key x y
     unfolding same_key
-    one-key k = (λ t. bytes_eq (a.key t) (b.key t)) ∙ k
+    key-numbers = numbered.keys a.like b.like v w a.like_there b.like_there ∙ (λ t. bytes_eq (response_key (a.head t)) (response_key (b.head t)))
+
+    one-key : same_key x y ≡ true → nat_eq v.key w.key ≡ true
+    one-key k = key-numbers ∙ k
 
     types-same : same_key x y ≡ true → types_agree s (type_at s x) (type_at s y) ≡ nat_eq v.shape w.shape
     unfolding type_at
@@ -217,8 +220,8 @@ module _ (s : Schema) (vs : List FieldAt) (heads : ℕ → Head) (numbered : Are
     meets-same = sym (λ t. bytes_eq (a.parent t) (b.parent t) || (not (a.on_object t) || not (b.on_object t)))
 
     keys-same : same_key x y ≡ same_key_at (slice_get vs i) (slice_get vs j)
-    unfolding same_key same_key_at
-    keys-same = sym ((λ t. same_key_at (a.there t) (b.there t)) ∙ (λ t. bytes_eq (a.key t) (b.key t)))
+    unfolding same_key_at
+    keys-same = sym ((λ t. same_key_at (a.there t) (b.there t)) ∙ key-numbers)
 
   pairs-same : (n : ℕ) (m : Bool) (R : Field → Field → Bool) → ((x y : Field) → R x y ≡ R y x) →
       ((x y : Field) (i j : ℕ) → same_key x y ≡ true → Stands n x i → Stands n y j → R x y ≡ merge_at vs n m i j) →

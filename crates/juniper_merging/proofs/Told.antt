@@ -1,7 +1,6 @@
 -- Answers that rest on others.
-use Rattle.std.specs.Prelude.{ℕ, zero, suc, Bool, true, false, ◌&&◌, List, [], ◌∷◌, ◌++◌, ◌≡◌, Option, Some, None}
+use Rattle.std.specs.Prelude.{ℕ, zero, suc, Bool, true, false, ◌&&◌, List, [], ◌∷◌, ◌++◌, ◌≡◌, Option, Some, None, nat_eq}
 use Rattle.std.specs.List.{list_all, slice_get}
-use Rattle.std.specs.Str.{bytes_eq}
 use Rattle.std.proofs.lemmas.List.Folds.{list_all-append}
 use Rattle.std.proofs.Common.{refl, sym, ap, ◌∙◌}
 use Rattle.graphql_spec.specs.Merging.{each_two}
@@ -148,7 +147,7 @@ module _ (vs : List FieldAt) (m : Bool) (i j : ℕ) where
   tested n = tested_at vs (merge_at vs n m) i j
 
   -- fields of two response keys
-  pub other-keys : (x y : FieldAt) → slice_get vs i ≡ Some x → slice_get vs j ≡ Some y → bytes_eq x.key y.key ≡ false → IsTold tested (Some true)
+  pub other-keys : (x y : FieldAt) → slice_get vs i ≡ Some x → slice_get vs j ≡ Some y → nat_eq x.key y.key ≡ false → IsTold tested (Some true)
   unfolding tested_at same_key_at
   other-keys x y e f other = told-true tested (λ n. rw (e, f, other) refl)
 
@@ -160,7 +159,7 @@ module _ (vs : List FieldAt) (m : Bool) (i j : ℕ) where
   unfolding tested_at same_key_at
   second-missing x e f = told-true tested (λ n. rw (e, f) refl)
 
-  module _ (x y : FieldAt) (e : slice_get vs i ≡ Some x) (f : slice_get vs j ≡ Some y) (same : bytes_eq x.key y.key ≡ true) where
+  module _ (x y : FieldAt) (e : slice_get vs i ≡ Some x) (f : slice_get vs j ≡ Some y) (same : nat_eq x.key y.key ≡ true) where
     is-merged : (n : ℕ) → tested n ≡ merge_at vs n m i j
     unfolding tested_at same_key_at
     is-merged n = rw (e, f, same) refl

@@ -1,10 +1,10 @@
 -- What a look-up by number finds.
-use Rattle.std.specs.Prelude.{ℕ, Bool, true, false, not, List, ◌≡◌, ◌≤◌, ◌<◌, Some, None, Option, length, map, option_map}
+use Rattle.std.specs.Prelude.{ℕ, Bool, List, ◌≡◌, ◌≤◌, ◌<◌, Some, None, Option, length, map, option_map}
 use Rattle.std.specs.Borrow.{Bor}
 use Rattle.std.specs.List.{slice_get, HoldsAt}
 use Rattle.std.specs.Option.{MatchOption}
 use Rattle.std.proofs.lemmas.Option.{slice_get-map, slice_get_read, slice_get_past, MatchOption-at_some, MatchOption-at_none}
-use Rattle.std.proofs.Common.{refl, sym, ap, ◌∙◌}
+use Rattle.std.proofs.Common.{refl, ap, ◌∙◌}
 use Rattle.juniper_merging.specs.MergingGraph.{agree, can_meet, view_vertex}
 use Rattle.juniper_merging.specs.declared.graph.Vertex.{Vertex}
 
@@ -24,14 +24,6 @@ module _ (t : List (List ℕ)) where
 
   pub vertex-none : (vs : List Vertex) (i : ℕ) → slice_get vs i ≡ None → slice_get (map (view_vertex t) vs) i ≡ None
   vertex-none vs i e = slice_get-map (view_vertex t) vs i ∙ ap (option_map (view_vertex t)) e
-
-pub not-true : (a b : Bool) → b ≡ not a → b ≡ true → a ≡ false
-not-true true b e f = sym (sym e ∙ f)
-not-true false b e f = refl
-
-pub not-false : (a b : Bool) → b ≡ not a → b ≡ false → a ≡ true
-not-false true b e f = refl
-not-false false b e f = sym (sym e ∙ f)
 
 -- what two fields select makes no difference to these tests
 pub same-agree : (m : Bool) (t u : List (List ℕ)) (x y : Vertex) → agree m (view_vertex t x) (view_vertex t y) ≡ agree m (view_vertex u x) (view_vertex u y)

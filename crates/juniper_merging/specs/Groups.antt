@@ -1,10 +1,7 @@
--- Numbers in groups, by name.
-use Rattle.std.specs.Prelude.{ℕ, List, [], Option, Some, None, Vec}
-use Rattle.std.specs.Borrow.{Bor}
+-- Numbers in groups, each by a number.
+use Rattle.std.specs.Prelude.{ℕ, List, [], Option, Some, None, Vec, nat_eq}
 use Rattle.std.specs.HashMap.{HashMap, get_by}
-use Rattle.std.specs.Str.{bytes_eq}
 use Rattle.std.specs.declared.alloc.Global.{Global}
-use Rattle.graphql_spec.specs.Shown.{Name}
 
 -- the numbers, if any
 unfoldable pub numbers_of : Option (Vec ℕ Global) → List ℕ
@@ -12,5 +9,5 @@ numbers_of None = []
 numbers_of (Some v) = v.items
 
 -- the numbers that a map has at a key
-unfoldable pub group_in : {H : Type 0} → HashMap (Bor (List ℕ)) (Vec ℕ Global) H → Name → List ℕ
-group_in m k = numbers_of (get_by (λ n. bytes_eq k n.now) m)
+unfoldable pub group_in : {H : Type 0} → HashMap ℕ (Vec ℕ Global) H → ℕ → List ℕ
+group_in m k = numbers_of (get_by (nat_eq k) m)

@@ -7,10 +7,10 @@ use Rattle.graphql_spec.specs.Merging.{each_two}
 use Rattle.juniper_merging.specs.Tables.{below_in}
 use Rattle.juniper_merging.specs.declared.graph.Vertex.{Vertex}
 
--- a field on its parent type: fields of one shape have types that agree, and those of one call have one name and the same
--- arguments; what it selects is given by numbers
+-- a field on its parent type: fields of one key have one response key, those of one shape types that agree, and those of one
+-- call one name and the same arguments; what it selects is given by numbers
 pub record FieldAt : Type 0 where
-  pub key : Name
+  pub key : ℕ
   pub parent : Name
   pub on_object : Bool
   pub shape : ℕ
@@ -20,7 +20,7 @@ pub record FieldAt : Type 0 where
 -- what the sets hold is given by a table
 unfoldable pub view_vertex : List (List ℕ) → Vertex → FieldAt
 view_vertex t v =
-    record { key = v.key.now; parent = v.parent.now; on_object = v.on_object; shape = v.shape; call = v.call; below = below_in t v.below }
+    record { key = v.key; parent = v.parent.now; on_object = v.on_object; shape = v.shape; call = v.call; below = below_in t v.below }
 
 -- the parent types are the same, or one of them is no object type
 unfoldable pub can_meet : FieldAt → FieldAt → Bool
@@ -32,7 +32,7 @@ agree must_merge x y = nat_eq x.shape y.shape && (not (must_merge && can_meet x 
 
 -- both numbers have a field, and the two have one response key
 unfoldable pub same_key_at : Option FieldAt → Option FieldAt → Bool
-same_key_at (Some x) (Some y) = bytes_eq x.key y.key
+same_key_at (Some x) (Some y) = nat_eq x.key y.key
 same_key_at _ _ = false
 
 -- the fields agree, where there are two

@@ -1,18 +1,15 @@
 -- Questions on sets of fields and their answers; only private clauses cite most of what stands here.
 use Rattle.std.specs.Prelude.{ℕ, Bool, true, false, not, cond, ◌&&◌, ◌||◌, List, [], ◌∷◌, Option, Some, None, nat_eq, map, ◌≡◌}
 use Rattle.std.specs.List.{list_all, list_any, slice_get}
-use Rattle.std.specs.Borrow.{Bor}
 use Rattle.std.specs.HashMap.{HashMap, get_by}
 use Rattle.std.specs.HashSet.{HashSet}
-use Rattle.std.specs.Str.{bytes_eq}
-use Rattle.graphql_spec.specs.Shown.{Name}
 use Rattle.juniper_merging.specs.MergingGraph.{FieldAt, each_pair_at, merge_at, same_key_at, set_merges_at, view_vertex}
 use Rattle.graphql_spec.specs.Laws.{In}
 use Rattle.juniper_merging.specs.Sets.{IsTable}
 use Rattle.juniper_merging.specs.Tables.{set_at, table_of}
 use Rattle.juniper_merging.specs.declared.known.Known.{Known}
 use Rattle.juniper_merging.specs.declared.known.Question.{Question}
-use Rattle.juniper_merging.specs.declared.search.Graph.{Graph}
+use Rattle.juniper_merging.specs.declared.graph.Graph.{Graph}
 
 -- an answer to a question that is asked for every depth, if there is one
 pub record IsTold (test : ℕ → Bool) (o : Option Bool) : Type 0 where
@@ -36,22 +33,22 @@ unfoldable pub has : {H : Type 0} → HashSet (ℕ × ℕ × ℕ) H → ℕ → 
 has s i j k = list_any (λ x. (nat_eq i x.0 && nat_eq j x.1) && nat_eq k x.2) s.keys
 
 -- there is a field at the number, and it has the response key
-unfoldable pub has_key : Name → Option FieldAt → Bool
+unfoldable pub has_key : ℕ → Option FieldAt → Bool
 has_key k None = false
-has_key k (Some x) = bytes_eq x.key k
+has_key k (Some x) = nat_eq x.key k
 
 -- the number that a map has at a response key
-unfoldable pub number_in : {H : Type 0} → HashMap (Bor (List ℕ)) ℕ H → Name → Option ℕ
-number_in m k = get_by (λ n. bytes_eq k n.now) m
+unfoldable pub number_in : {H : Type 0} → HashMap ℕ ℕ H → ℕ → Option ℕ
+number_in m k = get_by (nat_eq k) m
 
 module _ (vs : List FieldAt) where
   -- each of these fields is the one at its response key, and they can be merged
-  pub record ArePlain (at : Name → Option ℕ) (is : List ℕ) : Type 0 where
+  pub record ArePlain (at : ℕ → Option ℕ) (is : List ℕ) : Type 0 where
     pub alone : (i : ℕ) (v : FieldAt) → In i is → slice_get vs i ≡ Some v → at v.key ≡ Some i
     pub merge : (n : ℕ) → set_merges_at vs n is ≡ true
 
   -- the numbers whose fields have the response key
-  unfoldable pub with_key_at : Name → List ℕ → List ℕ
+  unfoldable pub with_key_at : ℕ → List ℕ → List ℕ
   with_key_at k [] = []
   with_key_at k (i ∷ is) = cond (has_key k (slice_get vs i)) (i ∷ with_key_at k is) (with_key_at k is)
 

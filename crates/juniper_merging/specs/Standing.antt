@@ -27,12 +27,15 @@ pub record AreAlike {A B : Type 0} (S : A → B → Type 0) (xs : List A) (is : 
   pub two_back : (i j : B) → Both i j is → (x : A) × (y : A) × S x i × S y j × Both x y xs
 
 module _ (s : Schema) (vs : List FieldAt) (heads : ℕ → Head) where
-  -- of fields with one response key equal shapes say that types agree, and equal calls that names and arguments are the same
+  -- equal keys say that response keys are the same, and of such fields equal shapes that types agree, and equal calls that names and
+  -- arguments are the same
   pub record AreNumbered : Type 0 where
-    pub shapes : (i j : ℕ) (v w : FieldAt) → slice_get vs i ≡ Some v → slice_get vs j ≡ Some w → bytes_eq v.key w.key ≡ true →
+    pub keys : (i j : ℕ) (v w : FieldAt) → slice_get vs i ≡ Some v → slice_get vs j ≡ Some w →
+        nat_eq v.key w.key ≡ bytes_eq (response_key (heads i)) (response_key (heads j))
+    pub shapes : (i j : ℕ) (v w : FieldAt) → slice_get vs i ≡ Some v → slice_get vs j ≡ Some w → nat_eq v.key w.key ≡ true →
         nat_eq v.shape w.shape ≡ types_agree s (declared_type (field_of s v.parent (heads i).name.item))
         (declared_type (field_of s w.parent (heads j).name.item))
-    pub calls : (i j : ℕ) (v w : FieldAt) → slice_get vs i ≡ Some v → slice_get vs j ≡ Some w → bytes_eq v.key w.key ≡ true →
+    pub calls : (i j : ℕ) (v w : FieldAt) → slice_get vs i ≡ Some v → slice_get vs j ≡ Some w → nat_eq v.key w.key ≡ true →
         nat_eq v.call w.call ≡ (bytes_eq (heads i).name.item (heads j).name.item
         && same_members (written_meaning (written (heads i).arguments)) (written_meaning (written (heads j).arguments)))
 
@@ -43,7 +46,6 @@ module _ (s : Schema) (vs : List FieldAt) (heads : ℕ → Head) where
     pub like_there : slice_get vs like ≡ Some v
     pub head : heads like ≡ x.occurrence.head
     pub parent : v.parent ≡ x.parent
-    pub key : v.key ≡ response_key x.occurrence.head
     pub on_object : v.on_object ≡ is_object (type_named s x.parent)
 
   -- to the depth n, so does what it selects

@@ -1,11 +1,13 @@
 //! Written fields as vertices of a graph.
 
-/// A written field on its parent type. Equal `shape`s say that two declared types agree (SameResponseShape, section
-/// 5.3.2), and equal `call`s that two fields have one name and the same arguments.
+use crate::sets::FieldSet;
+
+/// A written field on its parent type. Equal `key`s say that two fields have one response key, equal `shape`s that two declared types
+/// agree (SameResponseShape, section 5.3.2), and equal `call`s that two fields have one name and the same arguments.
 #[derive(Drop)]
 pub struct Vertex<'a> {
-    /// The response key.
-    pub key: &'a str,
+    /// The number of the response key.
+    pub key: usize,
     /// The name of the parent type.
     pub parent: &'a str,
     /// Whether the parent type is an object type.
@@ -16,4 +18,13 @@ pub struct Vertex<'a> {
     pub call: usize,
     /// The number of the set of fields that it selects, if it selects any.
     pub below: Option<usize>,
+}
+
+/// A graph of fields and sets of them.
+#[derive(Drop)]
+pub struct Graph<'g, 'a> {
+    /// The fields.
+    pub vertices: &'g [Vertex<'a>],
+    /// The sets.
+    pub sets: &'g [FieldSet],
 }

@@ -6,12 +6,14 @@ mod graph;
 mod groups;
 mod known;
 mod laws;
+mod pairs;
+mod plain;
 mod search;
 mod sets;
 
-pub use graph::Vertex;
+pub use graph::{Graph, Vertex};
 pub use groups::{Groups, put_group, take_group};
 pub use known::Known;
 pub use laws::{numbers_tell, sets_tell};
-pub use search::{Graph, set_merges};
+pub use search::set_merges;
 pub use sets::{FieldSet, Gathering, are_same};

@@ -1,30 +1,22 @@
 //! The search over sets of fields.
 
-ghost use Rattle.std.specs.Prelude.{◌≡◌, ◌++◌, ◌∷◌, ◌&&◌, Bool, ℕ, IfOk, List, None, OnOk, Some, cond, false, map, true, []};
-ghost use Rattle.std.specs.List.{list_all, slice_get};
-ghost use Rattle.std.specs.Str.{bytes_eq};
-ghost use Rattle.graphql_spec.specs.Shown.{Name};
+ghost use Rattle.std.specs.Prelude.{◌≡◌, ◌++◌, ◌∷◌, ℕ, IfOk, List, None, OnOk, Some, false, map, true, []};
+ghost use Rattle.std.specs.List.{list_all};
 ghost use Rattle.juniper_merging.specs.Groups.{group_in};
-ghost use Rattle.juniper_merging.specs.MergingGraph.{FieldAt, agree, can_meet, each_pair_at, merge_at, set_merges_at, view_vertex};
-ghost use Rattle.juniper_merging.specs.Questions.{ArePlain, IsFound, IsSound, IsSoundIn, IsTold, between_at, between_test, fields_of, join, number_in, tested_at, test_of, with_key_at, within_test};
+ghost use Rattle.juniper_merging.specs.MergingGraph.{FieldAt, agree, each_pair_at, merge_at, set_merges_at, view_vertex};
+ghost use Rattle.juniper_merging.specs.Questions.{IsFound, IsSound, IsSoundIn, IsTold, between_at, between_test, fields_of};
+ghost use Rattle.juniper_merging.specs.Questions.{join, tested_at, test_of, with_key_at, within_test};
 ghost use Rattle.juniper_merging.specs.Sets.{IsTable};
 ghost use Rattle.juniper_merging.specs.Tables.{below_in, set_at, table_of};
 
-use crate::graph::Vertex;
+use crate::graph::{Graph, Vertex};
 use crate::groups::{Groups, put_group, take_group};
 use crate::known::{Known, Question};
-use crate::sets::{FieldSet, Part, part_of};
+use crate::pairs::{FEW, agree, all_pass, must_merge_below};
+use crate::plain::{is_plain, is_single};
+use crate::sets::{Part, part_of};
 use std::alloc::{AllocError, Global};
 use std::collections::HashMap;
-
-/// A graph of fields and sets of them.
-#[derive(Drop)]
-pub struct Graph<'g, 'a> {
-    /// The fields.
-    pub vertices: &'g [Vertex<'a>],
-    /// The sets.
-    pub sets: &'g [FieldSet],
-}
 
 /// Whether each two fields of the set with one response key can be merged (FieldsInSetCanMerge, section 5.3.2). A number that
 /// has no vertex or no set counts for nothing. Each question on one or two sets of the graph is answered once, for all sets
@@ -61,87 +53,6 @@ pub fn set_merges(
     match known.answer(question) {
         Some(answer) => Ok(answer),
         None => Err(AllocError),
-    }
-}
-
-/// Whether the set is made of fields of which no two have one response key, but such that select nothing and have one number.
-fn is_plain(alloc: Global, graph: &Graph<'_, '_>, set: usize) -> Result<bool, AllocError>
-    ensures { IfOk result (λ b. b ≡ true → IsTable graph.now.sets.now → (n : ℕ) →
-        set_merges_at (fields_of graph.now) n (set_at (table_of graph.now.sets.now) set) ≡ true) }
-{
-    if is_single(graph, set) {
-        return Ok(true);
-    }
-    match part_of(graph.sets, set) {
-        Part::Fields(fields) => {
-            let are_plain = are_plain(alloc, graph.vertices, fields)?;
-            Ok(are_plain)
-        }
-        Part::Both(_, _) => Ok(false),
-        Part::Nothing => Ok(false),
-    }
-}
-
-/// The same, of these fields.
-fn are_plain<'a>(
-    alloc: Global,
-    vertices: &[Vertex<'a>],
-    fields: &[usize],
-) -> Result<bool, AllocError>
-    ensures { IfOk result (λ b. b ≡ true → (t : List (List ℕ)) (n : ℕ) → set_merges_at (map (view_vertex t) vertices.now) n fields.now ≡ true) }
-{
-    let mut keys: HashMap<&'a str, usize> = HashMap::new(alloc);
-    for field in fields {
-        if !is_plain_beside(vertices, &mut keys, *field)? {
-            return Ok(false);
-        }
-    }
-    Ok(true)
-}
-
-/// Whether the field is plain beside those at their response keys. It is put there.
-fn is_plain_beside<'a>(
-    vertices: &[Vertex<'a>],
-    keys: &mut HashMap<&'a str, usize>,
-    field: usize,
-) -> Result<bool, AllocError>
-    ensures { IfOk result (λ b. b ≡ true → (t : List (List ℕ)) (is : List ℕ) → ArePlain (map (view_vertex t) vertices.now) (number_in keys.old) is
-        → ArePlain (map (view_vertex t) vertices.now) (number_in keys.new) (is ++ field ∷ [])) }
-{
-    match vertices.get(field) {
-        Some(vertex) => {
-            let before = put_number(keys, vertex.key, field)?;
-            Ok(is_same_leaf(vertices, before, field))
-        }
-        None => Ok(true),
-    }
-}
-
-/// Puts a number at a response key, and gives the one that was there.
-fn put_number<'a>(
-    keys: &mut HashMap<&'a str, usize>,
-    key: &'a str,
-    number: usize,
-) -> Result<Option<usize>, AllocError>
-    ensures before { IfOk result (λ o. o ≡ number_in keys.old key.now) }
-    ensures put { OnOk result ((k : Name) → number_in keys.new k ≡ cond (bytes_eq key.now k) (Some number) (number_in keys.old k)) }
-{
-    Ok(keys.insert(key, number)?)
-}
-
-/// Whether there is no other number, but that of the field itself, which then selects nothing.
-fn is_same_leaf(vertices: &[Vertex<'_>], before: Option<usize>, field: usize) -> bool
-    ensures { result ≡ true → (i : ℕ) → before ≡ Some i → (i ≡ field) × ((t : List (List ℕ)) (n : ℕ) →
-        tested_at (map (view_vertex t) vertices.now) (merge_at (map (view_vertex t) vertices.now) n true) field field ≡ true) }
-{
-    match before {
-        Some(other) => {
-            if other != field {
-                return false;
-            }
-            passes(vertices, field, field, true)
-        }
-        None => true,
     }
 }
 
@@ -295,18 +206,6 @@ fn ask_within(
         open,
     )?;
     Ok(found)
-}
-
-/// Whether the set is one field, or none.
-fn is_single(graph: &Graph<'_, '_>, set: usize) -> bool
-    ensures { result ≡ true → IsTable graph.now.sets.now → (R : ℕ → ℕ → Bool) →
-        each_pair_at (fields_of graph.now) R (set_at (table_of graph.now.sets.now) set) ≡ true }
-{
-    match part_of(graph.sets, set) {
-        Part::Fields(fields) => fields.len() < 2,
-        Part::Both(_, _) => false,
-        Part::Nothing => true,
-    }
 }
 
 /// Asks for each field of a set with each of a second one; where the answer is not known, the question is opened.
@@ -480,65 +379,6 @@ fn is_apart(graph: &Graph<'_, '_>, fields: &[usize], set: usize, must_merge: boo
     }
 }
 
-/// How many fields are few.
-const FEW: usize = 8;
-
-/// Whether each field of the one list can be merged with each of the other, as is seen without a look at what they select.
-fn all_pass(vertices: &[Vertex<'_>], xs: &[usize], ys: &[usize], must_merge: bool) -> bool
-    ensures { result ≡ true → (t : List (List ℕ)) (n : ℕ) →
-        between_at (map (view_vertex t) vertices.now) (merge_at (map (view_vertex t) vertices.now) n must_merge) xs.now ys.now ≡ true }
-{
-    for y in ys {
-        if !each_passes(vertices, xs, *y, must_merge) {
-            return false;
-        }
-    }
-    true
-}
-
-/// Whether each field of the list can be merged with this one, so.
-fn each_passes(vertices: &[Vertex<'_>], xs: &[usize], y: usize, must_merge: bool) -> bool
-    ensures { result ≡ true → (t : List (List ℕ)) (n : ℕ) →
-        list_all (λ i. tested_at (map (view_vertex t) vertices.now) (merge_at (map (view_vertex t) vertices.now) n must_merge) i y) xs.now ≡ true }
-{
-    for x in xs {
-        if !passes(vertices, *x, y, must_merge) {
-            return false;
-        }
-    }
-    true
-}
-
-/// Whether two fields have two response keys, or agree and select nothing.
-fn passes(vertices: &[Vertex<'_>], first: usize, second: usize, must_merge: bool) -> bool
-    ensures { result ≡ true → (t : List (List ℕ)) (n : ℕ) →
-        tested_at (map (view_vertex t) vertices.now) (merge_at (map (view_vertex t) vertices.now) n must_merge) first second ≡ true }
-{
-    match (vertices.get(first), vertices.get(second)) {
-        (Some(x), Some(y)) => {
-            if x.key != y.key {
-                return true;
-            }
-            if selects(x) || selects(y) {
-                return false;
-            }
-            agree(must_merge, x, y)
-        }
-        (Some(_), None) => true,
-        (None, _) => true,
-    }
-}
-
-/// Whether a field selects something.
-fn selects(vertex: &Vertex<'_>) -> bool
-    ensures { result ≡ false → vertex.now.below ≡ None }
-{
-    match vertex.below {
-        Some(_) => true,
-        None => false,
-    }
-}
-
 /// The answer, if it is known; else the question is opened.
 fn ask(
     question: Question,
@@ -598,8 +438,8 @@ fn look_between(
 }
 
 /// The same, each looked at with those before it that have its response key.
-fn look_within_many<'a>(
-    graph: &Graph<'_, 'a>,
+fn look_within_many(
+    graph: &Graph<'_, '_>,
     fields: &[usize],
     must_merge: bool,
     known: &Known,
@@ -608,7 +448,7 @@ fn look_within_many<'a>(
     ensures { IfOk result (λ o. IsFound graph.now known.now (λ n. each_pair_at (fields_of graph.now) (merge_at
         (fields_of graph.now) n must_merge) fields.now) o) }
 {
-    let mut groups: Groups<'a> = HashMap::new(known.alloc);
+    let mut groups: Groups = HashMap::new(known.alloc);
     let mut found = Some(true);
     for second in fields {
         let more = look_at_group(graph, &groups, *second, must_merge, known, open)?;
@@ -642,17 +482,17 @@ fn look_between_many(
 /// The answer for each field of a list, which is in groups, with one field.
 fn look_at_group(
     graph: &Graph<'_, '_>,
-    groups: &Groups<'_>,
+    groups: &Groups,
     second: usize,
     must_merge: bool,
     known: &Known,
     open: &mut Vec<Question>,
 ) -> Result<Option<bool>, AllocError>
-    ensures { IfOk result (λ o. (xs : List ℕ) → ((k : Name) → group_in groups.now k ≡ with_key_at (fields_of graph.now) k xs)
+    ensures { IfOk result (λ o. (xs : List ℕ) → ((k : ℕ) → group_in groups.now k ≡ with_key_at (fields_of graph.now) k xs)
         → IsFound graph.now known.now (λ n. list_all (λ i. tested_at (fields_of graph.now) (merge_at (fields_of graph.now) n must_merge) i second) xs) o) }
 {
     match graph.vertices.get(second) {
-        Some(vertex) => match groups.get(vertex.key) {
+        Some(vertex) => match groups.get(&vertex.key) {
             Some(group) => {
                 let found = look_at_each(graph, group, second, must_merge, known, open)?;
                 Ok(found)
@@ -664,14 +504,10 @@ fn look_at_group(
 }
 
 /// These fields, in groups by their response keys.
-fn grouped<'a>(
-    alloc: Global,
-    vertices: &[Vertex<'a>],
-    fields: &[usize],
-) -> Result<Groups<'a>, AllocError>
-    ensures { IfOk result (λ groups. (t : List (List ℕ)) (k : Name) → group_in groups k ≡ with_key_at (map (view_vertex t) vertices.now) k fields.now) }
+fn grouped(alloc: Global, vertices: &[Vertex<'_>], fields: &[usize]) -> Result<Groups, AllocError>
+    ensures { IfOk result (λ groups. (t : List (List ℕ)) (k : ℕ) → group_in groups k ≡ with_key_at (map (view_vertex t) vertices.now) k fields.now) }
 {
-    let mut groups: Groups<'a> = HashMap::new(alloc);
+    let mut groups: Groups = HashMap::new(alloc);
     for field in fields {
         put_into_group(alloc, vertices, &mut groups, *field)?;
     }
@@ -679,14 +515,14 @@ fn grouped<'a>(
 }
 
 /// Puts a field into the group of its response key.
-fn put_into_group<'a>(
+fn put_into_group(
     alloc: Global,
-    vertices: &[Vertex<'a>],
-    groups: &mut Groups<'a>,
+    vertices: &[Vertex<'_>],
+    groups: &mut Groups,
     field: usize,
 ) -> Result<(), AllocError>
-    ensures { OnOk result ((t : List (List ℕ)) (xs : List ℕ) → ((k : Name) → group_in groups.old k ≡ with_key_at (map (view_vertex t) vertices.now) k xs)
-        → (k : Name) → group_in groups.new k ≡ with_key_at (map (view_vertex t) vertices.now) k (xs ++ field ∷ [])) }
+    ensures { OnOk result ((t : List (List ℕ)) (xs : List ℕ) → ((k : ℕ) → group_in groups.old k ≡ with_key_at (map (view_vertex t) vertices.now) k xs)
+        → (k : ℕ) → group_in groups.new k ≡ with_key_at (map (view_vertex t) vertices.now) k (xs ++ field ∷ [])) }
 {
     match vertices.get(field) {
         Some(vertex) => {
@@ -837,28 +673,4 @@ fn join(a: Option<bool>, b: Option<bool>) -> Option<bool>
         (None, Some(true)) => None,
         (None, None) => None,
     }
-}
-
-/// Whether two fields agree, whatever they select.
-#[tactic(auto, unfolding(crate::specs::MergingGraph::agree, crate::specs::MergingGraph::can_meet, crate::specs::MergingGraph::view_vertex))]
-fn agree(must_merge: bool, x: &Vertex<'_>, y: &Vertex<'_>) -> bool
-    ensures { result ≡ agree must_merge (view_vertex [] x.now) (view_vertex [] y.now) }
-{
-    x.shape == y.shape && (!(must_merge && may_meet(x, y)) || x.call == y.call)
-}
-
-/// Whether what two fields select has to merge, where they have to if they may meet.
-#[tactic(auto, unfolding(crate::specs::MergingGraph::can_meet, crate::specs::MergingGraph::view_vertex))]
-fn must_merge_below(must_merge: bool, x: &Vertex<'_>, y: &Vertex<'_>) -> bool
-    ensures { result ≡ (must_merge && can_meet (view_vertex [] x.now) (view_vertex [] y.now)) }
-{
-    must_merge && may_meet(x, y)
-}
-
-/// Whether the fields' parent types are the same, or one of them is no object type.
-#[tactic(auto, unfolding(crate::specs::MergingGraph::can_meet, crate::specs::MergingGraph::view_vertex))]
-fn may_meet(x: &Vertex<'_>, y: &Vertex<'_>) -> bool
-    ensures { result ≡ can_meet (view_vertex [] x.now) (view_vertex [] y.now) }
-{
-    x.parent == y.parent || !x.on_object || !y.on_object
 }

@@ -4,4 +4,4 @@ use Rattle.juniper_merging.proofs.groups.put_group.Goals as goal
 
 pub returns : goal.returns
 unfolding numbers_of
-returns c = group-put c.args.groups.now c.insert.new.self c.args.key.now _ c.in_ok-insert.ensures.updates
+returns c = group-put c.args.groups.now c.insert.new.self c.args.key _ c.in_ok-insert.ensures.updates

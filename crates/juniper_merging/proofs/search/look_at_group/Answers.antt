@@ -18,7 +18,7 @@ returns-in_ok-found-in-Some-get c xs groups is sound =
     by-group (fields_of g) c.args.must_merge c.args.second xs (group_in c.args.groups.now) groups (view_vertex t x) c.deref.result.now
     c.in_ok-found-in-Some-get.found
     (vertex-some t vs c.args.second x (found-at vs c.args.second c.get.result c.in-Some.vertex c.get.ensures.lookup.3 c.in-Some.is))
-    (c.deref.ensures.value ∙ group-found c.args.groups.now x.key.now _ c.in-Some-get.ensures.value) (c.in_ok-found-in-Some-get.ensures is sound)
+    (c.deref.ensures.value ∙ group-found c.args.groups.now x.key _ c.in-Some-get.ensures.value) (c.in_ok-found-in-Some-get.ensures is sound)
 
 pub returns-in-None-get : goal.returns-in-None-get
 unfolding view_vertex numbers_of
@@ -29,7 +29,7 @@ returns-in-None-get c xs groups is sound =
     let x = c.in-Some.vertex.now in
     no-group (fields_of g) c.args.must_merge c.args.second xs (group_in c.args.groups.now) groups (view_vertex t x)
     (vertex-some t vs c.args.second x (found-at vs c.args.second c.get.result c.in-Some.vertex c.get.ensures.lookup.3 c.in-Some.is))
-    (group-found c.args.groups.now x.key.now _ c.in-None-get.ensures.value)
+    (group-found c.args.groups.now x.key _ c.in-None-get.ensures.value)
 
 pub returns-in-None : goal.returns-in-None
 returns-in-None c xs groups is sound =

@@ -11,6 +11,7 @@ use Rattle.juniper_meta.specs.MetaView.{view_type}
 use Rattle.juniper_schema.specs.SchemaView.{view_schema}
 use Rattle.juniper_written.specs.WrittenView.{view_field}
 use Rattle.juniper_field_graph.specs.GraphView.{table_in}
+use Rattle.juniper_field_graph.specs.Keys.{IsNumbered, number_at}
 use Rattle.juniper_field_graph.specs.KindsView.{IsOwn, has_call, has_type, heads_in, number_among, types_in}
 use Rattle.juniper_field_graph.proofs.Choosing.{among-same}
 use Rattle.juniper_field_graph.proofs.Graphs.{IsMade, pushed}
@@ -24,7 +25,7 @@ returns g c graph typed once inside =
     let shown = g.S.ScalarValue.shown in
     let s : Schema = view_schema shown c.args.schema.now in
     let old = c.args.self.now in
-    let key = c.response_key-key.result.now in
+    let key : ℕ = c.in_ok-key.key in
     let h = view_field shown c.args.field.now in
     let t = view_type c.args.declared_type.now in
     let n = c.len-number.result in
@@ -36,7 +37,7 @@ returns g c graph typed once inside =
     let u = table_in shown old in
     let vs = map (view_vertex u) old.vertices.items in
     let v : Vertex = record {
-      key = c.response_key-key.result;
+      key = key;
       parent = c.args.parent;
       on_object = c.names_object.result;
       shape = c.shape_among-shape.result;
@@ -59,7 +60,6 @@ returns g c graph typed once inside =
     let made : IsMade shown s old v (record { field = c.args.field; declared_type = c.args.declared_type }) = record {
       typed = typed;
       once = once;
-      key = c.response_key-key.ensures;
       on_object = c.names_object.ensures;
       shape = shape;
       call = call;
@@ -77,6 +77,7 @@ returns g c graph typed once inside =
     ] in
     pushed shown s old _ v (record { field = c.args.field; declared_type = c.args.declared_type }) graph made n refl inside count
     c.in_ok-push-2.ensures.items c.in_ok-push-3.ensures.items
+    (subst (λ name. IsNumbered name key n (number_at old.keys) (number_at c.number_of_key.new.keys)) c.response_key.ensures c.in_ok-key.ensures)
     (put-back (group_in old.kinds) mid now key ks ls n c.take_group-kinds.ensures.numbers c.take_group-kinds.ensures.taken c.in_ok-put_group.ensures added)
     (λ e. own (inl e)) (λ e. own (inr e)) c.first_like-first.result
     (λ r e. subst (λ ws. slice_get (map (view_vertex u) ws) r ≡ Some (view_vertex u v)) c.deref-7.ensures.value

@@ -1,9 +1,9 @@
 use Rattle.std.proofs.Common.{map, ◌∙◌}
 use Rattle.juniper_merging.specs.MergingGraph.{view_vertex}
 use Rattle.juniper_merging.specs.Questions.{number_in}
-use Rattle.juniper_merging.proofs.Plain.{plain-more, plain-skip}
+use Rattle.juniper_merging.proofs.Alone.{plain-more, plain-skip}
 use Rattle.juniper_merging.proofs.Vertices.{found-at, missing-at, vertex-none, vertex-some}
-use Rattle.juniper_merging.proofs.search.is_plain_beside.Goals as goal
+use Rattle.juniper_merging.proofs.plain.is_plain_beside.Goals as goal
 
 pub returns-in_ok-before-in-Some : goal.returns-in_ok-before-in-Some
 unfolding view_vertex

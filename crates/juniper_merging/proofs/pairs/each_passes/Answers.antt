@@ -3,7 +3,7 @@ use Rattle.std.proofs.lemmas.Grind.{get_or_default_zero}
 use Rattle.juniper_merging.specs.MergingGraph.{merge_at, view_vertex}
 use Rattle.juniper_merging.specs.Questions.{tested_at}
 use Rattle.juniper_merging.proofs.Passed.{passed-all, passed-more}
-use Rattle.juniper_merging.proofs.search.each_passes.Goals as goal
+use Rattle.juniper_merging.proofs.pairs.each_passes.Goals as goal
 
 pub loop-x-preserved : goal.loop-x-preserved
 loop-x-preserved c t n =

@@ -4,7 +4,7 @@ use Rattle.std.proofs.lemmas.Grind.{get_or_default_zero}
 use Rattle.juniper_merging.specs.MergingGraph.{merge_at, view_vertex}
 use Rattle.juniper_merging.specs.Questions.{between_at, tested_at}
 use Rattle.juniper_merging.proofs.Passed.{passed-all, passed-more}
-use Rattle.juniper_merging.proofs.search.all_pass.Goals as goal
+use Rattle.juniper_merging.proofs.pairs.all_pass.Goals as goal
 
 pub loop-y-init : goal.loop-y-init
 unfolding between_at

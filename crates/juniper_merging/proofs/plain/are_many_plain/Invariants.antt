@@ -1,7 +1,7 @@
 use Rattle.std.proofs.Common.{ℕ, List, map, take}
 use Rattle.juniper_merging.specs.MergingGraph.{view_vertex}
 use Rattle.juniper_merging.specs.Questions.{ArePlain, number_in}
-use Rattle.juniper_merging.proofs.search.are_plain.Given as goal
+use Rattle.juniper_merging.proofs.plain.are_many_plain.Given as goal
 
 -- those before this place are plain
 abbrev pub invariant-loop-field : goal.invariant-loop-field

@@ -1,7 +1,7 @@
 use Rattle.std.proofs.Common.{◌≡◌, ℕ, List, true, map, take}
 use Rattle.juniper_merging.specs.MergingGraph.{merge_at, view_vertex}
 use Rattle.juniper_merging.specs.Questions.{between_at}
-use Rattle.juniper_merging.proofs.search.all_pass.Given as goal
+use Rattle.juniper_merging.proofs.pairs.all_pass.Given as goal
 
 -- those before this place pass
 abbrev pub invariant-loop-y : goal.invariant-loop-y

@@ -3,7 +3,7 @@ use Rattle.juniper_merging.specs.Questions.{fields_of}
 use Rattle.juniper_merging.specs.Sets.{IsPartAt}
 use Rattle.juniper_merging.specs.Tables.{table_of}
 use Rattle.juniper_merging.proofs.Tables.{nothing-passes, single-passes}
-use Rattle.juniper_merging.proofs.search.is_single.Goals as goal
+use Rattle.juniper_merging.proofs.plain.is_single.Goals as goal
 
 pub returns-in-Fields : goal.returns-in-Fields
 returns-in-Fields c e is R =

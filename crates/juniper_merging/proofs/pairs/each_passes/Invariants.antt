@@ -2,7 +2,7 @@ use Rattle.std.proofs.Common.{◌≡◌, ℕ, List, true, map, take}
 use Rattle.std.specs.List.{list_all}
 use Rattle.juniper_merging.specs.MergingGraph.{merge_at, view_vertex}
 use Rattle.juniper_merging.specs.Questions.{tested_at}
-use Rattle.juniper_merging.proofs.search.each_passes.Given as goal
+use Rattle.juniper_merging.proofs.pairs.each_passes.Given as goal
 
 -- those before this place pass
 abbrev pub invariant-loop-x : goal.invariant-loop-x
