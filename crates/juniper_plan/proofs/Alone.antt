@@ -22,7 +22,8 @@ use Rattle.juniper_collect.specs.declared.collecting.Collector.{Collector}
 use Rattle.juniper_lookahead.specs.declared.occurrences.Occurrence.{Occurrence as CodeOccurrence}
 use Rattle.juniper_walk.specs.FieldWords.{head_of}
 use Rattle.juniper_walk.proofs.Preparation.{same-head}
-use Rattle.juniper_plan.specs.PlanLists.{name_number, number_from, rises, rises_from}
+use Rattle.juniper_syntax.specs.NameNumbers.{name_number}
+use Rattle.juniper_plan.specs.PlanLists.{rises, rises_from}
 
 -- ## Names
 
@@ -120,11 +121,6 @@ pub one-falls : (xs : List ℕ) (i : ℕ) → i < length xs → (b : Bool) (last
     b ≡ rises_from last (drop i xs) → b ≡ false
 unfolding rises_from
 one-falls xs i below b last less e = e ∙ (ap (rises_from last) (drop_more xs i 0 below) ∙ rw (le-ltb last (get_or xs i 0) less) refl)
-
-pub one-byte : (bs : List ℕ) (i : ℕ) → i < length bs → (whole n : ℕ) → whole ≡ number_from n (drop i bs) →
-    whole ≡ number_from ((n * 1099511628211 % 2 ^ 64 + get_or bs i 0) % 2 ^ 64) (drop (i + 1) bs)
-unfolding number_from
-one-byte bs i below whole n e = e ∙ ap (number_from n) (drop_more bs i 0 below)
 
 -- ## Fields
 

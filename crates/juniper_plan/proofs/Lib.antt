@@ -15,3 +15,4 @@ pub mod Completed
 pub mod Put
 pub mod Nodes
 pub mod Turns
+pub mod Leaves

@@ -1,3 +1,4 @@
 pub mod PlanLists
 pub mod Plans
 pub mod PlanWalks
+pub mod Leaves

@@ -1,5 +1,5 @@
 -- The lists of a plan.
-use Rattle.std.specs.Prelude.{nat_lt, ◌+◌, ◌*◌, ◌%◌, ◌^◌, ℕ, Bool, true, ◌&&◌, List, [], ◌∷◌, cond, Option, Some, None, string_bytes}
+use Rattle.std.specs.Prelude.{nat_lt, ℕ, Bool, true, ◌&&◌, List, [], ◌∷◌, cond, Option, Some, None, string_bytes}
 use Rattle.std.specs.Str.{bytes_eq}
 use Rattle.graphql_spec.specs.Shown.{Name}
 use Rattle.juniper_plan.specs.declared.plan.Below.{Below}
@@ -9,15 +9,6 @@ use Rattle.juniper_plan.specs.declared.plan.GroupRange.{GroupRange}
 unfoldable pub named_in : Name → List Below → Option GroupRange
 named_in T [] = None
 named_in T (b ∷ bs) = cond (bytes_eq (string_bytes b.concrete) T) (Some b.groups) (named_in T bs)
-
--- a number of a name, of which the bytes so far made this one
-unfoldable pub number_from : ℕ → Name → ℕ
-number_from n [] = n
-number_from n (b ∷ bs) = number_from ((n * 1099511628211 % 2 ^ 64 + b) % 2 ^ 64) bs
-
--- a number of a name: equal names have equal numbers
-abbrev pub name_number : Name → ℕ
-name_number bs = number_from 0 bs
 
 -- each of these numbers is less than the next, and the first is more than this one
 unfoldable pub rises_from : ℕ → List ℕ → Bool

@@ -1,7 +1,7 @@
 //! What was walked of a group is added to its object (section 6.4.4 of the Specification).
 
 ghost use Rattle.std.specs.Prelude.{◌≡◌, ◌++◌, IfOk, OnOk, map};
-ghost use Rattle.graphql_spec.specs.Values.{put};
+ghost use Rattle.graphql_spec.specs.Values.{put, scalar as leaf};
 ghost use Rattle.juniper_syntax.specs.ValueView.{view_object, view_value};
 ghost use Rattle.juniper_errors.specs.ErrorView.{view_listed};
 ghost use Rattle.juniper_assemble.specs.SkeletonView.{view_skeleton};
@@ -57,4 +57,16 @@ fn put_field<S: ScalarValue>(
     let key = String::from_str(alloc, key)?;
     drop(entries.add_field(key, value)?);
     Ok(())
+}
+
+/// Puts a scalar at a key.
+pub(crate) fn put_leaf<S: ScalarValue>(
+    alloc: Global,
+    entries: &mut Object<S>,
+    key: &str,
+    scalar: S,
+) -> Result<(), AllocError>
+    ensures { OnOk result (view_object S.shown entries.new ≡ put key.now (leaf (S.shown scalar)) (view_object S.shown entries.old)) }
+{
+    put_field(alloc, entries, key, Value::Scalar(scalar))
 }

@@ -4,6 +4,7 @@
 
 mod adding;
 mod completing;
+mod leaf;
 mod making;
 mod plan;
 mod preparing;

@@ -10,13 +10,13 @@ ghost use Rattle.graphql_spec.specs.Selections.{all_below, occurrences};
 ghost use Rattle.juniper_collect.specs.Collected.{IsReady, expansion, view_all};
 ghost use Rattle.juniper_syntax.specs.DocumentView.{view_selections};
 ghost use Rattle.juniper_walk.specs.FieldWords.{fields_at as fields_in, head_of};
-ghost use Rattle.juniper_plan.specs.PlanLists.{name_number, rises};
+ghost use Rattle.juniper_plan.specs.PlanLists.{rises};
 ghost use Rattle.juniper_plan.specs.Plans.{AreAdded, IsGroupAdded, IsMade, IsStanding, all_expanded, fields_at, group_count};
 
 use crate::plan::{GroupNo, GroupRange, Plan};
 use juniper_collect::{Collected, Collector, Conditions, collect};
 use juniper_lookahead::{Enclosing, Occurrence};
-use juniper_syntax::ScalarValue;
+use juniper_syntax::{ScalarValue, name_number};
 use juniper_walk::{Groups, Resolver, Walk, group_fields, response_key, selections_of};
 use std::alloc::{AllocError, Global};
 
@@ -110,19 +110,6 @@ fn keys_differ<'d, 'a, S: ScalarValue>(
     }
     numbers.sort_unstable();
     Ok(do_rise(&numbers))
-}
-
-/// A number of a name. Other names have other numbers, but for chance, or choice.
-fn name_number(name: &str) -> u64
-    ensures { result ≡ name_number name.now }
-{
-    let mut number: u64 = 0;
-    for byte in name.as_bytes() {
-        number = number
-            .wrapping_mul(1_099_511_628_211)
-            .wrapping_add(u64::from(*byte));
-    }
-    number
 }
 
 /// Whether each of the numbers is less than the next.

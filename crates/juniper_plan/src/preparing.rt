@@ -1,25 +1,36 @@
 //! The fields of a response key are resolved once, and the answer taken apart from its nodes (sections 6.4.2 and 6.4.3 of the
 //! Specification).
 
-ghost use Rattle.std.specs.Prelude.{◌≡◌, ◌<◌, ◌∷◌, IfOk, map};
+ghost use Rattle.std.specs.Prelude.{◌≡◌, ◌<◌, ◌++◌, ◌∷◌, [], IfOk};
 ghost use Rattle.graphql_spec.specs.Selections.{occurrences};
-ghost use Rattle.juniper_assemble.specs.SkeletonView.{view_skeleton};
-ghost use Rattle.juniper_assemble.specs.SpotView.{view_nodes};
+ghost use Rattle.graphql_spec.specs.Documents.{response_key};
+ghost use Rattle.graphql_spec.specs.Errors.{key};
 ghost use Rattle.juniper_collect.specs.Collected.{view_all};
-ghost use Rattle.juniper_errors.specs.ErrorView.{view_listed};
 ghost use Rattle.juniper_errors.specs.PathView.{path_place};
 ghost use Rattle.juniper_plan.specs.Plans.{IsAskedAt, IsStanding, all_expanded, fields_at, group_count, key_at};
-ghost use Rattle.juniper_plan.specs.PlanWalks.{IsGroupOf, IsPrepared};
+ghost use Rattle.juniper_plan.specs.Leaves.{IsTaken};
+ghost use Rattle.juniper_plan.specs.PlanWalks.{IsGroupOf};
+ghost use Rattle.juniper_walk.specs.FieldWords.{head_of};
 ghost use Rattle.juniper_walk.specs.Walking.{IsReadyWalk};
 
+use crate::leaf::{Reply, leaf_of};
 use crate::plan::{GroupNo, Plan};
 use juniper_assemble::{Skeleton, Spot};
 use juniper_errors::{ExecutionError, FieldPath};
 use juniper_lookahead::Enclosing;
-use juniper_syntax::ScalarValue;
-use juniper_walk::{Asked, Parted, Resolver, Site, Walk, list_errors, part_reply, path_below};
+use juniper_syntax::{Field, ScalarValue, Span, Spanning};
+use juniper_walk::{Parted, Resolver, Site, Walk, list_errors, part_reply, response_key};
 use std::alloc::AllocError;
 use std::rc::Rc;
+
+/// What a group of a node answers.
+#[derive(Drop)]
+pub(crate) enum Taken<'a, N, S> {
+    /// A scalar that its type takes, with the response key.
+    Leaf(&'a str, S),
+    /// Any other answer, taken apart.
+    Apart(Prepared<'a, N, S>),
+}
 
 /// A group's answer without the objects of its nodes.
 #[derive(Drop)]
@@ -36,7 +47,19 @@ pub(crate) struct Prepared<'a, N, S> {
     pub(crate) errors: Vec<ExecutionError<S>>,
 }
 
-/// A group of a node: its answer, taken apart. What fails is listed where the first of its fields starts.
+/// The path to a field below this path. It is shared only where a node or an error keeps it.
+fn step_below<'a, S: ScalarValue>(
+    path: &Rc<FieldPath<'a>>,
+    field: &Spanning<Field<'a, S>, Span>,
+) -> Result<FieldPath<'a>, AllocError>
+    ensures { IfOk result (λ made. path_place made ≡ path_place path.now.value ++ key (response_key (head_of S.shown field.now)) ∷ []) }
+{
+    let parent = path.clone()?;
+    let key = response_key(field);
+    Ok(FieldPath::Field(key, field.span.start, parent))
+}
+
+/// A group of a node: its answer, taken apart where it is more than a scalar that fits. What fails is listed where the first of its fields starts.
 pub(crate) fn prepare<'d, 'a, S: ScalarValue, R: Resolver<S>>(
     walk: &Walk<'_, 'd, 'a, S, R>,
     plan: &Plan<'d, 'a, S, R::Question>,
@@ -45,7 +68,7 @@ pub(crate) fn prepare<'d, 'a, S: ScalarValue, R: Resolver<S>>(
     node: &R::Node,
     enclosing: &[Enclosing<'d, 'a, S>],
     group: GroupNo,
-) -> Result<Prepared<'a, R::Node, S>, AllocError>
+) -> Result<Taken<'a, R::Node, S>, AllocError>
     requires ready { IsReadyWalk S.shown R.possible R.values (R.world walk.now.collector.possible) walk.now }
     requires standing { IsStanding S.shown walk.now.collector (R.asks walk.now.collector.possible) (R.possible walk.now.collector.possible) plan.now }
     requires bound { group.0 < group_count plan.now }
@@ -53,34 +76,40 @@ pub(crate) fn prepare<'d, 'a, S: ScalarValue, R: Resolver<S>>(
         (all_expanded S.shown walk.now.collector enclosing.now)) (view_all S.shown walk.now.collector (fields_at plan.now group.0)) }
     requires asked { IsAskedAt (R.asks walk.now.collector.possible) concrete.now plan.now group.0
         (view_all S.shown walk.now.collector (fields_at plan.now group.0)) }
-    ensures { IfOk result (λ p. IsPrepared (R.world walk.now.collector.possible) (path_place path.now.value) concrete.now node.now
-        (key_at plan.now group.0) (view_all S.shown walk.now.collector (fields_at plan.now group.0)) p.key.now
-        p.is_non_null (view_skeleton S.shown p.skeleton) (view_nodes p.nodes.items) (map (view_listed S.shown) p.errors.items)) }
+    ensures { IfOk result (λ a. IsTaken (R.world walk.now.collector.possible) S.shown (path_place path.now.value) concrete.now node.now
+        (key_at plan.now group.0) (view_all S.shown walk.now.collector (fields_at plan.now group.0)) a) }
 {
     let alloc = walk.alloc;
     let fields = plan.fields(group);
     let first = fields[0].field;
-    let here = path_below(alloc, path, first)?;
+    let here = step_below(path, first)?;
     let site = Site {
         fragments: walk.collector.fragments.by_name(),
-        path: here.as_ref(),
+        path: &here,
         enclosing,
         occurrences: fields,
     };
     let question = plan.question(group);
     let resolver = &walk.collector.possible;
-    let Asked { declared, answer } = resolver.ask(alloc, question, concrete, node, &site);
-    let Parted {
-        skeleton,
-        nodes,
-        errors,
-    } = part_reply(alloc, resolver, declared, answer, &here)?;
-    let listed = list_errors(alloc, first.span.start, &errors)?;
-    Ok(Prepared {
-        key: plan.key(group),
-        is_non_null: declared.is_non_null(),
-        skeleton,
-        nodes,
-        errors: listed,
-    })
+    let told = resolver.ask(alloc, question, concrete, node, &site);
+    match leaf_of(resolver, told) {
+        Reply::Leaf(scalar) => Ok(Taken::Leaf(plan.key(group), scalar)),
+        Reply::Other(asked) => {
+            let declared = asked.declared;
+            let place = Rc::new(alloc, here)?;
+            let Parted {
+                skeleton,
+                nodes,
+                errors,
+            } = part_reply(alloc, resolver, declared, asked.answer, &place)?;
+            let listed = list_errors(alloc, first.span.start, &errors)?;
+            Ok(Taken::Apart(Prepared {
+                key: plan.key(group),
+                is_non_null: declared.is_non_null(),
+                skeleton,
+                nodes,
+                errors: listed,
+            }))
+        }
+    }
 }

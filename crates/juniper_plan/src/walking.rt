@@ -12,10 +12,10 @@ ghost use Rattle.juniper_plan.specs.Plans.{IsStanding, IsStep, StandsFor, all_ex
 ghost use Rattle.juniper_plan.specs.PlanWalks.{AreObjectsWalked, IsObjectWalked};
 ghost use Rattle.juniper_walk.specs.Walking.{IsReadyWalk};
 
-use crate::adding::add_value;
+use crate::adding::{add_value, put_leaf};
 use crate::making::{all_selections, groups_below};
 use crate::plan::{GroupNo, GroupRange, Plan};
-use crate::preparing::prepare;
+use crate::preparing::{Taken, prepare};
 use juniper_assemble::Spot;
 use juniper_errors::{ExecutionError, FieldPath};
 use juniper_lookahead::Enclosing;
@@ -56,14 +56,19 @@ pub fn object<'d, 'a, S: ScalarValue, R: Resolver<S>>(
     let mut errors = Vec::new(walk.alloc);
     for number in groups.first.0..groups.end.0 {
         let group = GroupNo(number);
-        let prepared = prepare(walk, plan, path, concrete, node, enclosing, group)?;
-        let walked = objects_of(walk, plan, &prepared.nodes, group)?;
-        let rises = add_value(walk.alloc, &mut entries, &mut errors, prepared, walked)?;
-        if rises {
-            return Ok(Walked {
-                value: Value::Null,
-                errors,
-            });
+        let taken = prepare(walk, plan, path, concrete, node, enclosing, group)?;
+        match taken {
+            Taken::Leaf(key, scalar) => put_leaf(walk.alloc, &mut entries, key, scalar)?,
+            Taken::Apart(prepared) => {
+                let walked = objects_of(walk, plan, &prepared.nodes, group)?;
+                let rises = add_value(walk.alloc, &mut entries, &mut errors, prepared, walked)?;
+                if rises {
+                    return Ok(Walked {
+                        value: Value::Null,
+                        errors,
+                    });
+                }
+            }
         }
     }
     Ok(Walked {

@@ -6,7 +6,8 @@ use Rattle.graphql_spec.specs.Documents.{response_key}
 use Rattle.juniper_lookahead.specs.declared.occurrences.Occurrence.{Occurrence}
 use Rattle.juniper_walk.specs.FieldWords.{head_of}
 use Rattle.juniper_walk.proofs.Slices.{taken-one}
-use Rattle.juniper_plan.specs.PlanLists.{name_number, rises}
+use Rattle.juniper_syntax.specs.NameNumbers.{name_number}
+use Rattle.juniper_plan.specs.PlanLists.{rises}
 use Rattle.juniper_plan.proofs.Alone.{sorted-differ}
 use Rattle.juniper_plan.proofs.making.keys_differ.Goals as goal
 

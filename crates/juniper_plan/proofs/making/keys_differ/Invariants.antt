@@ -1,7 +1,7 @@
 use Rattle.std.proofs.Common.{◌≡◌, map, take}
 use Rattle.graphql_spec.specs.Documents.{response_key}
 use Rattle.juniper_walk.specs.FieldWords.{head_of}
-use Rattle.juniper_plan.specs.PlanLists.{name_number}
+use Rattle.juniper_syntax.specs.NameNumbers.{name_number}
 use Rattle.juniper_plan.proofs.making.keys_differ.Given as goal
 
 -- the numbers of the keys so far, in order

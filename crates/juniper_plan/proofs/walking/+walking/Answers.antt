@@ -1,18 +1,21 @@
-use Rattle.std.proofs.Common.{◌≡◌, ◌<◌, ◌+◌, ◌-◌, ◌*◌, length, map, refl, sym, ap, ◌∙◌, subst, arith, rules}
+use Rattle.std.proofs.Common.{◌≡◌, ◌<◌, ◌+◌, ◌-◌, ◌*◌, [], false, length, map, refl, sym, ap, ◌∙◌, subst, arith, rules}
 use Rattle.graphql_spec.specs.Selections.{all_below, depth, occurrences}
-use Rattle.juniper_syntax.specs.ValueView.{view_value}
+use Rattle.juniper_syntax.specs.ValueView.{view_object, view_value}
 use Rattle.juniper_syntax.proofs.Values.{view-Null, view-Object}
 use Rattle.juniper_errors.specs.ErrorView.{view_listed}
 use Rattle.juniper_assemble.specs.SpotView.{view_nodes, view_spot}
 use Rattle.juniper_collect.specs.Collected.{view_all}
 use Rattle.juniper_walk.proofs.Slices.{taken-all, taken-one}
-use Rattle.juniper_plan.specs.Plans.{IsStanding, StandsFor, all_expanded, fields_at}
+use Rattle.juniper_plan.specs.Plans.{IsStanding, IsStep, StandsFor, all_expanded, fields_at}
+use Rattle.juniper_plan.specs.Leaves.{IsTaken}
 use Rattle.juniper_plan.specs.PlanWalks.{AreObjectsWalked}
+use Rattle.juniper_plan.proofs.Leaves.{leaf-put}
 use Rattle.juniper_plan.proofs.Nodes.{none-yet}
 use Rattle.juniper_plan.proofs.Rounds.{group-asked, group-bound, group-falls, group-is, group-stops, group-walked, groups-walked, more-steps, no-items, no-step, node-falls, node-walked, step-made, still-bound, still-selected, take-none}
 use Rattle.juniper_plan.proofs.Turns.{start-walking}
 use Rattle.juniper_walk.specs.Walking.{IsReadyWalk}
 use Rattle.juniper_plan.proofs.walking.+walking.Goals as goal
+use Rattle.juniper_plan.proofs.walking.+walking.Goals.{object-in-Leaf+in_ok-put_leaf-in-Leaf, object-in-Apart+in_ok-walked-in-Apart+in_ok-rises-in-Apart+else-rises}
 
 pub object-loop-number-init : goal.object-loop-number-init
 object-loop-number-init g t c =
@@ -95,14 +98,28 @@ object-loop-number-preserved g t c =
     let stands : StandsFor shown collector asks c.args.concrete.now c.args.plan.now c.args.groups (occurrences possible c.args.concrete.now s) = c.requires.1.1.1.1.1.1.1.1 in
     let ready : IsReadyWalk shown g.R.Conditions.possible g.R.Resolver.values W c.args.walk.now = c.requires.1.1.1.1.1.1.0 in
     let same : possible ≡ W.possible = ready.same in
-    record {
-      step = more-steps shown collector asks possible c.args.plan.now c.loop-number.plan c.objects_of.new.plan c.loop-number.invariant.step
-          c.in_ok-walked.ensures.plan;
-      walked = group-walked shown collector asks possible c.args.plan.now c.loop-number.plan c.args.groups c.args.concrete.now s standing stands
-          c.loop-number.invariant.step c.loop-number.number c.loop-number.auto.number c.loop-number-test.true W same _ c.args.node.now _ _ _ _
-          c.loop-number.invariant.walked _ _ _ _ _ _ _ _ c.in_ok-prepared.ensures (ap view_nodes c.deref.ensures.value) c.in_ok-walked.ensures.walked _
-          c.in_ok-rises.ensures c.if-rises.false;
-    }
+    elim c.match-taken.branch [
+      | object-in-Leaf+in_ok-put_leaf-in-Leaf w ↦
+          let leaf = subst (IsTaken W shown _ c.args.concrete.now c.args.node.now _ _) w.in-Leaf.is c.in_ok-taken.ensures in
+          record {
+            step = subst (IsStep shown collector asks possible c.args.plan.now) (sym w.plan-is) c.loop-number.invariant.step;
+            walked = group-walked shown collector asks possible c.args.plan.now c.loop-number.plan c.args.groups c.args.concrete.now s standing stands
+                c.loop-number.invariant.step c.loop-number.number c.loop-number.auto.number c.loop-number-test.true W same _ c.args.node.now _ _ _ _
+                c.loop-number.invariant.walked _ _ _ [] [] [] [] [] leaf refl (none-yet W _ [] [] [] refl refl refl) false
+                (leaf-put _ _ _ _ _ _ _ (ap (view_object shown) w.entries-is ∙ w.in_ok-put_leaf-in-Leaf.ensures)
+                (ap (λ l. map (view_listed shown) l.items) w.errors-is)) refl;
+          }
+      | object-in-Apart+in_ok-walked-in-Apart+in_ok-rises-in-Apart+else-rises w ↦
+          let apart = subst (IsTaken W shown _ c.args.concrete.now c.args.node.now _ _) w.in-Apart.is c.in_ok-taken.ensures in
+          rw (w.plan-is, w.entries-is, w.errors-is) (record {
+            step = more-steps shown collector asks possible c.args.plan.now c.loop-number.plan w.objects_of.new.plan c.loop-number.invariant.step
+                w.in_ok-walked-in-Apart.ensures.plan;
+            walked = group-walked shown collector asks possible c.args.plan.now c.loop-number.plan c.args.groups c.args.concrete.now s standing stands
+                c.loop-number.invariant.step c.loop-number.number c.loop-number.auto.number c.loop-number-test.true W same _ c.args.node.now _ _ _ _
+                c.loop-number.invariant.walked _ _ _ _ _ _ _ _ apart (ap view_nodes w.deref.ensures.value) w.in_ok-walked-in-Apart.ensures.walked _
+                w.in_ok-rises-in-Apart.ensures w.if-rises.false;
+          })
+    ]
 
 pub object-returns-then-rises : goal.object-returns-then-rises
 object-returns-then-rises g t c =
@@ -116,13 +133,14 @@ object-returns-then-rises g t c =
     let stands : StandsFor shown collector asks c.args.concrete.now c.args.plan.now c.args.groups (occurrences possible c.args.concrete.now s) = c.requires.1.1.1.1.1.1.1.1 in
     let ready : IsReadyWalk shown g.R.Conditions.possible g.R.Resolver.values W c.args.walk.now = c.requires.1.1.1.1.1.1.0 in
     let same : possible ≡ W.possible = ready.same in
+    let apart = subst (IsTaken W shown _ c.args.concrete.now c.args.node.now _ _) c.in-Apart.is c.in_ok-taken.ensures in
     record {
       plan = more-steps shown collector asks possible c.args.plan.now c.loop-number.plan c.objects_of.new.plan c.loop-number.invariant.step
-          c.in_ok-walked.ensures.plan;
+          c.in_ok-walked-in-Apart.ensures.plan;
       walked = group-stops shown collector asks possible c.args.plan.now c.loop-number.plan c.args.groups c.args.concrete.now s standing stands
           c.loop-number.invariant.step c.loop-number.number c.loop-number.auto.number c.loop-number-test.true W same _ c.args.node.now _ _ _ _
-          c.loop-number.invariant.walked _ _ _ _ _ _ _ _ c.in_ok-prepared.ensures (ap view_nodes c.deref.ensures.value) c.in_ok-walked.ensures.walked _
-          c.in_ok-rises.ensures _ (view-Null shown) c.if-rises.true;
+          c.loop-number.invariant.walked _ _ _ _ _ _ _ _ apart (ap view_nodes c.deref.ensures.value) c.in_ok-walked-in-Apart.ensures.walked _
+          c.in_ok-rises-in-Apart.ensures _ (view-Null shown) c.if-rises.true;
     }
 
 pub object-returns : goal.object-returns

@@ -1,7 +1,0 @@
-use Rattle.std.proofs.Common.{◌≡◌, drop}
-use Rattle.juniper_plan.specs.PlanLists.{name_number, number_from}
-use Rattle.juniper_plan.proofs.making.name_number.Given as goal
-
--- what is left decides
-abbrev pub invariant-loop-byte : goal.invariant-loop-byte
-invariant-loop-byte l = name_number l.name ≡ number_from l.number (drop l.byte-index l.name)
