@@ -101,6 +101,10 @@ abbrev pub argument : {A : Type 0} → (Constant → Result A Error) → Option 
 argument read None = Ok None
 argument read (Some v) = read_option read v
 
+-- an argument; one that is missing is read as null
+abbrev pub given : {A : Type 0} → (Constant → Result A Error) → Option Constant → Result A Error
+given read v = read (unwrap_or v null)
+
 abbrev pub text_argument : Option Constant → Result (Option Text) Error
 text_argument = argument read_text
 

@@ -1,8 +1,18 @@
--- Lists of objects as replies (3.11).
-use Rattle.std.specs.Prelude.{List, map}
-use Rattle.graphql_spec.specs.Resolvers.{Reply, node}
+-- Objects and lists of objects as replies (3.11, 3.12).
+use Rattle.std.specs.Prelude.{ℕ, Bool, List, map, Option, Some, None}
+use Rattle.std.specs.List.{enumerate_from, filter}
+use Rattle.graphql_spec.specs.Resolvers.{Reply, answered, node, nothing}
 use Rattle.juniper_resolvable.specs.Answered.{trees_reply}
 
 -- the list of the objects of these nodes
 abbrev pub nodes_reply : {N : Type 0} → List N → Reply N
 nodes_reply ns = trees_reply (map (λ n. node n) ns)
+
+-- the object of a node, or null where there is none
+abbrev pub object_or_null : {N : Type 0} → Option N → Reply N
+object_or_null None = answered nothing
+object_or_null (Some n) = answered (node n)
+
+-- the nodes of the entries that pass, in order, each by its place
+abbrev pub nodes_where : {E N : Type 0} → (ℕ → N) → (E → Bool) → List E → List N
+nodes_where place passes es = map (λ e. place e.0) (filter (λ e. passes e.1) (enumerate_from 0 es))

@@ -1,4 +1,8 @@
 -- The words of a server's definitions and clauses, from one place.
+pub use Rattle.std.specs.Bool.{nat_eq}
+pub use Rattle.std.specs.Fmt.{decimal}
+pub use Rattle.std.specs.List.{enumerate_from, filter, position, slice_get, starts_with}
+pub use Rattle.std.specs.Str.{bytes_eq}
 pub use Rattle.graphql_spec.specs.Shown.{Name, Text, boolean, int, text}
 pub use Rattle.graphql_spec.specs.Constants.{Constant, Members, find}
 pub use Rattle.graphql_spec.specs.Inputs.{enumerated, scalar}
@@ -13,7 +17,7 @@ pub use Rattle.juniper_resolvable.specs.ResolvedView.{Answers, trees_of}
 pub use Rattle.juniper_types.specs.Stepping.{Leaves}
 pub use Rattle.juniper_values.specs.ArgumentView.{view_arguments}
 pub use Rattle.juniper_values.specs.ArgumentsRead.{Reads, enum_argument, int_argument, with_read}
-pub use Rattle.juniper_words.specs.InputsRead.{ReadsAs, argument, bool_argument, id_argument, input_field, input_field_or, named_among}
+pub use Rattle.juniper_words.specs.InputsRead.{ReadsAs, argument, bool_argument, given, id_argument, input_field, input_field_or, named_among}
 pub use Rattle.juniper_words.specs.InputsRead.{read_bool, read_enum, read_id, read_int, read_list, read_option, read_text}
 pub use Rattle.juniper_words.specs.InputsRead.{text_argument, then_read, with_step}
-pub use Rattle.juniper_words.specs.Nodes.{nodes_reply}
+pub use Rattle.juniper_words.specs.Nodes.{nodes_reply, nodes_where, object_or_null}

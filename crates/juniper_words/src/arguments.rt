@@ -4,12 +4,12 @@ ghost use Rattle.std.specs.Prelude.{option_map, string_bytes};
 ghost use Rattle.graphql_spec.specs.Constants.{find};
 ghost use Rattle.juniper_id.specs.Text.{id_text};
 ghost use Rattle.juniper_values.specs.ArgumentView.{view_arguments};
-ghost use Rattle.juniper_words.specs.InputsRead.{ReadsAs, argument, bool_argument, id_argument, text_argument};
+ghost use Rattle.juniper_words.specs.InputsRead.{ReadsAs, argument, bool_argument, given, id_argument, text_argument};
 
 use crate::input_type::InputType;
 use juniper_errors::ResolveError;
 use juniper_id::ID;
-use juniper_syntax::ScalarValue;
+use juniper_syntax::{InputValue, ScalarValue};
 use juniper_values::Arguments;
 use std::alloc::Global;
 
@@ -25,6 +25,21 @@ pub fn argument<T: InputType<S>, S: ScalarValue>(
     match arguments.get_input_value(name) {
         Some(value) => <Option<T> as InputType<S>>::read_input(alloc, value),
         None => Ok(None),
+    }
+}
+
+/// The argument of this name as a `T`. One that is missing is read as null: an `Option` is `None` then, and any other type answers
+/// its error. An error is that of the field, or says that memory is refused.
+pub fn given<T: InputType<S>, S: ScalarValue>(
+    alloc: Global,
+    arguments: &Arguments<'_, S>,
+    name: &str,
+) -> Result<T, ResolveError<S>>
+    ensures { ReadsAs T.seen S.shown result (given T.read (find name.now (view_arguments S.shown arguments.now))) }
+{
+    match arguments.get_input_value(name) {
+        Some(value) => T::read_input(alloc, value),
+        None => T::read_input(alloc, &InputValue::Null),
     }
 }
 

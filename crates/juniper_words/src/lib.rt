@@ -1,7 +1,8 @@
-//! Words of a server: named types, what resolvers read of arguments and input objects, enums by their values, lists of objects, and
-//! roots.
+//! Words of a server: named types, what resolvers read of arguments and input objects, enums by their values, answers, lists of
+//! objects, and roots.
 #![tactic(auto)]
 
+mod answers;
 mod arguments;
 mod enums;
 mod fields;
@@ -13,7 +14,8 @@ mod roots;
 #[cfg(test)]
 mod tests;
 
-pub use arguments::{argument, bool_argument, id_argument, text_argument};
+pub use answers::{Answer, null, object, object_or_null};
+pub use arguments::{argument, bool_argument, given, id_argument, text_argument};
 pub use enums::{EnumType, enum_type_of};
 pub use fields::{input_field, input_field_or};
 pub use input_type::InputType;

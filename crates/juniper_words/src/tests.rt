@@ -1,8 +1,9 @@
-//! Tests: what is read of arguments and of lists.
+//! Tests: what is read of arguments and of lists, and what is answered.
 
 use super::*;
 use juniper_errors::ResolveError;
 use juniper_registry::Registry;
+use juniper_resolvable::Resolved;
 use juniper_syntax::{DefaultScalarValue, InputValue, Spanning};
 use juniper_values::Arguments;
 use std::alloc::{AllocError, Global};
@@ -64,5 +65,42 @@ fn booleans_are_read_of_arguments(rt: HostRuntime) -> Result<(), Fail> {
             Err(_) => return Err(Fail::from(AllocError)),
         }
     }
+    Ok(())
+}
+
+#[test]
+fn arguments_that_are_missing_are_read_as_null(rt: HostRuntime) -> Result<(), Fail> {
+    let alloc = rt.alloc();
+    let mut registry: Registry<DefaultScalarValue> = Registry::empty(alloc);
+    let mut declared = Vec::new(alloc);
+    declared.push(registry.arg_with_default::<i32>("first", &7, &())?)?;
+    let arguments = Arguments::new(alloc, None, Some(declared.as_slice()))?;
+    for (name, expected) in [("first", "7"), ("other", "None")] {
+        match given::<Option<i32>, DefaultScalarValue>(alloc, &arguments, name) {
+            Ok(Some(found)) => assert_eq!(rt; format!(in alloc; "{found}")?.as_str(), expected),
+            Ok(None) => assert_eq!(rt; "None", expected),
+            Err(_) => return Err(Fail::from(AllocError)),
+        }
+    }
+    let wanted: Result<i32, ResolveError<DefaultScalarValue>> = given(alloc, &arguments, "other");
+    match wanted {
+        Err(ResolveError::Field(error)) => {
+            assert_eq!(rt; error.message(), "Expected GraphQL scalar, found: null");
+            Ok(())
+        }
+        _ => Err(Fail::from(AllocError)),
+    }
+}
+
+#[test]
+fn nodes_are_answered_as_objects_or_as_null(rt: HostRuntime) -> Result<(), Fail> {
+    let there: Answer<u8, DefaultScalarValue> = object_or_null(Some(7));
+    assert!(rt; matches!(there, Ok(Resolved::Node(7))));
+    let missing: Answer<u8, DefaultScalarValue> = object_or_null(None);
+    assert!(rt; matches!(missing, Ok(Resolved::Null)));
+    let object: Answer<u8, DefaultScalarValue> = object(1);
+    assert!(rt; matches!(object, Ok(Resolved::Node(1))));
+    let null: Answer<u8, DefaultScalarValue> = null();
+    assert!(rt; matches!(null, Ok(Resolved::Null)));
     Ok(())
 }
