@@ -1,5 +1,5 @@
 -- An answer has no floats.
-use Rattle.std.proofs.Common.{◌≡◌, pos, negsuc, List, [], ◌∷◌, false, refl}
+use Rattle.std.proofs.Common.{◌≡◌, pos, negsuc, List, [], ◌∷◌, Option, Some, None, false, refl}
 use Rattle.graphql_spec.specs.Shown.{Shown, int, text, boolean}
 use Rattle.graphql_spec.specs.Positions.{Position}
 use Rattle.graphql_spec.specs.Values.{Value, Values, Entries, null, scalar, list, object, no_items, item, no_entries, entry}
@@ -7,6 +7,7 @@ use Rattle.graphql_spec.specs.Errors.{Listed, Step, key, index}
 use Rattle.serde_json.specs.Data.{Data}
 use Rattle.serde_json.specs.Written.{has_float, items_have_float, members_have_float}
 use Rattle.juniper_response.specs.AnswerText.{scalar_data, value_data, values_data, entries_data, items_data, step_data, location_data, extensions_data, error_data, errors_data, answer_data}
+use Rattle.juniper_response.specs.RefusalText.{Refusal, placed_data, refusal_data, refusals_data}
 
 scalar_has_none : (x : Shown) → has_float (scalar_data x) ≡ false
 unfolding scalar_data
@@ -69,3 +70,16 @@ errors_have_none (e ∷ es) = rw (list_has_none error_data error_has_none (e ∷
 pub answer_has_none : (v : Value) (es : List Listed) → has_float (answer_data v es) ≡ false
 unfolding answer_data
 answer_has_none v es = rw (value_has_none v) (errors_have_none es)
+
+placed_has_none : (o : Option Position) → members_have_float (placed_data o) ≡ false
+unfolding placed_data
+placed_has_none None = refl
+placed_has_none (Some p) = rw (list_has_none location_data location_has_none (p ∷ [])) refl
+
+refusal_has_none : (r : Refusal) → has_float (refusal_data r) ≡ false
+unfolding refusal_data
+refusal_has_none r = placed_has_none r.place
+
+pub refusals_have_none : (rs : List Refusal) → has_float (refusals_data rs) ≡ false
+unfolding refusals_data
+refusals_have_none rs = rw (list_has_none refusal_data refusal_has_none rs) refl

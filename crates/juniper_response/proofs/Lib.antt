@@ -1,5 +1,6 @@
 pub mod Floatless
 pub mod Members
+pub mod Refused
 pub mod Scalars
 pub mod Sending
 pub mod Sizes

@@ -1,1 +1,3 @@
 pub mod AnswerText
+pub mod RefusalText
+pub mod Refusals

@@ -2,5 +2,8 @@
 #![tactic(auto)]
 
 mod line;
+mod refusals;
+mod response;
 
 pub use line::answer_line;
+pub use response::response_line;

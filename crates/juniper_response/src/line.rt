@@ -112,7 +112,10 @@ fn send_error<S: ScalarValue, W: Serializer>(
 
 /// Sends the one place of an error, whose line and column count from 1.
 #[tactic(auto, unfolding(crate::specs::AnswerText::items_data, crate::specs::AnswerText::location_data))]
-fn send_locations<W: Serializer>(location: &SourcePosition, out: &mut W) -> Result<(), W::Error>
+pub(crate) fn send_locations<W: Serializer>(
+    location: &SourcePosition,
+    out: &mut W,
+) -> Result<(), W::Error>
     ensures { OnOk result (SendsValue (array (items_data location_data (view_position location.now ∷ []))) (W.written out.old) (W.written out.new)) }
 {
     out.begin_seq(Some(1))?;
