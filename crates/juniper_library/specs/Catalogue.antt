@@ -1,5 +1,5 @@
 -- The catalogue as data: each book, film and author is known by its place.
-use Rattle.std.specs.Prelude.{List, codes}
+use Rattle.std.specs.Prelude.{List, [], ◌∷◌, codes}
 use Rattle.juniper.specs.Server.{Name}
 use Rattle.juniper_library.specs.Entries.{Named}
 use Rattle.juniper_library.specs.declared.catalogue.Book.{Book}
@@ -16,3 +16,6 @@ abbrev pub genre_name : Genre → Name
 genre_name Novel = codes "NOVEL"
 genre_name Poetry = codes "POETRY"
 genre_name Science = codes "SCIENCE"
+
+abbrev pub genres : List Genre
+genres = Novel ∷ Poetry ∷ Science ∷ []

@@ -1,36 +1,42 @@
 -- How the library's types are declared, each at its name (3.6 to 3.10).
 use Rattle.std.specs.Prelude.{pos, codes, List, [], ◌∷◌, ◌++◌}
-use Rattle.juniper.specs.Server.{FieldDeclaration, Meta, Name, enum, enumerated, input_object, input_with_default, int, interface, list_type, object}
-use Rattle.juniper.specs.Server.{optional, plain_field, plain_input, scalar, type_named, union}
+use Rattle.juniper.specs.Server.{FieldDeclaration, Meta, Name, TypeRef, enum, enumerated, input_object, input_with_default, int, interface, list_type}
+use Rattle.juniper.specs.Server.{object, optional, plain_field, plain_input, scalar, type_named, union}
+
+-- the field of this name and type, without arguments
+abbrev pub field : Name → TypeRef → FieldDeclaration
+field n t = plain_field n [] t
+
+abbrev pub book_type : TypeRef
+book_type = type_named (codes "Book")
 
 abbrev pub query : Name → Meta
 query n = object n (
-    plain_field (codes "book") (plain_input (codes "isbn") (type_named (codes "ID")) ∷ []) (optional (type_named (codes "Book")))
+    plain_field (codes "book") (plain_input (codes "isbn") (type_named (codes "ID")) ∷ []) (optional book_type)
     ∷ plain_field (codes "books") (input_with_default (codes "first") (optional (type_named (codes "Int"))) (scalar (int (pos 10)))
-    ∷ plain_input (codes "genre") (optional (type_named (codes "Genre"))) ∷ []) (list_type (type_named (codes "Book")))
+    ∷ plain_input (codes "genre") (optional (type_named (codes "Genre"))) ∷ []) (list_type book_type)
     ∷ plain_field (codes "search") (plain_input (codes "text") (type_named (codes "String")) ∷ []) (list_type (type_named (codes "Result")))
     ∷ []) []
 
 abbrev pub mutation : Name → Meta
-mutation n = object n (plain_field (codes "addBook") (plain_input (codes "new") (type_named (codes "NewBook")) ∷ []) (type_named (codes "Book")) ∷ []) []
+mutation n = object n (plain_field (codes "addBook") (plain_input (codes "new") (type_named (codes "NewBook")) ∷ []) book_type ∷ []) []
 
 -- the fields of `Media`, which its objects have first
 abbrev pub media_fields : List FieldDeclaration
-media_fields = plain_field (codes "id") [] (type_named (codes "ID")) ∷ plain_field (codes "title") [] (type_named (codes "String")) ∷ []
+media_fields = field (codes "id") (type_named (codes "ID")) ∷ field (codes "title") (type_named (codes "String")) ∷ []
 
 abbrev pub media : Name → Meta
 media n = interface n media_fields
 
 abbrev pub book : Name → Meta
-book n = object n (media_fields ++ plain_field (codes "genre") [] (type_named (codes "Genre"))
-    ∷ plain_field (codes "author") [] (type_named (codes "Author")) ∷ []) (codes "Media" ∷ [])
+book n = object n (media_fields ++ field (codes "genre") (type_named (codes "Genre")) ∷ field (codes "author") (type_named (codes "Author")) ∷ [])
+    (codes "Media" ∷ [])
 
 abbrev pub film : Name → Meta
 film n = object n (media_fields ++ []) (codes "Media" ∷ [])
 
 abbrev pub author : Name → Meta
-author n = object n (plain_field (codes "name") [] (type_named (codes "String"))
-    ∷ plain_field (codes "books") [] (list_type (type_named (codes "Book"))) ∷ []) []
+author n = object n (field (codes "name") (type_named (codes "String")) ∷ field (codes "books") (list_type book_type) ∷ []) []
 
 abbrev pub result : Name → Meta
 result n = union n (codes "Book" ∷ codes "Film" ∷ codes "Author" ∷ [])

@@ -1,7 +1,5 @@
 //! The catalogue, which requests bring along: books, films and authors.
 
-ghost use Rattle.std.specs.Prelude.{◌≡◌, ◌++◌, ◌∷◌, [], MatchResult, string_bytes};
-
 use juniper::Context;
 use juniper::words::EnumType;
 use std::alloc::{AllocError, Global};
@@ -16,10 +14,9 @@ pub enum Genre {
 }
 
 impl EnumType for Genre {
-    ghost use Rattle.juniper_library.specs.Catalogue.{genre_name};
-    ghost use Rattle.juniper_library.specs.declared.catalogue.Genre.TheVariants.{Novel, Poetry, Science};
+    ghost use Rattle.juniper_library.specs.Catalogue.{genre_name, genres};
 
-    ghost values = { Novel ∷ Poetry ∷ Science ∷ [] };
+    ghost values = { genres };
 
     ghost name_of = { genre_name };
 
@@ -53,18 +50,11 @@ impl Model for Entry {
 }
 
 impl Entry {
-    /// Its number.
-    pub fn id(&self) -> &str
-        ensures { result.now ≡ self.now.id }
-    {
-        self.id.as_str()
-    }
-
-    /// Its name.
-    pub fn name(&self) -> &str
-        ensures { result.now ≡ self.now.name }
-    {
-        self.name.as_str()
+    /// What has this number and this name.
+    pub fn new(alloc: Global, id: &str, name: &str) -> Result<Entry, AllocError> {
+        let id = String::from_str(alloc, id)?;
+        let name = String::from_str(alloc, name)?;
+        Ok(Entry { id, name })
     }
 }
 
@@ -89,40 +79,11 @@ impl Model for Library {
 
     ghost Value = { Catalogue };
 
-    ghost view = { λ l. record { books = l.books.items; films = l.films.items; authors = l.authors.items } };
+    ghost view = { λ l. record {
+      books = l.books.items;
+      films = l.films.items;
+      authors = l.authors.items;
+    } };
 }
 
 impl Context for Library {}
-
-impl Library {
-    /// The books.
-    pub fn books(&self) -> &[Book]
-        ensures { result.now ≡ self.now.books }
-    {
-        self.books.as_slice()
-    }
-
-    /// The films.
-    pub fn films(&self) -> &[Entry]
-        ensures { result.now ≡ self.now.films }
-    {
-        self.films.as_slice()
-    }
-
-    /// The authors.
-    pub fn authors(&self) -> &[Entry]
-        ensures { result.now ≡ self.now.authors }
-    {
-        self.authors.as_slice()
-    }
-
-    /// Adds a book behind the others. Where memory is refused nothing changes.
-    pub fn add(&mut self, book: Book) -> Result<(), AllocError>
-        ensures { MatchResult result
-            (λ _. self.new ≡ record self.old { books = self.old.books ++ book ∷ [] })
-            (λ _. self.new ≡ self.old) }
-    {
-        self.books.push(book)?;
-        Ok(())
-    }
-}

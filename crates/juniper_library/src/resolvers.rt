@@ -1,21 +1,17 @@
-//! The resolvers of the library: each field's answer by its name (sections 6.2.2 and 6.4.2 of the Specification).
+//! The resolvers of the library: each field's answer by its name (sections 6.2.2 and 6.4.2 of the
+//! Specification).
 
-ghost use Rattle.std.specs.Prelude.{◌≡◌, ◌++◌, IfOk, Some, codes, option_map, string_bytes};
-ghost use Rattle.std.specs.Bool.{nat_eq};
-ghost use Rattle.std.specs.Fmt.{decimal};
-ghost use Rattle.std.specs.List.{position, slice_get};
-ghost use Rattle.std.specs.Str.{bytes_eq};
-ghost use Rattle.juniper.specs.Server.{Answers, Leaves, view_arguments};
+ghost use Rattle.std.specs.Prelude.{◌≡◌, IfOk};
+ghost use Rattle.juniper.specs.Server.{Answers, Leaves, id_text, nodes_where, view_arguments};
 ghost use Rattle.juniper_library.specs.Replies as reply;
-ghost use Rattle.juniper_library.specs.Replies.{Draft};
 ghost use Rattle.juniper_library.specs.declared.resolvers.Node.TheVariants as at;
 
 use crate::catalogue::{Book, Entry, Genre, Library};
 use juniper::words::{
-    EnumType, InputType, MutationType, QueryType, argument, id_argument, input_field,
-    input_field_or, int_argument, nodes, null, object, text, text_argument,
+    Answer, EnumType, InputType, MutationType, QueryType, given, input_field, input_field_or,
+    nodes, null, object, object_or_null, text,
 };
-use juniper::{Arguments, Executor, InputValue, ResolveError, Resolved, ScalarValue};
+use juniper::{Arguments, Executor, ID, InputValue, ResolveError, ScalarValue};
 use std::alloc::{AllocError, Global};
 
 /// An object, by its place in the catalogue.
@@ -26,9 +22,6 @@ pub enum Node {
     Film(usize),
     Author(usize),
 }
-
-/// What a resolver answers.
-type Answer<S> = Result<Resolved<Node, S>, ResolveError<S>>;
 
 /// `type Query`.
 #[derive(Drop)]
@@ -64,13 +57,36 @@ impl<S: ScalarValue> QueryType<S> for Query {
         field_name: &str,
         arguments: &Arguments<'_, S>,
         executor: &Executor<Library, S>,
-    ) -> Answer<S> {
+    ) -> Answer<Node, S> {
         let library = executor.context();
         match *node {
             Node::Query => query_field(alloc, library, field_name, arguments),
-            Node::Book(place) => book_field(alloc, library.books().get(place), field_name),
-            Node::Film(place) => film_field(alloc, library.films().get(place), field_name),
-            Node::Author(place) => author_field(alloc, library, place, field_name),
+            Node::Book(place) => match library.books.get(place) {
+                None => null(),
+                Some(book) => match field_name {
+                    "id" => text(alloc, book.titled.id.as_str()),
+                    "title" => text(alloc, book.titled.name.as_str()),
+                    "genre" => text(alloc, book.genre.value_name()),
+                    "author" => object(Node::Author(book.author)),
+                    _ => null(),
+                },
+            },
+            Node::Film(place) => match library.films.get(place) {
+                None => null(),
+                Some(film) => match field_name {
+                    "id" => text(alloc, film.id.as_str()),
+                    "title" => text(alloc, film.name.as_str()),
+                    _ => null(),
+                },
+            },
+            Node::Author(place) => match library.authors.get(place) {
+                None => null(),
+                Some(author) => match field_name {
+                    "name" => text(alloc, author.name.as_str()),
+                    "books" => nodes(alloc, &books_by(alloc, library, place)?),
+                    _ => null(),
+                },
+            },
         }
     }
 }
@@ -81,78 +97,52 @@ fn query_field<S: ScalarValue>(
     library: &Library,
     field_name: &str,
     arguments: &Arguments<'_, S>,
-) -> Answer<S>
-    ensures { Answers S.shown result (reply.query_field library.now field_name.now (view_arguments S.shown arguments.now)) }
+) -> Answer<Node, S>
+    ensures { Answers S.shown result
+        (reply.query_field library.now field_name.now (view_arguments S.shown arguments.now)) }
 {
     match field_name {
-        "book" => match id_argument(alloc, arguments, "isbn")? {
-            Some(id) => book(library, id.as_str()),
-            None => null(),
-        },
-        "books" => {
-            let first = int_argument(alloc, arguments, "first")?;
-            let genre = argument(alloc, arguments, "genre")?;
-            books(alloc, library, first, genre)
+        "book" => {
+            let place = book(library, given(alloc, arguments, "isbn")?);
+            object_or_null(place.map(Node::Book))
         }
-        "search" => match text_argument(alloc, arguments, "text")? {
-            Some(needle) => nodes(alloc, &found(alloc, library, needle.as_str())?),
-            None => null(),
-        },
+        "books" => {
+            let first = given(alloc, arguments, "first")?;
+            let genre = given(alloc, arguments, "genre")?;
+            nodes(alloc, &books(alloc, library, first, genre)?)
+        }
+        "search" => {
+            let needle: String = given(alloc, arguments, "text")?;
+            nodes(alloc, &found(alloc, library, needle.as_str())?)
+        }
         _ => null(),
     }
 }
 
-/// The first book of this number, or null.
-fn book<S: ScalarValue>(library: &Library, id: &str) -> Answer<S>
-    ensures { Answers S.shown result (reply.book_reply library.now (Some id.now)) }
-{
-    match place_of(library, id) {
-        Some(place) => object(Node::Book(place)),
-        None => null(),
-    }
-}
-
 /// The place of the first book of this number.
-fn place_of(library: &Library, id: &str) -> Option<usize>
-    ensures { result ≡ position (λ b. bytes_eq b.titled.id id.now) library.now.books }
+fn book(library: &Library, id: ID) -> Option<usize>
+    ensures { result ≡ reply.book library.now (id_text id) }
 {
-    let books = library.books();
-    books.iter().position(|book| book.titled.id() == id)
+    let mut books = library.books.iter();
+    books.position(|book| book.titled.id.as_str() == id.as_str())
 }
 
-/// The first books of a genre.
-fn books<S: ScalarValue>(
+/// The first books of a genre: ten where no number is given, none where it is negative.
+fn books(
     alloc: Global,
     library: &Library,
     first: Option<i32>,
     genre: Option<Genre>,
-) -> Answer<S>
-    ensures { Answers S.shown result (reply.books_reply library.now first genre) }
+) -> Result<Vec<Node>, AllocError>
+    ensures { IfOk result (λ nodes. nodes.items ≡ reply.books library.now first genre) }
 {
-    let mut books = books_of(alloc, library, genre)?;
-    books.truncate(limit(first));
-    nodes(alloc, &books)
-}
-
-/// The books of a genre.
-fn books_of(alloc: Global, library: &Library, genre: Option<Genre>) -> Result<Vec<Node>, AllocError>
-    ensures { IfOk result (λ nodes. nodes.items ≡ reply.passing at.Book (reply.is_of genre) library.now.books) }
-{
-    let books = library.books().iter().enumerate();
+    let shown = usize::try_from(first.unwrap_or(10)).unwrap_or(0);
+    let books = library.books.iter().enumerate();
     books
         .filter(|entry| is_of(entry.1, genre))
         .map(|entry| Node::Book(entry.0))
+        .take(shown)
         .collect(alloc)
-}
-
-/// How many books are asked for.
-fn limit(first: Option<i32>) -> usize
-    ensures { result ≡ reply.limit first }
-{
-    match first {
-        None => 10,
-        Some(first) => usize::try_from(first).unwrap_or(0),
-    }
 }
 
 /// Whether a book is of a genre, where one is asked for.
@@ -165,31 +155,22 @@ fn is_of(book: &Book, genre: Option<Genre>) -> bool
     }
 }
 
-/// Whether a name begins so.
-#[tactic(auto, using(std::proofs::lemmas::Str::Pattern::starts_text))]
-fn begins(entry: &Entry, needle: &str) -> bool
-    ensures { result ≡ reply.begins needle.now entry.now }
-{
-    entry.name().starts_with(needle)
-}
-
 /// The books, films and authors whose names begin so.
 fn found(alloc: Global, library: &Library, needle: &str) -> Result<Vec<Node>, AllocError>
     ensures { IfOk result (λ nodes. nodes.items ≡ reply.found library.now needle.now) }
 {
     let mut nodes = books_found(alloc, library, needle)?;
-    let mut films = films_found(alloc, library, needle)?;
-    let mut authors = authors_found(alloc, library, needle)?;
-    films.append(&mut authors)?;
-    nodes.append(&mut films)?;
+    nodes.append(&mut films_found(alloc, library, needle)?)?;
+    nodes.append(&mut authors_found(alloc, library, needle)?)?;
     Ok(nodes)
 }
 
 /// The books whose titles begin so.
 fn books_found(alloc: Global, library: &Library, needle: &str) -> Result<Vec<Node>, AllocError>
-    ensures { IfOk result (λ nodes. nodes.items ≡ reply.passing at.Book (λ b. reply.begins needle.now b.titled) library.now.books) }
+    ensures { IfOk result (λ nodes. nodes.items
+        ≡ nodes_where at.Book (λ b. reply.begins needle.now b.titled) library.now.books) }
 {
-    let books = library.books().iter().enumerate();
+    let books = library.books.iter().enumerate();
     books
         .filter(|entry| begins(&entry.1.titled, needle))
         .map(|entry| Node::Book(entry.0))
@@ -198,9 +179,10 @@ fn books_found(alloc: Global, library: &Library, needle: &str) -> Result<Vec<Nod
 
 /// The films whose titles begin so.
 fn films_found(alloc: Global, library: &Library, needle: &str) -> Result<Vec<Node>, AllocError>
-    ensures { IfOk result (λ nodes. nodes.items ≡ reply.passing at.Film (reply.begins needle.now) library.now.films) }
+    ensures { IfOk result (λ nodes. nodes.items
+        ≡ nodes_where at.Film (reply.begins needle.now) library.now.films) }
 {
-    let films = library.films().iter().enumerate();
+    let films = library.films.iter().enumerate();
     films
         .filter(|entry| begins(entry.1, needle))
         .map(|entry| Node::Film(entry.0))
@@ -209,69 +191,29 @@ fn films_found(alloc: Global, library: &Library, needle: &str) -> Result<Vec<Nod
 
 /// The authors whose names begin so.
 fn authors_found(alloc: Global, library: &Library, needle: &str) -> Result<Vec<Node>, AllocError>
-    ensures { IfOk result (λ nodes. nodes.items ≡ reply.passing at.Author (reply.begins needle.now) library.now.authors) }
+    ensures { IfOk result (λ nodes. nodes.items
+        ≡ nodes_where at.Author (reply.begins needle.now) library.now.authors) }
 {
-    let authors = library.authors().iter().enumerate();
+    let authors = library.authors.iter().enumerate();
     authors
         .filter(|entry| begins(entry.1, needle))
         .map(|entry| Node::Author(entry.0))
         .collect(alloc)
 }
 
-/// A field of a book.
-fn book_field<S: ScalarValue>(alloc: Global, book: Option<&Book>, field_name: &str) -> Answer<S>
-    ensures { Answers S.shown result (reply.book_field (option_map (λ b. b.now) book.entry) field_name.now) }
+/// Whether a name begins so.
+#[tactic(auto, using(std::proofs::lemmas::Str::Pattern::starts_text))]
+fn begins(entry: &Entry, needle: &str) -> bool
+    ensures { result ≡ reply.begins needle.now entry.now }
 {
-    let Some(book) = book else {
-        return null();
-    };
-    match field_name {
-        "id" => text(alloc, book.titled.id()),
-        "title" => text(alloc, book.titled.name()),
-        "genre" => text(alloc, book.genre.value_name()),
-        "author" => object(Node::Author(book.author)),
-        _ => null(),
-    }
-}
-
-/// A field of a film.
-fn film_field<S: ScalarValue>(alloc: Global, film: Option<&Entry>, field_name: &str) -> Answer<S>
-    ensures { Answers S.shown result (reply.film_field (option_map (λ f. f.now) film.entry) field_name.now) }
-{
-    let Some(film) = film else {
-        return null();
-    };
-    match field_name {
-        "id" => text(alloc, film.id()),
-        "title" => text(alloc, film.name()),
-        _ => null(),
-    }
-}
-
-/// A field of the author at a place.
-fn author_field<S: ScalarValue>(
-    alloc: Global,
-    library: &Library,
-    place: usize,
-    field_name: &str,
-) -> Answer<S>
-    ensures { Answers S.shown result (reply.author_field library.now place (slice_get library.now.authors place) field_name.now) }
-{
-    let Some(author) = library.authors().get(place) else {
-        return null();
-    };
-    match field_name {
-        "name" => text(alloc, author.name()),
-        "books" => nodes(alloc, &books_by(alloc, library, place)?),
-        _ => null(),
-    }
+    entry.name.starts_with(needle)
 }
 
 /// The books of an author.
 fn books_by(alloc: Global, library: &Library, author: usize) -> Result<Vec<Node>, AllocError>
-    ensures { IfOk result (λ nodes. nodes.items ≡ reply.passing at.Book (λ b. nat_eq b.author author) library.now.books) }
+    ensures { IfOk result (λ nodes. nodes.items ≡ reply.books_by library.now author) }
 {
-    let books = library.books().iter().enumerate();
+    let books = library.books.iter().enumerate();
     books
         .filter(|entry| entry.1.author == author)
         .map(|entry| Node::Book(entry.0))
@@ -286,9 +228,9 @@ pub struct NewBook {
 }
 
 impl<S: ScalarValue> InputType<S> for NewBook {
-    ghost Seen = { Draft };
+    ghost Seen = { reply.Draft };
 
-    ghost seen = { λ b. record { title = string_bytes b.title; genre = b.genre } };
+    ghost seen = { reply.seen };
 
     ghost read = { reply.read_new_book };
 
@@ -318,53 +260,29 @@ impl<S: ScalarValue> MutationType<S> for Mutation {
         field_name: &str,
         arguments: &Arguments<'_, S>,
         _executor: &Executor<(), S>,
-        context: &mut Library,
-    ) -> Answer<S> {
+        library: &mut Library,
+    ) -> Answer<Node, S> {
         match field_name {
-            "addBook" => match argument(alloc, arguments, "new") {
-                Err(error) => Err(error),
-                Ok(None) => null(),
-                Ok(Some(new)) => add_book(alloc, context, new),
-            },
+            "addBook" => add_book(alloc, library, given(alloc, arguments, "new")?),
             _ => null(),
         }
     }
 }
 
-/// `addBook`: a book behind the others.
-fn add_book<S: ScalarValue>(alloc: Global, library: &mut Library, new: NewBook) -> Answer<S>
-    ensures answer { Answers S.shown result (reply.add_book library.old (Some (record { title = string_bytes new.title; genre = new.genre }))).1 }
-    ensures context { Leaves (reply.add_book library.old (Some (record { title = string_bytes new.title; genre = new.genre }))).0
+/// A book behind the others. Its number is made of its place, and its author is the first one.
+fn add_book<S: ScalarValue>(alloc: Global, library: &mut Library, new: NewBook) -> Answer<Node, S>
+    ensures answer { Answers S.shown result (reply.add_book library.old (reply.seen new)).1 }
+    ensures context { Leaves (reply.add_book library.old (reply.seen new)).0
         (reply.torn library.old) result library.new }
 {
-    let place = library.books().len();
-    let book = match entered(alloc, place, new) {
-        Err(_) => return Err(ResolveError::Memory),
-        Ok(book) => book,
-    };
-    match library.add(book) {
-        Err(_) => Err(ResolveError::Memory),
-        // Not by `object`, whose contract leaves want of memory open: the book is added by now.
-        Ok(()) => Ok(Resolved::Node(Node::Book(place))),
-    }
-}
-
-/// A new book at a place: its number is made of the place, and its author is the first one.
-fn entered(alloc: Global, place: usize, new: NewBook) -> Result<Book, AllocError>
-    ensures { IfOk result (λ b. b ≡ record {
-      titled = record { id = codes "new-" ++ decimal place; name = string_bytes new.title };
-      genre = new.genre;
-      author = 0;
-    }) }
-{
+    let NewBook { title: name, genre } = new;
+    let place = library.books.len();
     let id = format!(in alloc; "new-{place}")?;
-    let titled = Entry {
-        id,
-        name: new.title,
-    };
-    Ok(Book {
+    let titled = Entry { id, name };
+    library.books.push(Book {
         titled,
-        genre: new.genre,
+        genre,
         author: 0,
-    })
+    })?;
+    object(Node::Book(place))
 }

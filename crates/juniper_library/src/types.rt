@@ -8,8 +8,23 @@ use crate::catalogue::{Book, Genre};
 use crate::resolvers::{Mutation, NewBook, Query};
 use juniper::meta::Field;
 use juniper::words::{Declared, Named, NamedType, TypeName, enum_type_of};
-use juniper::{ID, Registry, ScalarValue};
+use juniper::{DefaultScalarValue, ID, Registry, RegistryError, ScalarValue};
 use std::alloc::{AllocError, Global};
+
+/// The registry of the library's types.
+pub fn registry(alloc: Global) -> Result<Registry<DefaultScalarValue>, RegistryError> {
+    let mut types = Registry::empty(alloc);
+    types.register::<Named<Query>>(&())?;
+    types.register::<Named<Mutation>>(&())?;
+    types.register::<Named<Media>>(&())?;
+    types.register::<Named<Book>>(&())?;
+    types.register::<Named<Film>>(&())?;
+    types.register::<Named<Author>>(&())?;
+    types.register::<Named<Found>>(&())?;
+    types.register::<Named<Genre>>(&())?;
+    types.register::<Named<NewBook>>(&())?;
+    Ok(types)
+}
 
 impl TypeName for Query {
     ghost named = { codes "Query" };

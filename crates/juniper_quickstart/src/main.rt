@@ -1,4 +1,4 @@
-//! A server in a page: a type with an argument, its resolver, a request, and its printed answer.
+//! A server in a page: a type with an argument, its resolver, a request, and its printed response.
 #![tactic(auto)]
 
 ghost use Rattle.std.specs.Prelude.{codes};
@@ -11,7 +11,7 @@ use juniper::{
     Arguments, DefaultScalarValue, EmptyMutation, EmptySubscription, Executor, Registry,
     ResolveError, Resolved, RootNode, ScalarValue, Variables, execute_sync,
 };
-use juniper_response::answer_line;
+use juniper_response::response_line;
 use std::alloc::{AllocError, Global};
 use std::io;
 
@@ -78,8 +78,8 @@ impl<S: ScalarValue> QueryType<S> for Query {
     }
 }
 
-/// The answer to a request, as a line of JSON, or why there is none.
-fn answer(alloc: Global, request: &str) -> Result<String, AllocError> {
+/// The response to a request, as a line of JSON.
+fn respond(alloc: Global, request: &str) -> Result<String, AllocError> {
     let mut registry = Registry::empty(alloc);
     if registry.register::<Named<Query>>(&()).is_err() {
         return Err(AllocError);
@@ -92,13 +92,11 @@ fn answer(alloc: Global, request: &str) -> Result<String, AllocError> {
         Err(error) => return error.to_string(alloc),
     };
     let variables: Variables<DefaultScalarValue> = Variables::new(alloc);
-    match execute_sync(alloc, request, None, &root, &variables, &mut ()) {
-        Ok((data, errors)) => answer_line(alloc, &data, errors.as_slice()),
-        Err(refusal) => refusal.to_string(alloc),
-    }
+    let outcome = execute_sync(alloc, request, None, &root, &variables, &mut ());
+    response_line(alloc, &outcome)
 }
 
 fn main(rt: HostRuntime) -> io::Result<()> {
-    let line = answer(rt.alloc(), "{ hello echo(number: 42) }")?;
+    let line = respond(rt.alloc(), "{ hello echo(number: 42) }")?;
     println!(rt; "{line}")
 }
