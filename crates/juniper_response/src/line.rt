@@ -18,33 +18,33 @@ use std::alloc::{AllocError, Global};
 /// The data and the errors that one answer shows.
 #[derive(Drop)]
 struct Shown<'a, S> {
-    data: &'a Value<S>,
+    value: &'a Value<S>,
     errors: &'a [ExecutionError<S>],
 }
 
 /// The line of an answer: its data, and its errors where there are some (7.1). An error where memory is refused.
 pub fn answer_line<S: ScalarValue>(
     alloc: Global,
-    data: &Value<S>,
+    value: &Value<S>,
     errors: &[ExecutionError<S>],
 ) -> Result<String, AllocError>
-    ensures { IfOk result (λ line. string_bytes line ≡ answer_text (view_value S.shown data.now) (map (view_listed S.shown) errors.now)) }
+    ensures { IfOk result (λ line. string_bytes line ≡ answer_text (view_value S.shown value.now) (map (view_listed S.shown) errors.now)) }
 {
-    match serde_json::to_string(alloc, &Shown { data, errors }) {
+    match serde_json::to_string(alloc, &Shown { value, errors }) {
         Ok(line) => Ok(line),
         Err(_) => Err(AllocError),
     }
 }
 
 impl<S: ScalarValue> Described for Shown<'_, S> {
-    ghost writes = { λ s. SendsValue (answer_data (view_value S.shown s.data.now) (map (view_listed S.shown) s.errors.now)) };
+    ghost writes = { λ s. SendsValue (answer_data (view_value S.shown s.value.now) (map (view_listed S.shown) s.errors.now)) };
 }
 
 impl<S: ScalarValue> Serialize for Shown<'_, S> {
     fn serialize<W: Serializer>(&self, out: &mut W) -> Result<(), W::Error> {
         out.begin_map(Some(answer_members(self.errors)))?;
         out.key("data")?;
-        send_value(self.data, out)?;
+        send_value(self.value, out)?;
         end_with_errors(self.errors, out)
     }
 }
