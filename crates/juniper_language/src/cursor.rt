@@ -21,6 +21,9 @@ pub type Word<'a> = Spanning<&'a str, Span>;
 /// What a reader answers, or why it refuses and where.
 pub type ParseResult<T> = Result<T, Spanning<ParseError, Span>>;
 
+/// Of a text with so many tokens left each list has room for one part at first.
+const LONG: usize = 10_000;
+
 /// The tokens left, the end of the last one taken, and what stands after all of them.
 #[derive(Drop)]
 pub struct Parser<'t, 'a> {
@@ -58,6 +61,12 @@ impl<'t, 'a> Parser<'t, 'a> {
         ensures { result ≡ length self.now.ahead }
     {
         self.tokens.len()
+    }
+
+    /// For how many parts a list has room at first, of which mostly so many come. In a long text it is one: there memory counts for more than
+    /// the time of a list that grows.
+    pub fn room_for(&self, parts: usize) -> usize {
+        if self.tokens.len() < LONG { parts } else { 1 }
     }
 
     /// Where the next token begins, and past all tokens where the last one ends.
@@ -139,18 +148,21 @@ impl<'t, 'a> Parser<'t, 'a> {
     pub fn expect(&mut self, mark: u8) -> ParseResult<()>
         ensures { Gives (λ _. tt) result self.new (read.expect mark self.old) }
     {
-        let token = self.next()?;
-        match token.lexeme {
-            Lexeme::Mark(found) => {
-                if found == mark {
-                    Ok(())
-                } else {
-                    Err(refused(token.span))
+        match self.tokens {
+            [] => Err(self.unexpected()?),
+            [first, rest @ ..] => match first.lexeme {
+                Lexeme::Mark(found) => {
+                    if found == mark {
+                        self.tokens = rest;
+                        self.last = first.span.end;
+                        Ok(())
+                    } else {
+                        Err(refused(first.span))
+                    }
                 }
-            }
-            Lexeme::Name(_) | Lexeme::Scalar(ScalarToken::Int(_) | ScalarToken::String(_)) => Err(
-                refused(token.span),
-            ),
+                Lexeme::Name(_) | Lexeme::Scalar(ScalarToken::Int(_) | ScalarToken::String(_)) =>
+                    Err(refused(first.span)),
+            },
         }
     }
 
@@ -159,12 +171,17 @@ impl<'t, 'a> Parser<'t, 'a> {
     pub fn name(&mut self) -> ParseResult<Word<'a>>
         ensures { Gives view_word result self.new (read.a_name self.old) }
     {
-        let token = self.next()?;
-        match token.lexeme {
-            Lexeme::Name(word) => Ok(Spanning::new(token.span, word)),
-            Lexeme::Mark(_) | Lexeme::Scalar(ScalarToken::Int(_) | ScalarToken::String(_)) => Err(
-                refused(token.span),
-            ),
+        match self.tokens {
+            [] => Err(self.unexpected()?),
+            [first, rest @ ..] => match first.lexeme {
+                Lexeme::Name(word) => {
+                    self.tokens = rest;
+                    self.last = first.span.end;
+                    Ok(Spanning::new(first.span, word))
+                }
+                Lexeme::Mark(_) | Lexeme::Scalar(ScalarToken::Int(_) | ScalarToken::String(_)) =>
+                    Err(refused(first.span)),
+            },
         }
     }
 }

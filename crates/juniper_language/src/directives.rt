@@ -29,7 +29,7 @@ fn some_arguments<'a, S: ScalarValue>(
     if parser.sees(b')') {
         return Err(parser.unexpected()?);
     }
-    let mut found = Vec::with_capacity(alloc, 1)?;
+    let mut found = Vec::with_capacity(alloc, parser.room_for(2))?;
     for _turn in 0..parser.left() {
         if parser.sees(b')') {
             parser.next()?;

@@ -193,7 +193,7 @@ fn items<S: ScalarValue>(
     ensures { Gives (λ v. map (view_spanning (view_input S.shown)) v.items) result parser.new
         (read.until 93 (read.spanned (rule.value constant depth)) (length parser.old.ahead) parser.old) }
 {
-    let mut found = Vec::with_capacity(alloc, 1)?;
+    let mut found = Vec::with_capacity(alloc, parser.room_for(2))?;
     for _turn in 0..parser.left() {
         if parser.sees(b']') {
             parser.next()?;
@@ -216,7 +216,7 @@ fn fields<S: ScalarValue>(
     ensures { Gives (λ v. map (view_member S.shown) v.items) result parser.new
         (read.until 125 (rule.argument constant depth) (length parser.old.ahead) parser.old) }
 {
-    let mut found = Vec::with_capacity(alloc, 1)?;
+    let mut found = Vec::with_capacity(alloc, parser.room_for(2))?;
     for _turn in 0..parser.left() {
         if parser.sees(b'}') {
             parser.next()?;

@@ -11,4 +11,5 @@ pub mod StringParts
 pub mod StringTokens
 pub mod QuotedTokens
 pub mod Gaps
+pub mod Plain
 pub mod LexLaws

@@ -1,5 +1,6 @@
 -- What the fields of the lexer show. Only private clauses cite it.
-use Rattle.std.specs.Prelude.{ℕ, ◌+◌, ◌≤◌, ◌<◌, ◌^◌}
+use Rattle.std.specs.Prelude.{ℕ, Bool, false, List, [], ◌∷◌, ◌+◌, ◌≤◌, ◌<◌, ◌^◌, ◌==◌, ◌&&◌, nat_le, nat_lt}
+use Rattle.graphql_spec.specs.Tokens.{quote}
 use Rattle.graphql_spec.specs.Positions as spec
 use Rattle.juniper_position.specs.Positions.{view_position}
 use Rattle.juniper_tokens.specs.Lexing.{Front}
@@ -17,3 +18,12 @@ pub record HasRoom (s : spec.Spot) (n : ℕ) : Type 0 where
 
 abbrev pub view_front : Inside → Front
 view_front l = record { at = view_spot l.spot; ahead = l.rest.now }
+
+-- the byte is a character, and ends no line
+unfoldable pub is_plain : ℕ → Bool
+is_plain b = nat_le 32 b && nat_lt b 128
+
+-- the bytes begin as a string does
+unfoldable pub begins_quoted : List ℕ → Bool
+begins_quoted [] = false
+begins_quoted (b ∷ bs) = b == quote

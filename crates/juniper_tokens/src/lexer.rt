@@ -1,12 +1,12 @@
 //! The lexer: from a text to its tokens (section 2.1 of the Specification).
 
-ghost use Rattle.std.specs.Prelude.{take, ◌≡◌, ◌≤◌, ◌+◌, ◌^◌, ◌<◌, ◌≢◌, List, [], ◌∷◌, ◌++◌, ℕ, length, IfOk, MatchOption, option_map};
-ghost use Rattle.std.specs.List.{prefix_len};
+ghost use Rattle.std.specs.Prelude.{take, ◌≡◌, ◌≤◌, ◌+◌, ◌^◌, ◌<◌, ◌≢◌, List, [], ◌∷◌, ◌++◌, ℕ, false, length, true, IfOk, MatchOption, option_map};
+ghost use Rattle.std.specs.List.{list_all, prefix_len};
 ghost use Rattle.std.specs.Str.{IsCharBoundary};
 ghost use Rattle.graphql_spec.specs.Positions as spec;
 ghost use Rattle.graphql_spec.specs.Positions.{beginning};
 ghost use Rattle.graphql_spec.specs.Tokens as tokens;
-ghost use Rattle.juniper_tokens.specs.Spots.{HasRoom, view_spot};
+ghost use Rattle.juniper_tokens.specs.Spots.{HasRoom, begins_quoted, is_plain, view_spot};
 ghost use Rattle.juniper_tokens.specs.Lexing as read;
 ghost use Rattle.juniper_position.specs.Positions.{view_position};
 ghost use Rattle.juniper_tokens.specs.TokenViews.{view_lexeme, view_lexed, view_token};
@@ -126,6 +126,40 @@ impl Spot {
         Spot {
             position,
             after_return: b == b'\r',
+        }
+    }
+
+    /// Past the word of a token: one that is quoted is gone over byte by byte, any other has a byte for each of its characters.
+    fn past_lexeme(self, word: &[u8]) -> Self
+        requires room { HasRoom (view_spot self) (length word.now) }
+        requires plain { begins_quoted word.now ≡ false → list_all is_plain word.now ≡ true }
+        ensures { view_spot result ≡ spec.walk (view_spot self) word.now }
+    {
+        match word {
+            [] => self,
+            [first, ..] => {
+                if *first == b'"' {
+                    self.past(word)
+                } else {
+                    self.past_plain(word)
+                }
+            }
+        }
+    }
+
+    /// Past bytes of which each is a character, and none ends a line.
+    fn past_plain(self, word: &[u8]) -> Self
+        requires room { HasRoom (view_spot self) (length word.now) }
+        requires some { 0 < length word.now }
+        requires plain { list_all is_plain word.now ≡ true }
+        ensures { view_spot result ≡ spec.walk (view_spot self) word.now }
+    {
+        let count = word.len();
+        let index = self.position.index() + count;
+        let column = self.position.column() + count;
+        Spot {
+            position: SourcePosition::new(index, self.position.line(), column),
+            after_return: false,
         }
     }
 
@@ -264,6 +298,19 @@ impl<'a> Lexer<'a> {
         word
     }
 
+    /// Takes so many bytes, the word of a token, in which no character is cut.
+    fn take_lexeme(&mut self, count: usize) -> &'a str
+        requires boundary { IsCharBoundary self.old.ahead count }
+        requires plain { begins_quoted (take count self.old.ahead) ≡ false → list_all is_plain (take count self.old.ahead) ≡ true }
+        ensures word { result.now ≡ take count self.old.ahead }
+        ensures moved { self.new ≡ read.past count self.old }
+    {
+        let (word, rest) = self.rest.split_at(count);
+        self.spot = self.spot.past_lexeme(word.as_bytes());
+        self.rest = rest;
+        word
+    }
+
     /// Takes the token at the front, if there is one.
     fn token(&mut self) -> Option<Token<'a>>
         ensures { MatchOption result
@@ -276,7 +323,7 @@ impl<'a> Lexer<'a> {
             return None;
         }
         let start = self.position();
-        let word = self.take(length);
+        let word = self.take_lexeme(length);
         let span = Span {
             start,
             end: self.position(),
@@ -288,6 +335,9 @@ impl<'a> Lexer<'a> {
     }
 }
 
+/// As many bytes of a text as a token and what is ignored around it mostly take: so many tokens the list has room for at first.
+const BYTES_A_TOKEN: usize = 4;
+
 /// The tokens of a text, each as long as possible, with their places; up to the end of the text or to the first place where
 /// none stands (2.1).
 ///
@@ -298,7 +348,7 @@ pub fn lex<'a>(alloc: Global, text: &'a str) -> Result<Lexed<'a>, AllocError>
     ensures { IfOk result (λ l. view_lexed l ≡ read.lexed text.now) }
 {
     let mut lexer = Lexer::new(text);
-    let mut tokens = Vec::new(alloc);
+    let mut tokens = Vec::with_capacity(alloc, text.len() / BYTES_A_TOKEN)?;
     while !lexer.rest().is_empty() {
         let ignored = ignored_len(lexer.rest().as_bytes());
         if ignored > 0 {
