@@ -18,4 +18,4 @@ pub use juniper_meta::{
     ScalarKinds, ScalarMeta, UnionMeta, meta,
 };
 pub use schema::SchemaType;
-pub use type_type::TypeType;
+pub use type_type::{TypeType, type_around};

@@ -14,7 +14,7 @@ ghost use Rattle.juniper_meta.specs.MetaView.{own_entry};
 
 use crate::built_ins::with_built_ins;
 use crate::names::{contains, entry, find_meta};
-use crate::type_type::{TypeType, list_of, non_null};
+use crate::type_type::{TypeType, type_around};
 use juniper_builtins::{directives, introspection_types, meta_fields};
 use juniper_meta::meta::Field;
 use juniper_meta::{DirectiveType, MetaType};
@@ -149,11 +149,19 @@ impl<S: ScalarValue> SchemaType<S> {
 
     /// Whether the object type of the first name is the type of the second, implements it or is a member of it
     /// (DoesFragmentTypeApply, 6.3.2); false where the first is no object type.
-    #[tactic(auto, unfolding(graphql_spec::specs::Fields::is_possible, graphql_spec::specs::Fields::is_named_subtype))]
+    #[tactic(auto, unfolding(graphql_spec::specs::Fields::is_possible, graphql_spec::specs::Fields::is_named_subtype, graphql_spec::specs::Fields::is_object, graphql_spec::specs::Fields::interfaces_of))]
     pub fn is_possible(&self, object_name: &str, type_name: &str) -> bool
         ensures { result ≡ fields.is_possible (view_schema S.shown self.now) object_name.now type_name.now }
     {
-        self.has_object(object_name) && self.is_named_subtype(object_name, type_name)
+        match self.concrete_type_by_name(object_name) {
+            Some(meta) => {
+                meta.is_object()
+                    && (object_name == type_name
+                        || contains(meta.interface_names(), type_name)
+                        || self.has_member(type_name, object_name))
+            }
+            None => false,
+        }
     }
 
     /// Whether an answer may hold the scalar at the type of this name: a scalar type takes those of an accepted kind (3.5), an
@@ -170,7 +178,6 @@ impl<S: ScalarValue> SchemaType<S> {
 
     /// The type of a reference: what its innermost name is declared as, in its lists and non-nulls (3.4.1). An error where
     /// memory is refused.
-    #[tactic(auto, unfolding(graphql_spec::specs::Types::innermost, crate::specs::MadeTypes::around))]
     pub fn make_type<N: AsStr + Drop>(
         &self,
         alloc: Global,
@@ -180,15 +187,7 @@ impl<S: ScalarValue> SchemaType<S> {
         ensures { IfOk result (λ made. IfSome (meta_named (view_schema S.shown self.now) (innermost (view_type N.text reference.now)))
             (λ m. view_made S.shown made ≡ around m (view_type N.text reference.now))) }
     {
-        match reference {
-            Type::Named(name) => Ok(self.known(name.as_str())),
-            Type::NonNullNamed(name) => non_null(alloc, self.known(name.as_str())),
-            Type::List(inner, size) => list_of(alloc, self.make_type(alloc, &**inner)?, *size),
-            Type::NonNullList(inner, size) => {
-                let inner = self.make_type(alloc, &**inner)?;
-                non_null(alloc, list_of(alloc, inner, *size)?)
-            }
-        }
+        type_around(alloc, self.known(reference.innermost_name()), reference)
     }
 
     /// What is declared as the entry of this name, nullable.
@@ -198,17 +197,6 @@ impl<S: ScalarValue> SchemaType<S> {
         match self.entry(name) {
             Some(meta) => Some(TypeType::Concrete(meta)),
             None => None,
-        }
-    }
-
-    /// Whether the type of this name is an object type (3.6).
-    #[tactic(auto, unfolding(graphql_spec::specs::Fields::is_object))]
-    fn has_object(&self, name: &str) -> bool
-        ensures { result ≡ fields.is_object (fields.type_named (view_schema S.shown self.now) name.now) }
-    {
-        match self.concrete_type_by_name(name) {
-            Some(meta) => meta.is_object(),
-            None => false,
         }
     }
 
@@ -235,10 +223,10 @@ impl<S: ScalarValue> SchemaType<S> {
     }
 
     /// What is declared at a name that is known.
-    fn known(&self, name: &str) -> TypeType<'_, S>
+    fn known(&self, name: &str) -> &MetaType<S>
         requires { IsSome (meta_named (view_schema S.shown self.now) name.now) }
-        ensures { IfSome (meta_named (view_schema S.shown self.now) name.now) (λ m. view_made S.shown result ≡ concrete m) }
+        ensures { IfSome (meta_named (view_schema S.shown self.now) name.now) (λ m. view_meta S.shown result.now ≡ m) }
     {
-        TypeType::Concrete(self.concrete_type_by_name(name).unwrap())
+        self.concrete_type_by_name(name).unwrap()
     }
 }
