@@ -35,7 +35,7 @@ pub fn collect<'d, 'a, S: ScalarValue, P: Conditions>(
     ensures { IfOk result (λ r. view_all S.shown collector.now r.items
         ≡ occurrences (P.possible collector.now.possible) concrete.now (expansion S.shown collector.now (view_selections S.shown selections.now))) }
 {
-    let mut fields = Vec::new(alloc);
+    let mut fields = Vec::with_capacity(alloc, selections.len())?;
     let spreads_left = collector.fragments.count;
     add_fields(collector, concrete, selections, spreads_left, &mut fields)?;
     Ok(fields)

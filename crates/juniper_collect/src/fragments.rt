@@ -29,8 +29,8 @@ pub fn fragments_of<'d, 'a, S: ScalarValue>(
     ensures is { IfOk result (λ m. fragments_in S.shown m ≡ fragments (map (view_definition S.shown) document.now)) }
     ensures made { IfOk result (λ m. IsMade S.shown m) }
 {
-    let first = first_fragments(alloc, document)?;
     let count = count_fragments(document);
+    let first = first_fragments(alloc, document, count)?;
     Ok(FragmentMap {
         document,
         first,
@@ -52,14 +52,15 @@ fn count_fragments<S: ScalarValue>(document: &[Definition<'_, S>]) -> usize
     count
 }
 
-/// The first fragment of each name.
+/// The first fragment of each name, with room for so many.
 fn first_fragments<'d, 'a, S: ScalarValue>(
     alloc: Global,
     document: &'d [Definition<'a, S>],
+    capacity: usize,
 ) -> Result<Fragments<'d, 'a, S>, AllocError>
     ensures { IfOk result (λ r. (k : Name) → fragment_at S.shown r k ≡ fragment_named (fragments (map (view_definition S.shown) document.now)) k) }
 {
-    let mut first = HashMap::new(alloc);
+    let mut first = HashMap::with_capacity(alloc, capacity)?;
     for definition in document {
         put_fragment(definition, &mut first)?;
     }

@@ -8,8 +8,8 @@ pub loop-definition-init : goal.loop-definition-init
 unfolding fragment_at
 loop-definition-init g c =
     first-init (λ ds k. fragment_named (fragments ds) k) fragment-splits fragment-none (view_definition g.S.ScalarValue.shown) c.args.document.now
-    (fragment_at g.S.ScalarValue.shown c.new-first.result)
-    (empty-at _ c.new-first.result c.new-first.ensures.empty)
+    (fragment_at g.S.ScalarValue.shown c.in_ok-first.first)
+    (empty-at _ c.in_ok-first.first c.in_ok-first.ensures.empty)
 
 pub loop-definition-preserved : goal.loop-definition-preserved
 loop-definition-preserved g c =
