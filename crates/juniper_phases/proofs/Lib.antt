@@ -1,4 +1,5 @@
 pub mod AtEach
+pub mod Listing
 pub mod Phases
 pub mod SideBySide
 mod Validating

@@ -1,5 +1,5 @@
 -- Lists with an item for each definition, and the names that one reaches.
-use Rattle.std.proofs.Common.{◌≡◌, ℕ, Bool, false, ◌<◌, List, length, get_or, map, arith, sym, ap, ◌∙◌}
+use Rattle.std.proofs.Common.{◌≡◌, ℕ, Bool, false, ◌<◌, List, [], ◌∷◌, length, get_or, map, arith, refl, sym, ap, ◌∙◌}
 use Rattle.std.proofs.lemmas.List.{get_or-map, length-map}
 use Rattle.graphql_spec.specs.Shown.{Name}
 use Rattle.graphql_spec.specs.Documents.{Definition, Document, fragments}
@@ -7,6 +7,7 @@ use Rattle.graphql_spec.specs.Fragments.{spreads}
 use Rattle.graphql_spec.specs.VariableUses.{is_reached}
 use Rattle.graphql_spec.specs.Written.{selections_of}
 use Rattle.juniper_use_rules.specs.UsesView.{IsReachOf}
+use Rattle.juniper_written.proofs.Lists.{seen-twice}
 use Rattle.juniper_written.specs.WrittenView.{has_name}
 use Rattle.juniper_written.specs.declared.name_set.NameSet.{NameSet}
 
@@ -29,9 +30,23 @@ pub mark-is : {A B : Type 0} (view : A → B) (f : B → Bool) (xs : List A) (i 
     marks ≡ map f (map view xs) → get_or marks i false ≡ f (view x)
 mark-is view f xs i x below is marks same = ap (λ l. get_or l i false) same ∙ twice-at view f xs i x below is false
 
--- there are as many
-pub as-many : {A B C D : Type 0} (view : A → B) (f : B → C) (g : D → C) (xs : List A) (us : List D) → map g us ≡ map f (map view xs) → length us ≡ length xs
-as-many view f g xs us same = sym (length-map us g) ∙ (ap length same ∙ (length-map (map view xs) f ∙ length-map xs view))
+-- lists that are made of definitions
+module _ {A L D : Type 0} (view : A → L) (own : L → D) (of : D → L) (own-of : (x : D) → own (of x) ≡ x) where
+  own-all : (d : List D) → map own (map of d) ≡ d
+  own-all [] = refl
+  own-all (x ∷ d) = ap (λ l. own (of x) ∷ l) (own-all d) ∙ ap (λ y. y ∷ d) (own-of x)
+
+  -- they are made of these
+  pub own-are : (xs : List A) (d : List D) → map view xs ≡ map of d → map (λ a. own (view a)) xs ≡ d
+  own-are xs d same = seen-twice view own xs ∙ (ap (map own) same ∙ own-all d)
+
+  -- one is made of its own
+  pub own-at : (xs : List A) (d : List D) → map view xs ≡ map of d → (i : ℕ) (x : A) → i < length xs → x ≡ get_or xs i x → view x ≡ of (own (view x))
+  own-at xs d same i x below is =
+      let again : map (λ a. of (own (view a))) xs ≡ map view xs =
+      seen-twice (λ a. own (view a)) of xs ∙ (ap (map of) (own-are xs d same) ∙ sym same) in
+      sym (seen-at view xs i x (view x) below is) ∙ (ap (λ l. get_or l i (view x)) (sym again)
+      ∙ seen-at (λ a. of (own (view a))) xs i x (view x) below is)
 
 -- the names that a definition's spreads reach are those that an operation reaches
 pub reach-is : (r : NameSet) (d : Document) (x : Definition) (names : List Name) → names ≡ spreads (selections_of x) →

@@ -2,12 +2,14 @@
 //! which stand on both.
 #![tactic(auto)]
 
+mod lists;
 mod names;
 mod report;
 mod types;
 mod uses;
 mod validation;
 
+pub use lists::{Listed, ListedOnTypes, listed_in, listed_on_types};
 pub use names::name_errors;
 pub use types::type_errors;
 pub use uses::use_errors;

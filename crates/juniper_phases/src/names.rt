@@ -9,10 +9,10 @@ ghost use Rattle.juniper_position.specs.RuleView.{view_rule_error};
 ghost use Rattle.juniper_schema.specs.SchemaView.{view_schema};
 ghost use Rattle.juniper_spreads.specs.SpreadsView.{AreFragmentsOf};
 ghost use Rattle.juniper_syntax.specs.DocumentView.{view_definition};
-ghost use Rattle.juniper_written.specs.Parts.{parts_of};
-ghost use Rattle.juniper_written.specs.WrittenView.{view_written};
+ghost use Rattle.juniper_phases.specs.Listing.{AreListed, IsListed, definition_of};
 ghost use Rattle.juniper_phases.specs.Operations.{OperationsOf};
 
+use crate::lists::Listed;
 use crate::report::report;
 use juniper_name_rules::{
     Earlier, count_operations, has_unknown_directive, is_not_alone, repeats_argument,
@@ -22,54 +22,57 @@ use juniper_schema::SchemaType;
 use juniper_spreads::FragmentsByName;
 use juniper_syntax::{Definition, RuleError, ScalarValue};
 use juniper_type_rules::has_unknown_type;
-use juniper_written::{Written, argument_lists, written_in};
 use std::alloc::{AllocError, Global};
 
-/// What the rules on names find in a document with these fragments: an error for each rule that a definition violates, in
-/// the order of the definitions, and of the rules at each. An error where memory is refused.
+/// What the rules on names find in a document, of whose definitions this is listed, with these fragments: an error for each
+/// rule that a definition violates, in the order of the definitions, and of the rules at each. An error where memory is
+/// refused.
 pub fn name_errors<'d, 'a, S: ScalarValue>(
     alloc: Global,
     schema: &SchemaType<S>,
-    document: &'d [Definition<'a, S>],
+    document: &[Definition<'a, S>],
+    listed: &[Listed<'d, 'a, S>],
     fragments: &FragmentsByName<'d, 'a, S>,
 ) -> Result<Vec<RuleError>, AllocError>
-    ensures { IfOk result (λ es. (disabled : Bool) → AreFragmentsOf S.shown fragments.now (map (view_definition S.shown) document.now) →
+    ensures { IfOk result (λ es. (disabled : Bool) → AreListed S.shown listed.now (map (view_definition S.shown) document.now) →
+        AreFragmentsOf S.shown fragments.now (map (view_definition S.shown) document.now) →
         map view_rule_error es.items ≡ at_each (rules.name_errors (view_schema S.shown schema.now) disabled (map (view_definition S.shown) document.now)) []
         (map (view_definition S.shown) document.now)) }
 {
     let operation_count = count_operations(document);
     let mut errors = Vec::new(alloc);
     let mut earlier = Earlier::new(alloc);
-    for definition in document {
+    for one in listed {
         find_names(
             alloc,
             schema,
             fragments,
             operation_count,
             &earlier,
-            definition,
+            one,
             &mut errors,
         )?;
-        earlier.add(definition)?;
+        earlier.add(one.definition)?;
     }
     Ok(errors)
 }
 
-/// Adds what the rules on names find at a definition, behind these earlier ones.
+/// Adds what the rules on names find at a definition, of which this is listed, behind these earlier ones.
 fn find_names<'d, 'a, S: ScalarValue>(
     alloc: Global,
     schema: &SchemaType<S>,
     fragments: &FragmentsByName<'d, 'a, S>,
     operation_count: usize,
     earlier: &Earlier<'a>,
-    definition: &'d Definition<'a, S>,
+    listed: &Listed<'d, 'a, S>,
     errors: &mut Vec<RuleError>,
 ) -> Result<(), AllocError>
     ensures { OnOk result ((disabled : Bool) (d : documents.Document) (ds : List documents.Definition) → AreFragmentsOf S.shown fragments.now d →
-        OperationsOf operation_count d → IsEarlier earlier.now ds → map view_rule_error errors.new.items
-        ≡ map view_rule_error errors.old.items ++ rules.name_errors (view_schema S.shown schema.now) disabled d ds (view_definition S.shown definition.now)) }
+        OperationsOf operation_count d → IsEarlier earlier.now ds → IsListed S.shown listed.now → map view_rule_error errors.new.items
+        ≡ map view_rule_error errors.old.items ++ rules.name_errors (view_schema S.shown schema.now) disabled d ds (definition_of S.shown listed.now)) }
 {
-    let inside = names_inside(alloc, schema, fragments, definition)?;
+    let definition = listed.definition;
+    let inside = names_inside(alloc, schema, fragments, listed)?;
     let findings = [
         (
             earlier.repeats_operation(definition),
@@ -106,51 +109,39 @@ struct NamesInside {
     has_unknown_type: bool,
 }
 
-/// Which rules on names are violated by what is written inside a definition.
+/// Which rules on names are violated by what is written inside a definition, of which this is listed.
 fn names_inside<'d, 'a, S: ScalarValue>(
     alloc: Global,
     schema: &SchemaType<S>,
     fragments: &FragmentsByName<'d, 'a, S>,
-    definition: &'d Definition<'a, S>,
+    listed: &Listed<'d, 'a, S>,
 ) -> Result<NamesInside, AllocError>
-    ensures unknown { IfOk result (λ n. (d : documents.Document) → AreFragmentsOf S.shown fragments.now d →
-        n.spreads_unknown ≡ rules.spreads_unknown d (view_definition S.shown definition.now)) }
-    ensures cycle { IfOk result (λ n. (d : documents.Document) → AreFragmentsOf S.shown fragments.now d →
-        n.spreads_itself ≡ rules.spreads_itself d (view_definition S.shown definition.now)) }
-    ensures variable { IfOk result (λ n. n.repeats_variable ≡ rules.repeats_variable (view_definition S.shown definition.now)) }
-    ensures argument { IfOk result (λ n. n.repeats_argument ≡ rules.repeats_argument (view_definition S.shown definition.now)) }
-    ensures field { IfOk result (λ n. n.repeats_input_field ≡ rules.repeats_input_field (view_definition S.shown definition.now)) }
-    ensures directive { IfOk result (λ n. n.has_unknown_directive ≡ rules.has_unknown_directive (view_definition S.shown definition.now)) }
-    ensures named { IfOk result (λ n. n.has_unknown_type ≡ rules.has_unknown_type (view_schema S.shown schema.now) (view_definition S.shown definition.now)) }
+    ensures unknown { IfOk result (λ n. (d : documents.Document) → AreFragmentsOf S.shown fragments.now d → IsListed S.shown listed.now →
+        n.spreads_unknown ≡ rules.spreads_unknown d (definition_of S.shown listed.now)) }
+    ensures cycle { IfOk result (λ n. (d : documents.Document) → AreFragmentsOf S.shown fragments.now d → IsListed S.shown listed.now →
+        n.spreads_itself ≡ rules.spreads_itself d (definition_of S.shown listed.now)) }
+    ensures variable { IfOk result (λ n. n.repeats_variable ≡ rules.repeats_variable (definition_of S.shown listed.now)) }
+    ensures argument { IfOk result (λ n. IsListed S.shown listed.now → n.repeats_argument ≡ rules.repeats_argument (definition_of S.shown listed.now)) }
+    ensures field { IfOk result (λ n. IsListed S.shown listed.now → n.repeats_input_field ≡ rules.repeats_input_field (definition_of S.shown listed.now)) }
+    ensures directive { IfOk result (λ n. IsListed S.shown listed.now →
+        n.has_unknown_directive ≡ rules.has_unknown_directive (definition_of S.shown listed.now)) }
+    ensures named { IfOk result (λ n. IsListed S.shown listed.now →
+        n.has_unknown_type ≡ rules.has_unknown_type (view_schema S.shown schema.now) (definition_of S.shown listed.now)) }
 {
+    let definition = listed.definition;
+    let written = &listed.written;
+    let arguments = &listed.arguments;
     let repeats_variable = repeats_variable(alloc, definition)?;
-    let written = written_in(alloc, definition)?;
     let spreads_itself = fragments.spreads_itself(alloc, definition, &written.spreads)?;
-    let (repeats_argument, repeats_input_field) = repeats_given(alloc, definition, &written)?;
+    let repeats_argument = repeats_argument(alloc, arguments)?;
+    let repeats_input_field = repeats_input_field(alloc, definition, arguments)?;
     Ok(NamesInside {
         spreads_unknown: fragments.spreads_unknown(&written.spreads),
         spreads_itself,
         repeats_variable,
         repeats_argument,
         repeats_input_field,
-        has_unknown_directive: has_unknown_directive(&written),
-        has_unknown_type: has_unknown_type(schema, &written, definition),
+        has_unknown_directive: has_unknown_directive(written),
+        has_unknown_type: has_unknown_type(schema, written, definition),
     })
-}
-
-/// Whether a definition, in which this is written, repeats the name of an argument, and that of an input field.
-fn repeats_given<'d, 'a, S: ScalarValue>(
-    alloc: Global,
-    definition: &'d Definition<'a, S>,
-    written: &Written<'d, 'a, S>,
-) -> Result<(bool, bool), AllocError>
-    ensures argument { IfOk result (λ r. view_written S.shown written.now ≡ parts_of (view_definition S.shown definition.now) →
-        r.0 ≡ rules.repeats_argument (view_definition S.shown definition.now)) }
-    ensures field { IfOk result (λ r. view_written S.shown written.now ≡ parts_of (view_definition S.shown definition.now) →
-        r.1 ≡ rules.repeats_input_field (view_definition S.shown definition.now)) }
-{
-    let arguments = argument_lists(alloc, written)?;
-    let repeats_argument = repeats_argument(alloc, &arguments)?;
-    let repeats_input_field = repeats_input_field(alloc, definition, &arguments)?;
-    Ok((repeats_argument, repeats_input_field))
 }

@@ -7,7 +7,9 @@ ghost use Rattle.juniper_position.specs.RuleView.{view_rule_error};
 ghost use Rattle.juniper_schema.specs.SchemaView.{view_schema};
 ghost use Rattle.juniper_spreads.specs.SpreadsView.{AreFragmentsOf};
 ghost use Rattle.juniper_syntax.specs.DocumentView.{view_definition, view_document};
+ghost use Rattle.juniper_phases.specs.Listing.{AreListed};
 
+use crate::lists::{Listed, listed_in, listed_on_types};
 use crate::names::name_errors;
 use crate::types::type_errors;
 use crate::uses::use_errors;
@@ -32,7 +34,8 @@ pub fn validate<'d, 'a, S: ScalarValue>(
 {
     let definitions = document.as_slice();
     let fragments = fragments_by_name(alloc, definitions)?;
-    let errors = name_errors(alloc, schema, definitions, &fragments)?;
+    let listed = listed_in(alloc, definitions)?;
+    let errors = name_errors(alloc, schema, definitions, &listed, &fragments)?;
     if !errors.is_empty() {
         return Ok(errors);
     }
@@ -40,26 +43,30 @@ pub fn validate<'d, 'a, S: ScalarValue>(
         alloc,
         schema,
         definitions,
+        &listed,
         &fragments,
         introspection_disabled,
     )
 }
 
-/// What the rules on types find in a document with these fragments, on whose names no rule finds anything; and where these
-/// find nothing either, what the last rules find.
+/// What the rules on types find in a document, of whose definitions this is listed, with these fragments, and on whose names no
+/// rule finds anything; and where these find nothing either, what the last rules find.
 fn later_errors<'d, 'a, S: ScalarValue>(
     alloc: Global,
     schema: &'d SchemaType<S>,
     document: &'d [Definition<'a, S>],
+    listed: &[Listed<'d, 'a, S>],
     fragments: &FragmentsByName<'d, 'a, S>,
     introspection_disabled: bool,
 ) -> Result<Vec<RuleError>, AllocError>
-    ensures { IfOk result (λ es. AreFragmentsOf S.shown fragments.now (map (view_definition S.shown) document.now) →
+    ensures { IfOk result (λ es. AreListed S.shown listed.now (map (view_definition S.shown) document.now) →
+        AreFragmentsOf S.shown fragments.now (map (view_definition S.shown) document.now) →
         at_each (rules.name_errors (view_schema S.shown schema.now) introspection_disabled (map (view_definition S.shown) document.now)) []
         (map (view_definition S.shown) document.now) ≡ [] → map view_rule_error es.items
         ≡ rule_errors (view_schema S.shown schema.now) introspection_disabled (map (view_definition S.shown) document.now)) }
 {
-    let errors = type_errors(alloc, schema, document)?;
+    let on_types = listed_on_types(alloc, schema, listed)?;
+    let errors = type_errors(alloc, schema, &on_types)?;
     if !errors.is_empty() {
         return Ok(errors);
     }
@@ -67,7 +74,7 @@ fn later_errors<'d, 'a, S: ScalarValue>(
     use_errors(
         alloc,
         schema,
-        document,
+        &on_types,
         fragments,
         &cannot_merge,
         introspection_disabled,

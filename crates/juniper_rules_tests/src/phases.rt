@@ -3,7 +3,7 @@
 use crate::looks::{Look, Scalar, StaticDocument, check, first_other};
 use crate::schemas::SMALL;
 use juniper_language::{RuleError, SourcePosition};
-use juniper_phases::{name_errors, type_errors};
+use juniper_phases::{listed_in, listed_on_types, name_errors, type_errors};
 use juniper_rules::validate;
 use juniper_schema::SchemaType;
 use juniper_schema_text::{Line, kept};
@@ -54,8 +54,9 @@ pub fn put_name_errors(
     line: &mut Line,
 ) -> Option<()> {
     let fragments = kept(alloc, fragments_by_name(alloc, document))?;
-    let errors = kept(alloc, name_errors(alloc, schema, document, fragments))?;
-    put_indices(errors, line);
+    let listed = kept(alloc, listed_in(alloc, document))?;
+    let errors = name_errors(alloc, schema, document, listed, fragments);
+    put_indices(kept(alloc, errors)?, line);
     Some(())
 }
 
@@ -66,7 +67,9 @@ pub fn put_type_errors(
     document: StaticDocument,
     line: &mut Line,
 ) -> Option<()> {
-    put_indices(kept(alloc, type_errors(alloc, schema, document))?, line);
+    let listed = kept(alloc, listed_in(alloc, document))?;
+    let on_types = kept(alloc, listed_on_types(alloc, schema, listed))?;
+    put_indices(kept(alloc, type_errors(alloc, schema, on_types))?, line);
     Some(())
 }
 

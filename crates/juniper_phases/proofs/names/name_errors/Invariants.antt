@@ -5,14 +5,15 @@ use Rattle.juniper_position.specs.RuleView.{view_rule_error}
 use Rattle.juniper_schema.specs.SchemaView.{view_schema}
 use Rattle.juniper_spreads.specs.SpreadsView.{AreFragmentsOf}
 use Rattle.juniper_syntax.specs.DocumentView.{view_definition}
+use Rattle.juniper_phases.specs.Listing.{AreListed, definition_of}
 use Rattle.juniper_phases.proofs.AtEach.{IsFoundBefore}
 use Rattle.juniper_phases.proofs.names.name_errors.Given as goal
 
 -- what is found, and then what the definitions that are left show behind the earlier ones
-abbrev pub invariant-loop-definition : goal.invariant-loop-definition
-invariant-loop-definition g l =
+abbrev pub invariant-loop-one : goal.invariant-loop-one
+invariant-loop-one g l =
     let shown = g.S.ScalarValue.shown in
     let d = map (view_definition shown) l.document in
-    IsEarlier l.earlier (map (view_definition shown) (take l.definition-index l.document))
-    × ((disabled : Bool) → AreFragmentsOf shown l.fragments d → IsFoundBefore (view_definition shown)
-    (name_errors (view_schema shown l.schema) disabled d) l.document l.definition-index (map view_rule_error l.errors.items))
+    IsEarlier l.earlier (map (definition_of shown) (take l.one-index l.listed))
+    × ((disabled : Bool) → AreListed shown l.listed d → AreFragmentsOf shown l.fragments d → IsFoundBefore (definition_of shown)
+    (name_errors (view_schema shown l.schema) disabled d) l.listed l.one-index (map view_rule_error l.errors.items))

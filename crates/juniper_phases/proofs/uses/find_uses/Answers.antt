@@ -3,18 +3,18 @@ use Rattle.std.proofs.lemmas.Result.{on_ok_weaker}
 use Rattle.graphql_spec.specs.Documents.{Definition}
 use Rattle.juniper_position.specs.RuleView.{view_rule_error}
 use Rattle.juniper_schema.specs.SchemaView.{view_schema}
-use Rattle.juniper_syntax.specs.DocumentView.{view_definition}
+use Rattle.juniper_phases.specs.Listing.{definition_of}
 use Rattle.juniper_phases.proofs.Phases.{uses-found}
 use Rattle.juniper_phases.proofs.uses.find_uses.Goals as goal
 
 pub returns : goal.returns
 returns g c =
     let shown = g.S.ScalarValue.shown in
-    let x : Definition = view_definition shown c.args.definition.now in
+    let x : Definition = definition_of shown c.args.listed.now in
     let inside = c.in_ok-inside.ensures in
-    on_ok_weaker c.report.result (λ listed d ds are uses own merging. listed ∙ ap (λ es. map view_rule_error c.args.errors.now.items ++ es)
+    on_ok_weaker c.report.result (λ listed d ds are uses is own merging. listed ∙ ap (λ es. map view_rule_error c.args.errors.now.items ++ es)
     (uses-found (view_schema shown c.args.given.now.schema.now) c.args.given.now.introspection_disabled d ds x _ _ _ _
-    (inside.undefined d are uses own)
-    (inside.misused d are uses own)
+    (inside.undefined d are uses is own)
+    (inside.misused d are uses is own)
     merging
-    inside.schema)) c.report.ensures
+    (inside.schema is))) c.report.ensures
