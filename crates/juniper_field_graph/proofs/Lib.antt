@@ -18,3 +18,11 @@ mod Pushing
 mod Graphs
 mod Found
 mod Places
+mod PlainFields
+mod PlainForests
+mod PlainMerging
+mod Meeting
+mod MetTables
+mod MetSelections
+mod MetDefinitions
+mod PlainRows

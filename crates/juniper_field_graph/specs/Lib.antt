@@ -2,3 +2,5 @@ pub mod GraphView
 pub mod Gathering
 pub mod KindsView
 pub mod Keys
+pub mod PlainKeys
+pub mod MetView

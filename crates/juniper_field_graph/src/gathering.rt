@@ -217,7 +217,7 @@ fn declared_type<'d, S: ScalarValue>(
 
 /// The name of the type inside an inline fragment: that of its condition, else that around it.
 #[tactic(auto, unfolding(graphql_spec::specs::Documents::name_or))]
-fn type_inside<'d, 'a, S: ScalarValue>(
+pub(crate) fn type_inside<'d, 'a, S: ScalarValue>(
     parent: &'d str,
     inline: &'d Spanning<InlineFragment<'a, S>, Span>,
 ) -> &'d str

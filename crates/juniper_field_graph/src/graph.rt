@@ -121,7 +121,7 @@ impl<'d, 'a, S: ScalarValue> FieldGraph<'d, 'a, S> {
 
 /// The response key of a field: its alias, else its name.
 #[tactic(auto, unfolding(graphql_spec::specs::Documents::response_key, graphql_spec::specs::Documents::name_or))]
-fn response_key<'a, S: ScalarValue>(field: &Spanning<Field<'a, S>, Span>) -> &'a str
+pub(crate) fn response_key<'a, S: ScalarValue>(field: &Spanning<Field<'a, S>, Span>) -> &'a str
     ensures { result.now ≡ documents.response_key (view_field S.shown field.now) }
 {
     match field.item.alias {

@@ -5,6 +5,7 @@ mod gathering;
 mod graph;
 mod keys;
 mod overlapping_fields_can_be_merged;
+mod plain_keys;
 
 pub use graph::FieldGraph;
 pub use overlapping_fields_can_be_merged::cannot_merge;

@@ -26,6 +26,7 @@ ghost use Rattle.juniper_field_graph.specs.GraphView.{IsGraphOf};
 
 use crate::gathering::{Gathered, Known, gather_set};
 use crate::graph::FieldGraph;
+use crate::plain_keys::has_plain_keys;
 use juniper_merging::{Graph, Known as Answers, set_merges};
 use juniper_placed::root_name;
 use juniper_schema::SchemaType;
@@ -35,9 +36,9 @@ use std::alloc::{AllocError, Global};
 use std::collections::BTreeMap;
 
 /// For each definition of a document with these fragments, whether two fields in one of its selection sets cannot be merged
-/// (5.3.2), where the rules on names find nothing. Each field of the document is looked at once where it is written and
-/// once more for its fragment, however often that is spread; and each pair of fields a few times for each set. An error
-/// where memory is refused.
+/// (5.3.2), where the rules on names find nothing. Each field of the document is looked at once, and no more where those of one
+/// response key are alike all over the document; else once more where it is written and once for its fragment, however often
+/// that is spread, and each pair of fields a few times for each set. An error where memory is refused.
 pub fn cannot_merge<'d, 'a, S: ScalarValue>(
     alloc: Global,
     schema: &'d SchemaType<S>,
@@ -50,9 +51,22 @@ pub fn cannot_merge<'d, 'a, S: ScalarValue>(
         → found.items ≡ map (rules.cannot_merge (view_schema S.shown schema.now) (map (view_definition S.shown) document.now))
         (map (view_definition S.shown) document.now)) }
 {
+    if has_plain_keys(alloc, schema, document)? {
+        return none_found(alloc, document);
+    }
     let undeclared = undeclared(alloc);
     let found = judge_all(alloc, schema, &undeclared, document, fragments)?;
     Ok(found)
+}
+
+/// `false` for each definition.
+fn none_found<S: ScalarValue>(
+    alloc: Global,
+    document: &[Definition<'_, S>],
+) -> Result<Vec<bool>, AllocError>
+    ensures { IfOk result (λ found. found.items ≡ map (λ _. false) (map (view_definition S.shown) document.now)) }
+{
+    vec![in alloc; false; document.len()]
 }
 
 /// The same, with a type for the fields that are not declared.

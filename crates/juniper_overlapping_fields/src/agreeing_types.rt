@@ -45,7 +45,7 @@ fn names_agree<S: ScalarValue>(schema: &SchemaType<S>, name: &str, other: &str) 
     ensures { result ≡ (not (is_leaf (type_named (view_schema S.shown schema.now) name.now) || is_leaf (type_named (view_schema S.shown schema.now) other.now))
         || bytes_eq name.now other.now) }
 {
-    !(is_leaf(schema, name) || is_leaf(schema, other)) || name == other
+    name == other || !(is_leaf(schema, name) || is_leaf(schema, other))
 }
 
 /// Whether a scalar or enum is declared at the name.
