@@ -24,7 +24,8 @@ pub fn calls<'d, 'a, S: ScalarValue>(
 ) -> Result<Vec<Call<'d, 'a, 'd, S>>, AllocError>
     ensures { IfOk result (λ cs. view_calls S.shown cs.items ≡ calls_of (view_schema S.shown schema.now) (view_parts S.shown parts.now)) }
 {
-    let mut calls = Vec::new(alloc);
+    let count = parts.fields.len() + parts.directives.len();
+    let mut calls = Vec::with_capacity(alloc, count)?;
     push_of_fields(&parts.fields, &mut calls)?;
     push_of_directives(schema, &parts.directives, &mut calls)?;
     Ok(calls)

@@ -21,6 +21,9 @@ use juniper_syntax::{
 use juniper_written::{write_directives, write_variables};
 use std::alloc::{AllocError, Global};
 
+/// For how many fields a list has room from the start, which is enough for most definitions.
+const FIELDS: usize = 16;
+
 /// A field on its parent type (5.3.1).
 #[derive(Drop)]
 pub struct Placed<'d, 'a, S: ScalarValue> {
@@ -64,7 +67,7 @@ fn placed_in_operation<'d, 'a, S: ScalarValue>(
 ) -> Result<PlacedParts<'d, 'a, S>, AllocError>
     ensures { IfOk result (λ p. view_parts S.shown p ≡ parts_of (view_schema S.shown schema.now) (documents.operation (view_operation S.shown operation.now))) }
 {
-    let mut placed = nothing_placed(alloc);
+    let mut placed = nothing_placed(alloc)?;
     match root_name(schema, operation.item.operation_type) {
         Some(root) => {
             write_directives(&operation.item.directives, &mut placed.directives)?;
@@ -89,7 +92,7 @@ fn placed_in_fragment<'d, 'a, S: ScalarValue>(
 ) -> Result<PlacedParts<'d, 'a, S>, AllocError>
     ensures { IfOk result (λ p. view_parts S.shown p ≡ parts_of (view_schema S.shown schema.now) (documents.fragment (view_fragment S.shown fragment.now))) }
 {
-    let mut placed = nothing_placed(alloc);
+    let mut placed = nothing_placed(alloc)?;
     write_directives(&fragment.item.directives, &mut placed.directives)?;
     let condition = fragment.item.type_condition.item;
     if is_composite(schema, condition) {
@@ -105,14 +108,17 @@ fn placed_in_fragment<'d, 'a, S: ScalarValue>(
     }
 }
 
-/// Nothing yet.
-fn nothing_placed<'d, 'a, S: ScalarValue>(alloc: Global) -> PlacedParts<'d, 'a, S>
-    ensures { view_parts S.shown result ≡ record { fields = []; directives = [] } }
+/// Nothing yet. An error where memory is refused.
+fn nothing_placed<'d, 'a, S: ScalarValue>(
+    alloc: Global,
+) -> Result<PlacedParts<'d, 'a, S>, AllocError>
+    ensures { IfOk result (λ p. view_parts S.shown p ≡ record { fields = []; directives = [] }) }
 {
-    PlacedParts {
-        fields: Vec::new(alloc),
+    let fields = Vec::with_capacity(alloc, FIELDS)?;
+    Ok(PlacedParts {
+        fields,
         directives: Vec::new(alloc),
-    }
+    })
 }
 
 /// The name of the type that an operation's selections stand on (3.3.1).

@@ -24,7 +24,8 @@ pub fn argument_lists<'d, 'a, S: ScalarValue>(
 ) -> Result<ArgumentLists<'d, 'a, S>, AllocError>
     ensures { IfOk result (λ l. view_lists S.shown l ≡ lists_of (view_written S.shown written.now)) }
 {
-    let mut lists = Vec::new(alloc);
+    let count = written.fields.len() + written.directives.len();
+    let mut lists = Vec::with_capacity(alloc, count)?;
     push_of_fields(&written.fields, &mut lists)?;
     push_of_directives(&written.directives, &mut lists)?;
     Ok(ArgumentLists { lists })

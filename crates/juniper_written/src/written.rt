@@ -14,6 +14,9 @@ use juniper_syntax::{
 };
 use std::alloc::{AllocError, Global};
 
+/// For how many fields a list has room from the start, which is enough for most definitions.
+const FIELDS: usize = 16;
+
 /// What is written in a definition at any depth, kind by kind, each in document order.
 #[derive(Drop)]
 pub struct Written<'d, 'a, S> {
@@ -47,7 +50,7 @@ fn written_in_operation<'d, 'a, S: ScalarValue>(
 ) -> Result<Written<'d, 'a, S>, AllocError>
     ensures { IfOk result (λ w. view_written S.shown w ≡ parts_of (documents.operation (view_operation S.shown operation.now))) }
 {
-    let mut written = nothing_written(alloc);
+    let mut written = nothing_written(alloc)?;
     write_directives(&operation.item.directives, &mut written.directives)?;
     write_variables(
         &operation.item.variable_definitions,
@@ -64,23 +67,24 @@ fn written_in_fragment<'d, 'a, S: ScalarValue>(
 ) -> Result<Written<'d, 'a, S>, AllocError>
     ensures { IfOk result (λ w. view_written S.shown w ≡ parts_of (documents.fragment (view_fragment S.shown fragment.now))) }
 {
-    let mut written = nothing_written(alloc);
+    let mut written = nothing_written(alloc)?;
     written.conditions.push(fragment.item.type_condition.item)?;
     write_directives(&fragment.item.directives, &mut written.directives)?;
     write_selections(fragment.item.selection_set.as_slice(), &mut written)?;
     Ok(written)
 }
 
-/// Nothing yet.
-fn nothing_written<'d, 'a, S: ScalarValue>(alloc: Global) -> Written<'d, 'a, S>
-    ensures { view_written S.shown result ≡ record { fields = []; spreads = []; conditions = []; directives = [] } }
+/// Nothing yet. An error where memory is refused.
+fn nothing_written<'d, 'a, S: ScalarValue>(alloc: Global) -> Result<Written<'d, 'a, S>, AllocError>
+    ensures { IfOk result (λ w. view_written S.shown w ≡ record { fields = []; spreads = []; conditions = []; directives = [] }) }
 {
-    Written {
-        fields: Vec::new(alloc),
+    let fields = Vec::with_capacity(alloc, FIELDS)?;
+    Ok(Written {
+        fields,
         spreads: Vec::new(alloc),
         conditions: Vec::new(alloc),
         directives: Vec::new(alloc),
-    }
+    })
 }
 
 /// Adds what is written in selections.

@@ -9,4 +9,4 @@ pub returns : goal.returns
 returns g c =
     let shown = g.S.ScalarValue.shown in
     all-calls (view_schema shown c.args.schema.now) (view_parts shown c.args.parts.now) _ _ _
-    (ap (view_calls shown) c.new-calls.ensures.items) c.in_ok-push_of_fields.ensures c.in_ok-push_of_directives.ensures
+    (ap (view_calls shown) c.in_ok-calls.ensures.items) c.in_ok-push_of_fields.ensures c.in_ok-push_of_directives.ensures

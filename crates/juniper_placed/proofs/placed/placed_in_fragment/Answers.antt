@@ -12,9 +12,9 @@ returns-in_ok-place_selections g c =
     let shown = g.S.ScalarValue.shown in
     let s = view_schema shown c.args.schema.now in
     let f = view_fragment shown c.args.fragment.now in
-    let none = view_parts shown c.nothing_placed-placed.result in
+    let none = view_parts shown c.in_ok-placed.placed in
     let ds = view_directives_at shown c.write_directives.new.into.items in
-    fragment-parts s none c.nothing_placed-placed.ensures f ds (view_parts shown c.place_selections.new.placed)
+    fragment-parts s none c.in_ok-placed.ensures f ds (view_parts shown c.place_selections.new.placed)
     (sym c.if-is_composite.ensures) c.in_ok-write_directives.ensures
     (c.in_ok-place_selections.ensures ∙ ap (λ l. joined (made none.fields ds) (parts_in s f.condition.item (view_selections shown l))) c.as_slice.ensures.value)
 
@@ -22,6 +22,6 @@ pub returns-else-is_composite : goal.returns-else-is_composite
 returns-else-is_composite g c =
     let shown = g.S.ScalarValue.shown in
     let ds = view_directives_at shown c.write_directives.new.into.items in
-    other-parts (view_schema shown c.args.schema.now) (view_parts shown c.nothing_placed-placed.result) c.nothing_placed-placed.ensures
+    other-parts (view_schema shown c.args.schema.now) (view_parts shown c.in_ok-placed.placed) c.in_ok-placed.ensures
     (view_fragment shown c.args.fragment.now) ds
     (sym c.if-is_composite.ensures) c.in_ok-write_directives.ensures

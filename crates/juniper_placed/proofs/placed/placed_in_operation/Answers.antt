@@ -14,11 +14,11 @@ returns-in_ok-place_selections-in-Some g c =
     let shown = g.S.ScalarValue.shown in
     let s = view_schema shown c.args.schema.now in
     let o = view_operation shown c.args.operation.now in
-    let none = view_parts shown c.nothing_placed-placed.result in
+    let none = view_parts shown c.in_ok-placed.placed in
     let own = view_directives_at shown c.write_directives.new.into.items in
     let ds = view_directives_at shown c.write_variables.new.into.items in
     let root = c.in-Some.root.now in
-    operation-parts s none c.nothing_placed-placed.ensures o root own ds (view_parts shown c.place_selections.new.placed)
+    operation-parts s none c.in_ok-placed.ensures o root own ds (view_parts shown c.place_selections.new.placed)
     (sym (ap (option_map (λ n. n.now)) c.in-Some.is) ∙ c.root_name.ensures) c.in_ok-write_directives-in-Some.ensures
     (c.in_ok-write_variables-in-Some.ensures ∙ ap (λ vs. own ++ flat_map (λ x. x.directives) vs)
     (variables-seen shown c.args.operation.now.item.variable_definitions o refl))
@@ -27,6 +27,6 @@ returns-in_ok-place_selections-in-Some g c =
 pub returns-in-None : goal.returns-in-None
 returns-in-None g c =
     let shown = g.S.ScalarValue.shown in
-    rootless-parts (view_schema shown c.args.schema.now) (view_parts shown c.nothing_placed-placed.result) c.nothing_placed-placed.ensures
+    rootless-parts (view_schema shown c.args.schema.now) (view_parts shown c.in_ok-placed.placed) c.in_ok-placed.ensures
     (view_operation shown c.args.operation.now)
     (sym (ap (option_map (λ n. n.now)) c.in-None.is) ∙ c.root_name.ensures)

@@ -11,4 +11,4 @@ returns g c =
     let of_fields = map (λ h. written h.arguments) (view_fields shown c.args.written.now.fields.items) in
     let of_directives = map (λ d. written d.arguments) (view_directives_at shown c.args.written.now.directives.items) in
     c.in_ok-push_of_directives.ensures ∙ ap (λ l. l ++ of_directives)
-    (c.in_ok-push_of_fields.ensures ∙ ap (λ l. view_list shown l ++ of_fields) c.new-lists.ensures.items)
+    (c.in_ok-push_of_fields.ensures ∙ ap (λ l. view_list shown l ++ of_fields) c.in_ok-lists.ensures.items)

@@ -10,11 +10,11 @@ use Rattle.juniper_written.proofs.written.written_in_operation.Goals as goal
 pub returns : goal.returns
 returns g c =
     let shown = g.S.ScalarValue.shown in
-    let none = view_written shown c.nothing_written-written.result in
+    let none = view_written shown c.in_ok-written.written in
     let ds = view_directives_at shown c.write_variables.new.into.items in
     operation-parts (view_operation shown c.args.operation.now) none (view_written shown c.write_selections.new.written)
     (view_directives_at shown c.write_directives.new.into.items) ds
-    c.nothing_written-written.ensures c.in_ok-write_directives.ensures (c.in_ok-write_variables.ensures
+    c.in_ok-written.ensures c.in_ok-write_directives.ensures (c.in_ok-write_variables.ensures
     ∙ ap (λ vs. view_directives_at shown c.write_directives.new.into.items ++ flat_map (λ x. x.directives) vs)
     (variables-seen shown c.args.operation.now.item.variable_definitions (view_operation shown c.args.operation.now) refl))
     (c.in_ok-write_selections.ensures ∙ ap (λ l. joined (made none.fields none.spreads none.conditions ds) (parts_in (view_selections shown l)))
