@@ -1,3 +1,4 @@
 pub mod CallView
+pub mod Parents
 pub mod PlacedView
 pub mod Placing

@@ -4,6 +4,7 @@
 
 mod call;
 mod call_list;
+mod parent;
 mod placed;
 
 pub use call::Call;

@@ -10,9 +10,11 @@ ghost use Rattle.juniper_meta.specs.MetaView as metas;
 ghost use Rattle.juniper_schema.specs.SchemaView.{view_schema};
 ghost use Rattle.juniper_syntax.specs.DocumentView.{put_selection, view_definition, view_fragment, view_kind, view_operation, view_selections};
 ghost use Rattle.juniper_written.specs.WrittenView.{view_field, view_inline};
+ghost use Rattle.juniper_placed.specs.Parents.{IsParent};
 ghost use Rattle.juniper_placed.specs.Placing.{directive_parts, field_parts, joined, parts_in, parts_of, parts_on, type_below, type_inside};
 ghost use Rattle.juniper_placed.specs.PlacedView.{view_parts, view_placed};
 
+use crate::parent::{Parent, field_on, parent_of};
 use juniper_schema::{SchemaType, meta};
 use juniper_syntax::{
     Definition, Directive, Field, Fragment, InlineFragment, Operation, OperationType, ScalarValue,
@@ -136,19 +138,20 @@ pub fn root_name<'d, S: ScalarValue>(
     }
 }
 
-/// Adds what stands in selections on a type.
+/// Adds what stands in selections on the type of a name.
 #[cycle(placing)]
 fn place_selections<'d, 'a, S: ScalarValue>(
     schema: &'d SchemaType<S>,
-    parent: &'d str,
+    name: &'d str,
     selections: &'d [Selection<'a, S>],
     placed: &mut PlacedParts<'d, 'a, S>,
 ) -> Result<(), AllocError>
     ensures { OnOk result (view_parts S.shown placed.new ≡ joined (view_parts S.shown placed.old)
-        (parts_in (view_schema S.shown schema.now) parent.now (view_selections S.shown selections.now))) }
+        (parts_in (view_schema S.shown schema.now) name.now (view_selections S.shown selections.now))) }
 {
+    let parent = parent_of(schema, name);
     for selection in selections {
-        place_selection(schema, parent, selection, placed)?;
+        place_selection(schema, &parent, selection, placed)?;
     }
     Ok(())
 }
@@ -157,12 +160,13 @@ fn place_selections<'d, 'a, S: ScalarValue>(
 #[cycle(placing)]
 fn place_selection<'d, 'a, S: ScalarValue>(
     schema: &'d SchemaType<S>,
-    parent: &'d str,
+    parent: &Parent<'d, S>,
     selection: &'d Selection<'a, S>,
     placed: &mut PlacedParts<'d, 'a, S>,
 ) -> Result<(), AllocError>
-    ensures { OnOk result ((rest : Selections) → joined (view_parts S.shown placed.new) (parts_in (view_schema S.shown schema.now) parent.now rest)
-        ≡ joined (view_parts S.shown placed.old) (parts_in (view_schema S.shown schema.now) parent.now (put_selection S.shown selection.now rest))) }
+    ensures { OnOk result (IsParent S.shown (view_schema S.shown schema.now) parent.now → (rest : Selections) →
+        joined (view_parts S.shown placed.new) (parts_in (view_schema S.shown schema.now) parent.now.name.now rest)
+        ≡ joined (view_parts S.shown placed.old) (parts_in (view_schema S.shown schema.now) parent.now.name.now (put_selection S.shown selection.now rest))) }
 {
     match selection {
         Selection::Field(field) => {
@@ -184,7 +188,7 @@ fn place_selection<'d, 'a, S: ScalarValue>(
         }
         Selection::InlineFragment(inline) => {
             write_directives(&inline.item.directives, &mut placed.directives)?;
-            match type_inside(schema, parent, inline) {
+            match type_inside(schema, parent.name, inline) {
                 Some(inner) => {
                     place_selections(schema, inner, &inline.item.selection_set, placed)?;
                     Ok(())
@@ -198,18 +202,18 @@ fn place_selection<'d, 'a, S: ScalarValue>(
 /// Adds a field, without what stands below it, and gives the name of the type that this stands on, where the field is known.
 fn place_field<'d, 'a, S: ScalarValue>(
     schema: &'d SchemaType<S>,
-    parent: &'d str,
+    parent: &Parent<'d, S>,
     field: &'d Spanning<Field<'a, S>, Span>,
     placed: &mut PlacedParts<'d, 'a, S>,
 ) -> Result<Option<&'d str>, AllocError>
-    ensures below { IfOk result (λ q. option_map (λ n. n.now) q ≡ type_below
-        (field_of (view_schema S.shown schema.now) parent.now (view_field S.shown field.now).name.item)) }
-    ensures added { OnOk result (view_parts S.shown placed.new ≡ joined (view_parts S.shown placed.old)
-        (field_parts (view_schema S.shown schema.now) parent.now (view_field S.shown field.now))) }
+    ensures below { IfOk result (λ q. IsParent S.shown (view_schema S.shown schema.now) parent.now → option_map (λ n. n.now) q ≡ type_below
+        (field_of (view_schema S.shown schema.now) parent.now.name.now (view_field S.shown field.now).name.item)) }
+    ensures added { OnOk result (IsParent S.shown (view_schema S.shown schema.now) parent.now → view_parts S.shown placed.new
+        ≡ joined (view_parts S.shown placed.old) (field_parts (view_schema S.shown schema.now) parent.now.name.now (view_field S.shown field.now))) }
 {
-    let found = schema.field_of(parent, field.item.name.item);
+    let found = field_on(schema, parent, field.item.name.item);
     placed.fields.push(Placed {
-        parent,
+        parent: parent.name,
         field,
         declared: found,
     })?;

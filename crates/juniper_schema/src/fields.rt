@@ -5,11 +5,11 @@ ghost use Rattle.std.specs.Str.{bytes_eq};
 ghost use Rattle.graphql_spec.specs.Fields as fields;
 ghost use Rattle.graphql_spec.specs.Fields.{field_in, root_fields, typename, typename_field};
 ghost use Rattle.graphql_spec.specs.Placed.{directive_in, directive_named};
-ghost use Rattle.juniper_meta.specs.MetaView.{view_directive, view_field};
+ghost use Rattle.juniper_meta.specs.MetaView.{shape_of, view_directive, view_field};
 ghost use Rattle.juniper_schema.specs.SchemaView.{view_schema};
 
 use crate::schema::SchemaType;
-use juniper_meta::meta::Field;
+use juniper_meta::meta::{Field, MetaType};
 use juniper_meta::{DirectiveType, find_field};
 use juniper_syntax::ScalarValue;
 
@@ -20,17 +20,30 @@ impl<S: ScalarValue> SchemaType<S> {
         ensures { option_map (λ f. view_field S.shown f.now) result ≡ fields.field_of (view_schema S.shown self.now) type_name.now field_name.now }
     {
         match self.concrete_type_by_name(type_name) {
-            Some(meta) => match meta.field_by_name(field_name) {
-                Some(field) => Some(field),
-                None => {
-                    if meta.is_composite() {
-                        self.meta_field(type_name, field_name)
-                    } else {
-                        None
-                    }
-                }
-            },
+            Some(meta) => self.field_of_type(type_name, meta, field_name),
             None => None,
+        }
+    }
+
+    /// The field of a type, as `field_of` finds it, where this is what is declared at the type's name.
+    pub fn field_of_type<'s>(
+        &'s self,
+        type_name: &str,
+        meta: &'s MetaType<S>,
+        field_name: &str,
+    ) -> Option<&'s Field<S>>
+        ensures { fields.type_named (view_schema S.shown self.now) type_name.now ≡ shape_of S.shown meta.now →
+            option_map (λ f. view_field S.shown f.now) result ≡ fields.field_of (view_schema S.shown self.now) type_name.now field_name.now }
+    {
+        match meta.field_by_name(field_name) {
+            Some(field) => Some(field),
+            None => {
+                if meta.is_composite() {
+                    self.meta_field(type_name, field_name)
+                } else {
+                    None
+                }
+            }
         }
     }
 

@@ -6,4 +6,4 @@ use Rattle.juniper_placed.proofs.placed.+placing.Given as goal
 abbrev pub invariant-place_selections-loop-selection : goal.invariant-place_selections-loop-selection
 invariant-place_selections-loop-selection g l =
     let shown = g.S.ScalarValue.shown in
-    IsSoFar shown (view_schema shown l.schema) l.parent l.selections (view_parts shown l.initial.placed) l.selection-index (view_parts shown l.placed)
+    IsSoFar shown (view_schema shown l.schema) l.name l.selections (view_parts shown l.initial.placed) l.selection-index (view_parts shown l.placed)
