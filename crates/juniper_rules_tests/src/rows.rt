@@ -115,7 +115,8 @@ query Q($b: Box!) { store(boxes: $b) } => Variable may not stand here@0:0;
 query Q($b: Box!) { store(boxes: [$b]) } =>
 query Q($n: String) { ...F } fragment F on Query { ...G } fragment G on Query { number(plus: $n) } => Variable may not stand here@0:0;";
 
-/// Whether fields can be merged: of interfaces, unions and different objects, through fragments and lists.
+/// Whether fields can be merged: of interfaces, unions and different objects, through fragments and lists; and fields of one response key
+/// in sets that never meet.
 const MERGING: &str = "\
 { x: id x: id x: name } => Fields cannot be merged@0:0;
 { id: name id } => Fields cannot be merged@0:0;
@@ -138,7 +139,15 @@ const MERGING: &str = "\
 { x: store(boxes: [{width: 1}, {width: 2}]) x: store(boxes: [{width: 2}, {width: 1}]) } => Fields cannot be merged@0:0;
 query Q($n: Int, $m: Int) { number(plus: $n) number(plus: $m) } => Fields cannot be merged@0:0;
 query Q($n: Int) { number(plus: $n) number(plus: $n) } =>
-query A { x: id } query B { x: id ...F } fragment F on Query { x: name } => Fields cannot be merged@0:18;";
+query A { x: id } query B { x: id ...F } fragment F on Query { x: name } => Fields cannot be merged@0:18;
+query A { x: id } query B { x: name } =>
+query A { number(plus: 1) } query B { number(plus: 2) } =>
+{ hero { name } __type(name: \"x\") { name } } =>
+{ mustHero { friends { x: id } } hero { ...F } } fragment F on Character { friends { x: name } } =>
+{ ...F ...G } fragment F on Query { hero { x: id } } fragment G on Query { hero { x: name } } => Fields cannot be merged@0:0;
+{ number(plus: 1) ...F } fragment F on Query { ... { number(plus: 1) } } =>
+{ number(plus: 1) ...F } fragment F on Query { ... { number(plus: 2) } } => Fields cannot be merged@0:0;
+{ hero { id ... on Droid { name friends { id } } ... on Human { name friends { id } } } mustHero { id name friends { id } } } =>";
 
 /// Several rules at one definition, and earlier phases before later ones.
 const ORDERS: &str = "\
