@@ -1,8 +1,8 @@
 -- Selections, one slice after the other (6.3.2, 6.4.3).
-use Rattle.std.proofs.Common.{◌≡◌, ℕ, ◌+◌, ◌<◌, Bool, List, [], ◌∷◌, ◌++◌, length, get_or, take, refl, sym, ap, ◌∙◌}
+use Rattle.std.proofs.Common.{◌≡◌, ℕ, ◌+◌, ◌<◌, ◌≤◌, Bool, List, [], ◌∷◌, ◌++◌, length, get_or, take, refl, sym, ap, arith, ◌∙◌}
 use Rattle.std.proofs.lemmas.List.{append-nil, map-append, take_more}
 use Rattle.graphql_spec.specs.Shown.{Shown, Name}
-use Rattle.graphql_spec.specs.Selections.{end, chain, all_below, occurrences}
+use Rattle.graphql_spec.specs.Selections.{Forest, end, field, under, chain, all_below, occurrences}
 use Rattle.graphql_spec.proofs.Lists.{all_below-append, chain_assoc, occurrences-chain}
 use Rattle.juniper_position.specs.declared.position.Spanning.{Spanning}
 use Rattle.juniper_position.specs.declared.position.Span.{Span}
@@ -13,6 +13,12 @@ use Rattle.juniper_collect.specs.declared.collecting.Collector.{Collector}
 use Rattle.juniper_lookahead.specs.declared.occurrences.Occurrence.{Occurrence as CodeOccurrence}
 use Rattle.juniper_lookahead.specs.declared.occurrences.Enclosing.{Enclosing}
 use Rattle.juniper_plan.specs.Plans.{all_expanded}
+
+pub chain-end : (s : Forest) → chain s end ≡ s
+unfolding chain
+chain-end end = refl
+chain-end (field h below rest) = ap (field h below) (chain-end rest)
+chain-end (under c below rest) = ap (under c below) (chain-end rest)
 
 module _ {S P : Type 0} (shown : S → Shown) (c : Collector S P) where
   all-append : (xs ys : List (Enclosing S)) → all_expanded shown c (xs ++ ys) ≡ chain (all_expanded shown c xs) (all_expanded shown c ys)
@@ -49,6 +55,17 @@ module _ {S P : Type 0} (shown : S → Shown) (c : Collector S P) where
         view_all shown c fs ≡ occurrences possible T (all_expanded shown c xs)
     unfolding all_expanded occurrences
     none-collected fs xs a b = rw (a, b) refl
+
+    -- of one slice alone they are what it holds
+    pub one-collected : (fs : List (CodeOccurrence S)) (xs : List (Enclosing S)) (e : Enclosing S) → 1 ≤ length xs → length xs < 2 → e ≡ get_or xs 0 e →
+        view_all shown c fs ≡ occurrences possible T (expansion shown c (view_selections shown e.selections.now)) →
+        view_all shown c fs ≡ occurrences possible T (all_expanded shown c xs)
+    unfolding all_expanded
+    one-collected fs [] e some few is found = absurd (omega (arith, some))
+    one-collected fs (x ∷ []) e some few is found =
+        found ∙ ap (occurrences possible T) (ap (λ (y : Enclosing S). expansion shown c (view_selections shown y.selections.now)) is
+        ∙ sym (chain-end (expansion shown c (view_selections shown x.selections.now))))
+    one-collected fs (x ∷ (y ∷ ys)) e some few is found = absurd (omega (arith, few))
 
     pub more-collected : (fs more all : List (CodeOccurrence S)) (xs : List (Enclosing S)) (i : ℕ) (e : Enclosing S) → i < length xs → e ≡ get_or xs i e →
         view_all shown c fs ≡ occurrences possible T (all_expanded shown c (take i xs)) →

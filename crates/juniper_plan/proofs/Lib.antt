@@ -2,6 +2,7 @@ pub mod Keys
 pub mod Depths
 pub mod Standing
 pub mod Alone
+pub mod Few
 pub mod Gathering
 pub mod Enclosed
 pub mod Elsewhere

@@ -10,7 +10,7 @@ use Rattle.graphql_spec.specs.Nulls.{nulls_of}
 use Rattle.graphql_spec.specs.GroupLaws.{for_picked, first_start}
 use Rattle.graphql_spec.specs.Laws.{In}
 use Rattle.graphql_spec.specs.Resolvers.{World}
-use Rattle.graphql_spec.specs.Selections.{Forest, end, field, under, chain}
+use Rattle.graphql_spec.specs.Selections.{Forest}
 use Rattle.graphql_spec.specs.Walk.{Met, count_listed, told}
 use Rattle.graphql_spec.proofs.Answered.{counts_listed, listed_counts, same_listed}
 use Rattle.graphql_spec.proofs.Exact.{walks-exact-answer}
@@ -21,6 +21,7 @@ use Rattle.juniper_lookahead.specs.declared.occurrences.Enclosing.{Enclosing}
 use Rattle.juniper_plan.specs.declared.plan.Plan.{Plan}
 use Rattle.juniper_plan.specs.Plans.{AllRight, AreWithin, IsBare, IsStanding, all_expanded}
 use Rattle.juniper_plan.specs.PlanWalks.{IsFirstsAnswer, IsObjectWalked}
+use Rattle.juniper_plan.proofs.Enclosed.{chain-end}
 
 none-counts : (es : List Listed) → count_listed (λ x. true) es ≡ 0 → es ≡ []
 unfolding count_listed
@@ -44,12 +45,6 @@ met-sorted tell rises es ds fs above st m same = record {
   explained = λ kept to i. let r = m.explained kept to i in (r.0, r.1, r.2, moved es ds same (told tell r.0) r.3);
   risen = λ lost. let r = m.risen lost in (r.0, r.1, r.2, moved es ds same (told tell r.0) r.3);
 }
-
-pub chain-end : (s : Forest) → chain s end ≡ s
-unfolding chain
-chain-end end = refl
-chain-end (field h below rest) = ap (field h below) (chain-end rest)
-chain-end (under c below rest) = ap (under c below) (chain-end rest)
 
 module _ {S P : Type 0} (shown : S → Shown) (c : Collector S P) where
   pub one-enclosing : (e : Enclosing S) → all_expanded shown c (e ∷ []) ≡ expansion shown c (view_selections shown e.selections.now)

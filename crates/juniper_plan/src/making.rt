@@ -2,7 +2,7 @@
 //! MergeSelectionSets, sections 6.3.2 and 6.4.3 of the Specification).
 
 ghost use Rattle.std.specs.Prelude.{◌≡◌, ◌<◌, [], ◌++◌, cond, IfOk, OnOk, map, true};
-ghost use Rattle.std.specs.List.{IsDistinct};
+ghost use Rattle.std.specs.List.{IsDistinct, list_any};
 ghost use Rattle.std.specs.Str.{bytes_eq};
 ghost use Rattle.graphql_spec.specs.Documents.{response_key};
 ghost use Rattle.graphql_spec.specs.Shown.{Name};
@@ -31,6 +31,10 @@ pub(crate) fn collect_all<'d, 'a, S: ScalarValue, R: Conditions>(
     ensures { IfOk result (λ r. view_all S.shown collector.now r.items
         ≡ occurrences (R.possible collector.now.possible) concrete.now (all_expanded S.shown collector.now enclosing.now)) }
 {
+    if let [only] = enclosing {
+        let found = collect(alloc, collector, concrete, only.selections)?;
+        return Ok(found);
+    }
     let mut fields = Vec::new(alloc);
     for around in enclosing {
         let mut more = collect(alloc, collector, concrete, around.selections)?;
@@ -97,19 +101,48 @@ pub(crate) fn add_groups<'d, 'a, S: ScalarValue, R: Resolver<S>>(
     Ok(GroupRange { first, end })
 }
 
-/// Whether no two of the fields have one response key, as far as numbers of the keys tell: `false` also where two keys have one number.
+/// So many fields are compared one by one.
+const FEW: usize = 8;
+
+/// Whether no two of the fields have one response key. Of many it is asked by numbers of the keys: `false` also where two keys have one
+/// number.
 fn keys_differ<'d, 'a, S: ScalarValue>(
     alloc: Global,
     fields: &[Occurrence<'d, 'a, S>],
 ) -> Result<bool, AllocError>
     ensures { IfOk result (λ b. b ≡ true → IsDistinct bytes_eq (map (λ o. response_key (head_of S.shown o.field.now)) fields.now)) }
 {
+    if fields.len() <= FEW {
+        return Ok(few_differ(fields));
+    }
     let mut numbers = Vec::with_capacity(alloc, fields.len())?;
     for occurrence in fields {
         numbers.push(name_number(response_key(occurrence.field)))?;
     }
     numbers.sort_unstable();
     Ok(do_rise(&numbers))
+}
+
+/// Whether no two of the fields have one response key, each compared with those behind it.
+fn few_differ<'d, 'a, S: ScalarValue>(fields: &[Occurrence<'d, 'a, S>]) -> bool
+    ensures { result ≡ true → IsDistinct bytes_eq (map (λ o. response_key (head_of S.shown o.field.now)) fields.now) }
+{
+    match fields {
+        [] => true,
+        [first, rest @ ..] => !has_key(rest, response_key(first.field)) && few_differ(rest),
+    }
+}
+
+/// Whether one of the fields has this response key.
+fn has_key<'d, 'a, S: ScalarValue>(fields: &[Occurrence<'d, 'a, S>], key: &str) -> bool
+    ensures { result ≡ list_any (bytes_eq key.now) (map (λ o. response_key (head_of S.shown o.field.now)) fields.now) }
+{
+    for occurrence in fields {
+        if key == response_key(occurrence.field) {
+            return true;
+        }
+    }
+    false
 }
 
 /// Whether each of the numbers is less than the next.

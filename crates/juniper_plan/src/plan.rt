@@ -1,7 +1,7 @@
 //! The plan of a request: the response keys of its objects, and the fields of each (CollectFields, section 6.3.2 of the
 //! Specification).
 
-ghost use Rattle.std.specs.Prelude.{◌≡◌, ◌<◌, ◌≤◌, ◌+◌, ◌∷◌, OnOk, [], drop, length, slice_range};
+ghost use Rattle.std.specs.Prelude.{◌≡◌, ◌<◌, ◌≤◌, ◌+◌, ◌∷◌, IfOk, OnOk, [], drop, length, slice_range};
 ghost use Rattle.juniper_plan.specs.Plans.{IsBare, IsEnded, IsKept, IsOneAdded, IsWithin, fields_at, group_count, key_at, made_at};
 ghost use Rattle.juniper_plan.specs.PlanLists.{named_in};
 
@@ -71,6 +71,18 @@ impl<'d, 'a, S: ScalarValue, Q: Drop> Plan<'d, 'a, S, Q> {
             questions: Vec::new(alloc),
             below: Vec::new(alloc),
         }
+    }
+
+    /// A plan without groups, with room for so many of one field each. An error where memory is refused.
+    pub fn with_capacity(alloc: Global, capacity: usize) -> Result<Plan<'d, 'a, S, Q>, AllocError>
+        ensures { IfOk result (λ plan. IsBare plan) }
+    {
+        Ok(Plan {
+            groups: Vec::with_capacity(alloc, capacity)?,
+            occurrences: Vec::with_capacity(alloc, capacity)?,
+            questions: Vec::with_capacity(alloc, capacity)?,
+            below: Vec::with_capacity(alloc, capacity)?,
+        })
     }
 
     /// The fields of a group, in order.

@@ -17,6 +17,9 @@ use juniper_syntax::{ScalarValue, Selection, SourcePosition};
 use juniper_walk::{Resolver, Walk, Walked, root_path, sort_errors};
 use std::alloc::AllocError;
 
+/// For so many groups there is room in a plan at first.
+const ROOM: usize = 16;
+
 /// The data of selections on a root node as an object of this type, and the errors in their order: each at its exact place, no two at one,
 /// each failure listed for the first of its field's occurrences. The operation starts at this place.
 pub fn answer<'d, 'a, S: ScalarValue, R: Resolver<S>>(
@@ -34,7 +37,7 @@ pub fn answer<'d, 'a, S: ScalarValue, R: Resolver<S>>(
         (expansion S.shown walk.now.collector (view_selections S.shown selections.now))
         (view_value S.shown r.value) (map (view_listed S.shown) r.errors.items)) }
 {
-    let mut plan = Plan::new(walk.alloc);
+    let mut plan = Plan::with_capacity(walk.alloc, ROOM)?;
     let enclosing = [Enclosing { selections }];
     let groups = root_groups(walk.alloc, &walk.collector, &mut plan, concrete, &enclosing)?;
     let path = root_path(walk.alloc, start)?;

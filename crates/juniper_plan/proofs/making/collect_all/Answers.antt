@@ -2,7 +2,7 @@ use Rattle.std.proofs.Common.{refl, ap, ◌∙◌}
 use Rattle.std.proofs.lemmas.List.{take_all}
 use Rattle.graphql_spec.specs.Selections.{occurrences}
 use Rattle.juniper_plan.specs.Plans.{all_expanded}
-use Rattle.juniper_plan.proofs.Enclosed.{more-collected, none-collected}
+use Rattle.juniper_plan.proofs.Enclosed.{more-collected, none-collected, one-collected}
 use Rattle.juniper_plan.proofs.making.collect_all.Goals as goal
 
 pub loop-around-init : goal.loop-around-init
@@ -18,3 +18,8 @@ pub returns : goal.returns
 returns g c =
     c.loop-around.invariant ∙ ap (λ l. occurrences (g.R.Conditions.possible c.args.collector.now.possible) c.args.concrete.now
     (all_expanded g.S.ScalarValue.shown c.args.collector.now l)) (take_all c.loop-around.around-index c.args.enclosing.now c.loop-around-test.false)
+
+pub returns-in-len1 : goal.returns-in-len1
+returns-in-len1 g c =
+    one-collected g.S.ScalarValue.shown c.args.collector.now (g.R.Conditions.possible c.args.collector.now.possible) c.args.concrete.now
+    c.in_ok-found.found.items c.args.enclosing.now c.only-item.result c.in-len1.len_at_least c.in-len1.len_below c.only-item.is c.in_ok-found.ensures

@@ -4,8 +4,8 @@ use Rattle.juniper_plan.proofs.root.answer.Goals as goal
 pub root_groups-requires-clause-standing : goal.root_groups-requires-clause-standing
 root_groups-requires-clause-standing g c =
     bare-stands g.S.ScalarValue.shown c.args.walk.now.collector (g.R.Resolver.asks c.args.walk.now.collector.possible)
-    (g.R.Conditions.possible c.args.walk.now.collector.possible) c.new-plan.result
-    c.new-plan.ensures
+    (g.R.Conditions.possible c.args.walk.now.collector.possible) c.in_ok-plan.plan
+    c.in_ok-plan.ensures
 
 pub object-requires-clause-standing : goal.object-requires-clause-standing
 object-requires-clause-standing g c = c.in_ok-groups.ensures.standing
