@@ -1,4 +1,4 @@
-//! What the rules look at in each definition, listed once for all of them.
+//! What the rules look at in each definition, listed once for all of them (section 5 of the Specification).
 
 ghost use Rattle.std.specs.Prelude.{◌≡◌, IfOk, map};
 ghost use Rattle.graphql_spec.specs.Documents as documents;

@@ -1,4 +1,4 @@
-//! The types that selections stand on.
+//! The types that selections stand on (section 5.3.1 of the Specification).
 
 ghost use Rattle.std.specs.Prelude.{◌≡◌, option_map};
 ghost use Rattle.graphql_spec.specs.Fields as fields;
