@@ -5,7 +5,8 @@ use Rattle.std.proofs.lemmas.Bool.{and_from}
 use Rattle.std.proofs.Common.{refl, sym, inl, inr, subst}
 use Rattle.graphql_spec.specs.Shown.{Name}
 use Rattle.graphql_spec.specs.Types.{innermost}
-use Rattle.graphql_spec.specs.Documents.{Definition, Document, Fragment, Operation, Selections, end, field, spread, inline, operation, fragment, fragments, name_or}
+use Rattle.graphql_spec.specs.Documents.{Definition, Document, Fragment, Operation, Selections, end, field, spread, inline, operation, fragment, fragments}
+use Rattle.graphql_spec.specs.Documents.{name_or}
 use Rattle.graphql_spec.specs.Selections.{Forest, depth}
 use Rattle.graphql_spec.specs.Fragments.{expand, fragment_of}
 use Rattle.graphql_spec.specs.Schema.{Schema}
@@ -13,7 +14,8 @@ use Rattle.graphql_spec.specs.Fields.{field_of, declared_type}
 use Rattle.graphql_spec.specs.Placed.{Placed, root_type}
 use Rattle.graphql_spec.specs.Overlap.{Field, fields}
 use Rattle.graphql_spec.specs.Laws.{In}
-use Rattle.graphql_spec.specs.Merging.{definition_merges, each_pair, each_two, fields_at, may_meet, merge, same_arguments, same_key, same_name, set_merges, sets_merge, shapes_agree, type_at, types_agree}
+use Rattle.graphql_spec.specs.Merging.{definition_merges, each_pair, each_two, fields_at, may_meet, merge, same_arguments, same_key, same_name, set_merges}
+use Rattle.graphql_spec.specs.Merging.{sets_merge, shapes_agree, type_at, types_agree}
 use Rattle.graphql_spec.specs.Rules.{cannot_merge}
 use Rattle.graphql_spec.proofs.KnownSpreads.{found-fragment}
 use Rattle.juniper_merging.proofs.Tests.{all-from}

@@ -10,7 +10,8 @@ use Rattle.juniper_placed.specs.PlacedView.{view_parts}
 use Rattle.juniper_placed.specs.Placing as placing
 use Rattle.juniper_written.specs.Parts.{Parts, lists_of, parts_of}
 use Rattle.juniper_written.specs.WrittenView.{view_lists, view_written}
-use Rattle.juniper_phases.specs.Listing.{AreListed, AreListedOnTypes, IsListed, IsListedOnTypes, Listing, PlacedListing, definition_of, listing_of, placed_listing_of, view_listed, view_listed_on_types}
+use Rattle.juniper_phases.specs.Listing.{AreListed, AreListedOnTypes, IsListed, IsListedOnTypes, Listing, PlacedListing, definition_of, listing_of}
+use Rattle.juniper_phases.specs.Listing.{placed_listing_of, view_listed, view_listed_on_types}
 use Rattle.juniper_phases.specs.declared.lists.Listed.{Listed}
 use Rattle.juniper_phases.specs.declared.lists.ListedOnTypes.{ListedOnTypes}
 use Rattle.juniper_phases.proofs.SideBySide.{own-are, own-at}

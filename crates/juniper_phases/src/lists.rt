@@ -4,7 +4,8 @@ ghost use Rattle.std.specs.Prelude.{◌≡◌, IfOk, map};
 ghost use Rattle.graphql_spec.specs.Documents as documents;
 ghost use Rattle.juniper_schema.specs.SchemaView.{view_schema};
 ghost use Rattle.juniper_syntax.specs.DocumentView.{view_definition};
-ghost use Rattle.juniper_phases.specs.Listing.{AreListed, AreListedOnTypes, IsListed, definition_of, listing_of, placed_listing_of, view_listed, view_listed_on_types};
+ghost use Rattle.juniper_phases.specs.Listing.{AreListed, AreListedOnTypes, IsListed, definition_of, listing_of, placed_listing_of, view_listed};
+ghost use Rattle.juniper_phases.specs.Listing.{view_listed_on_types};
 
 use juniper_placed::{Call, PlacedParts, calls, placed_in};
 use juniper_schema::SchemaType;

@@ -149,7 +149,7 @@ impl<S: ScalarValue> SchemaType<S> {
 
     /// Whether the object type of the first name is the type of the second, implements it or is a member of it
     /// (DoesFragmentTypeApply, 6.3.2); false where the first is no object type.
-    #[tactic(auto, unfolding(graphql_spec::specs::Fields::is_possible, graphql_spec::specs::Fields::is_named_subtype, graphql_spec::specs::Fields::is_object, graphql_spec::specs::Fields::interfaces_of))]
+    #[tactic(auto, unfolding(graphql_spec::specs::Fields::is_possible, graphql_spec::specs::Fields::is_object, graphql_spec::specs::Fields::interfaces_of))]
     pub fn is_possible(&self, object_name: &str, type_name: &str) -> bool
         ensures { result ≡ fields.is_possible (view_schema S.shown self.now) object_name.now type_name.now }
     {

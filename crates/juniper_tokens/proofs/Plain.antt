@@ -1,5 +1,6 @@
 -- Words that lie on one line, with a byte for each character.
-use Rattle.std.proofs.Common.{inl, inr, ◌≡◌, ◌≢◌, ℕ, suc, ◌+◌, ◌<◌, ◌==◌, Bool, true, false, List, [], ◌∷◌, ◌++◌, length, get_or, take, refl, ap, sym, ◌∙◌, arith}
+use Rattle.std.proofs.Common.{inl, inr, ◌≡◌, ◌≢◌, ℕ, suc, ◌+◌, ◌<◌, ◌==◌, Bool, true, false, List, [], ◌∷◌, ◌++◌, length, get_or, take, refl, ap, sym, ◌∙◌}
+use Rattle.std.proofs.Common.{arith}
 use Rattle.std.proofs.lemmas.Bool.{cases_Bool, eqb-true, ne_eqb, and_parts, and_from, false≢true}
 use Rattle.std.proofs.lemmas.Bool.Decides.{nat_tests}
 use Rattle.std.specs.Char.{is_ascii_digit}
@@ -82,7 +83,8 @@ quoted_begins raw rest = refl
 
 taken_plain : (bs : List ℕ) (n : ℕ) → IsTaken bs n → begins_quoted (take n bs) ≡ false → list_all is_plain (take n bs) ≡ true
 taken_plain bs n (punctuator b rest is one e) unquoted = rw (is, one) (and_from (is_plain b) true (mark_plain b e) refl)
-taken_plain bs n (letters b rest is run e) unquoted = rw run (all_plain continues_name name_plain (take (prefix_len continues_name bs) bs) (run_all continues_name bs))
+taken_plain bs n (letters b rest is run e) unquoted =
+    rw run (all_plain continues_name name_plain (take (prefix_len continues_name bs) bs) (run_all continues_name bs))
 taken_plain bs n (dotted rest is three) unquoted = rw (is, three) (dots_plain rest)
 taken_plain bs n (quoted raw rest is count decodes ends) unquoted =
     let here : begins_quoted (take n bs) ≡ true = rw (is, count) (quoted_begins raw rest) in

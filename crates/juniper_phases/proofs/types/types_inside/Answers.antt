@@ -2,7 +2,8 @@ use Rattle.std.proofs.Common.{ap, not, ◌∙◌}
 use Rattle.std.specs.List.{list_any}
 use Rattle.std.specs.Option.{is_none}
 use Rattle.graphql_spec.specs.Fields.{is_composite, type_named}
-use Rattle.graphql_spec.specs.Rules.{gives_too_few, gives_unknown, gives_wrong, has_other_condition, has_unknown_argument, has_unknown_field, has_wrong_argument, has_wrong_set, lacks_argument}
+use Rattle.graphql_spec.specs.Rules.{gives_too_few, gives_unknown, gives_wrong, has_other_condition, has_unknown_argument, has_unknown_field}
+use Rattle.graphql_spec.specs.Rules.{has_wrong_argument, has_wrong_set, lacks_argument}
 use Rattle.juniper_placed.specs.CallView.{view_calls}
 use Rattle.juniper_placed.specs.Placing as placing
 use Rattle.juniper_schema.specs.SchemaView.{view_schema}

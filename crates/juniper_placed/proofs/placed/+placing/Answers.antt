@@ -3,7 +3,8 @@ use Rattle.juniper_schema.specs.SchemaView.{view_schema}
 use Rattle.juniper_syntax.specs.DocumentView.{view_selections}
 use Rattle.juniper_written.specs.WrittenView.{view_inline, view_spread_at}
 use Rattle.juniper_placed.specs.PlacedView.{view_parts}
-use Rattle.juniper_placed.proofs.Placing.{IsAdded, adds-directives, adds-field, adds-spread, adds-inline, adds-next, adds-all, set-below, leaf-below, none-below, some-inside}
+use Rattle.juniper_placed.proofs.Placing.{IsAdded, adds-directives, adds-field, adds-spread, adds-inline, adds-next, adds-all, set-below, leaf-below}
+use Rattle.juniper_placed.proofs.Placing.{none-below, some-inside}
 use Rattle.juniper_placed.proofs.placed.+placing.Goals as goal
 
 pub place_selection-returns-in_ok-place_selections-in-Some-selection_set : goal.place_selection-returns-in_ok-place_selections-in-Some-selection_set
