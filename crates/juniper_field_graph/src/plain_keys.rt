@@ -36,8 +36,9 @@ struct FieldOn<'d, 'a, S> {
 type Met<'d, 'a, S> = BTreeMap<u64, FieldOn<'d, 'a, S>>;
 
 /// Whether it is seen at once that each two fields of a document which have one response key have one name, the same arguments and
-/// declared types that agree. They merge then, in whichever sets they meet (5.3.2). Each field is looked at once. Where `false` is
-/// answered nothing is said: fields that never meet may differ, and two keys may have one number. An error where memory is refused.
+/// declared types that agree. They merge then, in whichever sets they meet (5.3.2). Each field is looked at once. `false` says nothing,
+/// and the graph of fields decides: fields that never meet may differ, and two keys may have one number. An error where memory is
+/// refused.
 pub(crate) fn has_plain_keys<'d, 'a, S: ScalarValue>(
     alloc: Global,
     schema: &'d SchemaType<S>,
