@@ -14,7 +14,7 @@ ghost use Rattle.juniper.specs.Services.{is_undeclared};
 use juniper_language::{ScalarValue, Type};
 use juniper_meta::MetaType;
 use juniper_meta::meta::{Argument, Field};
-use juniper_schema::{SchemaType, TypeType};
+use juniper_schema::{SchemaType, TypeType, type_around};
 use juniper_values::Arguments;
 use std::alloc::{AllocError, Global};
 
@@ -57,7 +57,7 @@ pub(crate) fn shown_type<'s, S: ScalarValue>(
         view_made S.shown made ≡ around m (view_type (λ n. string_bytes n) declared.now)) }
 {
     match schema.concrete_type_by_name(declared.innermost_name()) {
-        Some(_) => schema.make_type(alloc, declared),
+        Some(meta) => type_around(alloc, meta, declared),
         None => Ok(TypeType::Concrete(query_type)),
     }
 }

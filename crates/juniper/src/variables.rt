@@ -91,7 +91,7 @@ fn values_of<S: ScalarValue>(
     ensures { IfOk result (λ made. view_variables S.shown made ≡ coerced_variables (map (view_variable S.shown) defined.now)
         (view_variables S.shown variables.now)) }
 {
-    let mut made = Variables::new(alloc);
+    let mut made = Variables::with_capacity(alloc, defined.len())?;
     for index in 0..defined.len() {
         let variable = &defined[defined.len() - 1 - index];
         put_value(alloc, &mut made, variable, variables)?;

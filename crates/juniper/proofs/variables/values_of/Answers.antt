@@ -10,8 +10,8 @@ use Rattle.juniper.proofs.variables.values_of.Goals as goal
 pub loop-index-init : goal.loop-index-init
 loop-index-init g c =
     let shown = g.S.ScalarValue.shown in
-    none-coerced (view_variable shown) c.args.defined.now (view_variables shown c.args.variables.now) (view_variables shown c.new-made.result)
-    (λ n. rw c.new-made.ensures.empty refl)
+    none-coerced (view_variable shown) c.args.defined.now (view_variables shown c.args.variables.now) (view_variables shown c.in_ok-made.made)
+    (λ n. rw c.in_ok-made.ensures.empty refl)
 
 pub loop-index-preserved : goal.loop-index-preserved
 loop-index-preserved g c =
