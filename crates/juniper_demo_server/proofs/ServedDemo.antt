@@ -9,8 +9,13 @@ use Rattle.graphql_spec.specs.Inputs.{is_const}
 use Rattle.graphql_spec.specs.Types.{innermost, nullable, same_type, required}
 use Rattle.graphql_spec.specs.Tokens.{is_name, starts_name, continues_name}
 use Rattle.graphql_spec.specs.Shown.{Name, same_bool}
-use Rattle.graphql_spec.specs.Fields.{field_in, is_subtype, is_named_subtype, accepts_kind, entry_in, or_else, typename_field, shape_of, entry_named, type_named, is_object, is_interface, is_composite, is_leaf, is_input, interfaces_of, members_of, fields_of}
-use Rattle.graphql_spec.specs.Executable.{implements_field, values_of, input_fields_of, shape_fields, names_differ, is_filled, is_reserved, no_declarations, is_typename_field, input_is_free, field_is_free, is_own_name, entry_is_named, entries_are_named, mutation_is_apart, roots_are_objects, ends_in_output, ends_in_input, field_is_known, types_are_known, input_names_differ, is_value_name, entry_names_differ, all_names_differ, implements, interfaces_are_met, default_is_right, defaults_fit, accepts_just, scalar_if_there, built_ins_are_right, is_executable, IsSameSchema}
+use Rattle.graphql_spec.specs.Fields.{field_in, is_subtype, is_named_subtype, accepts_kind, entry_in, or_else, typename_field, shape_of, entry_named}
+use Rattle.graphql_spec.specs.Fields.{type_named, is_object, is_interface, is_composite, is_leaf, is_input, interfaces_of, members_of, fields_of}
+use Rattle.graphql_spec.specs.Executable.{implements_field, values_of, input_fields_of, shape_fields, names_differ, is_filled, is_reserved}
+use Rattle.graphql_spec.specs.Executable.{no_declarations, is_typename_field, input_is_free, field_is_free, is_own_name, entry_is_named, entries_are_named}
+use Rattle.graphql_spec.specs.Executable.{mutation_is_apart, roots_are_objects, ends_in_output, ends_in_input, field_is_known, types_are_known}
+use Rattle.graphql_spec.specs.Executable.{input_names_differ, is_value_name, entry_names_differ, all_names_differ, implements, interfaces_are_met}
+use Rattle.graphql_spec.specs.Executable.{default_is_right, defaults_fit, accepts_just, scalar_if_there, built_ins_are_right, is_executable, IsSameSchema}
 use Rattle.graphql_spec.proofs.Lists.{same_true}
 use Rattle.juniper_meta.specs.MetaView.{is_placeholder}
 use Rattle.juniper_intro.specs.Roots.{IsSchemaOf, Makes}

@@ -65,7 +65,7 @@ impl<'t, 'a> Parser<'t, 'a> {
 
     /// For how many parts a list has room at first, of which mostly so many come. In a long text it is one: there memory counts for more than
     /// the time of a list that grows.
-    pub fn room_for(&self, parts: usize) -> usize {
+    pub(crate) fn room_for(&self, parts: usize) -> usize {
         if self.tokens.len() < LONG { parts } else { 1 }
     }
 

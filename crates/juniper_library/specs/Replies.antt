@@ -1,7 +1,10 @@
 -- What the library's resolvers reply, and what its mutations leave (6.2.2, 6.4.2).
-use Rattle.std.specs.Prelude.{ℕ, ℤ, pos, negsuc, Bool, true, codes, eqb, cond, [], ◌∷◌, ◌++◌, List, length, take, Option, Some, None, option_map, unwrap_or, Result, Ok, string_bytes}
-use Rattle.juniper.specs.Server.{Constant, Error, Members, Name, Reply, Text, answered, bytes_eq, decimal, find, given, input_field, input_field_or, named_among, nat_eq}
-use Rattle.juniper.specs.Server.{node, nodes_reply, nodes_where, nothing, object_or_null, position, read_enum, read_id, read_int, read_option, read_text, slice_get}
+use Rattle.std.specs.Prelude.{ℕ, ℤ, pos, negsuc, Bool, true, codes, eqb, cond, [], ◌∷◌, ◌++◌, List, length, take, Option, Some, None, option_map}
+use Rattle.std.specs.Prelude.{unwrap_or, Result, Ok, string_bytes}
+use Rattle.juniper.specs.Server.{Constant, Error, Members, Name, Reply, Text, answered, bytes_eq, decimal, find, given, input_field, input_field_or}
+use Rattle.juniper.specs.Server.{named_among, nat_eq}
+use Rattle.juniper.specs.Server.{node, nodes_reply, nodes_where, nothing, object_or_null, position, read_enum, read_id, read_int, read_option, read_text}
+use Rattle.juniper.specs.Server.{slice_get}
 use Rattle.juniper.specs.Server.{starts_with, text_reply, then_read, with_read, with_step}
 use Rattle.juniper_library.specs.Catalogue.{Catalogue, genre_name, genres}
 use Rattle.juniper_library.specs.Entries.{Named}
