@@ -1,12 +1,14 @@
-//! What stands for the demo's objects, and their resolver.
+//! The demo's root, what stands for its objects, and its resolver.
 
 ghost use Rattle.std.specs.Prelude.{◌≡◌, pos};
-ghost use Rattle.juniper_demo_server.specs.Demo.{concrete_type, episode_named, plus, reply};
+ghost use Rattle.juniper_demo_server.specs.Demo.{concrete_type, episode_named, plus, reply, root_of};
 ghost use Rattle.juniper_demo_server.specs.declared.demo.DemoNode.TheVariants.{Query};
 
 use crate::resolvers::{cell_field, droid_field, human_field, query_field, tally_field};
-use juniper::words::{Answer, QueryType, add};
-use juniper::{Arguments, Context, EnumName, Executor, ScalarValue};
+use juniper_language::ScalarValue;
+use juniper_resolvable::add;
+use juniper_types::{Context, Executor, GraphQLValue, Resolved};
+use juniper_values::{Arguments, EnumName, ResolveError};
 use std::alloc::Global;
 
 /// What requests to the demo bring along: a running total, and how many additions made it.
@@ -81,26 +83,48 @@ pub enum DemoNode {
     Tally,
 }
 
-/// The demo's queries.
-#[derive(Clone, Copy, Debug, PartialEq, Eq)]
-pub struct Demo;
+/// The demo's root.
+#[derive(Debug, Drop)]
+pub struct Demo {
+    root: DemoNode,
+}
 
-impl<S: ScalarValue> QueryType<S> for Demo {
+impl Demo {
+    /// The demo's root.
+    pub fn new() -> Self
+        ensures { root_of result ≡ Query }
+    {
+        Demo {
+            root: DemoNode::Query,
+        }
+    }
+}
+
+impl<S: ScalarValue> GraphQLValue<S> for Demo {
     type Context = DemoContext;
 
     type Node = DemoNode;
 
-    ghost concrete = { concrete_type };
+    ghost concrete = { λ _ _ _ node. concrete_type node };
 
-    ghost answer = { reply };
+    ghost answer = { λ _ _. reply };
 
-    ghost root = { λ _. Query };
+    ghost root = { root_of };
 
-    fn root_node(&self) -> &DemoNode {
-        &DemoNode::Query
+    fn type_name<'i>(&self, _info: &'i Self::TypeInfo) -> Option<&'i str> {
+        Some("Query")
     }
 
-    fn concrete_type_name(node: &DemoNode) -> &'static str {
+    fn root_node(&self) -> &Self::Node {
+        &self.root
+    }
+
+    fn concrete_type_name<'r>(
+        &'r self,
+        _context: &'r Self::Context,
+        _info: &'r Self::TypeInfo,
+        node: &'r Self::Node,
+    ) -> &'r str {
         match node {
             DemoNode::Query => "Query",
             DemoNode::Droid => "Droid",
@@ -111,12 +135,14 @@ impl<S: ScalarValue> QueryType<S> for Demo {
     }
 
     fn resolve_field(
+        &self,
         alloc: Global,
-        node: &DemoNode,
+        _info: &Self::TypeInfo,
+        node: &Self::Node,
         field_name: &str,
         arguments: &Arguments<'_, S>,
-        executor: &Executor<DemoContext, S>,
-    ) -> Answer<DemoNode, S> {
+        executor: &Executor<Self::Context, S>,
+    ) -> Result<Resolved<Self::Node, S>, ResolveError<S>> {
         match *node {
             DemoNode::Query => query_field(alloc, field_name, arguments),
             DemoNode::Droid => droid_field(alloc, field_name),

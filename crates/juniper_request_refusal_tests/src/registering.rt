@@ -1,8 +1,7 @@
 //! Types that are registered while memory is wanting, and then again while it is not.
 
-use juniper::words::DeclaredType;
 use juniper::{DefaultScalarValue, MetaType, Registry, RegistryError};
-use juniper_demo_server::{CELL, DROID};
+use juniper_demo_server::{Cell, Droid};
 use juniper_refusal_tests::turns::{Ended, Room, Task, Turn, tried};
 use std::alloc::Global;
 use std::test::Fail;
@@ -17,11 +16,11 @@ struct Registering;
 impl Task for Registering {
     fn turn(&mut self, alloc: Global, room: Room) -> Turn {
         let mut registry: Types = Registry::empty(alloc);
-        if registry.register::<DeclaredType>(&CELL).is_err() {
+        if registry.register::<Cell>(&()).is_err() {
             return Turn::Wrong;
         }
         let held_back = room.hold_back(alloc);
-        let outcome = registry.register::<DeclaredType>(&DROID);
+        let outcome = registry.register::<Droid>(&());
         drop(held_back);
         match outcome {
             Ok(()) if is_declared(&registry, "Droid") => Turn::Answered,
@@ -45,7 +44,7 @@ fn is_as_before(registry: &Types) -> bool {
 
 /// Whether `Droid` can be registered now.
 fn is_registered(registry: &mut Types) -> bool {
-    registry.register::<DeclaredType>(&DROID).is_ok() && is_declared(registry, "Droid")
+    registry.register::<Droid>(&()).is_ok() && is_declared(registry, "Droid")
 }
 
 /// Whether an object type is declared at this name.

@@ -1,4 +1,3 @@
 pub mod InputsRead
 pub mod Nodes
-pub mod Served
 pub mod Server
