@@ -9,7 +9,6 @@ use Rattle.juniper_resolvable.specs.ResolvedView.{trees_of}
 use Rattle.juniper_resolvable.specs.Answered.{fails_with, int_reply, int_sum, text_reply, trees_reply}
 use Rattle.juniper_scalars.specs.Conversions.{int_of, refusal_text}
 use Rattle.juniper_values.specs.ArgumentsRead.{enum_argument, int_argument, or_error, with_read}
-use Rattle.juniper_demo_server.specs.declared.demo.Demo.{Demo}
 use Rattle.juniper_demo_server.specs.declared.demo.DemoContext.{DemoContext}
 use Rattle.juniper_demo_server.specs.declared.demo.DemoNode.{DemoNode}
 use Rattle.juniper_demo_server.specs.declared.demo.DemoNode.TheVariants.{Query, Droid, Human, Cell, Tally}
@@ -150,7 +149,3 @@ step c field arguments =
 -- no step is cut short in between: where memory is wanting, the context is as it was
 abbrev pub torn : DemoContext → DemoContext → Bool
 torn c after = int_eq after.total c.total && int_eq after.count c.count
-
--- the node of the root
-abbrev pub root_of : Demo → DemoNode
-root_of d = d.root

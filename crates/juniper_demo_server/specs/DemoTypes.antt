@@ -1,10 +1,7 @@
 -- How the demo's types are declared (3.6, 3.7, 3.9).
 use Rattle.std.specs.Prelude.{pos, codes, List, [], ◌∷◌, ◌++◌}
-use Rattle.graphql_spec.specs.Inputs.{scalar}
-use Rattle.graphql_spec.specs.Schema.{FieldDeclaration, plain_field, plain_input}
-use Rattle.graphql_spec.specs.Shown.{int}
-use Rattle.juniper_meta.specs.MetaView.{Meta}
-use Rattle.juniper_registry.specs.DeclaredTypes.{enum, input_with_default, interface, list_type, object, optional, type_named}
+use Rattle.juniper.specs.Server.{Declarations, FieldDeclaration, Meta, enum, input_with_default, int, interface, list_type, object, optional, plain_field, plain_input}
+use Rattle.juniper.specs.Server.{scalar, type_named}
 
 -- `type Query`
 abbrev pub query_declaration : Meta
@@ -71,3 +68,10 @@ cell_declaration = object (codes "Cell") (
 -- `enum Episode`
 abbrev pub episode_declaration : Meta
 episode_declaration = enum (codes "Episode") (codes "NEWHOPE" ∷ codes "EMPIRE" ∷ codes "JEDI" ∷ [])
+
+-- the demo's types, each at its name
+abbrev pub demo_declarations : Declarations
+demo_declarations =
+    (codes "Query", query_declaration) ∷ (codes "Mutation", mutation_declaration) ∷ (codes "Tally", tally_declaration)
+    ∷ (codes "Character", character_declaration) ∷ (codes "Droid", droid_declaration) ∷ (codes "Human", human_declaration)
+    ∷ (codes "Cell", cell_declaration) ∷ (codes "Episode", episode_declaration) ∷ []

@@ -1,14 +1,12 @@
-//! The demo's root, what stands for its objects, and its resolver.
+//! What stands for the demo's objects, and their resolver.
 
 ghost use Rattle.std.specs.Prelude.{◌≡◌, pos};
-ghost use Rattle.juniper_demo_server.specs.Demo.{concrete_type, episode_named, plus, reply, root_of};
+ghost use Rattle.juniper_demo_server.specs.Demo.{concrete_type, episode_named, plus, reply};
 ghost use Rattle.juniper_demo_server.specs.declared.demo.DemoNode.TheVariants.{Query};
 
 use crate::resolvers::{cell_field, droid_field, human_field, query_field, tally_field};
-use juniper_language::ScalarValue;
-use juniper_resolvable::add;
-use juniper_types::{Context, Executor, GraphQLValue, Resolved};
-use juniper_values::{Arguments, EnumName, ResolveError};
+use juniper::words::{Answer, QueryType, add};
+use juniper::{Arguments, Context, EnumName, Executor, ScalarValue};
 use std::alloc::Global;
 
 /// What requests to the demo bring along: a running total, and how many additions made it.
@@ -83,48 +81,26 @@ pub enum DemoNode {
     Tally,
 }
 
-/// The demo's root.
-#[derive(Debug, Drop)]
-pub struct Demo {
-    root: DemoNode,
-}
+/// The demo's queries.
+#[derive(Clone, Copy, Debug, PartialEq, Eq)]
+pub struct Demo;
 
-impl Demo {
-    /// The demo's root.
-    pub fn new() -> Self
-        ensures { root_of result ≡ Query }
-    {
-        Demo {
-            root: DemoNode::Query,
-        }
-    }
-}
-
-impl<S: ScalarValue> GraphQLValue<S> for Demo {
+impl<S: ScalarValue> QueryType<S> for Demo {
     type Context = DemoContext;
 
     type Node = DemoNode;
 
-    ghost concrete = { λ _ _ _ node. concrete_type node };
+    ghost concrete = { concrete_type };
 
-    ghost answer = { λ _ _. reply };
+    ghost answer = { reply };
 
-    ghost root = { root_of };
+    ghost root = { λ _. Query };
 
-    fn type_name<'i>(&self, _info: &'i Self::TypeInfo) -> Option<&'i str> {
-        Some("Query")
+    fn root_node(&self) -> &DemoNode {
+        &DemoNode::Query
     }
 
-    fn root_node(&self) -> &Self::Node {
-        &self.root
-    }
-
-    fn concrete_type_name<'r>(
-        &'r self,
-        _context: &'r Self::Context,
-        _info: &'r Self::TypeInfo,
-        node: &'r Self::Node,
-    ) -> &'r str {
+    fn concrete_type_name(node: &DemoNode) -> &'static str {
         match node {
             DemoNode::Query => "Query",
             DemoNode::Droid => "Droid",
@@ -135,14 +111,12 @@ impl<S: ScalarValue> GraphQLValue<S> for Demo {
     }
 
     fn resolve_field(
-        &self,
         alloc: Global,
-        _info: &Self::TypeInfo,
-        node: &Self::Node,
+        node: &DemoNode,
         field_name: &str,
         arguments: &Arguments<'_, S>,
-        executor: &Executor<Self::Context, S>,
-    ) -> Result<Resolved<Self::Node, S>, ResolveError<S>> {
+        executor: &Executor<DemoContext, S>,
+    ) -> Answer<DemoNode, S> {
         match *node {
             DemoNode::Query => query_field(alloc, field_name, arguments),
             DemoNode::Droid => droid_field(alloc, field_name),

@@ -1,42 +1,34 @@
 //! The demo's mutations: additions to the context (section 6.2.2 of the Specification).
 
-ghost use Rattle.std.specs.Prelude.{◌≡◌, codes};
-ghost use Rattle.graphql_spec.specs.Constants.{find};
-ghost use Rattle.juniper_resolvable.specs.ResolvedView.{Answers};
-ghost use Rattle.juniper_types.specs.Stepping.{Leaves};
-ghost use Rattle.juniper_values.specs.ArgumentView.{view_arguments};
-ghost use Rattle.juniper_values.specs.ArgumentsRead.{Reads};
+ghost use Rattle.std.specs.Prelude.{codes};
+ghost use Rattle.juniper.specs.Server.{Answers, Leaves, Reads, find, view_arguments};
 ghost use Rattle.juniper_demo_server.specs.Demo.{add_step, given_int, step, torn};
 
 use crate::demo::{DemoContext, DemoNode};
-use juniper_language::ScalarValue;
-use juniper_resolvable::{Resolved, fails, null};
-use juniper_types::{Executor, GraphQLMutationValue};
-use juniper_values::{Arguments, ResolveError};
+use juniper::words::{Answer, MutationType, fails, null, object};
+use juniper::{Arguments, Executor, ResolveError, ScalarValue};
 use std::alloc::Global;
 
 /// `type Mutation`.
 #[derive(Clone, Copy, Debug, PartialEq, Eq)]
 pub struct DemoMutation;
 
-impl<S: ScalarValue> GraphQLMutationValue<S> for DemoMutation {
+impl<S: ScalarValue> MutationType<S> for DemoMutation {
     type Context = DemoContext;
 
     type Node = DemoNode;
 
-    ghost step = { λ _ _. step };
+    ghost step = { step };
 
-    ghost torn = { λ _ _ context _ _. torn context };
+    ghost torn = { torn };
 
     fn resolve_root(
-        &self,
         alloc: Global,
-        _info: &(),
         field_name: &str,
         arguments: &Arguments<'_, S>,
         _executor: &Executor<(), S>,
         context: &mut DemoContext,
-    ) -> Result<Resolved<DemoNode, S>, ResolveError<S>> {
+    ) -> Answer<DemoNode, S> {
         match field_name {
             "add" => add_field(alloc, arguments, context),
             "fail" => fails(alloc, "failed"),
@@ -50,19 +42,19 @@ fn add_field<S: ScalarValue>(
     alloc: Global,
     arguments: &Arguments<'_, S>,
     context: &mut DemoContext,
-) -> Result<Resolved<DemoNode, S>, ResolveError<S>>
+) -> Answer<DemoNode, S>
     ensures answer { Answers S.shown result (add_step context.old (given_int (find (codes "n") (view_arguments S.shown arguments.now)))).1 }
     ensures context { Leaves (add_step context.old (given_int (find (codes "n") (view_arguments S.shown arguments.now)))).0 (torn context.old)
         result context.new }
 {
     match given_int(alloc, arguments, "n") {
         Err(error) => Err(error),
-        Ok(None) => Ok(Resolved::Null),
+        Ok(None) => null(),
         Ok(Some(number)) => match context.plus(number) {
             None => fails(alloc, "Too large"),
             Some(next) => {
                 *context = next;
-                Ok(Resolved::Node(DemoNode::Tally))
+                object(DemoNode::Tally)
             }
         },
     }

@@ -7,8 +7,7 @@ ghost use Rattle.juniper_syntax.specs.Scalars.{default_shown};
 ghost use Rattle.juniper_syntax.specs.ValueView.{view_value};
 ghost use Rattle.juniper_demo_server.specs.Answers.{ShowsData, ShowsRefusal};
 
-use juniper::{ExecutionError, GraphQLError};
-use juniper_language::{DefaultScalarValue, Value};
+use juniper::{DefaultScalarValue, ExecutionError, GraphQLError, Value};
 use juniper_response::answer_line;
 use std::alloc::{AllocError, Global};
 

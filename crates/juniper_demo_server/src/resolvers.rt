@@ -1,14 +1,13 @@
 //! The resolvers of the demo's object types: each field's answer by its name.
 
-ghost use Rattle.std.specs.Prelude.{◌≡◌};
+ghost use Rattle.juniper.specs.Server.{Answers, view_arguments};
 ghost use Rattle.juniper_demo_server.specs.Demo.{cell_reply, droid_reply, human_reply, query_reply, tally_reply};
-ghost use Rattle.juniper_resolvable.specs.ResolvedView.{Answers};
-ghost use Rattle.juniper_values.specs.ArgumentView.{view_arguments};
 
 use crate::demo::{DemoContext, DemoNode, Episode};
-use juniper_language::ScalarValue;
-use juniper_resolvable::{OfNode, Resolved, add, fails, int, list, null, object, text};
-use juniper_values::{Arguments, ResolveError, enum_argument, int_argument};
+use juniper::words::{
+    Answer, add, enum_argument, fails, int, int_argument, list, null, object, text,
+};
+use juniper::{Arguments, OfNode, ScalarValue};
 use std::alloc::Global;
 
 /// A field of `Query`.
@@ -16,7 +15,7 @@ pub fn query_field<S: ScalarValue>(
     alloc: Global,
     field_name: &str,
     arguments: &Arguments<'_, S>,
-) -> Result<Resolved<DemoNode, S>, ResolveError<S>>
+) -> Answer<DemoNode, S>
     ensures { Answers S.shown result (query_reply field_name.now (view_arguments S.shown arguments.now)) }
 {
     match field_name {
@@ -51,10 +50,7 @@ pub fn query_field<S: ScalarValue>(
 }
 
 /// A field of the droid.
-pub fn droid_field<S: ScalarValue>(
-    alloc: Global,
-    field_name: &str,
-) -> Result<Resolved<DemoNode, S>, ResolveError<S>>
+pub fn droid_field<S: ScalarValue>(alloc: Global, field_name: &str) -> Answer<DemoNode, S>
     ensures { Answers S.shown result (droid_reply field_name.now) }
 {
     match field_name {
@@ -69,10 +65,7 @@ pub fn droid_field<S: ScalarValue>(
 }
 
 /// A field of the human.
-pub fn human_field<S: ScalarValue>(
-    alloc: Global,
-    field_name: &str,
-) -> Result<Resolved<DemoNode, S>, ResolveError<S>>
+pub fn human_field<S: ScalarValue>(alloc: Global, field_name: &str) -> Answer<DemoNode, S>
     ensures { Answers S.shown result (human_reply field_name.now) }
 {
     match field_name {
@@ -87,10 +80,7 @@ pub fn human_field<S: ScalarValue>(
 }
 
 /// A field of the cell of this number.
-pub fn cell_field<S: ScalarValue>(
-    number: u8,
-    field_name: &str,
-) -> Result<Resolved<DemoNode, S>, ResolveError<S>>
+pub fn cell_field<S: ScalarValue>(number: u8, field_name: &str) -> Answer<DemoNode, S>
     ensures { Answers S.shown result (cell_reply number field_name.now) }
 {
     match field_name {
@@ -101,10 +91,7 @@ pub fn cell_field<S: ScalarValue>(
 }
 
 /// A field of the tally.
-pub fn tally_field<S: ScalarValue>(
-    context: &DemoContext,
-    field_name: &str,
-) -> Result<Resolved<DemoNode, S>, ResolveError<S>>
+pub fn tally_field<S: ScalarValue>(context: &DemoContext, field_name: &str) -> Answer<DemoNode, S>
     ensures { Answers S.shown result (tally_reply context.now field_name.now) }
 {
     match field_name {

@@ -9,8 +9,7 @@ ghost use Rattle.juniper_demo_server.specs.Answers.{IsAnswerGiven, IsAnswerTo, I
 use crate::demo::DemoContext;
 use crate::outcome::{Answer, show};
 use crate::schema::demo_root;
-use juniper::execute_sync;
-use juniper_language::{DefaultScalarValue, Variables};
+use juniper::{DefaultScalarValue, Variables, execute_sync};
 use juniper_variables::{VariablesError, read_variables};
 use std::alloc::{AllocError, Global};
 

@@ -9,13 +9,13 @@ mod tests;
 mod types;
 
 use catalogue::{Book, Entry, Genre, Library};
-use juniper::words::root_of;
-use juniper::{Variables, execute_sync};
+use juniper::words::served;
+use juniper::{DefaultScalarValue, Variables, execute_sync};
 use juniper_response::response_line;
 use resolvers::{Mutation, Query};
 use std::alloc::{AllocError, Global};
 use std::{env, io};
-use types::registry;
+use types::TYPES;
 
 /// The catalogue of a server that starts; its first author stands for those who are not known.
 fn shelves(alloc: Global) -> Result<Library, AllocError> {
@@ -48,10 +48,7 @@ fn shelves(alloc: Global) -> Result<Library, AllocError> {
 
 /// The response to a request, as a line of JSON.
 fn respond(alloc: Global, request: &str, library: &mut Library) -> Result<String, AllocError> {
-    let Ok(types) = registry(alloc) else {
-        return Err(AllocError);
-    };
-    let root = match root_of(alloc, Query, Mutation, types) {
+    let root = match served::<_, _, DefaultScalarValue>(alloc, Query, Mutation, &TYPES) {
         Ok(root) => root,
         Err(error) => return error.to_string(alloc),
     };

@@ -4,41 +4,29 @@
 ghost use Rattle.std.specs.Prelude.{codes};
 ghost use Rattle.juniper_quickstart.specs.Quickstart as server;
 
+use juniper::words::DeclaredType::Object;
+use juniper::words::Reference::NonNull;
 use juniper::words::{
-    Declared, Named, NamedType, QueryType, TypeName, int, int_argument, null, text,
+    Answer, DeclaredField, DeclaredInput, DeclaredType, QueryType, int, int_argument, null,
+    served_query, text,
 };
-use juniper::{
-    Arguments, DefaultScalarValue, EmptyMutation, EmptySubscription, Executor, Registry,
-    ResolveError, Resolved, RootNode, ScalarValue, Variables, execute_sync,
-};
+use juniper::{Arguments, DefaultScalarValue, Executor, ScalarValue, Variables, execute_sync};
 use juniper_response::response_line;
 use std::alloc::{AllocError, Global};
 use std::io;
 
+const HELLO: DeclaredField = DeclaredField("hello", &[], NonNull("String"));
+
+const NUMBER: DeclaredInput = DeclaredInput("number", NonNull("Int"), None);
+
+const ECHO: DeclaredField = DeclaredField("echo", &[NUMBER], NonNull("Int"));
+
 /// `type Query { hello: String!, echo(number: Int!): Int! }`.
+static TYPES: [DeclaredType; 1] = [Object("Query", &[], &[HELLO, ECHO])];
+
+/// What answers queries.
 #[derive(Debug, Drop)]
 struct Query;
-
-impl TypeName for Query {
-    ghost named = { codes "Query" };
-
-    fn graphql_name() -> &'static str {
-        "Query"
-    }
-}
-
-impl NamedType for Query {
-    ghost declared = { server.query };
-
-    fn declare<S: ScalarValue>(_alloc: Global, name: &str, types: &mut Registry<S>) -> Declared<S> {
-        let number = types.arg::<i32>("number", &())?;
-        let fields = [
-            types.field::<String>("hello", &())?,
-            types.field_with::<i32>("echo", number, &())?,
-        ];
-        types.object_type(name, fields)
-    }
-}
 
 /// The resolver: what it answers is proved to be what its definition says.
 impl<S: ScalarValue> QueryType<S> for Query {
@@ -66,7 +54,7 @@ impl<S: ScalarValue> QueryType<S> for Query {
         field_name: &str,
         arguments: &Arguments<'_, S>,
         _executor: &Executor<(), S>,
-    ) -> Result<Resolved<(), S>, ResolveError<S>> {
+    ) -> Answer<(), S> {
         match field_name {
             "hello" => text(alloc, "world"),
             "echo" => match int_argument(alloc, arguments, "number")? {
@@ -80,14 +68,7 @@ impl<S: ScalarValue> QueryType<S> for Query {
 
 /// The response to a request, as a line of JSON.
 fn respond(alloc: Global, request: &str) -> Result<String, AllocError> {
-    let mut registry = Registry::empty(alloc);
-    if registry.register::<Named<Query>>(&()).is_err() {
-        return Err(AllocError);
-    }
-    let mutation = EmptyMutation::<(), ()>::new();
-    let subscription = EmptySubscription::<()>::new();
-    let query = Named(Query);
-    let root = match RootNode::new(alloc, query, mutation, subscription, registry, (), (), ()) {
+    let root = match served_query(alloc, Query, &TYPES) {
         Ok(root) => root,
         Err(error) => return error.to_string(alloc),
     };

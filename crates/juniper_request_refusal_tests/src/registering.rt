@@ -1,7 +1,8 @@
 //! Types that are registered while memory is wanting, and then again while it is not.
 
+use juniper::words::{DeclaredField, DeclaredType, Reference};
 use juniper::{DefaultScalarValue, MetaType, Registry, RegistryError};
-use juniper_demo_server::{Cell, Droid};
+use juniper_demo_server::CELL;
 use juniper_refusal_tests::turns::{Ended, Room, Task, Turn, tried};
 use std::alloc::Global;
 use std::test::Fail;
@@ -9,21 +10,36 @@ use std::test::Fail;
 /// A registry, in which `Cell` is declared.
 type Types = Registry<DefaultScalarValue>;
 
-/// `Droid`, which is registered beside `Cell`.
+/// A field of a type without arguments.
+const FIELD: DeclaredField = DeclaredField("field", &[], Reference::NonNull("Cell"));
+
+/// A type of many fields. Two of them may have one name here: a registry takes what is declared.
+static WIDE: DeclaredType = DeclaredType::Object(
+    "Wide",
+    &[],
+    &[
+        FIELD, FIELD, FIELD, FIELD, FIELD, FIELD, FIELD, FIELD, FIELD, FIELD, FIELD, FIELD,
+    ],
+);
+
+/// `Wide`, which is registered beside `Cell`. In each turn a spare registry is made first, and dropped behind the call: it takes the blocks
+/// that the turn before has left at hand, of just the sizes that the call asks for.
 #[derive(Drop)]
 struct Registering;
 
 impl Task for Registering {
     fn turn(&mut self, alloc: Global, room: Room) -> Turn {
+        let mut spare: Types = Registry::empty(alloc);
         let mut registry: Types = Registry::empty(alloc);
-        if registry.register::<Cell>(&()).is_err() {
+        if !is_registered(&mut spare) || registry.register::<DeclaredType>(&CELL).is_err() {
             return Turn::Wrong;
         }
         let held_back = room.hold_back(alloc);
-        let outcome = registry.register::<Droid>(&());
+        let outcome = registry.register::<DeclaredType>(&WIDE);
         drop(held_back);
+        drop(spare);
         match outcome {
-            Ok(()) if is_declared(&registry, "Droid") => Turn::Answered,
+            Ok(()) if is_declared(&registry, "Wide") => Turn::Answered,
             Err(RegistryError::Memory) if is_as_before(&registry) && is_registered(&mut registry) =>
                 Turn::Refused,
             _ => Turn::Wrong,
@@ -42,9 +58,9 @@ fn is_as_before(registry: &Types) -> bool {
     is_declared(registry, "Cell")
 }
 
-/// Whether `Droid` can be registered now.
+/// Whether `Wide` can be registered now.
 fn is_registered(registry: &mut Types) -> bool {
-    registry.register::<Droid>(&()).is_ok() && is_declared(registry, "Droid")
+    registry.register::<DeclaredType>(&WIDE).is_ok() && is_declared(registry, "Wide")
 }
 
 /// Whether an object type is declared at this name.

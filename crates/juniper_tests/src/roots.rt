@@ -1,22 +1,23 @@
 //! Roots without mutations: what a registry may not await, what requests are answered, and what stands for no mutation and no
 //! subscription; with two types of scalars (sections 3.3 and 6.2 of the Specification).
 
+use juniper::words::{DeclaredType, Named, ServedQuery, registry_of};
 use juniper::{
-    DefaultScalarValue, EmptyMutation, EmptySubscription, GraphQLType, Registry, RegistryError,
-    RootError, RootNode, ScalarValue, Variables, execute_sync,
+    DefaultScalarValue, EmptyMutation, EmptySubscription, GraphQLType, Registry, RootError,
+    RootNode, ScalarValue, Variables, execute_sync,
 };
-use juniper_demo_server::{Cell, Character, Demo, DemoContext, DemoNode, Droid, Episode, Human};
+use juniper_demo_server::{
+    CELL, CHARACTER, DROID, Demo, DemoContext, DemoNode, EPISODES, HUMAN, QUERY,
+};
 use juniper_language_tests::scalar::TestScalar;
 use juniper_response::answer_line;
 use std::alloc::{AllocError, Global};
 
 /// The demo's root without its mutations.
-type Root<S> = RootNode<
-    Demo,
-    EmptyMutation<DemoContext, DemoNode>,
-    EmptySubscription<DemoContext>,
-    S,
->;
+type Root<S> = ServedQuery<Demo, DemoContext, DemoNode, S>;
+
+/// The types of the demo's queries.
+static QUERY_TYPES: [DeclaredType; 6] = [QUERY, CHARACTER, DROID, HUMAN, CELL, EPISODES];
 
 /// For a name that is referred to and maybe never declared whether a root is made: the built-in scalars stand by themselves.
 const AWAITED: &str = "\
@@ -66,30 +67,27 @@ enum Told {
     Type,
 }
 
-/// The types of the demo's queries.
-fn query_types<S: ScalarValue>(alloc: Global) -> Result<Registry<S>, RegistryError> {
-    let mut registry = Registry::empty(alloc);
-    registry.register::<Demo>(&())?;
-    registry.register::<Character>(&())?;
-    registry.register::<Droid>(&())?;
-    registry.register::<Human>(&())?;
-    registry.register::<Cell>(&())?;
-    registry.register::<Episode>(&())?;
-    Ok(registry)
-}
-
 /// The root over these types, when this name was referred to too.
 fn root_awaiting<S: ScalarValue>(alloc: Global, name: &str) -> Result<Root<S>, RootError> {
-    let Ok(mut registry) = query_types::<S>(alloc) else {
+    let Ok(mut registry) = registry_of::<S>(alloc, &QUERY_TYPES) else {
         return Err(RootError::Memory);
     };
     if registry.named_type(name).is_err() {
         return Err(RootError::Memory);
     }
-    let query = Demo::new();
+    let query = Named(Demo);
     let mutation = EmptyMutation::new();
     let subscription = EmptySubscription::new();
-    RootNode::new(alloc, query, mutation, subscription, registry, (), (), ())
+    RootNode::new(
+        alloc,
+        query,
+        mutation,
+        subscription,
+        registry,
+        "Query",
+        (),
+        (),
+    )
 }
 
 /// Whether a root is made where this name was referred to, or why none is.

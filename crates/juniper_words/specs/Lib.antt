@@ -1,3 +1,4 @@
 pub mod InputsRead
 pub mod Nodes
+pub mod Served
 pub mod Server

@@ -1,23 +1,17 @@
 //! Enums by their values and the names of these (section 3.9 of the Specification).
 
-ghost use Rattle.std.specs.Prelude.{◌≡◌, IfOk, List, Option, map};
+ghost use Rattle.std.specs.Prelude.{◌≡◌, List, Option};
 ghost use Rattle.std.specs.Option.{option_and_then};
-ghost use Rattle.graphql_spec.specs.Constants.{enumerated, meaning};
+ghost use Rattle.graphql_spec.specs.Constants.{meaning};
 ghost use Rattle.graphql_spec.specs.Shown.{Name, shown_text};
-ghost use Rattle.juniper_meta.specs.MetaView.{view_meta};
-ghost use Rattle.juniper_registry.specs.DeclaredTypes.{enum};
 ghost use Rattle.juniper_syntax.specs.InputView.{view_input};
 ghost use Rattle.juniper_values.specs.ArgumentsRead.{enum_of};
 ghost use Rattle.juniper_words.specs.InputsRead.{named_among, read_enum};
 
 use crate::input_type::InputType;
-use crate::named::Named;
-use juniper_conversions::ToInputValue;
 use juniper_errors::{ResolveError, error_of_message};
-use juniper_meta::MetaType;
-use juniper_registry::Registry;
 use juniper_syntax::{InputValue, ScalarValue};
-use std::alloc::{AllocError, Global};
+use std::alloc::Global;
 
 /// An enum: its values in order, and the name of each (3.9).
 pub trait EnumType: Copy + Drop + 'static {
@@ -53,39 +47,6 @@ impl<E: EnumType, S: ScalarValue> InputType<S> for E {
             }
         }
     }
-}
-
-/// The enum's value by its name (2.9.6), as the default of an argument.
-impl<E: EnumType, S: ScalarValue> ToInputValue<S> for Named<E> {
-    ghost input = { λ e. enumerated (E.name_of e.0) };
-
-    fn to_input_value(&self, alloc: Global) -> Result<InputValue<S>, AllocError> {
-        Ok(InputValue::Enum(String::from_str(alloc, self.0.value_name())?))
-    }
-}
-
-/// The declaration of an enum at this name, with its values in order, none of them with a description or deprecated (3.9); an
-/// error where memory is refused.
-pub fn enum_type_of<E: EnumType, S: ScalarValue>(
-    alloc: Global,
-    registry: &Registry<S>,
-    name: &str,
-) -> Result<MetaType<S>, AllocError>
-    ensures { IfOk result (λ m. view_meta S.shown m ≡ enum name.now (map E.name_of E.values)) }
-{
-    let names = value_names::<E>(alloc)?;
-    registry.enum_type(name, names.as_slice())
-}
-
-/// The names of an enum's values, in order.
-fn value_names<E: EnumType>(alloc: Global) -> Result<Vec<&'static str>, AllocError>
-    ensures { IfOk result (λ names. map (λ n. n.now) names.items ≡ map E.name_of E.values) }
-{
-    let mut names = Vec::new(alloc);
-    for value in E::values() {
-        names.push(value.value_name())?;
-    }
-    Ok(names)
 }
 
 /// The enum's value that this names, as an enum's value or as a text.

@@ -1,5 +1,5 @@
-//! Words of a server: named types, what resolvers read of arguments and input objects, enums by their values, answers, lists of
-//! objects, and roots.
+//! Words of a server: what resolvers read of arguments and input objects, enums by their values, answers, lists of objects, and
+//! roots over types that are told by data.
 #![tactic(auto)]
 
 mod answers;
@@ -8,17 +8,17 @@ mod enums;
 mod fields;
 mod input_type;
 mod lists;
-mod named;
 mod node_lists;
 mod roots;
+mod serving;
 #[cfg(test)]
 mod tests;
 
 pub use answers::{Answer, null, object, object_or_null};
 pub use arguments::{argument, bool_argument, given, id_argument, text_argument};
-pub use enums::{EnumType, enum_type_of};
+pub use enums::EnumType;
 pub use fields::{input_field, input_field_or};
 pub use input_type::InputType;
-pub use named::{Declared, Named, NamedType, TypeName};
 pub use node_lists::nodes;
-pub use roots::{MutationType, QueryType, root_of};
+pub use roots::{MutationType, Named, QueryType};
+pub use serving::{ServedQuery, ServedRoot, served, served_query};

@@ -1,31 +1,27 @@
-//! Resolvers of the root types, which nothing is told about their types, and the root of a server made of them (sections 3.3, 6.2.2
-//! and 6.4.2 of the Specification).
+//! Resolvers of the root types, which need not tell their types, and juniper's traits of them under the names of these types
+//! (sections 3.3, 6.2.2 and 6.4.2 of the Specification).
 
-ghost use Rattle.std.specs.Prelude.{◌≡◌, Bool, IfOk, Some, false};
+ghost use Rattle.std.specs.Prelude.{◌≡◌, Bool, Some, []};
 ghost use Rattle.graphql_spec.specs.Constants.{Members};
 ghost use Rattle.graphql_spec.specs.Resolvers.{Reply};
 ghost use Rattle.graphql_spec.specs.Shown.{Name};
-ghost use Rattle.juniper_intro.specs.RootView.{is_disabled, mutation_of, resolver_of, schema_of};
-ghost use Rattle.juniper_intro.specs.Roots.{Makes};
-ghost use Rattle.juniper_registry.specs.RegistryView.{view_registry};
+ghost use Rattle.juniper_registry.specs.DeclaredTypes.{object, type_named};
 ghost use Rattle.juniper_resolvable.specs.ResolvedView.{Answers};
-ghost use Rattle.juniper_schema.specs.SchemaView.{view_schema};
 ghost use Rattle.juniper_types.specs.ExecutorView.{IsAskedFor, context_of};
 ghost use Rattle.juniper_types.specs.Stepping.{Leaves};
 ghost use Rattle.juniper_values.specs.ArgumentView.{view_arguments};
 
-use crate::named::{Named, NamedType};
 use juniper_errors::ResolveError;
-use juniper_intro::{RootError, RootNode};
-use juniper_registry::Registry;
+use juniper_meta::MetaType;
+use juniper_registry::{GraphQLReference, GraphQLType, Registry};
 use juniper_resolvable::Resolved;
-use juniper_syntax::ScalarValue;
-use juniper_types::{EmptySubscription, Executor, GraphQLMutationValue, GraphQLValue};
+use juniper_syntax::{ScalarValue, Type};
+use juniper_types::{Executor, GraphQLMutationValue, GraphQLValue};
 use juniper_values::Arguments;
-use std::alloc::Global;
+use std::alloc::{AllocError, Global};
 
-/// The resolver of a server's objects, by its query type. `Named` of it is a [`GraphQLValue`].
-pub trait QueryType<S: ScalarValue>: NamedType {
+/// The resolver of a server's objects. [`Named`] of it is a [`GraphQLValue`].
+pub trait QueryType<S: ScalarValue> {
     /// What requests bring along.
     type Context;
 
@@ -62,8 +58,8 @@ pub trait QueryType<S: ScalarValue>: NamedType {
         ensures { Answers S.shown result (answer (context_of executor.now) node.now field_name.now (view_arguments S.shown arguments.now)) };
 }
 
-/// The resolver of a server's mutations, by its mutation type. `Named` of it is a [`GraphQLMutationValue`].
-pub trait MutationType<S: ScalarValue>: NamedType {
+/// The resolver of a server's mutations. [`Named`] of it is a [`GraphQLMutationValue`].
+pub trait MutationType<S: ScalarValue> {
     /// What requests bring along, and steps change.
     type Context;
 
@@ -89,6 +85,45 @@ pub trait MutationType<S: ScalarValue>: NamedType {
         ensures context { Leaves (step context.old field_name.now (view_arguments S.shown arguments.now)).0 (torn context.old) result context.new };
 }
 
+/// A root's resolver under the name of its type, which is the info. The fields of that type are declared in the registry that the root
+/// is made of; of itself it is an object without fields of its own.
+#[derive(Clone, Copy, Debug, PartialEq, Eq, Drop)]
+pub struct Named<T>(pub T);
+
+impl<T, S: ScalarValue> GraphQLReference<S> for Named<T> {
+    type TypeInfo = &'static str;
+
+    ghost named = { λ n. Some n.now };
+
+    ghost reference = { λ n. type_named n.now };
+
+    fn name<'i>(info: &'i &'static str) -> Option<&'i str> {
+        Some(info)
+    }
+
+    fn type_in(
+        _alloc: Global,
+        info: &&'static str,
+        registry: &mut Registry<S>,
+    ) -> Result<Type<String>, AllocError> {
+        registry.named_type(info)
+    }
+}
+
+impl<T, S: ScalarValue> GraphQLType<S> for Named<T> {
+    ghost declaration = { λ n. object n.now [] [] };
+
+    fn meta(
+        _alloc: Global,
+        info: &&'static str,
+        registry: &mut Registry<S>,
+    ) -> Result<MetaType<S>, AllocError> {
+        registry.object_type(info, [])
+    }
+
+    ghost keeps_name = { λ _ _ e. e };
+}
+
 impl<T: QueryType<S>, S: ScalarValue> GraphQLValue<S> for Named<T> {
     type Context = T::Context;
 
@@ -100,8 +135,8 @@ impl<T: QueryType<S>, S: ScalarValue> GraphQLValue<S> for Named<T> {
 
     ghost root = { λ q. T.root q.0 };
 
-    fn type_name<'i>(&self, _info: &'i ()) -> Option<&'i str> {
-        Some(T::graphql_name())
+    fn type_name<'i>(&self, info: &'i &'static str) -> Option<&'i str> {
+        Some(info)
     }
 
     fn root_node(&self) -> &T::Node {
@@ -111,7 +146,7 @@ impl<T: QueryType<S>, S: ScalarValue> GraphQLValue<S> for Named<T> {
     fn concrete_type_name<'r>(
         &'r self,
         _context: &'r T::Context,
-        _info: &'r (),
+        _info: &'r &'static str,
         node: &'r T::Node,
     ) -> &'r str {
         T::concrete_type_name(node)
@@ -120,7 +155,7 @@ impl<T: QueryType<S>, S: ScalarValue> GraphQLValue<S> for Named<T> {
     fn resolve_field(
         &self,
         alloc: Global,
-        _info: &(),
+        _info: &&'static str,
         node: &T::Node,
         field_name: &str,
         arguments: &Arguments<'_, S>,
@@ -142,7 +177,7 @@ impl<T: MutationType<S>, S: ScalarValue> GraphQLMutationValue<S> for Named<T> {
     fn resolve_root(
         &self,
         alloc: Global,
-        _info: &(),
+        _info: &&'static str,
         field_name: &str,
         arguments: &Arguments<'_, S>,
         executor: &Executor<(), S>,
@@ -150,35 +185,4 @@ impl<T: MutationType<S>, S: ScalarValue> GraphQLMutationValue<S> for Named<T> {
     ) -> Result<Resolved<T::Node, S>, ResolveError<S>> {
         T::resolve_root(alloc, field_name, arguments, executor, context)
     }
-}
-
-/// The root of a query and a mutation of which nothing more is told, over the types of a registry, without subscriptions.
-///
-/// Errors: those of [`RootNode::new`].
-pub fn root_of<
-    Q: QueryType<S> + Drop,
-    M: MutationType<S, Context = Q::Context, Node = Q::Node> + Drop,
-    S: ScalarValue,
->(
-    alloc: Global,
-    query: Q,
-    mutation: M,
-    registry: Registry<S>,
-) -> Result<RootNode<Named<Q>, Named<M>, EmptySubscription<Q::Context>, S>, RootError>
-    ensures schema { Makes (λ r. view_schema S.shown (schema_of r)) (view_registry S.shown registry) (Some Q.named) (Some M.named) result }
-    ensures resolver { IfOk result (λ r. (resolver_of r).0 ≡ query) }
-    ensures mutation { IfOk result (λ r. (mutation_of r).0 ≡ mutation) }
-    ensures introspection { IfOk result (λ r. is_disabled r ≡ false) }
-{
-    let subscription = EmptySubscription::new();
-    RootNode::new(
-        alloc,
-        Named(query),
-        Named(mutation),
-        subscription,
-        registry,
-        (),
-        (),
-        (),
-    )
 }

@@ -1,0 +1,74 @@
+//! Declarations as data (section 3 of the Specification).
+
+ghost use Rattle.std.specs.Prelude.{◌≡◌};
+ghost use Rattle.juniper_declared.specs.Data.{name_of};
+
+/// A reference to a type (2.11).
+#[derive(Clone, Copy)]
+pub enum Reference {
+    /// The type of this name, or null.
+    Nullable(&'static str),
+    /// The type of this name.
+    NonNull(&'static str),
+    /// The list of such items, or null.
+    List(&'static Reference),
+    /// The list of such items.
+    NonNullList(&'static Reference),
+}
+
+/// The value of a default (2.9).
+#[derive(Clone, Copy)]
+pub enum Literal {
+    /// Null.
+    Null,
+    /// An Int.
+    Int(i32),
+    /// A String, or an ID.
+    Text(&'static str),
+    /// A Boolean.
+    Boolean(bool),
+    /// The value of an enum, by its name.
+    Enum(&'static str),
+}
+
+/// An argument, or a field of an input object (3.6.1, 3.10): its name, its type, and its default where it has one.
+#[derive(Clone, Copy)]
+pub struct DeclaredInput(pub &'static str, pub Reference, pub Option<Literal>);
+
+/// A field of an object or an interface (3.6): its name, its arguments and its type.
+#[derive(Clone, Copy)]
+pub struct DeclaredField(
+    pub &'static str,
+    pub &'static [DeclaredInput],
+    pub Reference,
+);
+
+/// A named type (3.4), without description; nothing of it is deprecated.
+#[derive(Clone, Copy)]
+pub enum DeclaredType {
+    /// An object: its name, the interfaces that it implements, and its fields (3.6).
+    Object(&'static str, &'static [&'static str], &'static [DeclaredField]),
+    /// An interface: its name and its fields (3.7).
+    Interface(&'static str, &'static [DeclaredField]),
+    /// A union: its name and its members (3.8).
+    Union(&'static str, &'static [&'static str]),
+    /// An enum: its name and the names of its values (3.9).
+    Enum(&'static str, &'static [&'static str]),
+    /// An input object: its name and its fields (3.10).
+    InputObject(&'static str, &'static [DeclaredInput]),
+}
+
+impl DeclaredType {
+    /// Its name.
+    pub fn name(&self) -> &'static str
+        ensures { result.now ≡ name_of self.now }
+    {
+        match self {
+            DeclaredType::Object(name, _, _) => name,
+            DeclaredType::Interface(name, _) => name,
+            DeclaredType::Union(name, _) => name,
+            DeclaredType::Enum(name, _) => name,
+            DeclaredType::InputObject(name, _) => name,
+        }
+    }
+}

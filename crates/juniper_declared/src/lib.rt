@@ -1,0 +1,10 @@
+//! Types of GraphQL as data: what a server declares, written as it is (section 3 of the Specification), and registries of it.
+#![tactic(auto)]
+
+mod data;
+mod making;
+mod parts;
+mod registering;
+
+pub use data::{DeclaredField, DeclaredInput, DeclaredType, Literal, Reference};
+pub use registering::registry_of;
