@@ -22,7 +22,7 @@ use Rattle.juniper_merging.proofs.Places.{same-truth, two-swapped, two-true, two
 
 -- ## Both ways round
 
-or-turn : (a b : Bool) → (a || b) ≡ (b || a)
+pub or-turn : (a b : Bool) → (a || b) ≡ (b || a)
 or-turn true true = refl
 or-turn true false = refl
 or-turn false true = refl
@@ -136,7 +136,7 @@ module _ (vs : List FieldAt) where
   abbrev keyed-at : (ℕ → ℕ → Bool) → ℕ → ℕ → Bool
   keyed-at R i j = not (same_key_at (slice_get vs i) (slice_get vs j)) || R i j
 
-  keyed-at-turn : (R : ℕ → ℕ → Bool) → ((i j : ℕ) → R i j ≡ R j i) → (i j : ℕ) → keyed-at R i j ≡ keyed-at R j i
+  pub keyed-at-turn : (R : ℕ → ℕ → Bool) → ((i j : ℕ) → R i j ≡ R j i) → (i j : ℕ) → keyed-at R i j ≡ keyed-at R j i
   keyed-at-turn R turn i j = λ t. not (key-at-turn (slice_get vs i) (slice_get vs j) t) || turn i j t
 
   below-turn : (R : ℕ → ℕ → Bool) → ((i j : ℕ) → R i j ≡ R j i) → (o p : Option FieldAt) →

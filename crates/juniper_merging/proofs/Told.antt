@@ -6,7 +6,7 @@ use Rattle.std.proofs.Common.{refl, sym, ap, ◌∙◌}
 use Rattle.graphql_spec.specs.Merging.{each_two}
 use Rattle.juniper_merging.specs.MergingGraph.{FieldAt, agree, can_meet, each_pair_at, merge_at, same_key_at}
 use Rattle.juniper_merging.specs.Questions.{IsTold, between_at, join, tested_at}
-use Rattle.juniper_merging.proofs.Telling.{found-alone, found-pair}
+use Rattle.juniper_merging.proofs.Telling.{found-alone, found-pair, keyed-at-turn}
 
 some-none : {A B : Type 0} {x : A} → None ≡ Some x → B
 some-none e = cc
@@ -30,6 +30,9 @@ told-false T n e = record { yes = λ f. some-true-false (sym f); no = λ f. (n, 
 
 pub told-open : (T : ℕ → Bool) → IsTold T None
 told-open T = record { yes = λ e. some-none e; no = λ e. some-none e }
+
+pub told-when : (T : ℕ → Bool) (b : Bool) → (b ≡ true → (n : ℕ) → T n ≡ true) → (b ≡ false → (n : ℕ) × (T n ≡ false)) → IsTold T (Some b)
+told-when T b right wrong = record { yes = λ e. right (some-same e); no = λ e. wrong (some-same e) }
 
 -- an answer serves for each test that is the same
 pub told-same : (T U : ℕ → Bool) (o : Option Bool) → ((n : ℕ) → U n ≡ T n) → IsTold T o → IsTold U o
@@ -95,6 +98,12 @@ module _ (vs : List FieldAt) (R : ℕ → ℕ → Bool) where
   unfolding between_at
   between-left is ks js =
       (λ t. list_all (λ j. list_all-append (λ k. T k j) is ks t) js) ∙ all-both (λ j. list_all (λ k. T k j) is) (λ j. list_all (λ k. T k j) ks) js
+
+  -- the other way round
+  pub between-turn : ((i j : ℕ) → R i j ≡ R j i) → (is js : List ℕ) → B is js ≡ B js is
+  unfolding between_at tested_at
+  between-turn turn [] js = between-none js
+  between-turn turn (i ∷ is) js = between-more i is js ∙ (λ t. list_all (λ k. keyed-at-turn vs R turn i k t) js && between-turn turn is js t)
 
   pub between-right : (is js ks : List ℕ) → B is (js ++ ks) ≡ (B is js && B is ks)
   unfolding between_at

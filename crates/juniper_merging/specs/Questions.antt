@@ -1,8 +1,7 @@
 -- Questions on sets of fields and their answers; only private clauses cite most of what stands here.
 use Rattle.std.specs.Prelude.{ℕ, Bool, true, false, not, cond, ◌&&◌, ◌||◌, List, [], ◌∷◌, Option, Some, None, nat_eq, map, ◌≡◌}
-use Rattle.std.specs.List.{list_all, list_any, slice_get}
+use Rattle.std.specs.List.{list_all, slice_get}
 use Rattle.std.specs.HashMap.{HashMap, get_by}
-use Rattle.std.specs.HashSet.{HashSet}
 use Rattle.juniper_merging.specs.MergingGraph.{FieldAt, each_pair_at, merge_at, same_key_at, set_merges_at, view_vertex}
 use Rattle.graphql_spec.specs.Laws.{In}
 use Rattle.juniper_merging.specs.Sets.{IsTable}
@@ -28,9 +27,9 @@ join None (Some false) = Some false
 unfoldable pub kind_of : Bool → Bool → ℕ
 kind_of within must_merge = cond within (cond must_merge 0 1) (cond must_merge 2 3)
 
--- the numbers are in the set
-unfoldable pub has : {H : Type 0} → HashSet (ℕ × ℕ × ℕ) H → ℕ → ℕ → ℕ → Bool
-has s i j k = list_any (λ x. (nat_eq i x.0 && nat_eq j x.1) && nat_eq k x.2) s.keys
+-- the answer that a map has at the numbers
+unfoldable pub answer_at : {H : Type 0} → HashMap (ℕ × ℕ × ℕ) Bool H → ℕ → ℕ → ℕ → Option Bool
+answer_at m i j k = get_by (λ x. (nat_eq i x.0 && nat_eq j x.1) && nat_eq k x.2) m
 
 -- there is a field at the number, and it has the response key
 unfoldable pub has_key : ℕ → Option FieldAt → Bool
@@ -73,9 +72,8 @@ module _ (vs : List FieldAt) where
     test_of q n = cond q.within (within_test q.must_merge q.first n) (between_test q.must_merge q.first q.second n)
 
     -- each answer that is known is right
-    pub record IsSound (k : Known) : Type 0 where
-      pub yes : (q : Question) → has k.yes q.first q.second (kind_of q.within q.must_merge) ≡ true → (n : ℕ) → test_of q n ≡ true
-      pub no : (q : Question) → has k.no q.first q.second (kind_of q.within q.must_merge) ≡ true → (n : ℕ) × (test_of q n ≡ false)
+    abbrev pub IsSound : Known → Type 0
+    IsSound k = (q : Question) → IsTold (test_of q) (answer_at k.answers q.first q.second (kind_of q.within q.must_merge))
 
 -- the fields of a graph
 abbrev pub fields_of : Graph → List FieldAt

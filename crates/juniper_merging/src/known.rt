@@ -1,11 +1,11 @@
 //! What is known of sets of fields.
 
-ghost use Rattle.std.specs.Prelude.{◌≡◌, ◌&&◌, Bool, IfOk, List, OnOk, cond, false, nat_eq, not, true, ℕ};
+ghost use Rattle.std.specs.Prelude.{◌≡◌, ◌&&◌, List, OnOk, Some, cond, false, nat_eq, true, ℕ};
 ghost use Rattle.juniper_merging.specs.MergingGraph.{FieldAt};
-ghost use Rattle.juniper_merging.specs.Questions.{IsSound, IsTold, has, kind_of, test_of};
+ghost use Rattle.juniper_merging.specs.Questions.{IsSound, IsTold, answer_at, kind_of, test_of};
 
 use std::alloc::{AllocError, Global};
-use std::collections::HashSet;
+use std::collections::HashMap;
 
 /// Whether each two fields of one response key can be merged or, where they need not merge, agree in shape: each two within a
 /// set, or each of a set with each of a second one.
@@ -22,8 +22,7 @@ pub(crate) struct Question {
 pub struct Known {
     /// Where memory comes from.
     pub(crate) alloc: Global,
-    yes: HashSet<(usize, usize, usize)>,
-    no: HashSet<(usize, usize, usize)>,
+    answers: HashMap<(usize, usize, usize), bool>,
 }
 
 impl Known {
@@ -33,8 +32,7 @@ impl Known {
     {
         Known {
             alloc,
-            yes: HashSet::new(alloc),
-            no: HashSet::new(alloc),
+            answers: HashMap::new(alloc),
         }
     }
 
@@ -43,13 +41,7 @@ impl Known {
         ensures { (vs : List FieldAt) (t : List (List ℕ)) → IsSound vs t self.now → IsTold (test_of vs t question) result }
     {
         let kind = kind_of(question.within, question.must_merge);
-        if has(&self.yes, question.first, question.second, kind) {
-            return Some(true);
-        }
-        if has(&self.no, question.first, question.second, kind) {
-            return Some(false);
-        }
-        None
+        answer_at(&self.answers, question.first, question.second, kind)
     }
 
     /// Keeps an answer. An error where memory is refused.
@@ -59,11 +51,13 @@ impl Known {
             → IsSound vs t self.new) }
     {
         let kind = kind_of(question.within, question.must_merge);
-        if answer {
-            put(&mut self.yes, question.first, question.second, kind)?;
-        } else {
-            put(&mut self.no, question.first, question.second, kind)?;
-        }
+        put(
+            &mut self.answers,
+            question.first,
+            question.second,
+            kind,
+            answer,
+        )?;
         Ok(())
     }
 }
@@ -82,25 +76,29 @@ fn kind_of(within: bool, must_merge: bool) -> usize
     }
 }
 
-/// Whether the numbers are in the set.
-fn has(set: &HashSet<(usize, usize, usize)>, first: usize, second: usize, kind: usize) -> bool
-    ensures { result ≡ has set.now first second kind }
-{
-    if set.is_empty() {
-        return false;
-    }
-    set.contains(&(first, second, kind))
-}
-
-/// Puts the numbers into the set.
-fn put(
-    set: &mut HashSet<(usize, usize, usize)>,
+/// The answer at these numbers, if there is one.
+fn answer_at(
+    answers: &HashMap<(usize, usize, usize), bool>,
     first: usize,
     second: usize,
     kind: usize,
-) -> Result<(), AllocError>
-    ensures { OnOk result ((i j k : ℕ) → has set.new i j k ≡ cond ((nat_eq first i && nat_eq second j) && nat_eq kind k) true (has set.old i j k)) }
+) -> Option<bool>
+    ensures { result ≡ answer_at answers.now first second kind }
 {
-    set.insert((first, second, kind))?;
+    answers.get(&(first, second, kind)).copied()
+}
+
+/// Puts an answer at these numbers.
+fn put(
+    answers: &mut HashMap<(usize, usize, usize), bool>,
+    first: usize,
+    second: usize,
+    kind: usize,
+    answer: bool,
+) -> Result<(), AllocError>
+    ensures { OnOk result ((i j k : ℕ) → answer_at answers.new i j k
+        ≡ cond ((nat_eq first i && nat_eq second j) && nat_eq kind k) (Some answer) (answer_at answers.old i j k)) }
+{
+    answers.insert((first, second, kind), answer)?;
     Ok(())
 }

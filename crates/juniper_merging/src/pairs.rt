@@ -42,7 +42,7 @@ fn selects(vertex: &Vertex<'_>) -> bool
 pub(crate) fn agree(must_merge: bool, x: &Vertex<'_>, y: &Vertex<'_>) -> bool
     ensures { result ≡ agree must_merge (view_vertex [] x.now) (view_vertex [] y.now) }
 {
-    x.shape == y.shape && (!(must_merge && may_meet(x, y)) || x.call == y.call)
+    x.shape == y.shape && (x.call == y.call || !(must_merge && may_meet(x, y)))
 }
 
 /// Whether what two fields select has to merge, where they have to if they may meet.
@@ -58,7 +58,7 @@ pub(crate) fn must_merge_below(must_merge: bool, x: &Vertex<'_>, y: &Vertex<'_>)
 fn may_meet(x: &Vertex<'_>, y: &Vertex<'_>) -> bool
     ensures { result ≡ can_meet (view_vertex [] x.now) (view_vertex [] y.now) }
 {
-    x.parent == y.parent || !x.on_object || !y.on_object
+    !x.on_object || !y.on_object || x.parent == y.parent
 }
 
 /// How many fields are few.

@@ -123,7 +123,7 @@ fn look_inside(
         Part::Both(a, b) => {
             let first = ask_within(graph, a, must_merge, known, open)?;
             let second = ask_within(graph, b, must_merge, known, open)?;
-            let across = ask_between(graph, a, b, must_merge, known, open)?;
+            let across = look_between_parts(graph, a, b, must_merge, known, open)?;
             Ok(join(first, join(second, across)))
         }
         Part::Nothing => Ok(Some(true)),
@@ -147,8 +147,8 @@ fn look_across(
             Ok(found)
         }
         Part::Both(a, b) => {
-            let x = ask_between(graph, a, second, must_merge, known, open)?;
-            let y = ask_between(graph, b, second, must_merge, known, open)?;
+            let x = look_between_parts(graph, a, second, must_merge, known, open)?;
+            let y = look_between_parts(graph, b, second, must_merge, known, open)?;
             Ok(join(x, y))
         }
         Part::Nothing => Ok(Some(true)),
@@ -174,11 +174,57 @@ fn look_beside(
             Ok(found)
         }
         Part::Both(a, b) => {
-            let x = ask_between(graph, first, a, must_merge, known, open)?;
-            let y = ask_between(graph, first, b, must_merge, known, open)?;
+            let x = look_between_parts(graph, first, a, must_merge, known, open)?;
+            let y = look_between_parts(graph, first, b, must_merge, known, open)?;
             Ok(join(x, y))
         }
         Part::Nothing => Ok(Some(true)),
+    }
+}
+
+/// The answer for the fields of a set with those of a second one: looked up at once where both are made of few fields, so that
+/// it need not be kept, and else asked for.
+fn look_between_parts(
+    graph: &Graph<'_, '_>,
+    first: usize,
+    second: usize,
+    must_merge: bool,
+    known: &Known,
+    open: &mut Vec<Question>,
+) -> Result<Option<bool>, AllocError>
+    ensures { IfOk result (λ o. IsFound graph.now known.now (between_test (fields_of graph.now) (table_of graph.now.sets.now) must_merge first second) o) }
+{
+    let xs = few_of(graph, first);
+    let ys = few_of(graph, second);
+    match (xs, ys) {
+        (Some(xs), Some(ys)) => {
+            let found = look_between_few(graph, xs, ys, must_merge, known, open)?;
+            Ok(found)
+        }
+        (Some(_), None) => {
+            let found = ask_between(graph, first, second, must_merge, known, open)?;
+            Ok(found)
+        }
+        (None, _) => {
+            let found = ask_between(graph, first, second, must_merge, known, open)?;
+            Ok(found)
+        }
+    }
+}
+
+/// The fields that a set is made of, if it is made of fields, and they are few.
+fn few_of<'g>(graph: &Graph<'g, '_>, set: usize) -> Option<&'g [usize]>
+    ensures { (f : _) → result ≡ Some f → IsTable graph.now.sets.now → set_at (table_of graph.now.sets.now) set ≡ f.now }
+{
+    match part_of(graph.sets, set) {
+        Part::Fields(fields) => {
+            if fields.len() > FEW {
+                return None;
+            }
+            Some(fields)
+        }
+        Part::Both(_, _) => None,
+        Part::Nothing => None,
     }
 }
 
@@ -222,21 +268,66 @@ fn ask_between(
     if are_apart(graph, first, second, must_merge) {
         return Ok(Some(true));
     }
+    let question = question_between(first, second, must_merge);
+    if let Some(answer) = known.answer(question) {
+        return Ok(Some(answer));
+    }
+    if is_made_of_sets(graph, first) && is_made_of_sets(graph, second) {
+        open.push(question)?;
+        return Ok(None);
+    }
+    let found = ask_without_apart(graph, first, second, must_merge, known, open)?;
+    Ok(found)
+}
+
+/// The question for each field of a set with each of a second one. The set that was made later comes first: the other way round it is
+/// the same question.
+fn question_between(first: usize, second: usize, must_merge: bool) -> Question
+    ensures { (vs : List FieldAt) (t : List (List ℕ)) (n : ℕ) → test_of vs t result n ≡ between_test vs t must_merge first second n }
+{
+    if first < second {
+        Question {
+            first: second,
+            second: first,
+            must_merge,
+            within: false,
+        }
+    } else {
+        Question {
+            first,
+            second,
+            must_merge,
+            within: false,
+        }
+    }
+}
+
+/// Whether the set is made of two sets.
+fn is_made_of_sets(graph: &Graph<'_, '_>, set: usize) -> bool {
+    match part_of(graph.sets, set) {
+        Part::Fields(_) => false,
+        Part::Both(_, _) => true,
+        Part::Nothing => false,
+    }
+}
+
+/// Asks for each field of a set with each of a second one, without parts that are apart from the other set.
+fn ask_without_apart(
+    graph: &Graph<'_, '_>,
+    first: usize,
+    second: usize,
+    must_merge: bool,
+    known: &Known,
+    open: &mut Vec<Question>,
+) -> Result<Option<bool>, AllocError>
+    ensures { IfOk result (λ o. IsFound graph.now known.now (between_test (fields_of graph.now) (table_of graph.now.sets.now) must_merge first second) o) }
+{
     let left = first_without_apart(graph, first, second, must_merge);
     let right = without_apart(graph, left, second, must_merge);
     if are_apart(graph, left, right, must_merge) {
         return Ok(Some(true));
     }
-    let found = ask(
-        Question {
-            first: left,
-            second: right,
-            must_merge,
-            within: false,
-        },
-        known,
-        open,
-    )?;
+    let found = ask(question_between(left, right, must_merge), known, open)?;
     Ok(found)
 }
 

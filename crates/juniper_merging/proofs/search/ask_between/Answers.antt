@@ -1,7 +1,8 @@
-use Rattle.std.proofs.Common.{refl, ◌∙◌}
-use Rattle.juniper_merging.specs.Questions.{fields_of, test_of}
+use Rattle.std.proofs.Common.{Some, refl, subst, sym}
+use Rattle.juniper_merging.specs.Questions.{IsTold, between_test, fields_of, test_of}
 use Rattle.juniper_merging.specs.Tables.{table_of}
-use Rattle.juniper_merging.proofs.Tables.{apart-told, rest-told}
+use Rattle.juniper_merging.proofs.Tables.{apart-told}
+use Rattle.juniper_merging.proofs.Told.{told-same}
 use Rattle.juniper_merging.proofs.search.ask_between.Goals as goal
 
 pub returns-then-are_apart : goal.returns-then-are_apart
@@ -9,16 +10,10 @@ returns-then-are_apart c is sound =
     apart-told (table_of c.args.graph.now.sets.now) (fields_of c.args.graph.now) c.args.must_merge c.args.first c.args.second c.args.first c.args.second
     (λ n. refl) (c.are_apart.ensures c.if-are_apart.true is)
 
-pub returns-then-are_apart-2 : goal.returns-then-are_apart-2
-returns-then-are_apart-2 c is sound =
-    apart-told (table_of c.args.graph.now.sets.now) (fields_of c.args.graph.now) c.args.must_merge c.args.first c.args.second
-    c.first_without_apart-left.result c.without_apart-right.result
-    (λ n. c.first_without_apart-left.ensures is n ∙ c.without_apart-right.ensures is n) (c.are_apart-2.ensures c.if-are_apart-2.true is)
-
-pub returns : goal.returns
-unfolding test_of
-returns c is sound =
+pub returns-in-Some : goal.returns-in-Some
+returns-in-Some c is sound =
     let t = table_of c.args.graph.now.sets.now in
     let vs = fields_of c.args.graph.now in
-    rest-told t vs c.args.must_merge c.args.first c.args.second c.first_without_apart-left.result c.without_apart-right.result c.in_ok-found.found
-    (λ n. c.first_without_apart-left.ensures is n ∙ c.without_apart-right.ensures is n) (c.in_ok-found.ensures vs t sound)
+    let q = c.question_between-question.result in
+    told-same (test_of vs t q) (between_test vs t c.args.must_merge c.args.first c.args.second) (Some c.in-Some.answer)
+    (λ n. sym (c.question_between-question.ensures vs t n)) (subst (IsTold (test_of vs t q)) c.in-Some.is (c.answer.ensures vs t sound))
