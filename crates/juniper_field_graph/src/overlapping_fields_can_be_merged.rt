@@ -251,7 +251,7 @@ fn judge_each(
     ensures { IfOk result (λ found. IsTable graph.now.sets.now
         → Pairwise (IsAnswer (fields_of graph.now) (table_of graph.now.sets.now)) (map (λ l. l.items) lists.now) found.items) }
 {
-    let mut answers = Answers::new(alloc);
+    let mut answers = Answers::new(alloc, graph)?;
     let mut found = Vec::new(alloc);
     for sets in lists {
         let merge = all_merge(alloc, graph, sets, &mut answers)?;

@@ -5,6 +5,7 @@ pub mod Places
 mod Telling
 mod Told
 mod Alone
+mod RegularSets
 mod Sound
 mod Vertices
 mod Passed

@@ -1,10 +1,12 @@
 -- Answers that are kept.
-use Rattle.std.specs.Prelude.{ℕ, Bool, true, false, cond, ◌&&◌, List, [], ◌≡◌, Some, nat_eq}
+use Rattle.std.specs.Prelude.{ℕ, Bool, true, false, cond, ◌&&◌, List, [], ◌≡◌, Some, Vec, nat_eq}
 use Rattle.std.specs.Map.{lookup}
+use Rattle.std.specs.declared.alloc.Global.{Global}
 use Rattle.std.proofs.lemmas.Bool.{and_parts, cases_Bool}
 use Rattle.std.proofs.Common.{refl, sym, ap, ◌∙◌, inl, inr, subst}
 use Rattle.juniper_merging.specs.MergingGraph.{FieldAt}
 use Rattle.juniper_merging.specs.Questions.{IsSound, IsTold, answer_at, kind_of, test_of}
+use Rattle.juniper_merging.specs.Regular.{AreRegular}
 use Rattle.juniper_merging.specs.declared.known.Known.{Known}
 use Rattle.juniper_merging.specs.declared.known.Question.{Question}
 use Rattle.juniper_merging.proofs.Numbers.{same-number}
@@ -36,26 +38,31 @@ one-question p q e f g =
     λ i. record { first = e i; second = f i; must_merge = k.1 i; within = k.0 i }
 
 module _ (vs : List FieldAt) (t : List (List ℕ)) where
-  pub nothing-known : (k : Known) → k.answers.entries ≡ [] → IsSound vs t k
+  pub nothing-known : (k : Known) → k.answers.entries ≡ [] → AreRegular vs t k.regular.items → IsSound vs t k
   unfolding answer_at
-  nothing-known k none q = subst (IsTold (test_of vs t q)) (ap (λ es. lookup (λ x. (nat_eq q.first x.0 && nat_eq q.second x.1)
-      && nat_eq (kind_of q.within q.must_merge) x.2) es) (sym none)) (told-open (test_of vs t q))
+  nothing-known k none regular = record {
+    told = λ q. subst (IsTold (test_of vs t q)) (ap (λ es. lookup (λ x. (nat_eq q.first x.0 && nat_eq q.second x.1)
+        && nat_eq (kind_of q.within q.must_merge) x.2) es) (sym none)) (told-open (test_of vs t q));
+    regular = regular;
+  }
 
   -- what is known where one answer more is kept
-  pub kept : (q : Question) (b : Bool) (old new : Known) → ((i j k : ℕ) → answer_at new.answers i j k
+  pub kept : (q : Question) (b : Bool) (old new : Known) → new.regular ≡ old.regular → ((i j k : ℕ) → answer_at new.answers i j k
       ≡ cond ((nat_eq q.first i && nat_eq q.second j) && nat_eq (kind_of q.within q.must_merge) k) (Some b) (answer_at old.answers i j k)) →
       IsTold (test_of vs t q) (Some b) → IsSound vs t old → IsSound vs t new
-  kept q b old new put told is p =
-      let c : Bool = (nat_eq q.first p.first && nat_eq q.second p.second) && nat_eq (kind_of q.within q.must_merge) (kind_of p.within p.must_merge) in
-      let h = put p.first p.second (kind_of p.within p.must_merge) in
-      elim (cases_Bool c) [
-        | inl y ↦
-            let a = and_parts (nat_eq q.first p.first && nat_eq q.second p.second) _ y in
-            let d = and_parts (nat_eq q.first p.first) _ a.0 in
-            let e = one-question q p (same-number q.first p.first d.0) (same-number q.second p.second d.1) (same-number _ _ a.1) in
-            subst (IsTold (test_of vs t p)) (sym (h ∙ ap (λ x. cond x (Some b) (answer_at old.answers p.first p.second (kind_of p.within p.must_merge))) y))
-            (subst (λ r. IsTold (test_of vs t r) (Some b)) e told)
-        | inr y ↦
-            subst (IsTold (test_of vs t p)) (sym (h ∙ ap (λ x. cond x (Some b) (answer_at old.answers p.first p.second (kind_of p.within p.must_merge))) y))
-            (is p)
-      ]
+  kept q b old new same put told is =
+      record { told = now; regular = subst (λ (v : Vec Bool Global). AreRegular vs t v.items) (sym same) is.regular }
+    where
+      now : (p : Question) → IsTold (test_of vs t p) (answer_at new.answers p.first p.second (kind_of p.within p.must_merge))
+      now p =
+          let c : Bool = (nat_eq q.first p.first && nat_eq q.second p.second) && nat_eq (kind_of q.within q.must_merge) (kind_of p.within p.must_merge) in
+          let before = answer_at old.answers p.first p.second (kind_of p.within p.must_merge) in
+          let h = put p.first p.second (kind_of p.within p.must_merge) in
+          elim (cases_Bool c) [
+            | inl y ↦
+                let a = and_parts (nat_eq q.first p.first && nat_eq q.second p.second) _ y in
+                let d = and_parts (nat_eq q.first p.first) _ a.0 in
+                let e = one-question q p (same-number q.first p.first d.0) (same-number q.second p.second d.1) (same-number _ _ a.1) in
+                subst (IsTold (test_of vs t p)) (sym (h ∙ ap (λ x. cond x (Some b) before) y)) (subst (λ r. IsTold (test_of vs t r) (Some b)) e told)
+            | inr y ↦ subst (IsTold (test_of vs t p)) (sym (h ∙ ap (λ x. cond x (Some b) before) y)) (is.told p)
+          ]

@@ -187,7 +187,7 @@ pub table-more : (xs : List FieldSet) (x : FieldSet) → table_of (xs ++ x ∷ [
 unfolding table_of
 table-more xs x = table-from-more [] xs x
 
-in-first : {A : Type 0} (xs ys : List A) (i : ℕ) (x : A) → slice_get xs i ≡ Some x → slice_get (xs ++ ys) i ≡ Some x
+pub in-first : {A : Type 0} (xs ys : List A) (i : ℕ) (x : A) → slice_get xs i ≡ Some x → slice_get (xs ++ ys) i ≡ Some x
 in-first [] ys i x e = cc
 in-first (y ∷ xs) ys zero x e = e
 in-first (y ∷ xs) ys (suc i) x e = in-first xs ys i x e
@@ -197,7 +197,7 @@ at-end [] x = refl
 at-end (y ∷ xs) x = at-end xs x
 
 -- what stands in a list with one more stands there before, or is the last
-one-of : {A : Type 0} (xs : List A) (x y : A) (i : ℕ) → slice_get (xs ++ x ∷ []) i ≡ Some y → (slice_get xs i ≡ Some y) ⊎ ((i ≡ length xs) × (x ≡ y))
+pub one-of : {A : Type 0} (xs : List A) (x y : A) (i : ℕ) → slice_get (xs ++ x ∷ []) i ≡ Some y → (slice_get xs i ≡ Some y) ⊎ ((i ≡ length xs) × (x ≡ y))
 one-of [] x y zero e = inr (refl, cc)
 one-of [] x y (suc i) e = cc
 one-of (z ∷ xs) x y zero e = inl e

@@ -169,7 +169,7 @@ module _ (vs : List FieldAt) (m : Bool) (i j : ℕ) where
   second-missing x e f = told-true tested (λ n. rw (e, f) refl)
 
   module _ (x y : FieldAt) (e : slice_get vs i ≡ Some x) (f : slice_get vs j ≡ Some y) (same : nat_eq x.key y.key ≡ true) where
-    is-merged : (n : ℕ) → tested n ≡ merge_at vs n m i j
+    pub is-merged : (n : ℕ) → tested n ≡ merge_at vs n m i j
     unfolding tested_at same_key_at
     is-merged n = rw (e, f, same) refl
 

@@ -3,4 +3,5 @@ pub mod MergingGraph
 pub mod Groups
 pub mod Standing
 pub mod Sets
+pub mod Regular
 pub mod Questions

@@ -4,6 +4,7 @@ use Rattle.std.specs.List.{list_all, slice_get}
 use Rattle.std.specs.HashMap.{HashMap, get_by}
 use Rattle.juniper_merging.specs.MergingGraph.{FieldAt, each_pair_at, merge_at, same_key_at, set_merges_at, view_vertex}
 use Rattle.graphql_spec.specs.Laws.{In}
+use Rattle.juniper_merging.specs.Regular.{AreRegular}
 use Rattle.juniper_merging.specs.Sets.{IsTable}
 use Rattle.juniper_merging.specs.Tables.{set_at, table_of}
 use Rattle.juniper_merging.specs.declared.known.Known.{Known}
@@ -71,9 +72,10 @@ module _ (vs : List FieldAt) where
     unfoldable pub test_of : Question → ℕ → Bool
     test_of q n = cond q.within (within_test q.must_merge q.first n) (between_test q.must_merge q.first q.second n)
 
-    -- each answer that is known is right
-    abbrev pub IsSound : Known → Type 0
-    IsSound k = (q : Question) → IsTold (test_of q) (answer_at k.answers q.first q.second (kind_of q.within q.must_merge))
+    -- each answer that is known is right, and the sets that are marked are regular
+    pub record IsSound (k : Known) : Type 0 where
+      pub told : (q : Question) → IsTold (test_of q) (answer_at k.answers q.first q.second (kind_of q.within q.must_merge))
+      pub regular : AreRegular vs t k.regular.items
 
 -- the fields of a graph
 abbrev pub fields_of : Graph → List FieldAt

@@ -1,9 +1,12 @@
 //! What is known of sets of fields.
 
-ghost use Rattle.std.specs.Prelude.{◌≡◌, ◌&&◌, List, OnOk, Some, cond, false, nat_eq, true, ℕ};
+ghost use Rattle.std.specs.Prelude.{◌≡◌, ◌&&◌, Bool, IfOk, List, OnOk, Some, cond, false, nat_eq, true, ℕ};
 ghost use Rattle.juniper_merging.specs.MergingGraph.{FieldAt};
-ghost use Rattle.juniper_merging.specs.Questions.{IsSound, IsTold, answer_at, kind_of, test_of};
+ghost use Rattle.juniper_merging.specs.Questions.{IsSound, IsSoundIn, IsTold, answer_at, between_test, kind_of, test_of, within_test};
+ghost use Rattle.juniper_merging.specs.Sets.{IsTable};
 
+use crate::graph::Graph;
+use crate::regular::{are_marked, is_marked, regular_sets};
 use std::alloc::{AllocError, Global};
 use std::collections::HashMap;
 
@@ -22,18 +25,37 @@ pub(crate) struct Question {
 pub struct Known {
     /// Where memory comes from.
     pub(crate) alloc: Global,
+    /// Sets in which no question is left.
+    regular: Vec<bool>,
     answers: HashMap<(usize, usize, usize), bool>,
 }
 
 impl Known {
-    /// None.
-    pub fn new(alloc: Global) -> Self
-        ensures { (vs : List FieldAt) (t : List (List ℕ)) → IsSound vs t result }
+    /// What is seen of a graph at once. An error where memory is refused.
+    pub fn new(alloc: Global, graph: &Graph<'_, '_>) -> Result<Self, AllocError>
+        ensures { IfOk result (λ known. IsTable graph.now.sets.now → IsSoundIn graph.now known) }
     {
-        Known {
+        let regular = regular_sets(alloc, graph)?;
+        Ok(Known {
             alloc,
+            regular,
             answers: HashMap::new(alloc),
-        }
+        })
+    }
+
+    /// Whether each two fields of a set can be merged, as is seen at once.
+    pub(crate) fn merges(&self, set: usize) -> bool
+        ensures { result ≡ true → (vs : List FieldAt) (t : List (List ℕ)) → IsSound vs t self.now → (m : Bool) (n : ℕ) → within_test vs t m set n ≡ true }
+    {
+        is_marked(&self.regular, set)
+    }
+
+    /// Whether each field of a set can be merged with each of a second one, as is seen at once.
+    pub(crate) fn merges_with(&self, first: usize, second: usize) -> bool
+        ensures { result ≡ true → (vs : List FieldAt) (t : List (List ℕ)) → IsSound vs t self.now → (m : Bool) (n : ℕ) →
+            between_test vs t m first second n ≡ true }
+    {
+        are_marked(&self.regular, first, second)
     }
 
     /// The answer, if it is known.

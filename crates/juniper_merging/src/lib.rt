@@ -8,6 +8,7 @@ mod known;
 mod laws;
 mod pairs;
 mod plain;
+mod regular;
 mod search;
 mod sets;
 

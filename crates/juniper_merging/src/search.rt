@@ -33,6 +33,9 @@ pub fn set_merges(
     ensures differs { IfOk result (λ b. IsTable graph.now.sets.now → IsSoundIn graph.now known.old → b ≡ false →
         (n : ℕ) × (set_merges_at (fields_of graph.now) n (set_at (table_of graph.now.sets.now) set) ≡ false)) }
 {
+    if known.merges(set) {
+        return Ok(true);
+    }
     if is_plain(alloc, graph, set)? {
         return Ok(true);
     }
@@ -241,6 +244,9 @@ fn ask_within(
     if is_single(graph, set) {
         return Ok(Some(true));
     }
+    if known.merges(set) {
+        return Ok(Some(true));
+    }
     let found = ask(
         Question {
             first: set,
@@ -265,6 +271,9 @@ fn ask_between(
 ) -> Result<Option<bool>, AllocError>
     ensures { IfOk result (λ o. IsFound graph.now known.now (between_test (fields_of graph.now) (table_of graph.now.sets.now) must_merge first second) o) }
 {
+    if known.merges_with(first, second) {
+        return Ok(Some(true));
+    }
     if are_apart(graph, first, second, must_merge) {
         return Ok(Some(true));
     }

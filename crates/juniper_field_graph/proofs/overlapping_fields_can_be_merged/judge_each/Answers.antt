@@ -12,7 +12,7 @@ pub loop-sets-init : goal.loop-sets-init
 loop-sets-init c is =
     let graph = c.args.graph.now in
     let Is = IsAnswer (fields_of graph) (table_of graph.sets.now) in (
-      c.new-answers.ensures (fields_of graph) (table_of graph.sets.now),
+      c.in_ok-answers.ensures is,
       subst (Pairwise Is []) (sym c.new-found.ensures.items) (pairwise-none Is),
     )
 

@@ -2,8 +2,14 @@ use Rattle.std.proofs.Common.{Some, refl, subst, sym}
 use Rattle.juniper_merging.specs.Questions.{IsTold, between_test, fields_of, test_of}
 use Rattle.juniper_merging.specs.Tables.{table_of}
 use Rattle.juniper_merging.proofs.Tables.{apart-told}
-use Rattle.juniper_merging.proofs.Told.{told-same}
+use Rattle.juniper_merging.proofs.Told.{told-same, told-true}
 use Rattle.juniper_merging.proofs.search.ask_between.Goals as goal
+
+pub returns-then-merges_with : goal.returns-then-merges_with
+returns-then-merges_with c is sound =
+    let vs = fields_of c.args.graph.now in
+    let t = table_of c.args.graph.now.sets.now in
+    told-true (between_test vs t c.args.must_merge c.args.first c.args.second) (c.merges_with.ensures c.if-merges_with.true vs t sound c.args.must_merge)
 
 pub returns-then-are_apart : goal.returns-then-are_apart
 returns-then-are_apart c is sound =

@@ -1,7 +1,14 @@
-use Rattle.juniper_merging.specs.Questions.{fields_of}
+use Rattle.std.proofs.Common.{true}
+use Rattle.juniper_merging.specs.MergingGraph.{set_merges_at}
+use Rattle.juniper_merging.specs.Questions.{fields_of, within_test}
 use Rattle.juniper_merging.specs.Tables.{table_of}
 use Rattle.juniper_merging.proofs.Asked.{set-differs, set-merges}
 use Rattle.juniper_merging.proofs.search.set_merges.Goals as goal
+
+pub returns-then-merges-clause-merges : goal.returns-then-merges-clause-merges
+unfolding set_merges_at within_test
+returns-then-merges-clause-merges c is sound e n =
+    c.merges.ensures c.if-merges.true (fields_of c.args.graph.now) (table_of c.args.graph.now.sets.now) sound true n
 
 pub loop-turn-init : goal.loop-turn-init
 loop-turn-init c is sound = sound

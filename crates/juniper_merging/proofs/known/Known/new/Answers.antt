@@ -1,5 +1,8 @@
+use Rattle.juniper_merging.specs.Questions.{fields_of}
+use Rattle.juniper_merging.specs.Tables.{table_of}
 use Rattle.juniper_merging.proofs.Sound.{nothing-known}
 use Rattle.juniper_merging.proofs.known.Known.new.Goals as goal
 
 pub returns : goal.returns
-returns c = λ vs t. nothing-known vs t _ c.new.ensures.empty
+returns c table =
+    nothing-known (fields_of c.args.graph.now) (table_of c.args.graph.now.sets.now) _ c.new.ensures.empty (c.in_ok-regular.ensures table)
