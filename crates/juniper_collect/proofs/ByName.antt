@@ -1,10 +1,13 @@
--- Maps to which the first of each name goes.
-use Rattle.std.proofs.Common.{◌≡◌, ℕ, ◌+◌, ◌<◌, ◌≤◌, Bool, true, false, cond, List, [], ◌∷◌, length, get_or, drop, map, Option, Some, None, option_map, is_some, Bor, refl, sym, ap, ◌∙◌, inl, inr, subst}
+-- Maps of fragments by name: one definition after the other, from the last, so that the first of each name stays.
+use Rattle.std.proofs.Common.{◌≡◌, ℕ, ◌+◌, ◌<◌, ◌≤◌, Bool, true, false, cond, List, [], ◌∷◌, length, get_or, drop, map, Option, Some, None, option_map, is_some, Bor, refl, sym, ap, ◌∙◌, ◌-◌, arith}
 use Rattle.std.specs.Option.{option_or}
-use Rattle.std.specs.HashMap.{HashMap, get_by}
+use Rattle.std.specs.BTreeMap.{BTreeMap, get_by}
 use Rattle.std.specs.Map.{lookup, update}
 use Rattle.std.specs.Str.{bytes_eq}
-use Rattle.std.proofs.lemmas.Bool.{cases_Bool, both_ways}
+use Rattle.std.specs.Ordering.{is_eq, nat_cmp}
+use Rattle.std.specs.Cmp.Lexicographic.{slice_cmp}
+use Rattle.std.proofs.lemmas.Map.Text.{is_eq-slice_cmp}
+use Rattle.std.proofs.lemmas.Bool.{both_ways}
 use Rattle.std.proofs.lemmas.Cmp.{nat_list_eq_equiv}
 use Rattle.std.proofs.lemmas.List.{drop_all}
 use Rattle.graphql_spec.specs.Shown.{Name}
@@ -25,26 +28,6 @@ same k j e = decided (bytes_eq k j) (bytes_eq-Decides k j) e
 
 true_false : {P : Type 0} (b : Bool) → b ≡ true → b ≡ false → P
 true_false b t f = absurd (both_ways b f t)
-
-or-none : {A : Type 0} (o : Option A) → o ≡ option_or o None
-or-none None = refl
-or-none (Some x) = refl
-
-or-known : {A : Type 0} (o p : Option A) → is_some o ≡ true → o ≡ option_or o p
-or-known None p e = true_false false e refl
-or-known (Some x) p e = refl
-
-or-unknown : {A : Type 0} (o p : Option A) → is_some o ≡ false → p ≡ option_or o p
-or-unknown None p e = refl
-or-unknown (Some x) p e = true_false true refl e
-
-or-moves : {A : Type 0} (o p q : Option A) → option_or (option_or o p) q ≡ option_or o (option_or p q)
-or-moves None p q = refl
-or-moves (Some x) p q = refl
-
-some-map : {A B : Type 0} (f : A → B) (o : Option A) → is_some (option_map f o) ≡ is_some o
-some-map f None = refl
-some-map f (Some x) = refl
 
 map-cond : {A B : Type 0} (f : A → B) (b : Bool) (x : A) → option_map f (cond b (Some x) None) ≡ cond b (Some (f x)) None
 map-cond f true x = refl
@@ -75,65 +58,81 @@ pub fragment-none : (k : Name) → fragment_named (fragments []) k ≡ None
 unfolding fragments fragment_of fragment_named
 fragment-none k = refl
 
--- ## A loop over definitions
+-- ## A loop over definitions, from the last to the first
 
-module _ {A D : Type 0} (F : List spec.Definition → Name → Option A)
-    (splits : (x : spec.Definition) (xs : List spec.Definition) (k : Name) → F (x ∷ xs) k ≡ option_or (F (x ∷ []) k) (F xs k))
-    (none : (k : Name) → F [] k ≡ None)
-    (view : D → spec.Definition) (ds : List D) where
-  pub first-init : (has : Name → Option A) → ((k : Name) → has k ≡ None) → (k : Name) → option_or (has k) (F (map view ds) k) ≡ F (map view ds) k
-  first-init has empty k = ap (λ o. option_or o (F (map view ds) k)) (empty k)
+module _ {D : Type 0} (view : D → spec.Definition) (ds : List D) where
+  -- what is named among the definitions from the ith on
+  abbrev named_from : ℕ → Name → Option spec.Fragment
+  named_from i k = fragment_named (fragments (map view (drop i ds))) k
 
-  pub first-next : (has now : Name → Option A) (i : ℕ) (x : D) → i < length ds → x ≡ get_or ds i x →
-      ((k : Name) → option_or (has k) (F (map view (drop i ds)) k) ≡ F (map view ds) k) →
-      ((k : Name) → now k ≡ option_or (has k) (F (view x ∷ []) k)) → (k : Name) → option_or (now k) (F (map view (drop (i + 1) ds)) k) ≡ F (map view ds) k
-  first-next has now i x below is so_far one k =
-      ap (λ o. option_or o (F (map view (drop (i + 1) ds)) k)) (one k)
-      ∙ (or-moves (has k) (F (view x ∷ []) k) (F (map view (drop (i + 1) ds)) k)
-      ∙ (ap (option_or (has k)) (sym (splits (view x) (map view (drop (i + 1) ds)) k) ∙ ap (λ l. F l k) (sym (seen-left-is view ds i x below is))) ∙ so_far k))
+  pub none-put : (has : Name → Option spec.Fragment) → ((k : Name) → has k ≡ None) → (k : Name) → has k ≡ named_from (length ds - 0) k
+  none-put has empty k =
+      empty k ∙ sym (ap (λ l. fragment_named (fragments (map view l)) k) (drop_all (length ds - 0) ds (omega arith)) ∙ fragment-none k)
 
-  pub first-all : (has : Name → Option A) (i : ℕ) → length ds ≤ i → ((k : Name) → option_or (has k) (F (map view (drop i ds)) k) ≡ F (map view ds) k) →
-      (k : Name) → has k ≡ F (map view ds) k
-  first-all has i past so_far k =
-      or-none (has k) ∙ (ap (option_or (has k)) (sym (ap (λ l. F (map view l) k) (drop_all i ds past) ∙ none k)) ∙ so_far k)
+  pub one-more-put : (has now : Name → Option spec.Fragment) (i : ℕ) (x : D) → i < length ds → x ≡ get_or ds (length ds - 1 - i) x →
+      ((k : Name) → has k ≡ named_from (length ds - i) k) → ((k : Name) → now k ≡ option_or (fragment_named (fragments (view x ∷ [])) k) (has k)) →
+      (k : Name) → now k ≡ named_from (length ds - (i + 1)) k
+  one-more-put has now i x below is so_far put k =
+      let j : ℕ = length ds - (i + 1) in
+      let one : length ds - 1 - i ≡ j = omega (arith, below) in
+      let next : j + 1 ≡ length ds - i = omega (arith, below) in
+      let all = seen-left-is view ds j x (omega (arith, below)) (is ∙ ap (λ m. get_or ds m x) one) in
+      put k ∙ (ap (option_or (fragment_named (fragments (view x ∷ [])) k)) (so_far k ∙ ap (λ m. named_from m k) (sym next))
+      ∙ (sym (fragment-splits (view x) (map view (drop (j + 1) ds)) k) ∙ sym (ap (λ l. fragment_named (fragments l) k) all)))
+
+  pub all-put : (has : Name → Option spec.Fragment) (i : ℕ) → length ds ≤ i → ((k : Name) → has k ≡ named_from (length ds - i) k) →
+      (k : Name) → has k ≡ fragment_named (fragments (map view ds)) k
+  all-put has i past so_far k = let z : length ds - i ≡ 0 = omega arith in so_far k ∙ ap (λ m. named_from m k) z
 
 -- ## One entry more
 
-put-one : {V W : Type 0} (view : V → W) (b : Bool) (old new : Option V) (x : V) → new ≡ cond b (Some x) old → (b ≡ true → is_some old ≡ false) →
-    option_map view new ≡ option_or (option_map view old) (cond b (Some (view x)) None)
-put-one view true old new x e absent = ap (option_map view) e ∙ or-unknown (option_map view old) (Some (view x)) (some-map view old ∙ absent refl)
-put-one view false old new x e absent = ap (option_map view) e ∙ or-none (option_map view old)
+cond-map : {V W : Type 0} (view : V → W) (b : Bool) (x : V) (o : Option V) →
+    option_map view (cond b (Some x) o) ≡ option_or (cond b (Some (view x)) None) (option_map view o)
+cond-map view true x o = refl
+cond-map view false x o = refl
 
-module _ {V W H : Type 0} (view : V → W) where
-  pub put-first : (m n : HashMap (Bor (List ℕ)) V H) (name : Name) (x : V) → is_some (get_by (λ i. bytes_eq name i.now) m) ≡ false →
-      ((cs : List ℕ) → get_by (λ i. bytes_eq cs i.now) n ≡ update bytes_eq (λ ds. get_by (λ i. bytes_eq ds i.now) m) name (Some x) cs) →
-      (k : Name) → option_map view (get_by (λ i. bytes_eq k i.now) n)
-      ≡ option_or (option_map view (get_by (λ i. bytes_eq k i.now) m)) (cond (bytes_eq k name) (Some (view x)) None)
-  put-first m n name x absent put k =
-      put-one view (bytes_eq name k) (get_by (λ i. bytes_eq k i.now) m) (get_by (λ i. bytes_eq k i.now) n) x (put k)
-      (λ e. subst (λ j. is_some (get_by (λ i. bytes_eq j i.now) m) ≡ false) (same name k e) absent)
-      ∙ ap (λ b. option_or (option_map view (get_by (λ i. bytes_eq k i.now) m)) (cond b (Some (view x)) None)) (nat_list_eq_equiv.symm name k)
+put-one : {V W : Type 0} (view : V → W) (name : Name) (x : V) (old new : Name → Option V) →
+    ((k : Name) → new k ≡ update bytes_eq old name (Some x) k) →
+    (k : Name) → option_map view (new k) ≡ option_or (cond (bytes_eq k name) (Some (view x)) None) (option_map view (old k))
+put-one view name x old new put k =
+    ap (option_map view) (put k)
+    ∙ (cond-map view (bytes_eq name k) x (old k)
+    ∙ ap (λ b. option_or (cond b (Some (view x)) None) (option_map view (old k))) (nat_list_eq_equiv.symm name k))
 
-  pub put-not : (m : HashMap (Bor (List ℕ)) V H) (name : Name) (x : W) → is_some (get_by (λ i. bytes_eq name i.now) m) ≡ true →
-      (k : Name) → option_map view (get_by (λ i. bytes_eq k i.now) m)
-      ≡ option_or (option_map view (get_by (λ i. bytes_eq k i.now) m)) (cond (bytes_eq k name) (Some x) None)
-  put-not m name x there k = elim (cases_Bool (bytes_eq k name)) [
-    | inl q ↦ rw q (or-known (option_map view (get_by (λ i. bytes_eq k i.now) m)) (Some x)
-        (some-map view (get_by (λ i. bytes_eq k i.now) m) ∙ subst (λ j. is_some (get_by (λ i. bytes_eq j i.now) m) ≡ true) (sym (same k name q)) there))
-    | inr q ↦ rw q (or-none (option_map view (get_by (λ i. bytes_eq k i.now) m)))
-  ]
+-- ## Look-ups by the order of names
+
+same-test : (n : Name) → ◌≡◌ {A = Bor (List ℕ) → Bool} (λ k. is_eq (slice_cmp nat_cmp n k.now)) (λ k. bytes_eq n k.now)
+same-test n = λ i k. is_eq-slice_cmp n k.now i
+
+-- a look-up by the order of names finds what one by their bytes finds
+pub found-in-order : {V : Type 0} (n : Name) (es : List (Bor (List ℕ) × V)) →
+    lookup (λ k. is_eq (slice_cmp nat_cmp n k.now)) es ≡ lookup (λ k. bytes_eq n k.now) es
+found-in-order n es = ap (λ test. lookup test es) (same-test n)
+
+pub put-in-order : {V : Type 0} (name : Name) (x : V) (old new : BTreeMap (Bor (List ℕ)) V) →
+    ((cs : Name) → get_by (λ n. slice_cmp nat_cmp cs n.now) new ≡ update bytes_eq (λ ds. get_by (λ n. slice_cmp nat_cmp ds n.now) old) name (Some x) cs) →
+    (k : Name) → lookup (λ n. bytes_eq k n.now) new.entries ≡ update bytes_eq (λ j. lookup (λ n. bytes_eq j n.now) old.entries) name (Some x) k
+put-in-order name x old new put k =
+    sym (found-in-order k new.entries) ∙ (put k ∙ ap (cond (bytes_eq name k) (Some x)) (found-in-order k old.entries))
 
 -- ## What a definition puts in
 
 pub operation-none : (x : spec.Definition) (o : spec.Operation) → x ≡ operation o → (old : Option spec.Fragment) (k : Name) →
-    old ≡ option_or old (fragment_named (fragments (x ∷ [])) k)
+    old ≡ option_or (fragment_named (fragments (x ∷ [])) k) old
 unfolding fragments fragment_of fragment_named
-operation-none x o is old k = or-none old ∙ ap (λ y. option_or old (fragment_named (fragments (y ∷ [])) k)) (sym is)
+operation-none x o is old k = ap (λ y. option_or (fragment_named (fragments (y ∷ [])) k) old) (sym is)
 
-pub fragment-one : (x : spec.Definition) (f : spec.Fragment) → x ≡ fragment f → (k : Name) →
+fragment-one : (x : spec.Definition) (f : spec.Fragment) → x ≡ fragment f → (k : Name) →
     fragment_named (fragments (x ∷ [])) k ≡ cond (bytes_eq k f.name.item) (Some (unplaced f)) None
 unfolding fragments fragment_of fragment_named
 fragment-one x f is k = ap (λ y. fragment_named (fragments (y ∷ [])) k) is ∙ map-cond unplaced (bytes_eq k f.name.item) f
+
+pub fragment-put : {V : Type 0} (view : V → spec.Fragment) (x : V) (d : spec.Definition) (f : spec.Fragment) → d ≡ fragment f → view x ≡ unplaced f →
+    (old new : Name → Option V) → ((k : Name) → new k ≡ update bytes_eq old f.name.item (Some x) k) →
+    (k : Name) → option_map view (new k) ≡ option_or (fragment_named (fragments (d ∷ [])) k) (option_map view (old k))
+fragment-put view x d f kind same_fragment old new put k =
+    put-one view f.name.item x old new put k
+    ∙ ap (λ o. option_or o (option_map view (old k))) (ap (λ g. cond (bytes_eq k f.name.item) (Some g) None) same_fragment ∙ sym (fragment-one d f kind k))
 
 -- ## What the map has is the document's
 
@@ -159,6 +158,6 @@ no-fragment None is = refl
 no-fragment (Some x) is = true_false true refl (ap is_some is)
 
 -- nothing is in an empty map
-pub empty-at : {V W H : Type 0} (view : V → W) (m : HashMap (Bor (List ℕ)) V H) → m.entries ≡ [] → (k : Name) →
-    option_map view (get_by (λ n. bytes_eq k n.now) m) ≡ None
-empty-at view m none k = ap (λ es. option_map view (lookup (λ n. bytes_eq k n.now) es)) none
+pub empty-at : {V W : Type 0} (view : V → W) (es : List (Bor (List ℕ) × V)) → es ≡ [] → (k : Name) →
+    option_map view (lookup (λ n. bytes_eq k n.now) es) ≡ None
+empty-at view es none k = ap (λ l. option_map view (lookup (λ n. bytes_eq k n.now) l)) none

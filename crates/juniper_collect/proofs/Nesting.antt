@@ -20,9 +20,9 @@ module _ {S : Type 0} where
   shallow_at (e ∷ es) f zero p q = let d = ap (λ (x : Bor (Fragment S)). nesting x.now.selection_set.items) q in omega (arith, d)
   shallow_at (e ∷ es) f (suc i) p q = let d = shallow_at es f i (omega arith) q in omega (arith, d)
 
-  pub value_shallow : (m : FragmentMap S) (f : Bor (Fragment S)) → IsAmong (values_of m.first.entries) f → nesting f.now.selection_set.items ≤ deepest m
+  pub value_shallow : (m : FragmentMap S) (f : Bor (Fragment S)) → IsAmong (values_of m.ordered.entries) f → nesting f.now.selection_set.items ≤ deepest m
   unfolding deepest
-  value_shallow m f h = shallow_at m.first.entries f h.0 h.1.0 h.1.1
+  value_shallow m f h = shallow_at m.ordered.entries f h.0 h.1.0 h.1.1
 
   pub inline_deeper : (s : Spanning (InlineType S) Span) → nesting (out-InlineFragment S s.item).selection_set.items < size-Selection S (InlineFragment s)
   unfolding nesting

@@ -1,7 +1,9 @@
 -- How the fragments of a document are seen (2.8).
 use Rattle.std.specs.Prelude.{◌≡◌, ℕ, Bool, List, map, length, Option, option_map}
 use Rattle.std.specs.Borrow.{Bor}
+use Rattle.std.specs.BTreeMap.{BTreeMap}
 use Rattle.std.specs.HashMap.{HashMap, get_by}
+use Rattle.std.specs.Map.{lookup}
 use Rattle.std.specs.Str.{bytes_eq}
 use Rattle.graphql_spec.specs.Shown.{Shown, Name}
 use Rattle.graphql_spec.specs.Documents as spec
@@ -38,13 +40,18 @@ module _ {S : Type 0} (shown : S → Shown) where
   unfoldable pub fragment_at : {H : Type 0} → HashMap (Bor (List ℕ)) (Bor (Fragment S)) H → Name → Option spec.Fragment
   fragment_at m k = option_map (λ f. view_lent_fragment f.now) (get_by (λ n. bytes_eq k n.now) m)
 
+  -- the fragment that an ordered map has at a name
+  unfoldable pub fragment_in_order : BTreeMap (Bor (List ℕ)) (Bor (Fragment S)) → Name → Option spec.Fragment
+  fragment_in_order m k = option_map (λ f. view_lent_fragment f.now) (lookup (λ n. bytes_eq k n.now) m.entries)
+
   -- the fragments of the document that it was made of
   unfoldable pub fragments_in : FragmentMap S → List spec.Fragment
   fragments_in m = fragments (map (view_definition shown) m.document.now)
 
-  -- each is found by its name, of those of one name the first (2.8), and they are counted
+  -- each is found by its name in either map, of those of one name the first (2.8), and they are counted
   pub record IsMade (m : FragmentMap S) : Type 0 where
-    pub named : (k : Name) → fragment_at m.first k ≡ fragment_named (fragments_in m) k
+    pub in_order : (k : Name) → fragment_in_order m.ordered k ≡ fragment_named (fragments_in m) k
+    pub named : (k : Name) → fragment_at m.lent k ≡ fragment_named (fragments_in m) k
     pub counted : m.count ≡ length (fragments_in m)
 
 -- selections are expanded with the one list of fragments as with the other (2.8)
@@ -59,4 +66,4 @@ module _ {S : Type 0} where
   nesting ss = most (λ x. size-Selection S x) ss
 
   unfoldable pub deepest : FragmentMap S → ℕ
-  deepest m = most (λ e. nesting e.1.now.selection_set.items) m.first.entries
+  deepest m = most (λ e. nesting e.1.now.selection_set.items) m.ordered.entries

@@ -1,4 +1,7 @@
-//! The fragments of a document, each found by its name in constant time (section 2.8 of the Specification).
+//! The fragments of a document, each found by its name (section 2.8 of the Specification).
+//!
+//! Names are chosen by whoever sends the document, and a hash map takes a step for each name of the same hash: so fragments
+//! are looked up by the order of their names, and the hash map that look-ahead is lent is only inserted into.
 
 ghost use Rattle.std.specs.Prelude.{◌≡◌, ◌≤◌, [], ◌∷◌, IfOk, OnOk, IfSome, map, length};
 ghost use Rattle.std.specs.Option.{option_or, option_map};
@@ -7,21 +10,26 @@ ghost use Rattle.graphql_spec.specs.Documents.{fragments};
 ghost use Rattle.juniper_syntax.specs.DocumentView.{view_definition};
 ghost use Rattle.graphql_spec.specs.Fragments.{HasNoCycle};
 ghost use Rattle.juniper_lookahead.specs.Expansion.{IsAcyclic, fragments_among};
-ghost use Rattle.juniper_collect.specs.FragmentView.{ExpandAlike, fragment_at, fragment_named, fragments_in, view_lent_fragment, nesting, deepest, IsMade};
+ghost use Rattle.juniper_collect.specs.FragmentView.{ExpandAlike, fragment_at, fragment_in_order, fragment_named, fragments_in, view_lent_fragment};
+ghost use Rattle.juniper_collect.specs.FragmentView.{nesting, deepest, IsMade};
 
 use juniper_syntax::{Definition, Fragment, Fragments, ScalarValue};
 use std::alloc::{AllocError, Global};
-use std::collections::HashMap;
+use std::collections::{BTreeMap, HashMap};
 
-/// The fragments of a document, made once for a request.
+/// Fragments in the order of their names.
+type FragmentsInOrder<'d, 'a, S> = BTreeMap<&'a str, &'d Fragment<'a, S>>;
+
+/// The fragments of a document, made once for a request: in the order of their names, and as look-ahead is lent them.
 #[derive(Drop)]
 pub struct FragmentMap<'d, 'a, S> {
     pub(crate) document: &'d [Definition<'a, S>],
-    pub(crate) first: Fragments<'d, 'a, S>,
+    pub(crate) ordered: FragmentsInOrder<'d, 'a, S>,
+    pub(crate) lent: Fragments<'d, 'a, S>,
     pub(crate) count: usize,
 }
 
-/// The fragments of a document; the time grows with the number of definitions. An error where memory is refused.
+/// The fragments of a document: each definition is gone over once, and each fragment is put into either map once. An error where memory is refused.
 pub fn fragments_of<'d, 'a, S: ScalarValue>(
     alloc: Global,
     document: &'d [Definition<'a, S>],
@@ -30,10 +38,19 @@ pub fn fragments_of<'d, 'a, S: ScalarValue>(
     ensures made { IfOk result (λ m. IsMade S.shown m) }
 {
     let count = count_fragments(document);
-    let first = first_fragments(alloc, document, count)?;
+    let mut ordered = BTreeMap::new(alloc);
+    let mut lent = HashMap::with_capacity(alloc, count)?;
+    for index in 0..document.len() {
+        put_fragment(
+            &document[document.len() - 1 - index],
+            &mut ordered,
+            &mut lent,
+        )?;
+    }
     Ok(FragmentMap {
         document,
-        first,
+        ordered,
+        lent,
         count,
     })
 }
@@ -52,36 +69,22 @@ fn count_fragments<S: ScalarValue>(document: &[Definition<'_, S>]) -> usize
     count
 }
 
-/// The first fragment of each name, with room for so many.
-fn first_fragments<'d, 'a, S: ScalarValue>(
-    alloc: Global,
-    document: &'d [Definition<'a, S>],
-    capacity: usize,
-) -> Result<Fragments<'d, 'a, S>, AllocError>
-    ensures { IfOk result (λ r. (k : Name) → fragment_at S.shown r k ≡ fragment_named (fragments (map (view_definition S.shown) document.now)) k) }
-{
-    let mut first = HashMap::with_capacity(alloc, capacity)?;
-    for definition in document {
-        put_fragment(definition, &mut first)?;
-    }
-    Ok(first)
-}
-
-/// Puts a fragment in, where none of its name is there.
+/// Puts a fragment into both maps, in place of a later one of its name.
 fn put_fragment<'d, 'a, S: ScalarValue>(
     definition: &'d Definition<'a, S>,
-    first: &mut Fragments<'d, 'a, S>,
+    ordered: &mut FragmentsInOrder<'d, 'a, S>,
+    lent: &mut Fragments<'d, 'a, S>,
 ) -> Result<(), AllocError>
-    ensures { OnOk result ((k : Name) → fragment_at S.shown first.new k ≡ option_or (fragment_at S.shown first.old k)
-        (fragment_named (fragments (view_definition S.shown definition.now ∷ [])) k)) }
+    ensures ordered { OnOk result ((k : Name) → fragment_in_order S.shown ordered.new k ≡ option_or
+        (fragment_named (fragments (view_definition S.shown definition.now ∷ [])) k) (fragment_in_order S.shown ordered.old k)) }
+    ensures lent { OnOk result ((k : Name) → fragment_at S.shown lent.new k ≡ option_or
+        (fragment_named (fragments (view_definition S.shown definition.now ∷ [])) k) (fragment_at S.shown lent.old k)) }
 {
     match definition {
         Definition::Fragment(fragment) => {
             let name = fragment.item.name.item;
-            if first.contains_key(name) {
-                return Ok(());
-            }
-            first.insert(name, &fragment.item)?;
+            ordered.insert(name, &fragment.item)?;
+            lent.insert(name, &fragment.item)?;
             Ok(())
         }
         Definition::Operation(_) => Ok(()),
@@ -97,7 +100,7 @@ impl<'d, 'a, S: ScalarValue> FragmentMap<'d, 'a, S> {
         ensures acyclic { IsAcyclic S.shown result.now }
         ensures alike { ExpandAlike (fragments_among S.shown result.now) (fragments_in S.shown self.now) }
     {
-        &self.first
+        &self.lent
     }
 
     /// The fragment of a name: the first one (2.8).
@@ -106,7 +109,7 @@ impl<'d, 'a, S: ScalarValue> FragmentMap<'d, 'a, S> {
         ensures first { option_map (λ f. view_lent_fragment S.shown f.now) result ≡ fragment_named (fragments_in S.shown self.now) name.now }
         ensures nested { IfSome result (λ f. nesting f.now.selection_set.items ≤ deepest self.now) }
     {
-        match self.first.get(name) {
+        match self.ordered.get(name) {
             Some(fragment) => Some(*fragment),
             None => None,
         }

@@ -4,8 +4,8 @@ use Rattle.juniper_collect.proofs.fragments.FragmentMap.by_name.Goals as goal
 
 pub returns-clause-acyclic : goal.returns-clause-acyclic
 returns-clause-acyclic g c =
-    map-acyclic g.S.ScalarValue.shown c.args.self.now.first (fragments_in g.S.ScalarValue.shown c.args.self.now) c.requires.made.named c.requires.acyclic
+    map-acyclic g.S.ScalarValue.shown c.args.self.now.lent (fragments_in g.S.ScalarValue.shown c.args.self.now) c.requires.made.named c.requires.acyclic
 
 pub returns-clause-alike : goal.returns-clause-alike
 returns-clause-alike g c =
-    map-alike g.S.ScalarValue.shown c.args.self.now.first (fragments_in g.S.ScalarValue.shown c.args.self.now) c.requires.made.named c.requires.acyclic
+    map-alike g.S.ScalarValue.shown c.args.self.now.lent (fragments_in g.S.ScalarValue.shown c.args.self.now) c.requires.made.named c.requires.acyclic
