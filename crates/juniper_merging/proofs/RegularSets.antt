@@ -1,5 +1,5 @@
 -- Sets of which all fields are alike by their response keys: they merge, and with one another (5.3.2).
-use Rattle.std.specs.Prelude.{ℕ, zero, suc, Bool, true, false, not, ◌&&◌, ◌||◌, List, [], ◌∷◌, ◌++◌, ◌≡◌, ◌<◌, ◌≤◌, ◌+◌, Some, length, get_or, nat_eq, take}
+use Rattle.std.specs.Prelude.{ℕ, zero, suc, Bool, true, false, not, ◌&&◌, ◌||◌, List, [], ◌∷◌, ◌++◌, ◌≡◌, ◌<◌, ◌≤◌, ◌+◌, length, get_or, nat_eq, take}
 use Rattle.std.specs.List.{list_all, slice_get}
 use Rattle.std.proofs.lemmas.Bool.{cases_Bool}
 use Rattle.std.proofs.lemmas.List.{take_all}

@@ -1,5 +1,5 @@
 use Rattle.std.proofs.Common.{sym, ◌∙◌}
-use Rattle.juniper_merging.specs.Questions.{fields_of, test_of}
+use Rattle.juniper_merging.specs.Questions.{fields_of}
 use Rattle.juniper_merging.specs.Tables.{table_of}
 use Rattle.juniper_merging.proofs.Tables.{apart-told, rest-told}
 use Rattle.juniper_merging.proofs.Told.{told-same}

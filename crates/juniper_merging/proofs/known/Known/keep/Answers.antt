@@ -1,4 +1,4 @@
-use Rattle.std.proofs.Common.{◌≡◌, ◌&&◌, ℕ, Bool, true, false, Some, cond, nat_eq, refl, subst}
+use Rattle.std.proofs.Common.{◌≡◌, ◌&&◌, ℕ, Some, cond, nat_eq, refl, subst}
 use Rattle.juniper_merging.specs.Questions.{answer_at, test_of}
 use Rattle.juniper_merging.specs.declared.known.Known.{Known}
 use Rattle.juniper_merging.proofs.Sound.{kept}
