@@ -2,10 +2,8 @@
 use Rattle.std.specs.Prelude.{ℕ, ℤ, pos, negsuc, Bool, true, codes, eqb, cond, [], ◌∷◌, ◌++◌, List, length, take, Option, Some, None, option_map}
 use Rattle.std.specs.Prelude.{unwrap_or, Result, Ok, string_bytes}
 use Rattle.juniper.specs.Server.{Constant, Error, Members, Name, Reply, Text, answered, bytes_eq, decimal, find, given, input_field, input_field_or}
-use Rattle.juniper.specs.Server.{named_among, nat_eq}
-use Rattle.juniper.specs.Server.{node, nodes_reply, nodes_where, nothing, object_or_null, position, read_enum, read_id, read_int, read_option, read_text}
-use Rattle.juniper.specs.Server.{slice_get}
-use Rattle.juniper.specs.Server.{starts_with, text_reply, then_read, with_read, with_step}
+use Rattle.juniper.specs.Server.{named_among, nat_eq, node, nodes_reply, nodes_where, nothing, object_or_null, position, read_enum, read_id, read_int}
+use Rattle.juniper.specs.Server.{read_option, read_text, slice_get, starts_with, text_reply, then_read, with_read, with_step}
 use Rattle.juniper_library.specs.Catalogue.{Catalogue, genre_name, genres}
 use Rattle.juniper_library.specs.Entries.{Named}
 use Rattle.juniper_library.specs.declared.catalogue.Book.{Book}
@@ -81,8 +79,7 @@ book_field (Some b) field =
 
 abbrev pub film_field : Option Named → Name → Reply Node
 film_field None field = answered nothing
-film_field (Some f) field =
-    cond (bytes_eq field (codes "id")) (text_reply f.id) (cond (bytes_eq field (codes "title")) (text_reply f.name) (answered nothing))
+film_field (Some f) field = cond (bytes_eq field (codes "id")) (text_reply f.id) (cond (bytes_eq field (codes "title")) (text_reply f.name) (answered nothing))
 
 abbrev pub books_by : Catalogue → ℕ → List Node
 books_by c author = nodes_where at.Book (λ b. nat_eq b.author author) c.books
@@ -90,8 +87,7 @@ books_by c author = nodes_where at.Book (λ b. nat_eq b.author author) c.books
 abbrev pub author_field : Catalogue → ℕ → Option Named → Name → Reply Node
 author_field c i None field = answered nothing
 author_field c i (Some a) field =
-    cond (bytes_eq field (codes "name")) (text_reply a.name)
-    (cond (bytes_eq field (codes "books")) (nodes_reply (books_by c i)) (answered nothing))
+    cond (bytes_eq field (codes "name")) (text_reply a.name) (cond (bytes_eq field (codes "books")) (nodes_reply (books_by c i)) (answered nothing))
 
 -- the reply to a field of a node, in a catalogue
 abbrev pub reply : Catalogue → Node → Name → Members → Reply Node
@@ -110,8 +106,7 @@ add_book c d =
 
 abbrev pub step : Catalogue → Name → Members → Catalogue × Reply Node
 step c field arguments =
-    cond (bytes_eq field (codes "addBook")) (with_step c (given read_new_book (find (codes "new") arguments)) (add_book c))
-    (c, answered nothing)
+    cond (bytes_eq field (codes "addBook")) (with_step c (given read_new_book (find (codes "new") arguments)) (add_book c)) (c, answered nothing)
 
 -- where memory is wanting no book was added
 abbrev pub torn : Catalogue → Catalogue → Bool

@@ -79,11 +79,7 @@ impl Model for Library {
 
     ghost Value = { Catalogue };
 
-    ghost view = { λ l. record {
-      books = l.books.items;
-      films = l.films.items;
-      authors = l.authors.items;
-    } };
+    ghost view = { λ l. record { books = l.books.items; films = l.films.items; authors = l.authors.items } };
 }
 
 impl Context for Library {}

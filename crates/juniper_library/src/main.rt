@@ -15,7 +15,6 @@ use juniper_response::response_line;
 use resolvers::{Mutation, Query};
 use std::alloc::{AllocError, Global};
 use std::{env, io};
-use types::TYPES;
 
 /// The catalogue of a server that starts; its first author stands for those who are not known.
 fn shelves(alloc: Global) -> Result<Library, AllocError> {
@@ -48,7 +47,7 @@ fn shelves(alloc: Global) -> Result<Library, AllocError> {
 
 /// The response to a request, as a line of JSON.
 fn respond(alloc: Global, request: &str, library: &mut Library) -> Result<String, AllocError> {
-    let root = match served::<_, _, DefaultScalarValue>(alloc, Query, Mutation, &TYPES) {
+    let root = match served::<_, _, DefaultScalarValue>(alloc, Query, Mutation, &types::TYPES) {
         Ok(root) => root,
         Err(error) => return error.to_string(alloc),
     };

@@ -1,8 +1,7 @@
-//! The resolvers of the library: each field's answer by its name (sections 6.2.2 and 6.4.2 of the
-//! Specification).
+//! The resolvers of the library: each field's answer by its name (sections 6.2.2 and 6.4.2 of the Specification).
 
 ghost use Rattle.std.specs.Prelude.{◌≡◌, IfOk};
-ghost use Rattle.juniper.specs.Server.{Answers, Leaves, id_text, nodes_where, view_arguments};
+ghost use Rattle.juniper.specs.Server.{Answers, Leaves, id_text, view_arguments};
 ghost use Rattle.juniper_library.specs.Replies as reply;
 ghost use Rattle.juniper_library.specs.declared.resolvers.Node.TheVariants as at;
 
@@ -98,8 +97,7 @@ fn query_field<S: ScalarValue>(
     field_name: &str,
     arguments: &Arguments<'_, S>,
 ) -> Answer<Node, S>
-    ensures { Answers S.shown result
-        (reply.query_field library.now field_name.now (view_arguments S.shown arguments.now)) }
+    ensures { Answers S.shown result (reply.query_field library.now field_name.now (view_arguments S.shown arguments.now)) }
 {
     match field_name {
         "book" => {
@@ -159,45 +157,16 @@ fn is_of(book: &Book, genre: Option<Genre>) -> bool
 fn found(alloc: Global, library: &Library, needle: &str) -> Result<Vec<Node>, AllocError>
     ensures { IfOk result (λ nodes. nodes.items ≡ reply.found library.now needle.now) }
 {
-    let mut nodes = books_found(alloc, library, needle)?;
-    nodes.append(&mut films_found(alloc, library, needle)?)?;
-    nodes.append(&mut authors_found(alloc, library, needle)?)?;
-    Ok(nodes)
-}
-
-/// The books whose titles begin so.
-fn books_found(alloc: Global, library: &Library, needle: &str) -> Result<Vec<Node>, AllocError>
-    ensures { IfOk result (λ nodes. nodes.items
-        ≡ nodes_where at.Book (λ b. reply.begins needle.now b.titled) library.now.books) }
-{
     let books = library.books.iter().enumerate();
+    let films = library.films.iter().enumerate();
+    let authors = library.authors.iter().enumerate();
+    let films = films.filter(|entry| begins(entry.1, needle));
+    let authors = authors.filter(|entry| begins(entry.1, needle));
     books
         .filter(|entry| begins(&entry.1.titled, needle))
         .map(|entry| Node::Book(entry.0))
-        .collect(alloc)
-}
-
-/// The films whose titles begin so.
-fn films_found(alloc: Global, library: &Library, needle: &str) -> Result<Vec<Node>, AllocError>
-    ensures { IfOk result (λ nodes. nodes.items
-        ≡ nodes_where at.Film (reply.begins needle.now) library.now.films) }
-{
-    let films = library.films.iter().enumerate();
-    films
-        .filter(|entry| begins(entry.1, needle))
-        .map(|entry| Node::Film(entry.0))
-        .collect(alloc)
-}
-
-/// The authors whose names begin so.
-fn authors_found(alloc: Global, library: &Library, needle: &str) -> Result<Vec<Node>, AllocError>
-    ensures { IfOk result (λ nodes. nodes.items
-        ≡ nodes_where at.Author (reply.begins needle.now) library.now.authors) }
-{
-    let authors = library.authors.iter().enumerate();
-    authors
-        .filter(|entry| begins(entry.1, needle))
-        .map(|entry| Node::Author(entry.0))
+        .chain(films.map(|entry| Node::Film(entry.0)))
+        .chain(authors.map(|entry| Node::Author(entry.0)))
         .collect(alloc)
 }
 
@@ -272,15 +241,13 @@ impl<S: ScalarValue> MutationType<S> for Mutation {
 /// A book behind the others. Its number is made of its place, and its author is the first one.
 fn add_book<S: ScalarValue>(alloc: Global, library: &mut Library, new: NewBook) -> Answer<Node, S>
     ensures answer { Answers S.shown result (reply.add_book library.old (reply.seen new)).1 }
-    ensures context { Leaves (reply.add_book library.old (reply.seen new)).0
-        (reply.torn library.old) result library.new }
+    ensures context { Leaves (reply.add_book library.old (reply.seen new)).0 (reply.torn library.old) result library.new }
 {
     let NewBook { title: name, genre } = new;
     let place = library.books.len();
     let id = format!(in alloc; "new-{place}")?;
-    let titled = Entry { id, name };
     library.books.push(Book {
-        titled,
+        titled: Entry { id, name },
         genre,
         author: 0,
     })?;
