@@ -1,7 +1,7 @@
 //! The resolvers of the library: each field's answer by its name (sections 6.2.2 and 6.4.2 of the Specification).
 
 ghost use Rattle.std.specs.Prelude.{◌≡◌, IfOk};
-ghost use Rattle.juniper.specs.Server.{Answers, Leaves, id_text, view_arguments};
+ghost use Rattle.juniper.specs.Server.{Answers, Leaves, id_text, nodes_where, view_arguments};
 ghost use Rattle.juniper_library.specs.Replies as reply;
 ghost use Rattle.juniper_library.specs.declared.resolvers.Node.TheVariants as at;
 
@@ -157,16 +157,42 @@ fn is_of(book: &Book, genre: Option<Genre>) -> bool
 fn found(alloc: Global, library: &Library, needle: &str) -> Result<Vec<Node>, AllocError>
     ensures { IfOk result (λ nodes. nodes.items ≡ reply.found library.now needle.now) }
 {
+    let mut nodes = books_found(alloc, library, needle)?;
+    nodes.append(&mut films_found(alloc, library, needle)?)?;
+    nodes.append(&mut authors_found(alloc, library, needle)?)?;
+    Ok(nodes)
+}
+
+/// The books whose titles begin so.
+fn books_found(alloc: Global, library: &Library, needle: &str) -> Result<Vec<Node>, AllocError>
+    ensures { IfOk result (λ nodes. nodes.items ≡ nodes_where at.Book (λ b. reply.begins needle.now b.titled) library.now.books) }
+{
     let books = library.books.iter().enumerate();
-    let films = library.films.iter().enumerate();
-    let authors = library.authors.iter().enumerate();
-    let films = films.filter(|entry| begins(entry.1, needle));
-    let authors = authors.filter(|entry| begins(entry.1, needle));
     books
         .filter(|entry| begins(&entry.1.titled, needle))
         .map(|entry| Node::Book(entry.0))
-        .chain(films.map(|entry| Node::Film(entry.0)))
-        .chain(authors.map(|entry| Node::Author(entry.0)))
+        .collect(alloc)
+}
+
+/// The films whose titles begin so.
+fn films_found(alloc: Global, library: &Library, needle: &str) -> Result<Vec<Node>, AllocError>
+    ensures { IfOk result (λ nodes. nodes.items ≡ nodes_where at.Film (reply.begins needle.now) library.now.films) }
+{
+    let films = library.films.iter().enumerate();
+    films
+        .filter(|entry| begins(entry.1, needle))
+        .map(|entry| Node::Film(entry.0))
+        .collect(alloc)
+}
+
+/// The authors whose names begin so.
+fn authors_found(alloc: Global, library: &Library, needle: &str) -> Result<Vec<Node>, AllocError>
+    ensures { IfOk result (λ nodes. nodes.items ≡ nodes_where at.Author (reply.begins needle.now) library.now.authors) }
+{
+    let authors = library.authors.iter().enumerate();
+    authors
+        .filter(|entry| begins(entry.1, needle))
+        .map(|entry| Node::Author(entry.0))
         .collect(alloc)
 }
 

@@ -6,6 +6,8 @@ mod Telling
 mod Told
 mod Alone
 mod RegularSets
+mod TakenSets
+mod ClosedUnions
 mod Sound
 mod Vertices
 mod Passed

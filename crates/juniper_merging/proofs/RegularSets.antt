@@ -31,7 +31,7 @@ each-passes vs R (i ∷ is) pass =
     (each-passes vs R is (λ j k m n. pass j k (inr m) (inr n)))
 
 -- equal shapes and calls agree
-agreed : (m : Bool) (x y : FieldAt) → x.shape ≡ y.shape → x.call ≡ y.call → agree m x y ≡ true
+pub agreed : (m : Bool) (x y : FieldAt) → x.shape ≡ y.shape → x.call ≡ y.call → agree m x y ≡ true
 unfolding agree
 agreed m x y s c =
     let shapes : nat_eq x.shape y.shape ≡ true = subst (λ k. nat_eq x.shape k ≡ true) s (itself x.shape) in

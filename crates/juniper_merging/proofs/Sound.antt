@@ -1,5 +1,6 @@
 -- Answers that are kept.
 use Rattle.std.specs.Prelude.{ℕ, Bool, true, false, cond, ◌&&◌, List, [], ◌≡◌, Some, Vec, nat_eq}
+use Rattle.std.specs.HashMap.{HashMap}
 use Rattle.std.specs.Map.{lookup}
 use Rattle.std.specs.declared.alloc.Global.{Global}
 use Rattle.std.proofs.lemmas.Bool.{and_parts, cases_Bool}
@@ -7,8 +8,11 @@ use Rattle.std.proofs.Common.{refl, sym, ap, ◌∙◌, inl, inr, subst}
 use Rattle.juniper_merging.specs.MergingGraph.{FieldAt}
 use Rattle.juniper_merging.specs.Questions.{IsSound, IsTold, answer_at, kind_of, test_of}
 use Rattle.juniper_merging.specs.Regular.{AreRegular}
+use Rattle.juniper_merging.specs.Unions.{AreClosed}
 use Rattle.juniper_merging.specs.declared.known.Known.{Known}
 use Rattle.juniper_merging.specs.declared.known.Question.{Question}
+use Rattle.juniper_merging.specs.declared.unions.Unions.{Unions}
+use Rattle.juniper_merging.proofs.ClosedUnions.{none-closed}
 use Rattle.juniper_merging.proofs.Numbers.{same-number}
 use Rattle.juniper_merging.proofs.Told.{told-open}
 
@@ -38,20 +42,25 @@ one-question p q e f g =
     λ i. record { first = e i; second = f i; must_merge = k.1 i; within = k.0 i }
 
 module _ (vs : List FieldAt) (t : List (List ℕ)) where
-  pub nothing-known : (k : Known) → k.answers.entries ≡ [] → AreRegular vs t k.regular.items → IsSound vs t k
+  pub nothing-known : (k : Known) → k.answers.entries ≡ [] → AreRegular vs t k.regular.items → k.unions.seen.items ≡ [] → IsSound vs t k
   unfolding answer_at
-  nothing-known k none regular = record {
+  nothing-known k none regular no-unions = record {
     told = λ q. subst (IsTold (test_of vs t q)) (ap (λ es. lookup (λ x. (nat_eq q.first x.0 && nat_eq q.second x.1)
         && nat_eq (kind_of q.within q.must_merge) x.2) es) (sym none)) (told-open (test_of vs t q));
     regular = regular;
+    closed = none-closed vs t k.regular.items k.unions.seen.items no-unions;
   }
 
   -- what is known where one answer more is kept
-  pub kept : (q : Question) (b : Bool) (old new : Known) → new.regular ≡ old.regular → ((i j k : ℕ) → answer_at new.answers i j k
+  pub kept : (q : Question) (b : Bool) (old new : Known) → new.regular ≡ old.regular → new.unions ≡ old.unions → ((i j k : ℕ) → answer_at new.answers i j k
       ≡ cond ((nat_eq q.first i && nat_eq q.second j) && nat_eq (kind_of q.within q.must_merge) k) (Some b) (answer_at old.answers i j k)) →
       IsTold (test_of vs t q) (Some b) → IsSound vs t old → IsSound vs t new
-  kept q b old new same put told is =
-      record { told = now; regular = subst (λ (v : Vec Bool Global). AreRegular vs t v.items) (sym same) is.regular }
+  kept q b old new same alike put told is = record {
+    told = now;
+    regular = subst (λ (v : Vec Bool Global). AreRegular vs t v.items) (sym same) is.regular;
+    closed = subst (λ (v : Vec Bool Global). AreClosed vs t v.items new.unions.seen.items new.unions.seen.items) (sym same)
+        (subst (λ (u : Unions). AreClosed vs t old.regular.items u.seen.items u.seen.items) (sym alike) is.closed);
+  }
     where
       now : (p : Question) → IsTold (test_of vs t p) (answer_at new.answers p.first p.second (kind_of p.within p.must_merge))
       now p =
@@ -66,3 +75,13 @@ module _ (vs : List FieldAt) (t : List (List ℕ)) where
                 subst (IsTold (test_of vs t p)) (sym (h ∙ ap (λ x. cond x (Some b) before) y)) (subst (λ r. IsTold (test_of vs t r) (Some b)) e told)
             | inr y ↦ subst (IsTold (test_of vs t p)) (sym (h ∙ ap (λ x. cond x (Some b) before) y)) (is.told p)
           ]
+
+  -- what is known where unions came up
+  pub unions-kept : (old new : Known) → new.regular ≡ old.regular → new.answers ≡ old.answers →
+      AreClosed vs t old.regular.items new.unions.seen.items new.unions.seen.items → IsSound vs t old → IsSound vs t new
+  unions-kept old new same alike closed is = record {
+    told = λ q. subst (λ (m : HashMap (ℕ × ℕ × ℕ) Bool _). IsTold (test_of vs t q) (answer_at m q.first q.second (kind_of q.within q.must_merge)))
+        (sym alike) (is.told q);
+    regular = subst (λ (v : Vec Bool Global). AreRegular vs t v.items) (sym same) is.regular;
+    closed = subst (λ (v : Vec Bool Global). AreClosed vs t v.items new.unions.seen.items new.unions.seen.items) (sym same) closed;
+  }

@@ -35,7 +35,7 @@ bool-turn true false = refl
 bool-turn false true = refl
 bool-turn false false = refl
 
-number-turn : (m n : ℕ) → nat_eq m n ≡ nat_eq n m
+pub number-turn : (m n : ℕ) → nat_eq m n ≡ nat_eq n m
 number-turn m n = same-truth (nat_eq m n) (nat_eq n m) (λ e. subst (λ k. nat_eq k m ≡ true) (same-number m n e) (itself m))
     (λ e. subst (λ k. nat_eq k n ≡ true) (same-number n m e) (itself n))
 
@@ -106,7 +106,7 @@ module _ (s : Schema) where
 
 -- ## Numbers
 
-agree-turn : (m : Bool) (v w : FieldAt) → agree m v w ≡ agree m w v
+pub agree-turn : (m : Bool) (v w : FieldAt) → agree m v w ≡ agree m w v
 unfolding agree can_meet
 agree-turn m v w = λ t. number-turn v.shape w.shape t && (not (m && (same_sym v.parent w.parent t || or-turn (not v.on_object) (not w.on_object) t))
     || number-turn v.call w.call t)

@@ -4,4 +4,6 @@ pub mod Groups
 pub mod Standing
 pub mod Sets
 pub mod Regular
+pub mod Unions
 pub mod Questions
+pub mod PutUnions

@@ -7,6 +7,7 @@ use Rattle.graphql_spec.specs.Laws.{In}
 use Rattle.juniper_merging.specs.Regular.{AreRegular}
 use Rattle.juniper_merging.specs.Sets.{IsTable}
 use Rattle.juniper_merging.specs.Tables.{set_at, table_of}
+use Rattle.juniper_merging.specs.Unions.{AreClosed}
 use Rattle.juniper_merging.specs.declared.known.Known.{Known}
 use Rattle.juniper_merging.specs.declared.known.Question.{Question}
 use Rattle.juniper_merging.specs.declared.graph.Graph.{Graph}
@@ -72,10 +73,11 @@ module _ (vs : List FieldAt) where
     unfoldable pub test_of : Question → ℕ → Bool
     test_of q n = cond q.within (within_test q.must_merge q.first n) (between_test q.must_merge q.first q.second n)
 
-    -- each answer that is known is right, and the sets that are marked are regular
+    -- each answer that is known is right, the sets that are marked are regular, and the unions that are kept are closed
     pub record IsSound (k : Known) : Type 0 where
       pub told : (q : Question) → IsTold (test_of q) (answer_at k.answers q.first q.second (kind_of q.within q.must_merge))
       pub regular : AreRegular vs t k.regular.items
+      pub closed : AreClosed vs t k.regular.items k.unions.seen.items k.unions.seen.items
 
 -- the fields of a graph
 abbrev pub fields_of : Graph → List FieldAt

@@ -1,12 +1,14 @@
 //! What is known of sets of fields.
 
 ghost use Rattle.std.specs.Prelude.{◌≡◌, ◌&&◌, Bool, IfOk, List, OnOk, Some, cond, false, nat_eq, true, ℕ};
-ghost use Rattle.juniper_merging.specs.MergingGraph.{FieldAt};
-ghost use Rattle.juniper_merging.specs.Questions.{IsSound, IsSoundIn, IsTold, answer_at, between_test, kind_of, test_of, within_test};
+ghost use Rattle.juniper_merging.specs.MergingGraph.{FieldAt, set_merges_at};
+ghost use Rattle.juniper_merging.specs.Questions.{IsSound, IsSoundIn, IsTold, answer_at, between_test, fields_of, kind_of, test_of, within_test};
 ghost use Rattle.juniper_merging.specs.Sets.{IsTable};
+ghost use Rattle.juniper_merging.specs.Tables.{set_at, table_of};
 
 use crate::graph::Graph;
 use crate::regular::{are_marked, is_marked, regular_sets};
+use crate::unions::{Unions, merges_in_unions};
 use std::alloc::{AllocError, Global};
 use std::collections::HashMap;
 
@@ -27,6 +29,11 @@ pub struct Known {
     pub(crate) alloc: Global,
     /// Sets in which no question is left.
     regular: Vec<bool>,
+    /// Unions of sets that are closed.
+    unions: Unions,
+    /// How many questions were looked at, and how many are few for the graph.
+    looks: usize,
+    few: usize,
     answers: HashMap<(usize, usize, usize), bool>,
 }
 
@@ -36,9 +43,17 @@ impl Known {
         ensures { IfOk result (λ known. IsTable graph.now.sets.now → IsSoundIn graph.now known) }
     {
         let regular = regular_sets(alloc, graph)?;
+        let unions = Unions::new(alloc, graph.sets.len(), graph.vertices.len())?;
         Ok(Known {
             alloc,
             regular,
+            unions,
+            looks: 0,
+            few: graph
+                .sets
+                .len()
+                .saturating_add(graph.vertices.len())
+                .saturating_mul(FEW_FOR_EACH),
             answers: HashMap::new(alloc),
         })
     }
@@ -56,6 +71,63 @@ impl Known {
             between_test vs t m first second n ≡ true }
     {
         are_marked(&self.regular, first, second)
+    }
+
+    /// Whether each two fields of a set can be merged, as unions of sets tell: `false` says nothing. An error where memory is refused.
+    pub(crate) fn merges_in_unions(
+        &mut self,
+        graph: &Graph<'_, '_>,
+        set: usize,
+    ) -> Result<bool, AllocError>
+        ensures sound { OnOk result (IsTable graph.now.sets.now → IsSoundIn graph.now self.old → IsSoundIn graph.now self.new) }
+        ensures merges { IfOk result (λ b. b ≡ true → IsTable graph.now.sets.now → IsSoundIn graph.now self.old → (n : ℕ) →
+            set_merges_at (fields_of graph.now) n (set_at (table_of graph.now.sets.now) set) ≡ true) }
+    {
+        let merges = merges_in_unions(self.alloc, graph, &self.regular, &mut self.unions, set)?;
+        Ok(merges)
+    }
+
+    /// The same, where more questions were looked at than are few.
+    pub(crate) fn merges_after_many(
+        &mut self,
+        graph: &Graph<'_, '_>,
+        set: usize,
+    ) -> Result<bool, AllocError>
+        ensures sound { OnOk result (IsTable graph.now.sets.now → IsSoundIn graph.now self.old → IsSoundIn graph.now self.new) }
+        ensures merges { IfOk result (λ b. b ≡ true → IsTable graph.now.sets.now → IsSoundIn graph.now self.old → (n : ℕ) →
+            set_merges_at (fields_of graph.now) n (set_at (table_of graph.now.sets.now) set) ≡ true) }
+    {
+        if self.looks <= self.few {
+            return Ok(false);
+        }
+        let merges = self.merges_in_unions(graph, set)?;
+        Ok(merges)
+    }
+
+    /// The same at a question that is looked at, where it is the first of so many.
+    pub(crate) fn merges_at_look(
+        &mut self,
+        graph: &Graph<'_, '_>,
+        set: usize,
+    ) -> Result<bool, AllocError>
+        ensures sound { OnOk result (IsTable graph.now.sets.now → IsSoundIn graph.now self.old → IsSoundIn graph.now self.new) }
+        ensures merges { IfOk result (λ b. b ≡ true → IsTable graph.now.sets.now → IsSoundIn graph.now self.old → (n : ℕ) →
+            set_merges_at (fields_of graph.now) n (set_at (table_of graph.now.sets.now) set) ≡ true) }
+    {
+        if !self.count_look() {
+            return Ok(false);
+        }
+        let merges = self.merges_in_unions(graph, set)?;
+        Ok(merges)
+    }
+
+    /// Counts a question that is looked at. Whether it is the first of more than are few.
+    fn count_look(&mut self) -> bool
+        ensures { (vs : List FieldAt) (t : List (List ℕ)) → IsSound vs t self.old → IsSound vs t self.new }
+    {
+        let before = self.looks;
+        self.looks = before.saturating_add(1);
+        before == self.few
     }
 
     /// The answer, if it is known.
@@ -83,6 +155,9 @@ impl Known {
         Ok(())
     }
 }
+
+/// How many questions for each set and field of a graph are few: so many are looked at before unions are.
+const FEW_FOR_EACH: usize = 16;
 
 /// A number for each of the four kinds of questions.
 #[tactic(auto, unfolding(crate::specs::Questions::kind_of))]

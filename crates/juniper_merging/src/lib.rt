@@ -11,6 +11,8 @@ mod plain;
 mod regular;
 mod search;
 mod sets;
+mod taking;
+mod unions;
 
 pub use graph::{Graph, Vertex};
 pub use groups::{Groups, put_group, take_group};

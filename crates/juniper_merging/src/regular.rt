@@ -69,7 +69,7 @@ fn is_regular(vertices: &[Vertex<'_>], marks: &[bool], field: usize) -> bool
 }
 
 /// Whether two fields have one type and one call.
-fn are_alike(x: &Vertex<'_>, y: &Vertex<'_>) -> bool
+pub(crate) fn are_alike(x: &Vertex<'_>, y: &Vertex<'_>) -> bool
     ensures { result ≡ true → (x.now.shape ≡ y.now.shape) × (x.now.call ≡ y.now.call) }
 {
     x.shape == y.shape && x.call == y.call

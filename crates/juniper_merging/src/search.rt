@@ -39,6 +39,9 @@ pub fn set_merges(
     if is_plain(alloc, graph, set)? {
         return Ok(true);
     }
+    if known.merges_after_many(graph, set)? {
+        return Ok(true);
+    }
     let question = Question {
         first: set,
         second: set,
@@ -52,6 +55,9 @@ pub fn set_merges(
             break;
         };
         settle(graph, next, known, &mut open)?;
+        if known.merges_at_look(graph, set)? {
+            return Ok(true);
+        }
     }
     match known.answer(question) {
         Some(answer) => Ok(answer),
@@ -604,7 +610,11 @@ fn look_at_group(
 }
 
 /// These fields, in groups by their response keys.
-fn grouped(alloc: Global, vertices: &[Vertex<'_>], fields: &[usize]) -> Result<Groups, AllocError>
+pub(crate) fn grouped(
+    alloc: Global,
+    vertices: &[Vertex<'_>],
+    fields: &[usize],
+) -> Result<Groups, AllocError>
     ensures { IfOk result (λ groups. (t : List (List ℕ)) (k : ℕ) → group_in groups k ≡ with_key_at (map (view_vertex t) vertices.now) k fields.now) }
 {
     let mut groups: Groups = HashMap::new(alloc);

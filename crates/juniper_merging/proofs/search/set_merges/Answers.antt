@@ -14,16 +14,18 @@ pub loop-turn-init : goal.loop-turn-init
 loop-turn-init c is sound = sound
 
 pub loop-turn-preserved : goal.loop-turn-preserved
-loop-turn-preserved c is sound = c.in_ok-settle.ensures is (c.loop-turn.invariant is sound)
+loop-turn-preserved c is sound = c.in_ok-merges_at_look.ensures.sound is (c.in_ok-settle.ensures is (c.loop-turn.invariant is sound))
 
 pub returns-in-Some-answer-clause-merges : goal.returns-in-Some-answer-clause-merges
 returns-in-Some-answer-clause-merges c is sound e =
     let t = table_of c.args.graph.now.sets.now in
     let vs = fields_of c.args.graph.now in
-    set-merges t vs c.args.set c.answer.result c.in-Some-answer.answer (c.answer.ensures vs t (c.loop-turn.invariant is sound)) c.in-Some-answer.is e
+    set-merges t vs c.args.set c.answer.result c.in-Some-answer.answer
+    (c.answer.ensures vs t (c.loop-turn.invariant is (c.in_ok-merges_after_many.ensures.sound is sound))) c.in-Some-answer.is e
 
 pub returns-in-Some-answer-clause-differs : goal.returns-in-Some-answer-clause-differs
 returns-in-Some-answer-clause-differs c is sound e =
     let t = table_of c.args.graph.now.sets.now in
     let vs = fields_of c.args.graph.now in
-    set-differs t vs c.args.set c.answer.result c.in-Some-answer.answer (c.answer.ensures vs t (c.loop-turn.invariant is sound)) c.in-Some-answer.is e
+    set-differs t vs c.args.set c.answer.result c.in-Some-answer.answer
+    (c.answer.ensures vs t (c.loop-turn.invariant is (c.in_ok-merges_after_many.ensures.sound is sound))) c.in-Some-answer.is e
