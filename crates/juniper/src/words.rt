@@ -7,6 +7,6 @@ pub use juniper_resolvable::{add, fails, int, list, text};
 pub use juniper_values::{enum_argument, int_argument};
 pub use juniper_words::{
     Answer, EnumType, InputType, MutationType, Named, QueryType, ServedQuery, ServedRoot, argument,
-    bool_argument, given, id_argument, input_field, input_field_or, nodes, null, object,
-    object_or_null, served, served_query, text_argument,
+    bool_argument, given, id_argument, input_field, input_field_or, nodes, nodes_where, null,
+    object, object_or_null, served, served_query, text_argument,
 };

@@ -1,5 +1,7 @@
 //! The catalogue, which requests bring along: books, films and authors.
 
+ghost use Rattle.std.specs.Prelude.{◌≡◌, IfOk};
+
 use juniper::Context;
 use juniper::words::EnumType;
 use std::alloc::{AllocError, Global};
@@ -51,7 +53,9 @@ impl Model for Entry {
 
 impl Entry {
     /// What has this number and this name.
-    pub fn new(alloc: Global, id: &str, name: &str) -> Result<Entry, AllocError> {
+    pub fn new(alloc: Global, id: &str, name: &str) -> Result<Entry, AllocError>
+        ensures { IfOk result (λ entry. entry ≡ record { id = id.now; name = name.now }) }
+    {
         let id = String::from_str(alloc, id)?;
         let name = String::from_str(alloc, name)?;
         Ok(Entry { id, name })

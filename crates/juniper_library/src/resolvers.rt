@@ -1,14 +1,14 @@
 //! The resolvers of the library: each field's answer by its name (sections 6.2.2 and 6.4.2 of the Specification).
 
 ghost use Rattle.std.specs.Prelude.{◌≡◌, IfOk};
-ghost use Rattle.juniper.specs.Server.{Answers, Leaves, id_text, nodes_where, view_arguments};
+ghost use Rattle.juniper.specs.Server.{Answers, Leaves, id_text, view_arguments};
 ghost use Rattle.juniper_library.specs.Replies as reply;
 ghost use Rattle.juniper_library.specs.declared.resolvers.Node.TheVariants as at;
 
 use crate::catalogue::{Book, Entry, Genre, Library};
 use juniper::words::{
     Answer, EnumType, InputType, MutationType, QueryType, given, input_field, input_field_or,
-    nodes, null, object, object_or_null, text,
+    nodes, nodes_where, null, object, object_or_null, text,
 };
 use juniper::{Arguments, Executor, ID, InputValue, ResolveError, ScalarValue};
 use std::alloc::{AllocError, Global};
@@ -157,43 +157,12 @@ fn is_of(book: &Book, genre: Option<Genre>) -> bool
 fn found(alloc: Global, library: &Library, needle: &str) -> Result<Vec<Node>, AllocError>
     ensures { IfOk result (λ nodes. nodes.items ≡ reply.found library.now needle.now) }
 {
-    let mut nodes = books_found(alloc, library, needle)?;
-    nodes.append(&mut films_found(alloc, library, needle)?)?;
-    nodes.append(&mut authors_found(alloc, library, needle)?)?;
-    Ok(nodes)
-}
-
-/// The books whose titles begin so.
-fn books_found(alloc: Global, library: &Library, needle: &str) -> Result<Vec<Node>, AllocError>
-    ensures { IfOk result (λ nodes. nodes.items ≡ nodes_where at.Book (λ b. reply.begins needle.now b.titled) library.now.books) }
-{
-    let books = library.books.iter().enumerate();
-    books
-        .filter(|entry| begins(&entry.1.titled, needle))
-        .map(|entry| Node::Book(entry.0))
-        .collect(alloc)
-}
-
-/// The films whose titles begin so.
-fn films_found(alloc: Global, library: &Library, needle: &str) -> Result<Vec<Node>, AllocError>
-    ensures { IfOk result (λ nodes. nodes.items ≡ nodes_where at.Film (reply.begins needle.now) library.now.films) }
-{
-    let films = library.films.iter().enumerate();
-    films
-        .filter(|entry| begins(entry.1, needle))
-        .map(|entry| Node::Film(entry.0))
-        .collect(alloc)
-}
-
-/// The authors whose names begin so.
-fn authors_found(alloc: Global, library: &Library, needle: &str) -> Result<Vec<Node>, AllocError>
-    ensures { IfOk result (λ nodes. nodes.items ≡ nodes_where at.Author (reply.begins needle.now) library.now.authors) }
-{
-    let authors = library.authors.iter().enumerate();
-    authors
-        .filter(|entry| begins(entry.1, needle))
-        .map(|entry| Node::Author(entry.0))
-        .collect(alloc)
+    let titled = |book: &Book| begins(&book.titled, needle);
+    let named = |entry: &Entry| begins(entry, needle);
+    let mut found = nodes_where(alloc, &library.books, Node::Book, titled)?;
+    found.append(&mut nodes_where(alloc, &library.films, Node::Film, named)?)?;
+    found.append(&mut nodes_where(alloc, &library.authors, Node::Author, named)?)?;
+    Ok(found)
 }
 
 /// Whether a name begins so.
@@ -208,11 +177,8 @@ fn begins(entry: &Entry, needle: &str) -> bool
 fn books_by(alloc: Global, library: &Library, author: usize) -> Result<Vec<Node>, AllocError>
     ensures { IfOk result (λ nodes. nodes.items ≡ reply.books_by library.now author) }
 {
-    let books = library.books.iter().enumerate();
-    books
-        .filter(|entry| entry.1.author == author)
-        .map(|entry| Node::Book(entry.0))
-        .collect(alloc)
+    let theirs = |book: &Book| book.author == author;
+    nodes_where(alloc, &library.books, Node::Book, theirs)
 }
 
 /// `input NewBook { title: String!, genre: Genre = NOVEL }`, as it is read.

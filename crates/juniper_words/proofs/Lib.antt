@@ -1,3 +1,4 @@
 mod EnumNames
 mod FoundFields
+mod NodesFrom
 mod ReadLists

@@ -1,8 +1,10 @@
 -- Objects and lists of objects as replies (3.11, 3.12).
-use Rattle.std.specs.Prelude.{ℕ, Bool, List, map, Option, Some, None}
+use Rattle.std.specs.Prelude.{◌≡◌, ◌<◌, ℕ, Bool, List, map, Option, Some, None}
+use Rattle.std.specs.Fn.{FnReturns, FnReturnsAt, Shared}
 use Rattle.std.specs.List.{enumerate_from, filter}
 use Rattle.graphql_spec.specs.Resolvers.{Reply, answered, node, nothing}
 use Rattle.juniper_resolvable.specs.Answered.{trees_reply}
+use denote.Ref.{Bor}
 
 -- the list of the objects of these nodes
 abbrev pub nodes_reply : {N : Type 0} → List N → Reply N
@@ -16,3 +18,11 @@ object_or_null (Some n) = answered (node n)
 -- the nodes of the entries that pass, in order, each by its place
 abbrev pub nodes_where : {E N : Type 0} → (ℕ → N) → (E → Bool) → List E → List N
 nodes_where place passes es = map (λ e. place e.0) (filter (λ e. passes e.1) (enumerate_from 0 es))
+
+-- at each place below this one, a call of the closure gives the node that the function gives
+abbrev pub Makes : {F N : Type 0} → Shared F (ℕ × Unit {0}) N → F → ℕ → (ℕ → N) → Type 0
+Makes g f end at = (i : ℕ) (n : _) → i < end → FnReturns g f (i, tt) n → n ≡ at i
+
+-- at each entry, a call of the closure answers as the test does
+abbrev pub Tests : {F E : Type 0} → Shared F (Bor E × Unit {0}) Bool → F → (E → Bool) → Type 0
+Tests g f test = (e : _) (b : Bool) → FnReturnsAt g f e b → b ≡ test e

@@ -19,6 +19,6 @@ pub use arguments::{argument, bool_argument, given, id_argument, text_argument};
 pub use enums::EnumType;
 pub use fields::{input_field, input_field_or};
 pub use input_type::InputType;
-pub use node_lists::nodes;
+pub use node_lists::{nodes, nodes_where};
 pub use roots::{MutationType, Named, QueryType};
 pub use serving::{ServedQuery, ServedRoot, served, served_query};

@@ -1,12 +1,13 @@
 //! Lists of objects as answers (section 3.11 of the Specification).
 
+ghost use Rattle.std.specs.Prelude.{◌≡◌, ◌<◌, ℕ, Bool, IfOk, length};
 ghost use Rattle.juniper_resolvable.specs.ResolvedView.{Answers};
-ghost use Rattle.juniper_words.specs.Nodes.{nodes_reply};
+ghost use Rattle.juniper_words.specs.Nodes.{Makes, Tests, nodes_reply, nodes_where};
 
 use juniper_errors::ResolveError;
 use juniper_resolvable::Resolved;
 use juniper_syntax::ScalarValue;
-use std::alloc::Global;
+use std::alloc::{AllocError, Global};
 
 /// The list of the objects that these nodes stand for, in order (3.11).
 pub fn nodes<N: Copy + Drop, S: ScalarValue>(
@@ -20,4 +21,26 @@ pub fn nodes<N: Copy + Drop, S: ScalarValue>(
         items.push(Resolved::Node(*node))?;
     }
     Ok(Resolved::List(items))
+}
+
+/// The nodes of the entries of a list that pass a test, in order: each is made of the entry's place, which counts from 0. An error
+/// where memory is refused.
+pub fn nodes_where<E, N: Drop, P: Fn(usize) -> N, F: Fn(&E) -> bool>(
+    alloc: Global,
+    entries: &[E],
+    node: P,
+    passes: F,
+) -> Result<Vec<N>, AllocError>
+    requires node { (i : ℕ) → i < length entries.now → P.pre node i }
+    requires passes { F.IsAlwaysCallable passes }
+    ensures { IfOk result (λ nodes. (at : ℕ → N) (test : E → Bool) → Makes P.Fn node (length entries.now) at → Tests F.Fn passes test
+        → nodes.items ≡ nodes_where at test entries.now) }
+{
+    let mut nodes = Vec::new(alloc);
+    for (place, entry) in entries.iter().enumerate() {
+        if passes(entry) {
+            nodes.push(node(place))?;
+        }
+    }
+    Ok(nodes)
 }

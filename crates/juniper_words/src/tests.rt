@@ -111,6 +111,21 @@ fn nodes_are_answered_as_objects_or_as_null(rt: HostRuntime) -> Result<(), Fail>
     Ok(())
 }
 
+#[test]
+fn nodes_of_entries_are_their_places(rt: HostRuntime) -> Result<(), Fail> {
+    let alloc = rt.alloc();
+    let long = nodes_where(
+        alloc,
+        &["ab", "c", "", "def"],
+        |place| place + 10,
+        |text| text.len() > 1,
+    )?;
+    assert_eq!(rt; format!(in alloc; "{long:?}")?.as_str(), "[10, 13]");
+    let none = nodes_where(alloc, &["ab"], |place| place, |text| text.is_empty())?;
+    assert!(rt; none.is_empty());
+    Ok(())
+}
+
 /// A node, and a mutation that answers null.
 #[derive(Drop)]
 struct Greeter;
