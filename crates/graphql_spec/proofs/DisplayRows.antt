@@ -5,7 +5,8 @@ use Rattle.std.proofs.lemmas.Bool.{both_ways}
 use Rattle.std.specs.Fmt.{digits}
 use Rattle.graphql_spec.specs.Shown.{Name, int, text, boolean}
 use Rattle.graphql_spec.specs.Positions.{Span, beginning, next_line, continues_character, past_byte, walk}
-use Rattle.graphql_spec.specs.Tokens.{Token, mark, name, IsText, starts_name, continues_name, is_name, ends_before, fits_int, is_mark, mark_text, is_nil, is_blank, is_line_end, is_source_byte, ignore_byte, is_ignored}
+use Rattle.graphql_spec.specs.Tokens.{Token, mark, name, IsText, starts_name, continues_name, is_name, ends_before, fits_int, is_mark, mark_text, is_nil}
+use Rattle.graphql_spec.specs.Tokens.{is_blank, is_line_end, is_source_byte, ignore_byte, is_ignored}
 use Rattle.graphql_spec.specs.Inputs.{Input, null, scalar, enumerated, variable, list, object, no_items, item, no_fields, input_field}
 use Rattle.graphql_spec.specs.Grammar.{At, IsValue, begin_of, span_of, most_brackets}
 use Rattle.graphql_spec.specs.WellFormed.{is_enum_name, is_named, nests, ints_fit}

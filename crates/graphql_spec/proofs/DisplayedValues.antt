@@ -8,10 +8,14 @@ use Rattle.std.specs.Fmt.{signed_decimal}
 use Rattle.graphql_spec.specs.Shown.{Text, Name, int, text, boolean}
 use Rattle.graphql_spec.specs.Positions.{Position, Span, Spot, origin, beginning, past_byte, walk}
 use Rattle.graphql_spec.specs.Tokens as token
-use Rattle.graphql_spec.specs.Tokens.{Lexeme, Token, IsToken, IsText, starts_name, continues_name, is_name, ends_before, continues_int, decoded_string, fits_int, is_mark, mark_text, is_quote, is_nil, is_blank, ignore_byte, is_ignored, between}
-use Rattle.graphql_spec.specs.Grammar.{At, Takes, IsValue, AreItems, AreFields, IsEnumName, span_of, true_word, false_word, null_word, boolean_word, most_brackets}
-use Rattle.graphql_spec.specs.Inputs.{Input, null, scalar, enumerated, variable, list, object, InputItems, no_items, item, InputFields, no_fields, input_field, is_const, items_are_const, fields_are_const}
-use Rattle.graphql_spec.specs.WellFormed.{is_enum_name, is_named, items_are_named, fields_are_named, nests, items_nest, fields_nest, ints_fit, ints_fit_items, ints_fit_fields}
+use Rattle.graphql_spec.specs.Tokens.{Lexeme, Token, IsToken, IsText, starts_name, continues_name, is_name, ends_before, continues_int, decoded_string}
+use Rattle.graphql_spec.specs.Tokens.{fits_int, is_mark, mark_text, is_quote, is_nil, is_blank, ignore_byte, is_ignored, between}
+use Rattle.graphql_spec.specs.Grammar.{At, Takes, IsValue, AreItems, AreFields, IsEnumName, span_of, true_word, false_word, null_word, boolean_word}
+use Rattle.graphql_spec.specs.Grammar.{most_brackets}
+use Rattle.graphql_spec.specs.Inputs.{Input, null, scalar, enumerated, variable, list, object, InputItems, no_items, item, InputFields, no_fields, input_field}
+use Rattle.graphql_spec.specs.Inputs.{is_const, items_are_const, fields_are_const}
+use Rattle.graphql_spec.specs.WellFormed.{is_enum_name, is_named, items_are_named, fields_are_named, nests, items_nest, fields_nest, ints_fit, ints_fit_items}
+use Rattle.graphql_spec.specs.WellFormed.{ints_fit_fields}
 use Rattle.graphql_spec.specs.Unplaced.{unplaced, unplaced_items, unplaced_fields, nowhere}
 use Rattle.graphql_spec.specs.Display.{written_byte, quoted, shown_text_of, display, display_items, more_items, display_fields, more_fields}
 use Rattle.graphql_spec.specs.Laws.{DisplaysAreSpelled}

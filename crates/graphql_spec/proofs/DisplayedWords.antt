@@ -1,5 +1,6 @@
 -- What is written of a String and of an Int is read as it.
-use Rattle.std.proofs.Common.{inl, inr, ◌≡◌, ℕ, zero, suc, ◌+◌, ◌-◌, ◌*◌, ◌/◌, ◌%◌, ◌^◌, ◌<◌, ◌==◌, Bool, true, false, not, ◌&&◌, cond, nat_lt, nat_le, [], ◌∷◌, ◌++◌, length, get_or, ℤ, pos, negsuc, neg_ℤ, Option, Some, None, codes, refl, ap, sym, ◌∙◌, subst, arith}
+use Rattle.std.proofs.Common.{inl, inr, ◌≡◌, ℕ, zero, suc, ◌+◌, ◌-◌, ◌*◌, ◌/◌, ◌%◌, ◌^◌, ◌<◌, ◌==◌, Bool, true, false, not, ◌&&◌, cond, nat_lt, nat_le, [], ◌∷◌}
+use Rattle.std.proofs.Common.{◌++◌, length, get_or, ℤ, pos, negsuc, neg_ℤ, Option, Some, None, codes, refl, ap, sym, ◌∙◌, subst, arith}
 use Rattle.std.proofs.lemmas.Bool.{cases_Bool, and_parts, and_from, false≢true, leb-true}
 use Rattle.std.proofs.lemmas.Bool.Decides.{nat_tests, Decides-eqb}
 use Rattle.std.proofs.lemmas.Nat.{div-add-mod'}
@@ -11,7 +12,8 @@ use Rattle.std.specs.Str.{all_ascii_digits}
 use Rattle.std.specs.List.{flat_map, list_all}
 use Rattle.std.specs.Char.{is_ascii_digit, encode_utf8}
 use Rattle.graphql_spec.specs.Shown.{Text}
-use Rattle.graphql_spec.specs.Tokens.{Mode, characters, after_backslash, hex_digits, escaped, hex_value, is_surrogate, add_digit, read_byte, is_source_byte, before, decode_from, decoded_string, is_digits, is_int, digits_value, int_value, fits_int, decoded_int}
+use Rattle.graphql_spec.specs.Tokens.{Mode, characters, after_backslash, hex_digits, escaped, hex_value, is_surrogate, add_digit, read_byte, is_source_byte}
+use Rattle.graphql_spec.specs.Tokens.{before, decode_from, decoded_string, is_digits, is_int, digits_value, int_value, fits_int, decoded_int}
 use Rattle.graphql_spec.specs.Display.{hex_digit, written_byte}
 
 -- ## Strings

@@ -4,7 +4,10 @@ use Rattle.std.proofs.Common.{refl, ap, ◌∙◌, inl, inr}
 use Rattle.graphql_spec.specs.Shown.{Text}
 use Rattle.graphql_spec.specs.Documents.{Definition, Document}
 use Rattle.graphql_spec.specs.Schema.{Schema}
-use Rattle.graphql_spec.specs.Rules.{RuleError, spreads_unknown, spreads_itself, repeats_variable, repeats_argument, repeats_input_field, has_unknown_directive, has_unknown_type, has_other_condition, has_other_variable, has_unknown_field, has_wrong_set, has_unknown_argument, lacks_argument, has_wrong_argument, has_wrong_default, cannot_merge, looks_at_schema, reported, at_each, first_found, name_errors, type_errors, use_errors, rule_errors}
+use Rattle.graphql_spec.specs.Rules.{RuleError, spreads_unknown, spreads_itself, repeats_variable, repeats_argument, repeats_input_field, has_unknown_directive}
+use Rattle.graphql_spec.specs.Rules.{has_unknown_type, has_other_condition, has_other_variable, has_unknown_field, has_wrong_set, has_unknown_argument}
+use Rattle.graphql_spec.specs.Rules.{lacks_argument, has_wrong_argument, has_wrong_default, cannot_merge, looks_at_schema, reported, at_each, first_found}
+use Rattle.graphql_spec.specs.Rules.{name_errors, type_errors, use_errors, rule_errors}
 use Rattle.graphql_spec.specs.Laws.{In}
 
 -- ## Lists of errors

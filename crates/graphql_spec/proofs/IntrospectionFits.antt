@@ -8,9 +8,14 @@ use Rattle.graphql_spec.specs.Shown.{Text, Name, text}
 use Rattle.graphql_spec.specs.Types.{TypeRef, named, list_of, innermost}
 use Rattle.graphql_spec.specs.Inputs.{Input}
 use Rattle.graphql_spec.specs.Constants.{Members}
-use Rattle.graphql_spec.specs.Schema.{InputDeclaration, FieldDeclaration, EnumValue, DirectiveDeclaration, Shape, scalar_type, enum_type, object_type, interface_type, union_type, input_object_type, list_type, nullable_type, placeholder, Entry, Schema, plain_field, plain_input}
-use Rattle.graphql_spec.specs.BuiltIns.{maybe, must, maybe_all, must_all, object_entry, value_named, enum_entry, field_without, old_flag, schema_type, type_type, field_type, input_value_type, enum_value_type, directive_type, type_kind_type, location_type, introspection_types, condition_arguments, selection_places, directives}
-use Rattle.graphql_spec.specs.Fields.{entry_in, shape_of, type_named, is_object, fields_of, interfaces_of, members_of, is_possible, accepts, leaf_accepts, enum_accepts, declares_value, field_in}
+use Rattle.graphql_spec.specs.Schema.{InputDeclaration, FieldDeclaration, EnumValue, DirectiveDeclaration, Shape, scalar_type, enum_type, object_type}
+use Rattle.graphql_spec.specs.Schema.{interface_type, union_type, input_object_type, list_type, nullable_type, placeholder, Entry, Schema, plain_field}
+use Rattle.graphql_spec.specs.Schema.{plain_input}
+use Rattle.graphql_spec.specs.BuiltIns.{maybe, must, maybe_all, must_all, object_entry, value_named, enum_entry, field_without, old_flag, schema_type}
+use Rattle.graphql_spec.specs.BuiltIns.{type_type, field_type, input_value_type, enum_value_type, directive_type, type_kind_type, location_type}
+use Rattle.graphql_spec.specs.BuiltIns.{introspection_types, condition_arguments, selection_places, directives}
+use Rattle.graphql_spec.specs.Fields.{entry_in, shape_of, type_named, is_object, fields_of, interfaces_of, members_of, is_possible, accepts, leaf_accepts}
+use Rattle.graphql_spec.specs.Fields.{enum_accepts, declares_value, field_in}
 use Rattle.graphql_spec.specs.Executable.{input_fields_of, is_reserved}
 use Rattle.graphql_spec.specs.Display.{display}
 use Rattle.graphql_spec.specs.Resolvers.{Tree, nothing, leaf, items, node, Trees, no_trees, tree}
@@ -18,10 +23,15 @@ use Rattle.graphql_spec.specs.Laws.{In}
 use Rattle.graphql_spec.proofs.Lists.{same_refl}
 use Rattle.graphql_spec.proofs.Grouping.{in_append}
 use Rattle.graphql_spec.specs.TypeList.{has_listed_name, comes_before, put_in_order, in_order, type_list}
-use Rattle.graphql_spec.specs.Introspected.{is_deprecated, reason_of, own_name, of_type, declaration_of, declared_as, declared_kind, kind_of, description_of, url_of, lists_field, own_fields, listed_fields, listed_interfaces, is_implementer, implementers, possible_types, lists_value, own_values, listed_values, listed_inputs}
-use Rattle.graphql_spec.specs.Introspection.{Introspected, schema_node, type_node, field_node, input_node, value_node, directive_node, introspection_type, says, tells, each, all_of, if_any, answer_at, a_type, type_called, an_input, includes_deprecated, schema_answers, type_answers, field_answers, input_answers, value_answers, stands_on, directive_answers, answers_of, introspect}
+use Rattle.graphql_spec.specs.Introspected.{is_deprecated, reason_of, own_name, of_type, declaration_of, declared_as, declared_kind, kind_of, description_of}
+use Rattle.graphql_spec.specs.Introspected.{url_of, lists_field, own_fields, listed_fields, listed_interfaces, is_implementer, implementers, possible_types}
+use Rattle.graphql_spec.specs.Introspected.{lists_value, own_values, listed_values, listed_inputs}
+use Rattle.graphql_spec.specs.Introspection.{Introspected, schema_node, type_node, field_node, input_node, value_node, directive_node, introspection_type, says}
+use Rattle.graphql_spec.specs.Introspection.{tells, each, all_of, if_any, answer_at, a_type, type_called, an_input, includes_deprecated, schema_answers}
+use Rattle.graphql_spec.specs.Introspection.{type_answers, field_answers, input_answers, value_answers, stands_on, directive_answers, answers_of, introspect}
 use Rattle.graphql_spec.specs.IntrospectionLaws.{knows, knows_input, knows_field, is_location, is_node_of}
-use Rattle.graphql_spec.proofs.KnownTypes.{Executable, all-in, all-from, in-filter, query-known, mutation-known, in-entries, in-introspection, texts-fit, booleans-fit, string-known, boolean-known, reserved-type, inputs_of, Speaks, none-speaks, speaks}
+use Rattle.graphql_spec.proofs.KnownTypes.{Executable, all-in, all-from, in-filter, query-known, mutation-known, in-entries, in-introspection, texts-fit}
+use Rattle.graphql_spec.proofs.KnownTypes.{booleans-fit, string-known, boolean-known, reserved-type, inputs_of, Speaks, none-speaks, speaks}
 
 -- ## Lists in order
 

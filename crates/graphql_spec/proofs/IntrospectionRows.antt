@@ -7,14 +7,21 @@ use Rattle.graphql_spec.specs.Types.{TypeRef, list_of}
 use Rattle.graphql_spec.specs.Constants as c
 use Rattle.graphql_spec.specs.Constants.{Constant, Members, no_members, member, find}
 use Rattle.graphql_spec.specs.Schema.{InputDeclaration, DirectiveDeclaration, Schema, plain_field, plain_input}
-use Rattle.graphql_spec.specs.BuiltIns.{maybe, must as must_be, maybe_all, must_all, object_entry, value_named, enum_entry, field_without, include_deprecated, old_flag, schema_type, type_type, field_type, input_value_type, enum_value_type, directive_type, type_kind_type, location_type, introspection_types, condition_arguments, selection_places, directives}
+use Rattle.graphql_spec.specs.BuiltIns.{maybe, must as must_be, maybe_all, must_all, object_entry, value_named, enum_entry, field_without, include_deprecated}
+use Rattle.graphql_spec.specs.BuiltIns.{old_flag, schema_type, type_type, field_type, input_value_type, enum_value_type, directive_type, type_kind_type}
+use Rattle.graphql_spec.specs.BuiltIns.{location_type, introspection_types, condition_arguments, selection_places, directives}
 use Rattle.graphql_spec.specs.Fields.{entry_in, shape_of, or_else, is_object, interfaces_of}
 use Rattle.graphql_spec.specs.Executable.{is_reserved}
 use Rattle.graphql_spec.specs.Display.{hex_digit, written_byte, quoted, shown_text_of, display}
 use Rattle.graphql_spec.specs.Resolvers.{Tree, nothing, leaf, items, node, Trees, no_trees, tree}
 use Rattle.graphql_spec.specs.TypeList.{put_in_order, in_order, type_list}
-use Rattle.graphql_spec.specs.Introspected.{is_deprecated, reason_of, own_name, of_type, declaration_of, declared_as, declared_kind, kind_of, description_of, url_of, lists_field, own_fields, listed_fields, listed_interfaces, is_implementer, implementers, possible_types, lists_value, own_values, listed_values, listed_inputs}
-use Rattle.graphql_spec.specs.Introspection.{Introspected, schema_node, type_node, field_node, input_node, value_node, directive_node, introspection_type, says, tells, each, all_of, if_any, answer_at, a_type, type_called, an_input, is_yes, includes_deprecated, given_text, schema_answers, type_answers, field_answers, input_answers, value_answers, stands_on, directive_answers, answers_of, introspect, type_if_known, root_answers}
+use Rattle.graphql_spec.specs.Introspected.{is_deprecated, reason_of, own_name, of_type, declaration_of, declared_as, declared_kind, kind_of, description_of}
+use Rattle.graphql_spec.specs.Introspected.{url_of, lists_field, own_fields, listed_fields, listed_interfaces, is_implementer, implementers, possible_types}
+use Rattle.graphql_spec.specs.Introspected.{lists_value, own_values, listed_values, listed_inputs}
+use Rattle.graphql_spec.specs.Introspection.{Introspected, schema_node, type_node, field_node, input_node, value_node, directive_node, introspection_type, says}
+use Rattle.graphql_spec.specs.Introspection.{tells, each, all_of, if_any, answer_at, a_type, type_called, an_input, is_yes, includes_deprecated, given_text}
+use Rattle.graphql_spec.specs.Introspection.{schema_answers, type_answers, field_answers, input_answers, value_answers, stands_on, directive_answers}
+use Rattle.graphql_spec.specs.Introspection.{answers_of, introspect, type_if_known, root_answers}
 use Rattle.graphql_spec.proofs.IntrospectionDemo.{may, must, filter_fields, grid, old, green, entries, demo, changing}
 
 -- ## Words for the rows

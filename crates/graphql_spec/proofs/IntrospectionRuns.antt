@@ -1,5 +1,6 @@
 -- Nothing fails where a schema is asked about itself.
-use Rattle.std.proofs.Common.{◌≡◌, ◌||◌, ◌++◌, ℕ, zero, suc, true, false, not, codes, List, [], ◌∷◌, Option, Some, None, IsTrue, refl, sym, ap, ap₂, ◌∙◌, inl, inr, subst}
+use Rattle.std.proofs.Common.{◌≡◌, ◌||◌, ◌++◌, ℕ, zero, suc, true, false, not, codes, List, [], ◌∷◌, Option, Some, None, IsTrue, refl, sym, ap, ap₂, ◌∙◌, inl}
+use Rattle.std.proofs.Common.{inr, subst}
 use Rattle.std.proofs.lemmas.Bool.{cases_Bool, both_ways, and_parts, or_cases, not-true}
 use Rattle.std.specs.List.{list_all, flat_map}
 use Rattle.std.specs.Option.{is_some}
@@ -10,10 +11,14 @@ use Rattle.graphql_spec.specs.Inputs.{Variables}
 use Rattle.graphql_spec.specs.Constants.{Members, find}
 use Rattle.graphql_spec.specs.Positions.{Position}
 use Rattle.graphql_spec.specs.Documents.{Head}
-use Rattle.graphql_spec.specs.Schema.{FieldDeclaration, Shape, scalar_type, enum_type, object_type, interface_type, union_type, input_object_type, list_type, nullable_type, placeholder, Entry, Schema, plain_field, plain_input}
-use Rattle.graphql_spec.specs.BuiltIns.{object_entry, enum_entry, field_without, old_flag, schema_type, type_type, field_type, input_value_type, enum_value_type, directive_type, type_kind_type, location_type, introspection_types}
-use Rattle.graphql_spec.specs.Fields.{entry_in, shape_of, or_else, entry_named, type_named, is_object, is_composite, fields_of, is_possible, field_in, typename, typename_field, root_fields, meta_fields, field_of, declared_type}
-use Rattle.graphql_spec.specs.Executable.{is_filled, is_own_name, shape_fields, field_is_free, is_typename_field, entry_is_named, entries_are_named, is_reserved, roots_are_objects}
+use Rattle.graphql_spec.specs.Schema.{FieldDeclaration, Shape, scalar_type, enum_type, object_type, interface_type, union_type, input_object_type, list_type}
+use Rattle.graphql_spec.specs.Schema.{nullable_type, placeholder, Entry, Schema, plain_field, plain_input}
+use Rattle.graphql_spec.specs.BuiltIns.{object_entry, enum_entry, field_without, old_flag, schema_type, type_type, field_type, input_value_type}
+use Rattle.graphql_spec.specs.BuiltIns.{enum_value_type, directive_type, type_kind_type, location_type, introspection_types}
+use Rattle.graphql_spec.specs.Fields.{entry_in, shape_of, or_else, entry_named, type_named, is_object, is_composite, fields_of, is_possible, field_in, typename}
+use Rattle.graphql_spec.specs.Fields.{typename_field, root_fields, meta_fields, field_of, declared_type}
+use Rattle.graphql_spec.specs.Executable.{is_filled, is_own_name, shape_fields, field_is_free, is_typename_field, entry_is_named, entries_are_named}
+use Rattle.graphql_spec.specs.Executable.{is_reserved, roots_are_objects}
 use Rattle.graphql_spec.specs.Tokens.{is_name}
 use Rattle.graphql_spec.specs.Errors.{Place, key, index}
 use Rattle.graphql_spec.specs.Selections.{depth, Occurrence, occurrences, keys, with_key, all_below}
@@ -33,8 +38,11 @@ use Rattle.graphql_spec.proofs.Keeping.{entry_all, options}
 use Rattle.graphql_spec.specs.Rules.{is_introspection}
 use Rattle.graphql_spec.specs.SeenNodes.{map_tree, map_reply}
 use Rattle.graphql_spec.specs.Introspected.{declaration_of}
-use Rattle.graphql_spec.specs.Introspection.{RootedNode, root, user, introspected, rooted_concrete, rooted_answer, rooted_world, user_reply, root_answers, answer_at, if_any, given_text, type_if_known, Introspected, schema_node, type_node, field_node, input_node, value_node, directive_node, introspection_type, introspect}
-use Rattle.graphql_spec.specs.IntrospectionLaws.{is_users, IntrospectionAddsNone, asks_schema, LookingNeverFails, is_node_of, introspection_world, RepliesFit, IntrospectionNeverFails}
+use Rattle.graphql_spec.specs.Introspection.{RootedNode, root, user, introspected, rooted_concrete, rooted_answer, rooted_world, user_reply, root_answers}
+use Rattle.graphql_spec.specs.Introspection.{answer_at, if_any, given_text, type_if_known, Introspected, schema_node, type_node, field_node, input_node}
+use Rattle.graphql_spec.specs.Introspection.{value_node, directive_node, introspection_type, introspect}
+use Rattle.graphql_spec.specs.IntrospectionLaws.{is_users, IntrospectionAddsNone, asks_schema, LookingNeverFails, is_node_of, introspection_world, RepliesFit}
+use Rattle.graphql_spec.specs.IntrospectionLaws.{IntrospectionNeverFails}
 use Rattle.graphql_spec.proofs.SeenNodes.{selects-any, reply_faults-seen, failures-seen}
 use Rattle.graphql_spec.proofs.KnownTypes.{all-in, declared-known, Executable, executable, texts-fit, reserved-free, reserved-type}
 use Rattle.graphql_spec.proofs.IntrospectionFits.{fit-called, fit-node, Fits, FitAll, introspection_fields, answers-fit, type-reserved}

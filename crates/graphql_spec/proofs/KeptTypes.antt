@@ -7,11 +7,17 @@ use Rattle.std.proofs.lemmas.Bool.{cases_Bool, both_ways, and_parts, and_from, o
 use Rattle.std.proofs.Common.{refl, sym, ap, ◌∙◌, inl, inr, subst}
 use Rattle.graphql_spec.specs.Shown.{Name, same_bool}
 use Rattle.graphql_spec.specs.Types.{TypeRef, named, list_of, innermost, same_type}
-use Rattle.graphql_spec.specs.Schema.{InputDeclaration, FieldDeclaration, Shape, scalar_type, enum_type, object_type, interface_type, union_type, input_object_type, list_type, nullable_type, placeholder, Entry, Schema, plain_field}
+use Rattle.graphql_spec.specs.Schema.{InputDeclaration, FieldDeclaration, Shape, scalar_type, enum_type, object_type, interface_type, union_type}
+use Rattle.graphql_spec.specs.Schema.{input_object_type, list_type, nullable_type, placeholder, Entry, Schema, plain_field}
 use Rattle.graphql_spec.specs.Documents.{written}
 use Rattle.graphql_spec.specs.Resolvers.{world_of}
-use Rattle.graphql_spec.specs.Fields.{entry_in, shape_of, or_else, entry_named, type_named, is_object, is_interface, is_composite, interfaces_of, members_of, fields_of, is_possible, field_in, typename, typename_field, meta_fields, field_of, declared_type, declared_arguments, declaration_in, is_named_subtype, is_subtype}
-use Rattle.graphql_spec.specs.Executable.{values_of, input_fields_of, shape_fields, names_differ, is_filled, is_own_name, input_names_differ, is_value_name, is_reserved, is_typename_field, field_is_free, no_declarations, entry_is_named, entries_are_named, roots_are_objects, types_are_known, entry_names_differ, all_names_differ, takes_argument, may_be_left_out, implements_field, implements, interfaces_are_met, is_executable}
+use Rattle.graphql_spec.specs.Fields.{entry_in, shape_of, or_else, entry_named, type_named, is_object, is_interface, is_composite, interfaces_of, members_of}
+use Rattle.graphql_spec.specs.Fields.{fields_of, is_possible, field_in, typename, typename_field, meta_fields, field_of, declared_type, declared_arguments}
+use Rattle.graphql_spec.specs.Fields.{declaration_in, is_named_subtype, is_subtype}
+use Rattle.graphql_spec.specs.Executable.{values_of, input_fields_of, shape_fields, names_differ, is_filled, is_own_name, input_names_differ, is_value_name}
+use Rattle.graphql_spec.specs.Executable.{is_reserved, is_typename_field, field_is_free, no_declarations, entry_is_named, entries_are_named, roots_are_objects}
+use Rattle.graphql_spec.specs.Executable.{types_are_known, entry_names_differ, all_names_differ, takes_argument, may_be_left_out, implements_field, implements}
+use Rattle.graphql_spec.specs.Executable.{interfaces_are_met, is_executable}
 use Rattle.graphql_spec.specs.Tokens.{is_name}
 use Rattle.graphql_spec.specs.Laws.{ObjectsStandAlone, KeepsArguments, FieldsAreKept, ObjectsAreKept}
 use Rattle.graphql_spec.specs.Overlap.{names_object, declares_field, SchemasKeepTypes, SchemasMerge}

@@ -6,10 +6,17 @@ use Rattle.std.specs.Option.{is_some}
 use Rattle.std.specs.Str.{bytes_eq}
 use Rattle.graphql_spec.specs.Shown.{Name, same_bool, text, boolean}
 use Rattle.graphql_spec.specs.Types.{TypeRef, innermost}
-use Rattle.graphql_spec.specs.Schema.{ScalarKinds, InputDeclaration, FieldDeclaration, Shape, scalar_type, enum_type, object_type, interface_type, union_type, input_object_type, list_type, nullable_type, placeholder, Entry, Schema, plain_field, plain_input}
-use Rattle.graphql_spec.specs.BuiltIns.{maybe, must, maybe_all, must_all, object_entry, enum_entry, field_without, include_deprecated, old_flag, schema_type, type_type, field_type, input_value_type, enum_value_type, directive_type, type_kind_type, location_type, introspection_types}
-use Rattle.graphql_spec.specs.Fields.{entry_in, shape_of, or_else, entry_named, type_named, is_object, is_interface, is_composite, is_leaf, is_input, interfaces_of, members_of, fields_of, accepts, leaf_accepts, accepts_kind}
-use Rattle.graphql_spec.specs.Executable.{values_of, input_fields_of, names_differ, input_names_differ, is_value_name, shape_fields, is_filled, is_reserved, entry_is_named, entries_are_named, mutation_is_apart, roots_are_objects, ends_in_output, ends_in_input, field_is_known, types_are_known, entry_names_differ, all_names_differ, implements, interfaces_are_met, defaults_fit, accepts_just, scalar_if_there, built_ins_are_right, is_executable}
+use Rattle.graphql_spec.specs.Schema.{ScalarKinds, InputDeclaration, FieldDeclaration, Shape, scalar_type, enum_type, object_type, interface_type, union_type}
+use Rattle.graphql_spec.specs.Schema.{input_object_type, list_type, nullable_type, placeholder, Entry, Schema, plain_field, plain_input}
+use Rattle.graphql_spec.specs.BuiltIns.{maybe, must, maybe_all, must_all, object_entry, enum_entry, field_without, include_deprecated, old_flag, schema_type}
+use Rattle.graphql_spec.specs.BuiltIns.{type_type, field_type, input_value_type, enum_value_type, directive_type, type_kind_type, location_type}
+use Rattle.graphql_spec.specs.BuiltIns.{introspection_types}
+use Rattle.graphql_spec.specs.Fields.{entry_in, shape_of, or_else, entry_named, type_named, is_object, is_interface, is_composite, is_leaf, is_input}
+use Rattle.graphql_spec.specs.Fields.{interfaces_of, members_of, fields_of, accepts, leaf_accepts, accepts_kind}
+use Rattle.graphql_spec.specs.Executable.{values_of, input_fields_of, names_differ, input_names_differ, is_value_name, shape_fields, is_filled, is_reserved}
+use Rattle.graphql_spec.specs.Executable.{entry_is_named, entries_are_named, mutation_is_apart, roots_are_objects, ends_in_output, ends_in_input}
+use Rattle.graphql_spec.specs.Executable.{field_is_known, types_are_known, entry_names_differ, all_names_differ, implements, interfaces_are_met, defaults_fit}
+use Rattle.graphql_spec.specs.Executable.{accepts_just, scalar_if_there, built_ins_are_right, is_executable}
 use Rattle.graphql_spec.specs.Executable as ex
 use Rattle.graphql_spec.specs.Laws.{In}
 use Rattle.graphql_spec.proofs.Lists.{same_true, same_refl}

@@ -7,12 +7,18 @@ use Rattle.std.proofs.lemmas.Option.{none-some, same_Some}
 use Rattle.std.proofs.Common.{refl, sym, ap, ap₂, ◌∙◌, inl, inr, subst}
 use Rattle.graphql_spec.specs.Shown.{Name}
 use Rattle.graphql_spec.specs.Types.{TypeRef, named, list_of, innermost}
-use Rattle.graphql_spec.specs.Inputs.{Input, null, scalar, enumerated, variable, list, object, InputItems, no_items, item, InputFields, no_fields, input_field, is_const, count_items}
+use Rattle.graphql_spec.specs.Inputs.{Input, null, scalar, enumerated, variable, list, object, InputItems, no_items, item, InputFields, no_fields, input_field}
+use Rattle.graphql_spec.specs.Inputs.{is_const, count_items}
 use Rattle.graphql_spec.specs.Schema.{Schema, Entry, Shape, FieldDeclaration, InputDeclaration}
-use Rattle.graphql_spec.specs.Fields.{entry_in, shape_of, or_else, entry_named, type_named, is_object, is_leaf, is_composite, is_input, interfaces_of, is_named_subtype, is_subtype, declaration_in, field_in}
-use Rattle.graphql_spec.specs.Fits.{size_met, through, scalar_fits, enum_fits, input_object_fits, all_written, fits_declared, has_field, fits, all_fit, fields_fit}
+use Rattle.graphql_spec.specs.Fields.{entry_in, shape_of, or_else, entry_named, type_named, is_object, is_leaf, is_composite, is_input, interfaces_of}
+use Rattle.graphql_spec.specs.Fields.{is_named_subtype, is_subtype, declaration_in, field_in}
+use Rattle.graphql_spec.specs.Fits.{size_met, through, scalar_fits, enum_fits, input_object_fits, all_written, fits_declared, has_field, fits, all_fit}
+use Rattle.graphql_spec.specs.Fits.{fields_fit}
 use Rattle.graphql_spec.specs.BuiltIns.{introspection_types}
-use Rattle.graphql_spec.specs.Executable.{names_differ, shape_fields, input_fields_of, entry_is_named, entries_are_named, mutation_is_apart, roots_are_objects, ends_in_output, ends_in_input, field_is_known, types_are_known, entry_names_differ, all_names_differ, implements_field, implements, interfaces_are_met, default_is_right, defaults_fit, built_ins_are_right, is_executable, IsSameSchema, OrderIsOpen}
+use Rattle.graphql_spec.specs.Executable.{names_differ, shape_fields, input_fields_of, entry_is_named, entries_are_named, mutation_is_apart, roots_are_objects}
+use Rattle.graphql_spec.specs.Executable.{ends_in_output, ends_in_input, field_is_known, types_are_known, entry_names_differ, all_names_differ}
+use Rattle.graphql_spec.specs.Executable.{implements_field, implements, interfaces_are_met, default_is_right, defaults_fit, built_ins_are_right, is_executable}
+use Rattle.graphql_spec.specs.Executable.{IsSameSchema, OrderIsOpen}
 use Rattle.graphql_spec.proofs.Lists.{same_true, same_refl}
 
 -- ## Entries in another order

@@ -3,7 +3,8 @@ use Rattle.std.specs.Prelude.{true, false, ◌&&◌, ◌≡◌}
 use Rattle.std.specs.Str.{bytes_eq}
 use Rattle.std.proofs.lemmas.Bool.{both_ways, and_parts}
 use Rattle.std.proofs.Common.{refl, ap, ◌∙◌}
-use Rattle.graphql_spec.specs.Constants.{Constant, null, scalar, enumerated, variable, list, object, Constants, no_constants, constant, Members, no_members, member, same_constant, same_constants, same_members}
+use Rattle.graphql_spec.specs.Constants.{Constant, null, scalar, enumerated, variable, list, object, Constants, no_constants, constant, Members, no_members}
+use Rattle.graphql_spec.specs.Constants.{member, same_constant, same_constants, same_members}
 use Rattle.graphql_spec.proofs.Equality.{same_shown-true}
 use Rattle.graphql_spec.proofs.Lists.{same_true}
 

@@ -19,7 +19,8 @@ use Rattle.graphql_spec.specs.Mutation.{Mutation, Run, after_key, step_of, run, 
 use Rattle.graphql_spec.specs.Outcomes.{Steps}
 use Rattle.graphql_spec.specs.SeenNodes.{map_tree, map_reply}
 use Rattle.graphql_spec.specs.SeenServices.{seen_steps, mutation_of}
-use Rattle.graphql_spec.proofs.SeenNodes.{Selects, selects-key, selects-below, finish-seen, grouped-seen, reply_faults-seen, failures-seen, reply_standing-seen, nulls-seen}
+use Rattle.graphql_spec.proofs.SeenNodes.{Selects, selects-key, selects-below, finish-seen, grouped-seen, reply_faults-seen, failures-seen, reply_standing-seen}
+use Rattle.graphql_spec.proofs.SeenNodes.{nulls-seen}
 
 module _ {C M N : Type 0} (s : Schema) (vars : Variables) (h : M → N) (concrete : C → M → Name) (answer : C → M → Name → Members → Reply M)
     (concrete' : C → N → Name) (answer' : C → N → Name → Members → Reply N) (same_type : (c : C) (m : M) → concrete c m ≡ concrete' c (h m))

@@ -16,7 +16,8 @@ use Rattle.graphql_spec.specs.Nulls.{null_or}
 use Rattle.graphql_spec.specs.Mutation.{Mutation, Run, run, run_nulls, data_of_run, IsLeft}
 use Rattle.graphql_spec.specs.Walk.{IsAnswer, IsMutationAnswerFor}
 use Rattle.graphql_spec.specs.Requests.{Outcome, of_document, runs, selected}
-use Rattle.graphql_spec.specs.Outcomes.{Request, Response, Service, Steps, refuses, responds, out_of_memory, Becomes, IsQueryAnswer, IsExecuted, IsOutcome, IsOutcomeOf}
+use Rattle.graphql_spec.specs.Outcomes.{Request, Response, Service, Steps, refuses, responds, out_of_memory, Becomes, IsQueryAnswer, IsExecuted, IsOutcome}
+use Rattle.graphql_spec.specs.Outcomes.{IsOutcomeOf}
 use Rattle.graphql_spec.specs.SeenNodes.{map_reply, selects_only, IsSameRun}
 use Rattle.graphql_spec.specs.SeenServices.{seen_steps, mutation_of, service, SeenOutcomes}
 use Rattle.graphql_spec.specs.Introspection.{user, root as top_node, rooted_concrete, rooted_answer, rooted_world, rooted_service}

@@ -10,7 +10,8 @@ use Rattle.graphql_spec.specs.Shown.{Name, Shown, shown-set}
 use Rattle.graphql_spec.specs.Positions.{Span}
 use Rattle.graphql_spec.specs.Types.{TypeRef, type-set}
 use Rattle.graphql_spec.specs.Inputs.{Input, input-set}
-use Rattle.graphql_spec.specs.Schema.{ScalarKinds, Deprecation, InputDeclaration, FieldDeclaration, EnumValue, Shape, Entry, DirectiveDeclaration, deprecation-set, shape-set}
+use Rattle.graphql_spec.specs.Schema.{ScalarKinds, Deprecation, InputDeclaration, FieldDeclaration, EnumValue, Shape, Entry, DirectiveDeclaration}
+use Rattle.graphql_spec.specs.Schema.{deprecation-set, shape-set}
 
 booleans : IsSet Bool
 booleans = hedberg Bool-discrete

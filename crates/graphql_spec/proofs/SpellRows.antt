@@ -5,7 +5,8 @@ use Rattle.graphql_spec.specs.Shown.{boolean}
 use Rattle.graphql_spec.specs.Positions.{Position, beginning, next_line, continues_character, past_byte, walk}
 use Rattle.graphql_spec.specs.Inputs.{scalar}
 use Rattle.graphql_spec.specs.Documents.{Argument, Directive, Head, query, Document, operation, field, end}
-use Rattle.graphql_spec.specs.Tokens.{Token, mark, name, IsText, starts_name, continues_name, is_name, ends_before, is_mark, mark_text, is_nil, is_blank, is_line_end, is_source_byte, ignore_byte, is_ignored}
+use Rattle.graphql_spec.specs.Tokens.{Token, mark, name, IsText, starts_name, continues_name, is_name, ends_before, is_mark, mark_text, is_nil, is_blank}
+use Rattle.graphql_spec.specs.Tokens.{is_line_end, is_source_byte, ignore_byte, is_ignored}
 use Rattle.graphql_spec.specs.Grammar.{At, IsArgument, IsDirective, IsField, AreSelections, Spells, IsDerived, begin_of, span_of, boolean_word, is_end}
 use Rattle.graphql_spec.proofs.Demo.{at, span, word}
 

@@ -7,12 +7,18 @@ use Rattle.graphql_spec.specs.Shown.{Name, int, text, boolean}
 use Rattle.graphql_spec.specs.Positions.{Span, Spanned, Spot, walk, beginning, origin}
 use Rattle.graphql_spec.specs.Types.{TypeRef, named, list_of, innermost}
 use Rattle.graphql_spec.specs.Inputs.{Input, null, scalar, enumerated, variable, list, object, InputItems, no_items, item, InputFields, no_fields, input_field}
-use Rattle.graphql_spec.specs.Documents.{Word, Argument, Arguments, Directive, Head, Spread, Inline, Selections, end, field, spread, inline, VariableDefinition, Operation, Fragment, Definition, operation, fragment, Document, written, variables_of}
+use Rattle.graphql_spec.specs.Documents.{Word, Argument, Arguments, Directive, Head, Spread, Inline, Selections, end, field, spread, inline, VariableDefinition}
+use Rattle.graphql_spec.specs.Documents.{Operation, Fragment, Definition, operation, fragment, Document, written, variables_of}
 use Rattle.graphql_spec.specs.Tokens as token
 use Rattle.graphql_spec.specs.Tokens.{Lexeme, Token, IsText, IsToken, is_name, dots}
-use Rattle.graphql_spec.specs.Grammar.{At, Takes, Mark, Keyword, IsWord, Opt, Many, Between, true_word, false_word, null_word, on_word, boolean_word, IsEnumName, IsValue, AreItems, AreFields, Bang, IsType, IsArgument, IsArguments, IsDirective, AreDirectives, Set, OptSet, Alias, IsField, IsSpread, TypeCondition, IsInline, AreSelections, Default, IsVariable, AreVariables, kind_word, IsOperation, IsFragment, IsDefinition, most_brackets, Spells}
+use Rattle.graphql_spec.specs.Grammar.{At, Takes, Mark, Keyword, IsWord, Opt, Many, Between, true_word, false_word, null_word, on_word, boolean_word}
+use Rattle.graphql_spec.specs.Grammar.{IsEnumName, IsValue, AreItems, AreFields, Bang, IsType, IsArgument, IsArguments, IsDirective, AreDirectives, Set, OptSet}
+use Rattle.graphql_spec.specs.Grammar.{Alias, IsField, IsSpread, TypeCondition, IsInline, AreSelections, Default, IsVariable, AreVariables, kind_word}
+use Rattle.graphql_spec.specs.Grammar.{IsOperation, IsFragment, IsDefinition, most_brackets, Spells}
 use Rattle.graphql_spec.specs.WellFormed.{is_enum_name, is_named, items_are_named, fields_are_named}
-use Rattle.graphql_spec.specs.WellFormedDocuments.{is_none_or, word_is_named, is_fragment_name, argument_is_named, arguments_are_named, directive_is_named, directives_are_named, head_is_named, spread_is_named, inline_is_named, selections_are_named, type_is_named, variable_is_named, operation_is_named, fragment_is_named, definition_is_named, document_is_named}
+use Rattle.graphql_spec.specs.WellFormedDocuments.{is_none_or, word_is_named, is_fragment_name, argument_is_named, arguments_are_named, directive_is_named}
+use Rattle.graphql_spec.specs.WellFormedDocuments.{directives_are_named, head_is_named, spread_is_named, inline_is_named, selections_are_named, type_is_named}
+use Rattle.graphql_spec.specs.WellFormedDocuments.{variable_is_named, operation_is_named, fragment_is_named, definition_is_named, document_is_named}
 use Rattle.graphql_spec.proofs.Lists.{same_or}
 
 pub both : {x y : Bool} → x ≡ true → y ≡ true → (x && y) ≡ true

@@ -5,10 +5,14 @@ use Rattle.std.proofs.Common.{refl, inl, inr}
 use Rattle.graphql_spec.specs.Positions.{Spanned, origin}
 use Rattle.graphql_spec.specs.Types.{TypeRef, named, list_of}
 use Rattle.graphql_spec.specs.Inputs.{Input, null, scalar, enumerated, variable, list, object, InputItems, no_items, item, InputFields, no_fields, input_field}
-use Rattle.graphql_spec.specs.Documents.{Argument, Arguments, Directive, Selections, end, field, spread, inline, VariableDefinition, Operation, Fragment, Definition, operation, fragment, Document}
-use Rattle.graphql_spec.specs.Grammar.{At, Opt, Many, Between, IsValue, AreItems, AreFields, IsType, IsArgument, IsArguments, IsDirective, AreDirectives, Set, OptSet, AreSelections, Default, IsVariable, AreVariables, IsOperation, IsFragment, IsDefinition, most_brackets, Spells}
+use Rattle.graphql_spec.specs.Documents.{Argument, Arguments, Directive, Selections, end, field, spread, inline, VariableDefinition, Operation, Fragment}
+use Rattle.graphql_spec.specs.Documents.{Definition, operation, fragment, Document}
+use Rattle.graphql_spec.specs.Grammar.{At, Opt, Many, Between, IsValue, AreItems, AreFields, IsType, IsArgument, IsArguments, IsDirective, AreDirectives, Set}
+use Rattle.graphql_spec.specs.Grammar.{OptSet, AreSelections, Default, IsVariable, AreVariables, IsOperation, IsFragment, IsDefinition, most_brackets, Spells}
 use Rattle.graphql_spec.specs.WellFormed.{nests, items_nest, fields_nest}
-use Rattle.graphql_spec.specs.WellFormedDocuments.{is_none_or, nests_inside, argument_nests, arguments_nest, directive_nests, directives_nest, head_nests, in_set, selections_nest, type_nests, variable_nests, variables_nest, set_nests, operation_nests, fragment_nests, definition_nests, document_nests}
+use Rattle.graphql_spec.specs.WellFormedDocuments.{is_none_or, nests_inside, argument_nests, arguments_nest, directive_nests, directives_nest, head_nests}
+use Rattle.graphql_spec.specs.WellFormedDocuments.{in_set, selections_nest, type_nests, variable_nests, variables_nest, set_nests, operation_nests}
+use Rattle.graphql_spec.specs.WellFormedDocuments.{fragment_nests, definition_nests, document_nests}
 use Rattle.graphql_spec.proofs.SpelledNames.{both}
 
 -- ## What every rule is made of

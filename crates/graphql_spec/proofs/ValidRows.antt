@@ -21,7 +21,8 @@ use Rattle.graphql_spec.specs.Laws.{Agree, Merges}
 use Rattle.graphql_spec.specs.Rules.{at_each, name_errors, rule_errors}
 use Rattle.graphql_spec.specs.Requests.{runs, of_document, selected}
 use Rattle.graphql_spec.specs.ValidityLaws.{PlacedSet, sets_below, sets_from, sets_in, AreDeclared}
-use Rattle.graphql_spec.proofs.Demo.{at, span, word, leaf_field, set_field, as_field, given_field, on, spread_of, fragment_on, demo, Node, root, droid, concrete_of, answer_of}
+use Rattle.graphql_spec.proofs.Demo.{at, span, word, leaf_field, set_field, as_field, given_field, on, spread_of, fragment_on, demo, Node, root, droid}
+use Rattle.graphql_spec.proofs.Demo.{concrete_of, answer_of}
 use Rattle.graphql_spec.proofs.Rows.{answer, outcome}
 use Rattle.graphql_spec.proofs.ValidRuns.{runs_agree, runs_join, runs_join_below}
 

@@ -17,7 +17,9 @@ use Rattle.std.specs.Str.{bytes_eq}
 use Rattle.graphql_spec.specs.Resolvers.{World, world_of}
 use Rattle.graphql_spec.specs.Execution.{value_of}
 use Rattle.graphql_spec.specs.Rules.{RuleError, rule_errors}
-use Rattle.graphql_spec.specs.Requests.{Choice, chosen, many, unknown, is_named, choose_named, choose_only, choose, coerced_variables, variable_errors, first_not_constant, Outcome, refused, runs, of_kind, if_constant, if_valid, of_operation, of_choice, of_document, selected}
+use Rattle.graphql_spec.specs.Requests.{Choice, chosen, many, unknown, is_named, choose_named, choose_only, choose, coerced_variables, variable_errors}
+use Rattle.graphql_spec.specs.Requests.{first_not_constant, Outcome, refused, runs, of_kind, if_constant, if_valid, of_operation, of_choice, of_document}
+use Rattle.graphql_spec.specs.Requests.{selected}
 use Rattle.graphql_spec.specs.Selections.{Occurrence, chain, occurrences}
 use Rattle.graphql_spec.specs.Laws.{In, Agree, Merges}
 use Rattle.graphql_spec.specs.ValidityLaws.{IsValidDocument, RootsAreObjects, RunsAreValid, RunsAgree, RunsJoin, JoinBelow, RunsJoinBelow}

@@ -8,11 +8,13 @@ use Rattle.std.proofs.lemmas.List.Folds.{list_any-append}
 use Rattle.std.proofs.Common.{refl, sym, ap, ◌∙◌, inl, inr, subst}
 use Rattle.graphql_spec.specs.Shown.{Name}
 use Rattle.graphql_spec.specs.Types.{innermost}
-use Rattle.graphql_spec.specs.Documents.{Word, Argument, Head, Selections, end, field, spread, inline, Operation, Definition, operation, fragment, Document, fragments, Fragment, written, name_or, word_name}
+use Rattle.graphql_spec.specs.Documents.{Word, Argument, Head, Selections, end, field, spread, inline, Operation, Definition, operation, fragment, Document}
+use Rattle.graphql_spec.specs.Documents.{fragments, Fragment, written, name_or, word_name}
 use Rattle.graphql_spec.specs.Fragments.{expand}
 use Rattle.graphql_spec.specs.Schema.{Schema, FieldDeclaration}
 use Rattle.graphql_spec.specs.Fields.{type_named, is_composite, field_of, declared_type}
-use Rattle.graphql_spec.specs.Written.{heads, conditions, selections_of, defined_variables, all_directives, all_conditions, argument_lists, default_values, values_in, repeats, field_repeats, has_argument, arguments_repeat}
+use Rattle.graphql_spec.specs.Written.{heads, conditions, selections_of, defined_variables, all_directives, all_conditions, argument_lists, default_values}
+use Rattle.graphql_spec.specs.Written.{values_in, repeats, field_repeats, has_argument, arguments_repeat}
 use Rattle.graphql_spec.specs.Placed.{Placed, if_declared, if_composite, placed, root_type, placed_in}
 use Rattle.graphql_spec.specs.Merging.{set_merges, sets_merge, definition_merges}
 use Rattle.graphql_spec.specs.Rules.{repeats_argument, repeats_input_field, has_other_condition, has_unknown_field, cannot_merge}

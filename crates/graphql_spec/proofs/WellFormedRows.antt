@@ -5,10 +5,16 @@ use Rattle.std.proofs.Common.{refl}
 use Rattle.graphql_spec.specs.Shown.{Name, Text, int}
 use Rattle.graphql_spec.specs.Types.{TypeRef, named, list_of, innermost}
 use Rattle.graphql_spec.specs.Inputs.{Input, null, scalar, enumerated, variable, list, object, no_items, item, no_fields, input_field}
-use Rattle.graphql_spec.specs.Documents.{Argument, Arguments, Directive, Selections, end, field, spread, inline, VariableDefinition, query, operation, fragment, Document, written, variables_of}
+use Rattle.graphql_spec.specs.Documents.{Argument, Arguments, Directive, Selections, end, field, spread, inline, VariableDefinition, query, operation, fragment}
+use Rattle.graphql_spec.specs.Documents.{Document, written, variables_of}
 use Rattle.graphql_spec.specs.Tokens.{starts_name, continues_name, is_name}
 use Rattle.graphql_spec.specs.WellFormed.{is_enum_name, is_named, items_are_named, fields_are_named, nests, items_nest, fields_nest}
-use Rattle.graphql_spec.specs.WellFormedDocuments.{is_none_or, word_is_named, is_fragment_name, argument_is_named, arguments_are_named, directive_is_named, directives_are_named, head_is_named, spread_is_named, inline_is_named, selections_are_named, type_is_named, variable_is_named, operation_is_named, fragment_is_named, definition_is_named, document_is_named, nests_inside, argument_nests, arguments_nest, directive_nests, directives_nest, head_nests, in_set, selections_nest, type_nests, variable_nests, variables_nest, set_nests, operation_nests, fragment_nests, definition_nests, document_nests}
+use Rattle.graphql_spec.specs.WellFormedDocuments.{is_none_or, word_is_named, is_fragment_name, argument_is_named, arguments_are_named, directive_is_named}
+use Rattle.graphql_spec.specs.WellFormedDocuments.{directives_are_named, head_is_named, spread_is_named, inline_is_named, selections_are_named, type_is_named}
+use Rattle.graphql_spec.specs.WellFormedDocuments.{variable_is_named, operation_is_named, fragment_is_named, definition_is_named, document_is_named}
+use Rattle.graphql_spec.specs.WellFormedDocuments.{nests_inside, argument_nests, arguments_nest, directive_nests, directives_nest, head_nests, in_set}
+use Rattle.graphql_spec.specs.WellFormedDocuments.{selections_nest, type_nests, variable_nests, variables_nest, set_nests, operation_nests, fragment_nests}
+use Rattle.graphql_spec.specs.WellFormedDocuments.{definition_nests, document_nests}
 use Rattle.graphql_spec.proofs.Demo.{span, word, here, leaf_field, set_field}
 
 -- ## Names

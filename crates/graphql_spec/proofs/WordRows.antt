@@ -5,7 +5,9 @@ use Rattle.std.specs.Str.{bytes_eq}
 use Rattle.std.proofs.Common.{refl}
 use Rattle.graphql_spec.specs.Shown.{Text, int, text, boolean}
 use Rattle.graphql_spec.specs.Positions.{beginning, next_line, continues_character, past_byte, walk}
-use Rattle.graphql_spec.specs.Tokens.{mark, name, int as int_token, string, IsToken, is_name, starts_name, continues_name, ends_before, is_digits, is_int, continues_int, is_quote, decode_from, decoded_string, mark_text, is_mark, is_blank, is_line_end, is_source_byte, is_nil, between, ignore_byte, is_ignored}
+use Rattle.graphql_spec.specs.Tokens.{mark, name, int as int_token, string, IsToken, is_name, starts_name, continues_name, ends_before, is_digits, is_int}
+use Rattle.graphql_spec.specs.Tokens.{continues_int, is_quote, decode_from, decoded_string, mark_text, is_mark, is_blank, is_line_end, is_source_byte, is_nil}
+use Rattle.graphql_spec.specs.Tokens.{between, ignore_byte, is_ignored}
 use Rattle.graphql_spec.specs.Inputs as i
 use Rattle.graphql_spec.specs.Inputs.{Input, Variables}
 use Rattle.graphql_spec.specs.Documents.{Directive}

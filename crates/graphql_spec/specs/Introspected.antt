@@ -5,7 +5,8 @@ use Rattle.std.specs.Option.{option_and_then}
 use Rattle.std.specs.Str.{bytes_eq}
 use Rattle.graphql_spec.specs.Shown.{Text, Name}
 use Rattle.graphql_spec.specs.Types.{TypeRef, named, list_of}
-use Rattle.graphql_spec.specs.Schema.{Deprecation, current, deprecated, InputDeclaration, FieldDeclaration, EnumValue, Shape, scalar_type, enum_type, object_type, interface_type, union_type, input_object_type, Entry, Schema}
+use Rattle.graphql_spec.specs.Schema.{Deprecation, current, deprecated, InputDeclaration, FieldDeclaration, EnumValue, Shape, scalar_type, enum_type}
+use Rattle.graphql_spec.specs.Schema.{object_type, interface_type, union_type, input_object_type, Entry, Schema}
 use Rattle.graphql_spec.specs.BuiltIns.{introspection_types}
 use Rattle.graphql_spec.specs.Fields.{entry_in, shape_of, or_else, is_object, interfaces_of}
 use Rattle.graphql_spec.specs.Executable.{is_reserved}

@@ -18,7 +18,8 @@ use Rattle.graphql_spec.specs.Rules.{is_introspection}
 use Rattle.graphql_spec.specs.SeenNodes.{map_tree, map_reply}
 use Rattle.graphql_spec.specs.SeenServices.{seen_steps}
 use Rattle.graphql_spec.specs.TypeList.{type_list}
-use Rattle.graphql_spec.specs.Introspected.{is_deprecated, reason_of, own_name, of_type, declaration_of, declared_as, kind_of, description_of, url_of, listed_fields, listed_interfaces, possible_types, listed_values, listed_inputs}
+use Rattle.graphql_spec.specs.Introspected.{is_deprecated, reason_of, own_name, of_type, declaration_of, declared_as, kind_of, description_of, url_of}
+use Rattle.graphql_spec.specs.Introspected.{listed_fields, listed_interfaces, possible_types, listed_values, listed_inputs}
 
 -- what stands for an object of introspection (4.2)
 pub data Introspected : Type 0 where

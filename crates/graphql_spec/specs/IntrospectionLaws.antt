@@ -28,7 +28,8 @@ use Rattle.graphql_spec.specs.Outcomes.{IsOutcome, Request, Response, Service, S
 use Rattle.graphql_spec.specs.SeenServices.{mutation_of, seen_steps}
 use Rattle.graphql_spec.specs.SeenNodes.{map_reply, selects_only, IsSameRun}
 use Rattle.graphql_spec.specs.Introspected.{declaration_of, declared_kind}
-use Rattle.graphql_spec.specs.Introspection.{Introspected, RootedNode, directive_node, field_node, input_node, introspect, introspected, introspection_type, root, rooted_answer, rooted_concrete, rooted_service, rooted_world, schema_node, type_node, user, value_node}
+use Rattle.graphql_spec.specs.Introspection.{Introspected, RootedNode, directive_node, field_node, input_node, introspect, introspected, introspection_type}
+use Rattle.graphql_spec.specs.Introspection.{root, rooted_answer, rooted_concrete, rooted_service, rooted_world, schema_node, type_node, user, value_node}
 
 -- ## Users' nodes
 

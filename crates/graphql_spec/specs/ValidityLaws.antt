@@ -5,7 +5,8 @@ use Rattle.graphql_spec.specs.Shown.{Name}
 use Rattle.graphql_spec.specs.Types.{named, innermost}
 use Rattle.graphql_spec.specs.Inputs.{Variables}
 use Rattle.graphql_spec.specs.Constants.{Members}
-use Rattle.graphql_spec.specs.Documents.{Directive, Selections, end, field, spread, inline, OperationType, Operation, Definition, operation, fragment, Document, fragments, name_or, response_key}
+use Rattle.graphql_spec.specs.Documents.{Directive, Selections, end, field, spread, inline, OperationType, Operation, Definition, operation, fragment, Document}
+use Rattle.graphql_spec.specs.Documents.{fragments, name_or, response_key}
 use Rattle.graphql_spec.specs.Fragments.{fragment_of, plain, filled, expand, spreads, HasNoCycle}
 use Rattle.graphql_spec.specs.Schema.{Schema}
 use Rattle.graphql_spec.specs.Fields.{field_of, declared_type, is_possible}

@@ -9,7 +9,8 @@ use Rattle.graphql_spec.specs.Types.{TypeRef, named, list_of, innermost}
 use Rattle.graphql_spec.specs.Tokens.{is_name}
 use Rattle.graphql_spec.specs.Grammar.{on_word}
 use Rattle.graphql_spec.specs.WellFormed.{is_named, nests}
-use Rattle.graphql_spec.specs.Documents.{Word, Argument, Arguments, Directive, Head, Spread, Inline, Selections, end, field, spread, inline, VariableDefinition, Operation, Fragment, Definition, operation, fragment, Document, written, variables_of}
+use Rattle.graphql_spec.specs.Documents.{Word, Argument, Arguments, Directive, Head, Spread, Inline, Selections, end, field, spread, inline, VariableDefinition}
+use Rattle.graphql_spec.specs.Documents.{Operation, Fragment, Definition, operation, fragment, Document, written, variables_of}
 
 -- what is there passes the test
 unfoldable pub is_none_or : {A : Type 0} → (A → Bool) → Option A → Bool

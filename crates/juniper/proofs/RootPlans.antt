@@ -77,7 +77,8 @@ module _ {C N S : Type 0} (M : Mutation C N) (pick : List Position → List Posi
       record {
         low = omega arith;
         standing = standing-elsewhere shown d (collector_in shown w) f v (asks_in shown w s) (is_possible s) q made.standing;
-        stands = subst (λ x. StandsFor shown (collector_in shown w) (asks_in shown w s) w.concrete.now q r (occurrences (is_possible s) w.concrete.now x)) expanded
+        stands = subst (λ x. StandsFor shown (collector_in shown w) (asks_in shown w s) w.concrete.now q r (occurrences (is_possible s) w.concrete.now x))
+            expanded
             (stands-elsewhere shown d (collector_in shown w) f v (asks_in shown w s) w.concrete.now q r _ made.stands);
         ran = subst (λ (n : ℕ). HasRun whole pick M w.concrete.now (take n (keys os)) os c (object es) errors c)
             {x = 0} {y = r.first.0 - r.first.0} (omega arith) (rw (a, b) (none-ran M w.concrete.now whole pick os c));
@@ -119,9 +120,11 @@ module _ {C N S : Type 0} (M : Mutation C N) (pick : List Position → List Posi
           record {
             low = omega (arith, low);
             standing = grown.standing;
-            stands = stands-still shown (collector_in shown w) (asks_in shown w s) w.concrete.now p q r os at.standing.within at.standing.asked grown.grown at.stands;
+            stands = stands-still shown (collector_in shown w) (asks_in shown w s) w.concrete.now p q r os at.standing.within at.standing.asked grown.grown
+                at.stands;
             ran = subst (λ l. HasRun whole pick M w.concrete.now l os c (object put_in) listed after)
-                (sym (round-next shown (collector_in shown w) (asks_in shown w s) (is_possible s) p p w.concrete.now r os at.standing at.stands step i at.low high))
+                (sym (round-next shown (collector_in shown w) (asks_in shown w s) (is_possible s) p p w.concrete.now r os at.standing at.stands step i at.low
+                high))
                 (subst (λ z. HasRun whole pick M w.concrete.now (done ++ k ∷ []) os c (object z) listed after) (sym g.puts)
                 (subst (λ z. HasRun whole pick M w.concrete.now (done ++ k ∷ []) os c (object (put k g.value es)) z after) (sym g.lists)
                 (subst (λ z. HasRun whole pick M w.concrete.now (done ++ k ∷ []) os c (object (put k g.value es)) (errors ++ g.more) z)

@@ -32,7 +32,8 @@ module _ {C N : Type 0} (M : Mutation C N) (T : Name) where
   IsLeftOf s c after = IsLeft M T (keys (root_fields M T s c)) (root_fields M T s c) c after
 
   -- a group took its step, its reply was completed under the context that the step left, and its value put in, unless its null rises
-  pub record GroupRan (pick : List Position → List Position) (k : Name) (os : List Occurrence) (before : C) (entries : Entries) (errors : List Listed) (rises : Bool) (put_in : Entries)
+  pub record GroupRan (pick : List Position → List Position) (k : Name) (os : List Occurrence) (before : C) (entries : Entries) (errors : List Listed)
+      (rises : Bool) (put_in : Entries)
       (listed : List Listed) (after : C) : Type 0 where
     pub value : Value
     pub more : List Listed

@@ -7,7 +7,8 @@ ghost use Rattle.juniper_position.specs.RuleView.{view_rule_error};
 ghost use Rattle.juniper_syntax.specs.Scalars.{default_shown};
 ghost use Rattle.juniper_schema.specs.SchemaView.{view_schema};
 ghost use Rattle.graphql_spec.specs.Executable.{is_executable};
-ghost use Rattle.juniper_bench_tasks.specs.Answers.{IsAnswerTo, IsListFor, IsListed, IsScanOf, IsTestOf, counts_line, executable_word, list_line, refusal_line, schema_line};
+ghost use Rattle.juniper_bench_tasks.specs.Answers.{IsAnswerTo, IsListFor, IsListed, IsScanOf, IsTestOf, counts_line, executable_word, list_line, refusal_line};
+ghost use Rattle.juniper_bench_tasks.specs.Answers.{schema_line};
 ghost use Rattle.juniper_bench_tasks.specs.Counts.{capped, fields_of};
 
 use crate::count::count_fields;

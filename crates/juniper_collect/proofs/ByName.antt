@@ -1,5 +1,6 @@
 -- Maps of fragments by name: one definition after the other, from the last, so that the first of each name stays.
-use Rattle.std.proofs.Common.{◌≡◌, ℕ, ◌+◌, ◌<◌, ◌≤◌, Bool, true, false, cond, List, [], ◌∷◌, length, get_or, drop, map, Option, Some, None, option_map, is_some, Bor, refl, sym, ap, ◌∙◌, ◌-◌, arith}
+use Rattle.std.proofs.Common.{◌≡◌, ℕ, ◌+◌, ◌<◌, ◌≤◌, Bool, true, false, cond, List, [], ◌∷◌, length, get_or, drop, map, Option, Some, None, option_map, is_some}
+use Rattle.std.proofs.Common.{Bor, refl, sym, ap, ◌∙◌, ◌-◌, arith}
 use Rattle.std.specs.Option.{option_or}
 use Rattle.std.specs.BTreeMap.{BTreeMap, get_by}
 use Rattle.std.specs.Map.{lookup, update}

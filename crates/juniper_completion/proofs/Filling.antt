@@ -9,7 +9,8 @@ use Rattle.graphql_spec.specs.Errors.{Place, index, Listed}
 use Rattle.graphql_spec.specs.Resolvers.{World, Tree, nothing, leaf, items, node, Trees, no_trees, tree, Reply, answered, failed}
 use Rattle.graphql_spec.specs.Execution.{complete, complete_all, finish, whole_list}
 use Rattle.graphql_spec.specs.Failures.{Failure, landing}
-use Rattle.juniper_completion.specs.Skeletons.{Stop, stops, all_stops, reply_stops, skeleton_of, skeletons_of, reply_skeleton, Filled, AllFilled, first_of, fill, fill_all}
+use Rattle.juniper_completion.specs.Skeletons.{Stop, stops, all_stops, reply_stops, skeleton_of, skeletons_of, reply_skeleton, Filled, AllFilled, first_of}
+use Rattle.juniper_completion.specs.Skeletons.{fill, fill_all}
 use Rattle.juniper_completion.specs.CompletionLaws.{AreObjectsOf}
 
 module _ (tell : Place → Place) {N : Type 0} (W : World N) (objects : Name → N → Value) (at : Place → Place → Name → N → List Failure)

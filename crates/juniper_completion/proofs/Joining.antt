@@ -2,7 +2,8 @@
 use Rattle.std.proofs.Common.{◌≡◌, Bool, true, false, cond, bytes_eq, refl, sym, ap, ◌∙◌, inl, inr, subst}
 use Rattle.std.proofs.lemmas.Bool.{cases_Bool, or_parts}
 use Rattle.graphql_spec.specs.Shown.{Name}
-use Rattle.graphql_spec.specs.Values.{Value, object, Entries, no_entries, entry, look_up, has_entry, append, others, joined, join, join_entries, put, keys_differ}
+use Rattle.graphql_spec.specs.Values.{Value, object, Entries, no_entries, entry, look_up, has_entry, append, others, joined, join, join_entries, put}
+use Rattle.graphql_spec.specs.Values.{keys_differ}
 use Rattle.graphql_spec.proofs.Lists.{same_true, same_sym}
 use Rattle.juniper_completion.specs.Walks.{joined_in, KeysStayApart}
 

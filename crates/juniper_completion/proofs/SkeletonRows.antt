@@ -9,7 +9,8 @@ use Rattle.graphql_spec.specs.Errors.{Place, key, index, null_at_non_null, wrong
 use Rattle.graphql_spec.specs.Resolvers.{World, Tree, nothing, items, node, no_trees, tree, answered}
 use Rattle.graphql_spec.specs.Execution.{whole_list}
 use Rattle.graphql_spec.specs.Failures.{landing, faults, reply_faults}
-use Rattle.juniper_completion.specs.Skeletons.{absent, filled, several, hole, no_skeletons, skeleton, skeleton_of, stops, node_spots, error_spots, listed_apart, first_of, fill}
+use Rattle.juniper_completion.specs.Skeletons.{absent, filled, several, hole, no_skeletons, skeleton, skeleton_of, stops, node_spots, error_spots, listed_apart}
+use Rattle.juniper_completion.specs.Skeletons.{first_of, fill}
 
 -- nodes are named by what they stand for: `Hero` is possible at itself alone, and `Int` takes 7 alone
 world : World Name

@@ -12,7 +12,8 @@ use Rattle.graphql_spec.specs.Selections.{Forest, depth, occurrences}
 use Rattle.graphql_spec.specs.Execution.{grouped}
 use Rattle.graphql_spec.specs.Failures.{Failure, failures, landing, faults, all_faults, reply_faults}
 use Rattle.graphql_spec.specs.Nulls.{nulls}
-use Rattle.juniper_completion.specs.Skeletons.{Spot, Stop, stops, all_stops, node_spots, all_node_spots, reply_stops, reply_node_spots, error_spots, all_error_spots, reply_error_spots, listed_apart, listed_spots}
+use Rattle.juniper_completion.specs.Skeletons.{Spot, Stop, stops, all_stops, node_spots, all_node_spots, reply_stops, reply_node_spots, error_spots}
+use Rattle.juniper_completion.specs.Skeletons.{all_error_spots, reply_error_spots, listed_apart, listed_spots}
 use Rattle.juniper_completion.specs.CompletionLaws.{AreObjectsOf}
 use Rattle.juniper_completion.specs.Walks.{AreWalkedAt}
 use Rattle.juniper_completion.proofs.Deepening.{lifted}

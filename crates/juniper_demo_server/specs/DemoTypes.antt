@@ -1,6 +1,7 @@
 -- How the demo's types are declared (3.6, 3.7, 3.9).
 use Rattle.std.specs.Prelude.{pos, codes, List, [], ◌∷◌, ◌++◌}
-use Rattle.juniper.specs.Server.{Declarations, FieldDeclaration, Meta, enum, input_with_default, int, interface, list_type, object, optional, plain_field, plain_input}
+use Rattle.juniper.specs.Server.{Declarations, FieldDeclaration, Meta, enum, input_with_default, int, interface, list_type, object, optional, plain_field}
+use Rattle.juniper.specs.Server.{plain_input}
 use Rattle.juniper.specs.Server.{scalar, type_named}
 
 -- `type Query`

@@ -4,7 +4,8 @@ ghost use Rattle.std.specs.Prelude.{◌≡◌, IfOk, MatchResult, codes, map, op
 ghost use Rattle.juniper_syntax.specs.InputView.{view_variables};
 ghost use Rattle.juniper_syntax.specs.Scalars.{default_shown};
 ghost use Rattle.juniper_variables.specs.Given.{variables_by};
-ghost use Rattle.juniper_demo_server.specs.Answers.{IsAnswerGiven, IsAnswerTo, IsAnswerWith, IsRefusal, IsUsage, MayBeLeftBy, MayLeave, MayLeaveGiven, name_in, no_values, variables_text};
+ghost use Rattle.juniper_demo_server.specs.Answers.{IsAnswerGiven, IsAnswerTo, IsAnswerWith, IsRefusal, IsUsage, MayBeLeftBy, MayLeave, MayLeaveGiven, name_in};
+ghost use Rattle.juniper_demo_server.specs.Answers.{no_values, variables_text};
 
 use crate::demo::DemoContext;
 use crate::outcome::{Answer, show};

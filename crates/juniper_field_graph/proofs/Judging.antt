@@ -5,7 +5,8 @@ use Rattle.std.proofs.lemmas.Bool.{cases_Bool}
 use Rattle.std.proofs.lemmas.List.Folds.{list_all-append}
 use Rattle.graphql_spec.specs.Shown.{Name}
 use Rattle.graphql_spec.specs.Types.{innermost}
-use Rattle.graphql_spec.specs.Documents.{operation, fragment, Definition, Document, Fragment, fragments, Head, Operation, Selections, end, field, spread, inline, name_or}
+use Rattle.graphql_spec.specs.Documents.{operation, fragment, Definition, Document, Fragment, fragments, Head, Operation, Selections, end, field, spread}
+use Rattle.graphql_spec.specs.Documents.{inline, name_or}
 use Rattle.graphql_spec.specs.Schema.{Schema}
 use Rattle.graphql_spec.specs.Fields.{declared_type, field_of}
 use Rattle.graphql_spec.specs.Placed.{root_type}

@@ -11,7 +11,8 @@ use Rattle.graphql_spec.specs.Placed.{root_type}
 use Rattle.graphql_spec.specs.Written.{selections_of}
 use Rattle.juniper_syntax.specs.DocumentView.{view_definition}
 use Rattle.juniper_syntax.specs.declared.ast.Definition.{Definition}
-use Rattle.juniper_field_graph.specs.Gathering.{AreCovered, AreGathered, IsDefinitionGathered, IsListed, IsMore, IsReadyIn, IsSetGatheredAt, Pairwise, sets_if, sets_in}
+use Rattle.juniper_field_graph.specs.Gathering.{AreCovered, AreGathered, IsDefinitionGathered, IsListed, IsMore, IsReadyIn, IsSetGatheredAt, Pairwise, sets_if}
+use Rattle.juniper_field_graph.specs.Gathering.{sets_in}
 use Rattle.juniper_field_graph.specs.GraphView.{IsGraphOf, heads_of, table_in, vertices_of}
 use Rattle.juniper_field_graph.specs.declared.graph.FieldGraph.{FieldGraph}
 use Rattle.juniper_field_graph.proofs.Leading.{covered-more, covered-none}

@@ -30,7 +30,8 @@ module _ {S : Type 0} (shown : S → Shown) (s : Schema) where
         graph = record {
           numbered = subst (λ vs. AreNumbered s vs (heads_of shown new)) (sym same)
               (subst (λ hs. AreNumbered s (vertices_of shown old) (λ i. head_or_none (slice_get hs i))) (sym words) is.numbered);
-          kept = subst (λ vs. AreKept s vs (types_in shown new.fields.items) (written_of shown new) (heads_of shown new) (number_at new.keys) (group_in new.kinds))
+          kept = subst (λ vs. AreKept s vs (types_in shown new.fields.items) (written_of shown new) (heads_of shown new) (number_at new.keys)
+              (group_in new.kinds))
               (sym same)
               (subst (λ k. AreKept s (vertices_of shown old) (types_in shown new.fields.items) (written_of shown new) (heads_of shown new) (number_at new.keys)
               (group_in k)) (sym kinds)

@@ -32,7 +32,8 @@ use Rattle.juniper_field_graph.specs.Gathering.{IsBelowGathered, IsGathered, IsK
 use Rattle.juniper_field_graph.specs.GraphView.{IsGraphOf, IsPushed, heads_of, table_in, vertices_of}
 use Rattle.juniper_field_graph.specs.declared.gathering.Gathered.{Gathered}
 use Rattle.juniper_field_graph.specs.declared.graph.FieldGraph.{FieldGraph}
-use Rattle.juniper_field_graph.proofs.Leading.{covered-end, covered-from, covered-more, leads-field, leads-inline, leads-nothing, leads-spread, leads-then, leads-unknown, leads-whole}
+use Rattle.juniper_field_graph.proofs.Leading.{covered-end, covered-from, covered-more, leads-field, leads-inline, leads-nothing, leads-spread, leads-then}
+use Rattle.juniper_field_graph.proofs.Leading.{leads-unknown, leads-whole}
 use Rattle.juniper_field_graph.proofs.More.{more-further, more-itself, more-made, more-pushed}
 use Rattle.juniper_field_graph.proofs.SetTables.{pairwise-both, pairwise-none, pairwise-one, set-of-more, sets-more}
 use Rattle.juniper_field_graph.proofs.Readiness.{known-held, known-none, ready-field, ready-inline, ready-more, ready-spread}

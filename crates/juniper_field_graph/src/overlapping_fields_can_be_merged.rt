@@ -21,7 +21,8 @@ ghost use Rattle.juniper_schema.specs.SchemaView.{view_schema};
 ghost use Rattle.juniper_spreads.specs.Order.{IsInOrder};
 ghost use Rattle.juniper_spreads.specs.SpreadsView.{AreFragmentsOf};
 ghost use Rattle.juniper_syntax.specs.DocumentView.{view_definition, view_fragment, view_selections};
-ghost use Rattle.juniper_field_graph.specs.Gathering.{AllKnown, AreGathered, AreWritten, IsAnswer, IsDefinitionGathered, IsHeld, IsReadyIn, Pairwise, set_named};
+ghost use Rattle.juniper_field_graph.specs.Gathering.{AllKnown, AreGathered, AreWritten, IsAnswer, IsDefinitionGathered, IsHeld, IsReadyIn, Pairwise};
+ghost use Rattle.juniper_field_graph.specs.Gathering.{set_named};
 ghost use Rattle.juniper_field_graph.specs.GraphView.{IsGraphOf};
 
 use crate::gathering::{Gathered, Known, gather_set};

@@ -9,7 +9,10 @@ use Rattle.graphql_spec.specs.Constants.{Members, no_members, member}
 use Rattle.graphql_spec.specs.Resolvers.{Tree, nothing, items, node, no_trees, tree}
 use Rattle.graphql_spec.specs.TypeList.{type_list}
 use Rattle.graphql_spec.specs.Introspection.{Introspected, type_node}
-use Rattle.juniper_intro.specs.Handles.{of_field, of_directive, by_name, at_field, at_input, Handle, schema_handle, type_handle, field_handle, input_handle, value_handle, directive_handle, numbered, taken_off, called, inputs_at, field_held, input_held, value_held, directive_held, directive_at, shape_at, field_at, value_at, input_at, reference_at, meant, schema_held, type_held, held_answers, held_answer}
+use Rattle.juniper_intro.specs.Handles.{of_field, of_directive, by_name, at_field, at_input, Handle, schema_handle, type_handle, field_handle, input_handle}
+use Rattle.juniper_intro.specs.Handles.{value_handle, directive_handle, numbered, taken_off, called, inputs_at, field_held, input_held, value_held}
+use Rattle.juniper_intro.specs.Handles.{directive_held, directive_at, shape_at, field_at, value_at, input_at, reference_at, meant, schema_held, type_held}
+use Rattle.juniper_intro.specs.Handles.{held_answers, held_answer}
 use Rattle.graphql_spec.proofs.IntrospectionDemo.{must, grid, demo}
 use Rattle.graphql_spec.proofs.IntrospectionRows.{ask_of}
 

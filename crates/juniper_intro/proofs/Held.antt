@@ -1,5 +1,6 @@
 -- Nodes that are held by numbers answer what the nodes that they mean answer.
-use Rattle.std.proofs.Common.{◌≡◌, ◌⊎◌, ◌++◌, ◌+◌, ℕ, suc, Bool, true, false, cond, codes, length, List, [], ◌∷◌, Option, Some, None, get_or, refl, sym, ap, ap₂, ◌∙◌, inl, inr, subst, append_assoc}
+use Rattle.std.proofs.Common.{◌≡◌, ◌⊎◌, ◌++◌, ◌+◌, ℕ, suc, Bool, true, false, cond, codes, length, List, [], ◌∷◌, Option, Some, None, get_or, refl, sym, ap}
+use Rattle.std.proofs.Common.{ap₂, ◌∙◌, inl, inr, subst, append_assoc}
 use Rattle.std.specs.Prelude.{option_map, unwrap_or}
 use Rattle.std.proofs.lemmas.Bool.{cases_Bool}
 use Rattle.std.proofs.lemmas.List.{get_or_at, length-append}
@@ -11,7 +12,8 @@ use Rattle.graphql_spec.specs.Types.{TypeRef, named, list_of}
 use Rattle.graphql_spec.specs.Inputs.{Input}
 use Rattle.graphql_spec.specs.Constants.{Members, find}
 use Rattle.graphql_spec.specs.Display.{display}
-use Rattle.graphql_spec.specs.Schema.{InputDeclaration, FieldDeclaration, EnumValue, DirectiveDeclaration, Shape, scalar_type, enum_type, object_type, interface_type, union_type, input_object_type, list_type, nullable_type, placeholder, Entry, Schema}
+use Rattle.graphql_spec.specs.Schema.{InputDeclaration, FieldDeclaration, EnumValue, DirectiveDeclaration, Shape, scalar_type, enum_type, object_type}
+use Rattle.graphql_spec.specs.Schema.{interface_type, union_type, input_object_type, list_type, nullable_type, placeholder, Entry, Schema}
 use Rattle.graphql_spec.specs.BuiltIns.{value_named, directives}
 use Rattle.graphql_spec.specs.Fields.{shape_of, interfaces_of, members_of}
 use Rattle.graphql_spec.specs.Resolvers.{Tree, nothing, leaf, items, node, Trees, no_trees, tree, Reply, answered, failed}
@@ -20,10 +22,19 @@ use Rattle.graphql_spec.specs.Laws.{In}
 use Rattle.graphql_spec.proofs.Keeping.{options}
 use Rattle.graphql_spec.specs.TypeList.{type_list}
 use Rattle.graphql_spec.specs.SeenNodes.{map_tree, map_trees, map_reply}
-use Rattle.graphql_spec.specs.Introspected.{reason_of, own_name, of_type, declaration_of, declared_as, declared_kind, kind_of, description_of, url_of, lists_field, own_fields, listed_fields, listed_interfaces, implementers, possible_types, lists_value, own_values, listed_values, listed_inputs}
-use Rattle.graphql_spec.specs.Introspection.{Introspected, type_node, field_node, input_node, value_node, directive_node, introspection_type, says, tells, each, all_of, if_any, answer_at, a_type, type_called, an_input, includes_deprecated, schema_answers, type_answers, field_answers, input_answers, value_answers, directive_answers, answers_of, introspect, given_text, type_if_known, root_answers, RootedNode, introspected, user_reply}
+use Rattle.graphql_spec.specs.Introspected.{reason_of, own_name, of_type, declaration_of, declared_as, declared_kind, kind_of, description_of, url_of}
+use Rattle.graphql_spec.specs.Introspected.{lists_field, own_fields, listed_fields, listed_interfaces, implementers, possible_types, lists_value, own_values}
+use Rattle.graphql_spec.specs.Introspected.{listed_values, listed_inputs}
+use Rattle.graphql_spec.specs.Introspection.{Introspected, type_node, field_node, input_node, value_node, directive_node, introspection_type, says, tells, each}
+use Rattle.graphql_spec.specs.Introspection.{all_of, if_any, answer_at, a_type, type_called, an_input, includes_deprecated, schema_answers, type_answers}
+use Rattle.graphql_spec.specs.Introspection.{field_answers, input_answers, value_answers, directive_answers, answers_of, introspect, given_text, type_if_known}
+use Rattle.graphql_spec.specs.Introspection.{root_answers, RootedNode, introspected, user_reply}
 use Rattle.graphql_spec.specs.IntrospectionLaws.{knows, introspection_world}
-use Rattle.juniper_intro.specs.Handles.{InputPlace, of_field, of_input_object, of_directive, TypePlace, Handle, schema_handle, type_handle, field_handle, input_handle, value_handle, directive_handle, handle_type, no_field, no_input, no_directive, numbered, taken_off, shape_at, field_at, value_at, directive_at, input_at, reference_at, meant, called, inputs_at, schema_held, type_held, field_held, input_held, value_held, directive_held, held_answers, held_answer, AllAreNamed, held_world, NumbersServe, root_held, held_user_reply, held_reply, HeldNodesServe}
+use Rattle.juniper_intro.specs.Handles.{InputPlace, of_field, of_input_object, of_directive, TypePlace, Handle, schema_handle, type_handle, field_handle}
+use Rattle.juniper_intro.specs.Handles.{input_handle, value_handle, directive_handle, handle_type, no_field, no_input, no_directive, numbered, taken_off}
+use Rattle.juniper_intro.specs.Handles.{shape_at, field_at, value_at, directive_at, input_at, reference_at, meant, called, inputs_at, schema_held, type_held}
+use Rattle.juniper_intro.specs.Handles.{field_held, input_held, value_held, directive_held, held_answers, held_answer, AllAreNamed, held_world, NumbersServe}
+use Rattle.juniper_intro.specs.Handles.{root_held, held_user_reply, held_reply, HeldNodesServe}
 use Rattle.graphql_spec.proofs.IntrospectionFits.{types-known, implementers-known, declared-speaks}
 use Rattle.graphql_spec.proofs.KnownTypes.{declared-known, Executable, executable, all-in, query-known, mutation-known}
 use Rattle.graphql_spec.proofs.SeenNodes.{selects-any, seen_alike}

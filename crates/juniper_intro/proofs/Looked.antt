@@ -1,5 +1,6 @@
 -- What is looked up in a schema.
-use Rattle.std.proofs.Common.{◌≡◌, ◌+◌, ◌-◌, ◌≤◌, ℕ, zero, suc, true, false, List, [], ◌∷◌, Option, Some, None, get_or, map, unwrap_or, option_map, refl, sym, ap, ◌∙◌, arith, subst}
+use Rattle.std.proofs.Common.{◌≡◌, ◌+◌, ◌-◌, ◌≤◌, ℕ, zero, suc, true, false, List, [], ◌∷◌, Option, Some, None, get_or, map, unwrap_or, option_map, refl, sym}
+use Rattle.std.proofs.Common.{ap, ◌∙◌, arith, subst}
 use Rattle.std.proofs.Math.ListN as lists
 use Rattle.std.specs.Option.{is_some, option_and_then}
 use Rattle.graphql_spec.specs.Executable.{input_fields_of, values_of}
@@ -7,7 +8,8 @@ use Rattle.graphql_spec.specs.Fields.{fields_of, shape_of}
 use Rattle.graphql_spec.specs.Introspected.{declared_as, declared_kind, description_of, kind_of, listed_inputs, of_type, own_fields, own_name, own_values}
 use Rattle.graphql_spec.specs.Introspection.{all_of, each}
 use Rattle.graphql_spec.specs.Resolvers.{Tree, items, tree}
-use Rattle.graphql_spec.specs.Schema.{Entry, Schema, Shape, scalar_type, enum_type, object_type, interface_type, union_type, input_object_type, list_type, nullable_type, placeholder}
+use Rattle.graphql_spec.specs.Schema.{Entry, Schema, Shape, scalar_type, enum_type, object_type, interface_type, union_type, input_object_type, list_type}
+use Rattle.graphql_spec.specs.Schema.{nullable_type, placeholder}
 use Rattle.graphql_spec.specs.Types.{TypeRef, named, list_of}
 use Rattle.juniper_intro.specs.Handles.{taken_off}
 use Rattle.juniper_intro.specs.Kinds.{kind_in}

@@ -1,5 +1,6 @@
 -- Names and their numbers.
-use Rattle.std.proofs.Common.{◌≡◌, ◌++◌, ◌||◌, ℕ, ◌+◌, ◌<◌, Bool, true, false, cond, codes, map, List, [], ◌∷◌, length, take, Option, Some, None, get_or, unwrap_or, String, Global, refl, sym, ap, ◌∙◌, inl, inr, subst, ◌⊎◌}
+use Rattle.std.proofs.Common.{◌≡◌, ◌++◌, ◌||◌, ℕ, ◌+◌, ◌<◌, Bool, true, false, cond, codes, map, List, [], ◌∷◌, length, take, Option, Some, None, get_or}
+use Rattle.std.proofs.Common.{unwrap_or, String, Global, refl, sym, ap, ◌∙◌, inl, inr, subst, ◌⊎◌}
 use Rattle.std.proofs.lemmas.Bool.{cases_Bool}
 use Rattle.std.proofs.lemmas.List.{map-append, take_more}
 use Rattle.std.proofs.lemmas.List.Folds.{list_any-append}

@@ -16,8 +16,11 @@ use Rattle.graphql_spec.specs.Resolvers.{Tree, nothing, node, Reply, answered, W
 use Rattle.graphql_spec.specs.Rules.{is_introspection}
 use Rattle.graphql_spec.specs.TypeList.{type_list}
 use Rattle.graphql_spec.specs.SeenNodes.{map_tree, map_reply, IsSameRun}
-use Rattle.graphql_spec.specs.Introspected.{is_deprecated, reason_of, own_name, of_type, declaration_of, declared_as, kind_of, description_of, url_of, lists_field, own_fields, listed_interfaces, possible_types, lists_value, own_values, listed_inputs}
-use Rattle.graphql_spec.specs.Introspection.{Introspected, schema_node, type_node, field_node, input_node, value_node, directive_node, says, tells, all_of, if_any, answer_at, includes_deprecated, given_text, stands_on, introspect, RootedNode, user, introspected, user_reply}
+use Rattle.graphql_spec.specs.Introspected.{is_deprecated, reason_of, own_name, of_type, declaration_of, declared_as, kind_of, description_of, url_of}
+use Rattle.graphql_spec.specs.Introspected.{lists_field, own_fields, listed_interfaces, possible_types, lists_value, own_values, listed_inputs}
+use Rattle.graphql_spec.specs.Introspection.{Introspected, schema_node, type_node, field_node, input_node, value_node, directive_node, says, tells, all_of}
+use Rattle.graphql_spec.specs.Introspection.{if_any, answer_at, includes_deprecated, given_text, stands_on, introspect, RootedNode, user, introspected}
+use Rattle.graphql_spec.specs.Introspection.{user_reply}
 use Rattle.graphql_spec.specs.IntrospectionLaws.{introspection_world}
 
 -- where an argument or an input field is declared

@@ -43,7 +43,8 @@ where
     M::TypeInfo: Drop,
     Sub::TypeInfo: Drop,
 {
-    ghost use Rattle.juniper_intro.specs.RootView.{info_of, is_disabled, mutation_info_of, mutation_of, resolver_of, schema_of, subscription_info_of, subscription_of};
+    ghost use Rattle.juniper_intro.specs.RootView.{info_of, is_disabled, mutation_info_of, mutation_of, resolver_of, schema_of, subscription_info_of};
+    ghost use Rattle.juniper_intro.specs.RootView.{subscription_of};
 
     /// The root of these resolvers over the types of a registry, and the built-in ones, under the names of the query's and the
     /// mutation's types; there is no mutation type where that is the type of [`juniper_types::EmptyMutation`].
@@ -101,7 +102,8 @@ impl<Q: GraphQLValue<S>, M: GraphQLType<S>, Sub: GraphQLType<S>, S: ScalarValue>
     Sub,
     S,
 > {
-    ghost use Rattle.juniper_intro.specs.RootView.{info_of, is_disabled, mutation_info_of, mutation_of, resolver_of, schema_of, subscription_info_of, subscription_of};
+    ghost use Rattle.juniper_intro.specs.RootView.{info_of, is_disabled, mutation_info_of, mutation_of, resolver_of, schema_of, subscription_info_of};
+    ghost use Rattle.juniper_intro.specs.RootView.{subscription_of};
 
     /// The same root with introspection disabled: a document that asks for `__schema` or `__type` is refused.
     pub fn disable_introspection(self) -> Self

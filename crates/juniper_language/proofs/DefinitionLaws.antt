@@ -1,18 +1,24 @@
 -- Definitions and documents that are read are spelled so, and those that are spelled so are read.
-use Rattle.std.proofs.Common.{inl, inr, ◌≡◌, ◌≢◌, ◌⊎◌, ℕ, zero, suc, ◌<◌, ◌≤◌, false, List, [], ◌∷◌, length, Option, Some, None, refl, ap, sym, ◌∙◌, subst, arith}
+use Rattle.std.proofs.Common.{inl, inr, ◌≡◌, ◌≢◌, ◌⊎◌, ℕ, zero, suc, ◌<◌, ◌≤◌, false, List, [], ◌∷◌, length, Option, Some, None, refl, ap, sym, ◌∙◌, subst}
+use Rattle.std.proofs.Common.{arith}
 use Rattle.std.proofs.lemmas.Option.{none-some, same_Some}
 use Rattle.std.proofs.lemmas.Slice.Eq.{bytes_eq-Decides}
 use Rattle.std.specs.Str.{bytes_eq}
 use Rattle.graphql_spec.specs.Shown.{Name}
 use Rattle.graphql_spec.specs.Positions.{Spanned}
 use Rattle.graphql_spec.specs.Tokens.{Token, name}
-use Rattle.graphql_spec.specs.Documents.{Word, VariableDefinition, OperationType, query, mutation, subscription, Operation, Fragment, Definition, operation, fragment, Document}
-use Rattle.graphql_spec.specs.Grammar.{At, Mark, Keyword, IsWord, Opt, Many, span_of, AreVariables, TypeCondition, IsOperation, IsFragment, IsDefinition, on_word, kind_word, most_brackets}
+use Rattle.graphql_spec.specs.Documents.{Word, VariableDefinition, OperationType, query, mutation, subscription, Operation, Fragment, Definition, operation}
+use Rattle.graphql_spec.specs.Documents.{fragment, Document}
+use Rattle.graphql_spec.specs.Grammar.{At, Mark, Keyword, IsWord, Opt, Many, span_of, AreVariables, TypeCondition, IsOperation, IsFragment, IsDefinition}
+use Rattle.graphql_spec.specs.Grammar.{on_word, kind_word, most_brackets}
 use Rattle.juniper_language.specs.Readers.{Outcome, and_then, pure, sees, a_name, optional}
-use Rattle.juniper_language.specs.Reading.{in_brackets, directives, first_word, start_of, set_by, inside_of, variable_definition, name_by_word, name_if, longhand, shorthand, fragment_name, condition, fragment_by, fragment_word, kind_of, behind_word, by_word, definition, if_none_left, definitions, document}
+use Rattle.juniper_language.specs.Reading.{in_brackets, directives, first_word, start_of, set_by, inside_of, variable_definition, name_by_word, name_if}
+use Rattle.juniper_language.specs.Reading.{longhand, shorthand, fragment_name, condition, fragment_by, fragment_word, kind_of, behind_word, by_word, definition}
+use Rattle.juniper_language.specs.Reading.{if_none_left, definitions, document}
 use Rattle.juniper_language.proofs.StepLaws.{bind_some, from_pure, chosen, picked, fewer, mark_seen, name_sound, name_read, name_first, IsSound}
 use Rattle.juniper_language.proofs.ValueLaws.{differ, differs, picked_of}
-use Rattle.juniper_language.proofs.DirectiveLaws.{brackets_sound, brackets_read, brackets_fewer, opening, directives_sound, directives_read, directives_first, directives_fewer}
+use Rattle.juniper_language.proofs.DirectiveLaws.{brackets_sound, brackets_read, brackets_fewer, opening, directives_sound, directives_read, directives_first}
+use Rattle.juniper_language.proofs.DirectiveLaws.{directives_fewer}
 use Rattle.juniper_language.proofs.SelectionLaws.{word_first, set_sound}
 use Rattle.juniper_language.proofs.ForestLaws.{set_spelled, set_less, set_begins, set_opens, mark_no_word, set_no_word, directives_no_word}
 use Rattle.juniper_language.proofs.VariableLaws.{may_sound, may_read, may_fewer, variable_sound, variables_parts}

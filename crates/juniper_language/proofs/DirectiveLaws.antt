@@ -8,7 +8,8 @@ use Rattle.graphql_spec.specs.Documents.{Arguments, Directive}
 use Rattle.graphql_spec.specs.Grammar.{At, Mark, Opt, Many, Between, span_of, IsArgument, IsArguments, IsDirective, AreDirectives}
 use Rattle.juniper_language.specs.Readers.{Reader, and_then, sees, expect, a_name, some_until, with_span}
 use Rattle.juniper_language.specs.Reading.{named, value, in_brackets, argument, arguments, given, directive, directives}
-use Rattle.juniper_language.proofs.StepLaws.{bind_some, from_pure, chosen, fewer, mark_seen, other_seen, expect_sound, expect_read, name_sound, name_read, spanned_is, until_sound, until_read, while_sound, while_read, IsSound, IsPart, many_map, many_fewer}
+use Rattle.juniper_language.proofs.StepLaws.{bind_some, from_pure, chosen, fewer, mark_seen, other_seen, expect_sound, expect_read, name_sound, name_read}
+use Rattle.juniper_language.proofs.StepLaws.{spanned_is, until_sound, until_read, while_sound, while_read, IsSound, IsPart, many_map, many_fewer}
 use Rattle.juniper_language.proofs.ValueLaws.{argument_sound, argument_part}
 
 -- ## Parts in round brackets

@@ -1,10 +1,12 @@
 -- Selections that are spelled so are read.
-use Rattle.std.proofs.Common.{◌≡◌, ℕ, zero, suc, ◌<◌, ◌≤◌, ◌==◌, Bool, true, false, List, [], ◌∷◌, length, Option, Some, None, refl, ap, ap₂, sym, ◌∙◌, subst, arith}
+use Rattle.std.proofs.Common.{◌≡◌, ℕ, zero, suc, ◌<◌, ◌≤◌, ◌==◌, Bool, true, false, List, [], ◌∷◌, length, Option, Some, None, refl, ap, ap₂, sym, ◌∙◌, subst}
+use Rattle.std.proofs.Common.{arith}
 use Rattle.std.proofs.lemmas.Bool.{true≢false}
 use Rattle.graphql_spec.specs.Positions.{Span}
 use Rattle.graphql_spec.specs.Tokens.{mark, name}
 use Rattle.graphql_spec.specs.Documents.{Word, Arguments, Directive, Head, Spread, Inline, Selections, end, field, spread, inline}
-use Rattle.graphql_spec.specs.Grammar.{At, Mark, span_of, Opt, Many, AreDirectives, Set, OptSet, IsField, IsSpread, IsInline, TypeCondition, AreSelections, is_end, on_word}
+use Rattle.graphql_spec.specs.Grammar.{At, Mark, span_of, Opt, Many, AreDirectives, Set, OptSet, IsField, IsSpread, IsInline, TypeCondition, AreSelections}
+use Rattle.graphql_spec.specs.Grammar.{is_end, on_word}
 use Rattle.juniper_language.specs.Readers.{sees, some_until}
 use Rattle.juniper_language.specs.Reading.{Node, field_node, spread_node, inline_node, selections_of, set_by, first_word, selection, selections, inside_of}
 use Rattle.juniper_language.proofs.RuleSteps.{selections_is}

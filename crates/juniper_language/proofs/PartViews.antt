@@ -1,5 +1,6 @@
 -- Views of what the parser makes, beside what the rules of reading give.
-use Rattle.std.proofs.Common.{◌≡◌, Bool, ℤ, List, [], ◌∷◌, map, Vec, String, Global, Bor, Option, Some, None, option_map, is_some, string_bytes, ℕ, refl, ap, ◌∙◌}
+use Rattle.std.proofs.Common.{◌≡◌, Bool, ℤ, List, [], ◌∷◌, map, Vec, String, Global, Bor, Option, Some, None, option_map, is_some, string_bytes, ℕ, refl, ap}
+use Rattle.std.proofs.Common.{◌∙◌}
 use Rattle.graphql_spec.specs.Shown.{Shown, Text, int, text, boolean}
 use Rattle.graphql_spec.specs.Inputs as spec
 use Rattle.graphql_spec.specs.Documents.{Selections}

@@ -6,8 +6,11 @@ use Rattle.graphql_spec.specs.Inputs as spec
 use Rattle.graphql_spec.specs.Inputs.{Input}
 use Rattle.graphql_spec.specs.Tokens.{Lexeme, mark, name, int, string, Token}
 use Rattle.graphql_spec.specs.Grammar.{At, begin_of, span_of}
-use Rattle.juniper_language.specs.Readers.{Reader, and_then, pure, next, next_from, is_mark_of, first_is, sees, expect, until, some_until, spanned, name_by, a_name, ◌>>=◌}
-use Rattle.juniper_language.specs.Reading.{value, value_by, bracketed, argument, items_of, fields_of, list_within, object_within, type_ref, list_type, named_type, in_brackets, inside_of, selections, selection, selections_of, first_word, by_word, behind_word, kind_of, start_of}
+use Rattle.juniper_language.specs.Readers.{Reader, and_then, pure, next, next_from, is_mark_of, first_is, sees, expect, until, some_until, spanned, name_by}
+use Rattle.juniper_language.specs.Readers.{a_name, ◌>>=◌}
+use Rattle.juniper_language.specs.Reading.{value, value_by, bracketed, argument, items_of, fields_of, list_within, object_within, type_ref, list_type}
+use Rattle.juniper_language.specs.Reading.{named_type, in_brackets, inside_of, selections, selection, selections_of, first_word, by_word, behind_word, kind_of}
+use Rattle.juniper_language.specs.Reading.{start_of}
 
 -- ## Values
 

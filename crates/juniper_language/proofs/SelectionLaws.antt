@@ -6,9 +6,11 @@ use Rattle.std.proofs.lemmas.Slice.Eq.{bytes_eq-Decides}
 use Rattle.std.specs.Str.{bytes_eq}
 use Rattle.graphql_spec.specs.Shown.{Name}
 use Rattle.graphql_spec.specs.Documents.{Word, Selections}
-use Rattle.graphql_spec.specs.Grammar.{At, Mark, IsWord, Opt, Many, span_of, Set, OptSet, IsField, IsSpread, IsInline, TypeCondition, AreSelections, is_end, on_word}
+use Rattle.graphql_spec.specs.Grammar.{At, Mark, IsWord, Opt, Many, span_of, Set, OptSet, IsField, IsSpread, IsInline, TypeCondition, AreSelections, is_end}
+use Rattle.graphql_spec.specs.Grammar.{on_word}
 use Rattle.juniper_language.specs.Readers.{Reader, and_then, pure, refuse, sees, expect, a_name, some_until, optional}
-use Rattle.juniper_language.specs.Reading.{label, given, directives, Node, field_node, spread_node, inline_node, selections_of, set_by, below_of, head_of, field_by, first_word, start_of, inline_by, spread_by, dotted, selection, selections, inside_of}
+use Rattle.juniper_language.specs.Reading.{label, given, directives, Node, field_node, spread_node, inline_node, selections_of, set_by, below_of, head_of}
+use Rattle.juniper_language.specs.Reading.{field_by, first_word, start_of, inline_by, spread_by, dotted, selection, selections, inside_of}
 use Rattle.juniper_language.proofs.StepLaws.{bind_some, from_pure, chosen, mark_seen, expect_sound, name_sound, until_sound, IsSound}
 use Rattle.juniper_language.proofs.LabelLaws.{label_sound}
 use Rattle.juniper_language.proofs.ValueLaws.{differ}

@@ -1,12 +1,14 @@
 -- What each step of reading says of the tokens.
-use Rattle.std.proofs.Common.{inl, inr, ◌≡◌, ◌⊎◌, ℕ, zero, suc, ◌<◌, ◌≤◌, ◌==◌, Bool, true, false, cond, List, [], ◌∷◌, length, Some, None, refl, ap, sym, ◌∙◌, subst, arith}
+use Rattle.std.proofs.Common.{inl, inr, ◌≡◌, ◌⊎◌, ℕ, zero, suc, ◌<◌, ◌≤◌, ◌==◌, Bool, true, false, cond, List, [], ◌∷◌, length, Some, None, refl, ap, sym, ◌∙◌}
+use Rattle.std.proofs.Common.{subst, arith}
 use Rattle.std.proofs.lemmas.Option.{none-some, same_Some}
 use Rattle.std.proofs.lemmas.Bool.{eqb-true, eq-eqb, false≢true}
 use Rattle.graphql_spec.specs.Positions.{Position, Span, Spanned}
 use Rattle.graphql_spec.specs.Tokens.{Lexeme, mark, name, int, string, Token}
 use Rattle.graphql_spec.specs.Documents.{Word}
 use Rattle.graphql_spec.specs.Grammar.{At, Takes, Mark, IsWord, span_of, Many}
-use Rattle.juniper_language.specs.Readers.{Outcome, Reader, and_then, pure, refuse, next, next_from, is_mark_of, first_is, sees, expect, name_by, a_name, with_span, while_sees, until}
+use Rattle.juniper_language.specs.Readers.{Outcome, Reader, and_then, pure, refuse, next, next_from, is_mark_of, first_is, sees, expect, name_by, a_name}
+use Rattle.juniper_language.specs.Readers.{with_span, while_sees, until}
 
 -- what a reader of two steps read
 pub bind_some : {A B : Type 0} (o : Outcome A) (f : A → Reader B) (y : B × At) → and_then o f ≡ Some y → (p : A × At) × (o ≡ Some p) × (f p.0 p.1 ≡ Some y)

@@ -6,7 +6,8 @@ use Rattle.graphql_spec.specs.Types.{TypeRef, named, list_of}
 use Rattle.graphql_spec.specs.Grammar.{At, Keyword, Bang, IsType}
 use Rattle.juniper_language.specs.Readers.{next, sees, expect, a_name}
 use Rattle.juniper_language.specs.Reading.{bang, named_type, type_ref}
-use Rattle.juniper_language.proofs.StepLaws.{bind_some, from_pure, chosen, takes_next, fewer, mark_seen, other_seen, seen_mark, expect_sound, expect_read, name_sound, name_read, name_first}
+use Rattle.juniper_language.proofs.StepLaws.{bind_some, from_pure, chosen, takes_next, fewer, mark_seen, other_seen, seen_mark, expect_sound, expect_read}
+use Rattle.juniper_language.proofs.StepLaws.{name_sound, name_read, name_first}
 
 bang_sound : (s t : At) (r : Bool) → bang s ≡ Some (r, t) → Bang r s t
 bang_sound s t r e = elim (chosen (sees 33 s) _ _ (r, t) e) [

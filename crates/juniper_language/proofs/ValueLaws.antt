@@ -1,5 +1,6 @@
 -- Values of the whole grammar that are read are spelled so, and those that are spelled so are read.
-use Rattle.std.proofs.Common.{inl, inr, ◌≡◌, ◌≢◌, ℕ, zero, suc, ◌<◌, ◌≤◌, ◌==◌, Bool, true, false, ℤ, cond, List, [], ◌∷◌, length, Option, Some, None, option_map, refl, ap, sym, ◌∙◌, subst, arith}
+use Rattle.std.proofs.Common.{inl, inr, ◌≡◌, ◌≢◌, ℕ, zero, suc, ◌<◌, ◌≤◌, ◌==◌, Bool, true, false, ℤ, cond, List, [], ◌∷◌, length, Option, Some, None}
+use Rattle.std.proofs.Common.{option_map, refl, ap, sym, ◌∙◌, subst, arith}
 use Rattle.std.proofs.lemmas.Option.{none-some}
 use Rattle.std.proofs.lemmas.Bool.{eqb-true}
 use Rattle.std.proofs.lemmas.Slice.Eq.{bytes_eq-Decides}
@@ -9,11 +10,13 @@ use Rattle.graphql_spec.specs.Positions.{Span, Spanned}
 use Rattle.graphql_spec.specs.Tokens.{Lexeme, mark, name, int, string, decoded_int, decoded_string}
 use Rattle.graphql_spec.specs.Inputs.{Input, null, scalar, enumerated, variable, list, object, InputItems, no_items, item, InputFields, no_fields, input_field}
 use Rattle.graphql_spec.specs.Documents.{Argument}
-use Rattle.graphql_spec.specs.Grammar.{At, Takes, Mark, Keyword, IsWord, Many, span_of, IsValue, AreItems, AreFields, IsArgument, IsEnumName, true_word, false_word, null_word, boolean_word}
+use Rattle.graphql_spec.specs.Grammar.{At, Takes, Mark, Keyword, IsWord, Many, span_of, IsValue, AreItems, AreFields, IsArgument, IsEnumName, true_word}
+use Rattle.graphql_spec.specs.Grammar.{false_word, null_word, boolean_word}
 use Rattle.juniper_language.specs.Readers.{Reader, and_then, pure, refuse, next, sees, expect, a_name, until, with_span, spanned, known}
 use Rattle.juniper_language.specs.Reading.{word_value, items_of, fields_of, named, list_by, object_by, variable_if, value_by, value}
 use Rattle.juniper_language.proofs.RuleSteps.{value_is}
-use Rattle.juniper_language.proofs.StepLaws.{bind_some, from_pure, chosen, next_takes, takes_next, fewer, other_seen, expect_sound, expect_read, name_sound, name_read, name_first, spanned_is, until_sound, until_read, IsSound, IsPart}
+use Rattle.juniper_language.proofs.StepLaws.{bind_some, from_pure, chosen, next_takes, takes_next, fewer, other_seen, expect_sound, expect_read, name_sound}
+use Rattle.juniper_language.proofs.StepLaws.{name_read, name_first, spanned_is, until_sound, until_read, IsSound, IsPart}
 
 -- ## Words
 

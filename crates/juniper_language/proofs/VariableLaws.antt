@@ -7,7 +7,8 @@ use Rattle.graphql_spec.specs.Documents.{VariableDefinition}
 use Rattle.graphql_spec.specs.Grammar.{At, Mark, Opt, Many, span_of, Default, IsVariable}
 use Rattle.juniper_language.specs.Readers.{Reader, sees, expect, a_name, optional, spanned}
 use Rattle.juniper_language.specs.Reading.{value, type_ref, directives, default_value, variable_definition}
-use Rattle.juniper_language.proofs.StepLaws.{bind_some, from_pure, chosen, fewer, mark_seen, other_seen, expect_sound, expect_read, name_sound, name_read, spanned_is, IsSound}
+use Rattle.juniper_language.proofs.StepLaws.{bind_some, from_pure, chosen, fewer, mark_seen, other_seen, expect_sound, expect_read, name_sound, name_read}
+use Rattle.juniper_language.proofs.StepLaws.{spanned_is, IsSound}
 use Rattle.juniper_language.proofs.ValueLaws.{value_spelled, value_read, value_fewer}
 use Rattle.juniper_language.proofs.TypeLaws.{type_sound, type_read, type_fewer}
 use Rattle.juniper_language.proofs.DirectiveLaws.{Parts, directives_sound, directives_read, directives_first, directives_fewer}

@@ -8,9 +8,11 @@ use Rattle.graphql_spec.specs.Tokens.{Lexeme, Token, decoded_int, decoded_string
 use Rattle.graphql_spec.specs.Inputs.{Input, null, scalar, enumerated, variable, list, object, InputItems, no_items, item, InputFields, no_fields, input_field}
 use Rattle.graphql_spec.specs.Types.{TypeRef, list_of}
 use Rattle.graphql_spec.specs.Types as types
-use Rattle.graphql_spec.specs.Documents.{Word, Argument, Arguments, Directive, Head, Spread, Inline, Selections, end, field, spread, inline, VariableDefinition, OperationType, query, mutation, subscription, Operation, Fragment, Definition, operation, fragment, Document}
+use Rattle.graphql_spec.specs.Documents.{Word, Argument, Arguments, Directive, Head, Spread, Inline, Selections, end, field, spread, inline, VariableDefinition}
+use Rattle.graphql_spec.specs.Documents.{OperationType, query, mutation, subscription, Operation, Fragment, Definition, operation, fragment, Document}
 use Rattle.graphql_spec.specs.Grammar.{At, begin_of, span_of, true_word, false_word, null_word, on_word, kind_word, most_brackets}
-use Rattle.juniper_language.specs.Readers.{Reader, Outcome, ◌>>=◌, pure, refuse, next, sees, expect, a_name, spanned, until, some_until, while_sees, optional, known}
+use Rattle.juniper_language.specs.Readers.{Reader, Outcome, ◌>>=◌, pure, refuse, next, sees, expect, a_name, spanned, until, some_until, while_sees, optional}
+use Rattle.juniper_language.specs.Readers.{known}
 
 -- ---- values
 

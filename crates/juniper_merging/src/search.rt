@@ -19,8 +19,9 @@ use std::alloc::{AllocError, Global};
 use std::collections::HashMap;
 
 /// Whether each two fields of the set with one response key can be merged (FieldsInSetCanMerge, section 5.3.2). A number that
-/// has no vertex or no set counts for nothing. Each question on one or two sets of the graph is answered once, for all sets
-/// that are asked of with the same `known`. An error where memory is refused, or where 2^64 turns did not end the search.
+/// has no vertex or no set counts for nothing. A question on one or two sets of the graph is answered once for all sets that are
+/// asked of with the same `known`, but for two sets of few fields, whose pairs are looked at each time. An error where memory is
+/// refused, or where 2^64 turns did not end the search.
 pub fn set_merges(
     alloc: Global,
     graph: &Graph<'_, '_>,

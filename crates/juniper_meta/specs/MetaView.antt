@@ -5,7 +5,8 @@ use Rattle.graphql_spec.specs.Shown.{Name, Text, Shown}
 use Rattle.graphql_spec.specs.Inputs.{Input}
 use Rattle.graphql_spec.specs.Types.{TypeRef, innermost}
 use Rattle.graphql_spec.specs.Schema as spec
-use Rattle.graphql_spec.specs.Schema.{Entry, Shape, Deprecation, FieldDeclaration, InputDeclaration, DirectiveDeclaration, object_type, interface_type, scalar_type, enum_type, union_type, input_object_type, list_type, nullable_type, placeholder, current, deprecated}
+use Rattle.graphql_spec.specs.Schema.{Entry, Shape, Deprecation, FieldDeclaration, InputDeclaration, DirectiveDeclaration, object_type, interface_type}
+use Rattle.graphql_spec.specs.Schema.{scalar_type, enum_type, union_type, input_object_type, list_type, nullable_type, placeholder, current, deprecated}
 use Rattle.juniper_syntax.specs.DocumentView.{items_or_none}
 use Rattle.juniper_syntax.specs.InputView.{view_input}
 use Rattle.juniper_syntax.specs.TypeView as types

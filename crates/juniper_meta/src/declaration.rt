@@ -8,7 +8,8 @@ ghost use Rattle.graphql_spec.specs.Introspected.{is_deprecated, reason_of};
 ghost use Rattle.juniper_syntax.specs.DocumentView.{items_or_none};
 ghost use Rattle.juniper_syntax.specs.InputView.{view_input};
 ghost use Rattle.juniper_meta.specs.MetaView.{view_type, view_text, view_argument, view_field, view_enum_value, view_deprecation};
-ghost use Rattle.juniper_meta.specs.MetaView.{described_argument, with_default, described_field, with_argument, deprecated_field, described_value, deprecated_value};
+ghost use Rattle.juniper_meta.specs.MetaView.{described_argument, with_default, described_field, with_argument, deprecated_field, described_value};
+ghost use Rattle.juniper_meta.specs.MetaView.{deprecated_value};
 
 use juniper_syntax::{InputValue, ScalarValue, Type};
 use std::alloc::{AllocError, Global};

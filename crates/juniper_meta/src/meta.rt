@@ -2,11 +2,14 @@
 
 ghost use Rattle.std.specs.Prelude.{◌≡◌, IfOk, string_bytes, map, option_map, Some, None, [], ◌∷◌};
 ghost use Rattle.graphql_spec.specs.Executable.{values_of, input_fields_of};
-ghost use Rattle.graphql_spec.specs.Fields.{fields_of, interfaces_of, members_of, is_object, is_interface, is_composite, is_leaf, is_input, leaf_accepts, enum_accepts, field_in, declaration_in};
+ghost use Rattle.graphql_spec.specs.Fields.{fields_of, interfaces_of, members_of, is_object, is_interface, is_composite, is_leaf, is_input, leaf_accepts};
+ghost use Rattle.graphql_spec.specs.Fields.{enum_accepts, field_in, declaration_in};
 ghost use Rattle.graphql_spec.specs.Introspected.{url_of};
-ghost use Rattle.graphql_spec.specs.Schema.{scalar_type, enum_type, object_type, interface_type, union_type, input_object_type, list_type, nullable_type, placeholder};
+ghost use Rattle.graphql_spec.specs.Schema.{scalar_type, enum_type, object_type, interface_type, union_type, input_object_type, list_type, nullable_type};
+ghost use Rattle.graphql_spec.specs.Schema.{placeholder};
 ghost use Rattle.juniper_meta.specs.MetaView.{view_type, view_text, view_names, view_kinds, view_argument, view_field, view_enum_value, innermost_names};
-ghost use Rattle.juniper_meta.specs.MetaView.{view_scalar, view_enum, view_object, view_interface, view_union, view_input_object, view_list, view_nullable, view_placeholder, view_meta, shape_of};
+ghost use Rattle.juniper_meta.specs.MetaView.{view_scalar, view_enum, view_object, view_interface, view_union, view_input_object, view_list, view_nullable};
+ghost use Rattle.juniper_meta.specs.MetaView.{view_placeholder, view_meta, shape_of};
 ghost use Rattle.juniper_meta.specs.MetaView.{with_description, with_interfaces, with_url, kinds_of, is_placeholder, named_meta, unnamed_meta};
 
 pub use crate::declaration::{Argument, DeprecationStatus, EnumValue, Field};

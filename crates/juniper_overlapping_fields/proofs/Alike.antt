@@ -8,7 +8,8 @@ use Rattle.graphql_spec.specs.Types.{TypeRef, named, list_of}
 use Rattle.graphql_spec.specs.Schema.{Schema}
 use Rattle.graphql_spec.specs.Fields.{type_named, is_leaf}
 use Rattle.graphql_spec.specs.Merging.{types_agree}
-use Rattle.graphql_spec.specs.Constants.{Constant, null, scalar, enumerated, variable, list, object, Constants, no_constants, constant, Members, no_members, member, same_constant, same_constants, same_members}
+use Rattle.graphql_spec.specs.Constants.{Constant, null, scalar, enumerated, variable, list, object, Constants, no_constants, constant, Members, no_members}
+use Rattle.graphql_spec.specs.Constants.{member, same_constant, same_constants, same_members}
 use Rattle.graphql_spec.proofs.Lists.{same_refl, same_true, same_sym}
 use Rattle.graphql_spec.proofs.SameMeanings.{same_members-true}
 

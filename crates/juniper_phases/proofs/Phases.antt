@@ -1,7 +1,10 @@
 -- What is found at a definition, rule by rule.
 use Rattle.std.proofs.Common.{◌≡◌, Bool, List, [], ◌∷◌, ◌++◌, codes, sym, append-nil, append_assoc, ◌∙◌}
 use Rattle.graphql_spec.specs.Documents.{Definition, Document}
-use Rattle.graphql_spec.specs.Rules.{RuleError, cannot_merge, has_other_condition, has_other_variable, has_unknown_argument, has_unknown_directive, has_unknown_field, has_unknown_type, has_wrong_argument, has_wrong_default, has_wrong_set, is_not_alone, lacks_argument, looks_at_schema, misuses_variable, name_errors, repeats_argument, repeats_fragment, repeats_input_field, repeats_operation, repeats_variable, reported, spreads_itself, spreads_unknown, type_errors, use_errors, uses_undefined}
+use Rattle.graphql_spec.specs.Rules.{RuleError, cannot_merge, has_other_condition, has_other_variable, has_unknown_argument, has_unknown_directive}
+use Rattle.graphql_spec.specs.Rules.{has_unknown_field, has_unknown_type, has_wrong_argument, has_wrong_default, has_wrong_set, is_not_alone, lacks_argument}
+use Rattle.graphql_spec.specs.Rules.{looks_at_schema, misuses_variable, name_errors, repeats_argument, repeats_fragment, repeats_input_field, repeats_operation}
+use Rattle.graphql_spec.specs.Rules.{repeats_variable, reported, spreads_itself, spreads_unknown, type_errors, use_errors, uses_undefined}
 use Rattle.graphql_spec.specs.Schema.{Schema}
 
 -- lists one behind the other, taken from the left and from the right

@@ -5,7 +5,8 @@ use Rattle.graphql_spec.specs.Types.{innermost}
 use Rattle.graphql_spec.specs.Documents.{Directive, Head, Selections, Definition, written}
 use Rattle.graphql_spec.specs.Schema.{Schema, DirectiveDeclaration, FieldDeclaration}
 use Rattle.graphql_spec.specs.Fields.{field_of, type_named, is_composite}
-use Rattle.graphql_spec.specs.Placed.{Placed, Call, placed, placed_directives, placed_in, directives_placed, if_declared, field_calls, directive_calls, directive_named}
+use Rattle.graphql_spec.specs.Placed.{Placed, Call, placed, placed_directives, placed_in, directives_placed, if_declared, field_calls, directive_calls}
+use Rattle.graphql_spec.specs.Placed.{directive_named}
 
 -- the fields on their parent types, and the directives whose arguments are tested
 pub record Parts : Type 0 where

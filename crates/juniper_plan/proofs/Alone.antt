@@ -86,7 +86,8 @@ alike_numbers = eq_by_cmp_equiv nat_cmp_total
 alike : (a b : Name) → equal (name_number a) (name_number b) ≡ false → bytes_eq a b ≡ false
 alike a b differ = elim (cases_Bool (bytes_eq a b)) [
   | inl e ↦
-      let same : equal (name_number a) (name_number b) ≡ true = ap (λ n. equal (name_number n) (name_number b)) (same_true a b e) ∙ alike_numbers.refl (name_number b) in
+      let same : equal (name_number a) (name_number b) ≡ true = ap (λ n. equal (name_number n) (name_number b)) (same_true a b e)
+      ∙ alike_numbers.refl (name_number b) in
       absurd cc
   | inr e ↦ e
 ]

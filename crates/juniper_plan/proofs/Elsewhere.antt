@@ -57,7 +57,8 @@ module _ {S P R Q : Type 0} (shown : S → Shown) (c : Collector S P) (d : Colle
     right-elsewhere : (i : ℕ) (b : Below) → IsRight shown c asks possible p i b → IsRight shown d asks possible p i b
     right-elsewhere i b right = record {
       bound = right.bound;
-      stands = stands-elsewhere (string_bytes b.concrete) p b.groups (occurrences possible (string_bytes b.concrete) (all_below (view_all shown d (fields_at p i))))
+      stands = stands-elsewhere (string_bytes b.concrete) p b.groups (occurrences possible (string_bytes b.concrete)
+          (all_below (view_all shown d (fields_at p i))))
           (subst (λ l. StandsFor shown c asks (string_bytes b.concrete) p b.groups (occurrences possible (string_bytes b.concrete) (all_below l)))
           (same-all shown c d fragments variables (fields_at p i)) right.stands);
     }

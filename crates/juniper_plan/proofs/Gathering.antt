@@ -1,5 +1,6 @@
 -- Groups are made, one occurrence after the other (6.3.2).
-use Rattle.std.proofs.Common.{◌≡◌, ◌==◌, ℕ, ◌+◌, ◌-◌, ◌≤◌, ◌<◌, Bool, true, false, ◌||◌, cond, List, [], ◌∷◌, ◌++◌, length, get_or, map, take, drop, slice_range, Vec, refl, sym, ap, ◌∙◌, subst, arith, inl, inr}
+use Rattle.std.proofs.Common.{◌≡◌, ◌==◌, ℕ, ◌+◌, ◌-◌, ◌≤◌, ◌<◌, Bool, true, false, ◌||◌, cond, List, [], ◌∷◌, ◌++◌, length, get_or, map, take, drop}
+use Rattle.std.proofs.Common.{slice_range, Vec, refl, sym, ap, ◌∙◌, subst, arith, inl, inr}
 use Rattle.std.proofs.lemmas.Bool.{cases_Bool}
 use Rattle.std.proofs.lemmas.List.{drop-append-le, length-append, length-drop, map-append, take_all}
 use Rattle.std.specs.List.{IsDistinct, filter}
@@ -148,7 +149,8 @@ module _ {S P Q : Type 0} (shown : S → Shown) (c : Collector S P) (asks : Name
 
       known-left : known k (keys front) ≡ true → (j : Name) → further j ≡ cond (known j (keys front)) [] (filter (has_key shown c j) fields)
       known-left e j = elim (cases_Bool (bytes_eq k j)) [
-        | inl f ↦ others j ∙ (rw f (sym (ap (λ b. cond b [] (filter (has_key shown c j) fields)) (subst (λ x. known x (keys front) ≡ true) (same-name k j f) e))))
+        | inl f ↦ others j ∙ (rw f (sym (ap (λ b. cond b [] (filter (has_key shown c j) fields))
+            (subst (λ x. known x (keys front) ≡ true) (same-name k j f) e))))
         | inr f ↦ others j ∙ rw f (adding.fields_left j)
       ]
         where
@@ -166,7 +168,8 @@ module _ {S P Q : Type 0} (shown : S → Shown) (c : Collector S P) (asks : Name
                 ∙ (adding.groups ∙ ap (map (λ j. (j, with_key j os))) (sym (known-keys e))));
             asked = subst (λ l. AllAsked (asks T) (map (λ j. with_key j os) (keys (view_all shown c (take (i + 1) fields)))) (drop (length p.groups.items) l))
                 (sym none.questions)
-                (subst (λ l. AllAsked (asks T) (map (λ j. with_key j os) l) (drop (length p.groups.items) q.questions.items)) (sym (known-keys e)) adding.asked);
+                (subst (λ l. AllAsked (asks T) (map (λ j. with_key j os) l) (drop (length p.groups.items) q.questions.items)) (sym (known-keys e))
+                adding.asked);
             fields_left = λ j. known-left e j ∙ ap (λ ks. cond (known j ks) [] (filter (has_key shown c j) fields)) (sym (known-keys e));
           }
 

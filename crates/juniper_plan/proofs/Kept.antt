@@ -1,5 +1,6 @@
 -- What was made below a group is kept, and found again.
-use Rattle.std.proofs.Common.{◌≡◌, ◌==◌, ℕ, zero, suc, ◌+◌, ◌≤◌, ◌<◌, Bool, true, false, List, [], ◌∷◌, length, get_or, map, drop, Vec, Some, None, string_bytes, refl, sym, ap, ◌∙◌, subst, arith}
+use Rattle.std.proofs.Common.{◌≡◌, ◌==◌, ℕ, zero, suc, ◌+◌, ◌≤◌, ◌<◌, Bool, true, false, List, [], ◌∷◌, length, get_or, map, drop, Vec, Some, None}
+use Rattle.std.proofs.Common.{string_bytes, refl, sym, ap, ◌∙◌, subst, arith}
 use Rattle.std.proofs.lemmas.Bool.{both_ways, eqb-true}
 use Rattle.std.proofs.lemmas.List.{drop_more}
 use Rattle.std.specs.Str.{bytes_eq}
@@ -66,7 +67,8 @@ none-found T bs i past so_far = sym (so_far ∙ ap (named_in T) (drop-past bs i 
 -- ## Below a group
 
 module _ {S P Q : Type 0} (shown : S → Shown) (c : Collector S P) (asks : Name → Head → Q → Type 0) (possible : Name → Name → Bool) where
-  pub same-made : (T : Name) (os ps : List Occurrence) (p q : Plan S Q) (r : GroupRange) → os ≡ ps → IsMade shown c asks possible T os p q r → IsMade shown c asks possible T ps p q r
+  pub same-made : (T : Name) (os ps : List Occurrence) (p q : Plan S Q) (r : GroupRange) → os ≡ ps → IsMade shown c asks possible T os p q r
+      → IsMade shown c asks possible T ps p q r
   same-made T os ps p q r e m = subst (λ l. IsMade shown c asks possible T l p q r) e m
 
   pub counted : (p : Plan S Q) (i : ℕ) → IsStanding shown c asks possible p → i < length p.groups.items → i < length p.below.items

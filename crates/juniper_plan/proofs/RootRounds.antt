@@ -15,7 +15,8 @@ use Rattle.juniper_plan.proofs.Standing.{IsPlaced, asked-at, longer, placed, ran
 
 module _ {S P Q : Type 0} (shown : S → Shown) (c : Collector S P) (asks : Name → Head → Q → Type 0) (possible : Name → Name → Bool) (p q : Plan S Q)
     (T : Name) (r : GroupRange) (os : List Occurrence)
-    (standing : IsStanding shown c asks possible p) (stands : StandsFor shown c asks T p r os) (step : IsStep shown c asks possible p q) (i : ℕ) (low : r.first.0 ≤ i) where
+    (standing : IsStanding shown c asks possible p) (stands : StandsFor shown c asks T p r os) (step : IsStep shown c asks possible p q) (i : ℕ)
+    (low : r.first.0 ≤ i) where
   module _ (high : i < r.end.0) where
     still : StandsFor shown c asks T q r os
     still = stands-still shown c asks T p q r os standing.within standing.asked step.grown stands

@@ -1,5 +1,6 @@
 -- The rounds of the walk: a plan that is added to while an object's groups, and a group's nodes, are walked (6.3).
-use Rattle.std.proofs.Common.{◌≡◌, ◌==◌, ℕ, zero, suc, ◌+◌, ◌*◌, ◌-◌, ◌≤◌, ◌<◌, Bool, true, false, List, [], ◌∷◌, ◌++◌, length, take, refl, sym, ap, ◌∙◌, subst, arith}
+use Rattle.std.proofs.Common.{◌≡◌, ◌==◌, ℕ, zero, suc, ◌+◌, ◌*◌, ◌-◌, ◌≤◌, ◌<◌, Bool, true, false, List, [], ◌∷◌, ◌++◌, length, take, refl, sym, ap, ◌∙◌, subst}
+use Rattle.std.proofs.Common.{arith}
 use Rattle.std.proofs.lemmas.Bool.{eqb-true}
 use Rattle.graphql_spec.specs.Shown.{Shown, Name}
 use Rattle.graphql_spec.specs.Documents.{Head}
@@ -61,7 +62,8 @@ module _ {S P Q : Type 0} (shown : S → Shown) (c : Collector S P) (asks : Name
   -- ## A group of an object
 
   module _ (p q : Plan S Q) (r : GroupRange) (T : Name) (s : Forest) (standing : IsStanding shown c asks possible p)
-      (stands : StandsFor shown c asks T p r (occurrences possible T s)) (step : IsStep shown c asks possible p q) (i : ℕ) (low : r.first.0 ≤ i) (high : i < r.end.0) where
+      (stands : StandsFor shown c asks T p r (occurrences possible T s)) (step : IsStep shown c asks possible p q) (i : ℕ) (low : r.first.0 ≤ i)
+      (high : i < r.end.0) where
     abbrev os : List Occurrence
     os = occurrences possible T s
 
@@ -129,10 +131,10 @@ module _ {S P Q : Type 0} (shown : S → Shown) (c : Collector S P) (asks : Name
           prepared_here nodes_here rises put_in s refl lost)
 
   -- all groups of an object
-  pub groups-walked : (p : Plan S Q) (r : GroupRange) (T : Name) (s : Forest) → StandsFor shown c asks T p r (occurrences possible T s) → (i : ℕ) → r.end.0 ≤ i →
-      {N : Type 0} (W : World N) → possible ≡ W.possible → (at : Place) (m : N) (es : Entries) (v : Value) (errors : List Listed) → v ≡ object es →
-      IsWalking W at T m (occurrences W.possible T s) (take (i - r.first.0) (keys (occurrences W.possible T s))) es errors →
-      IsObjectWalked W at s T m v errors
+  pub groups-walked : (p : Plan S Q) (r : GroupRange) (T : Name) (s : Forest) → StandsFor shown c asks T p r (occurrences possible T s) → (i : ℕ) → r.end.0 ≤ i
+      → {N : Type 0} (W : World N) → possible ≡ W.possible → (at : Place) (m : N) (es : Entries) (v : Value) (errors : List Listed) → v ≡ object es
+      → IsWalking W at T m (occurrences W.possible T s) (take (i - r.first.0) (keys (occurrences W.possible T s))) es errors
+      → IsObjectWalked W at s T m v errors
   groups-walked p r T s stands i past W possible_is at m es v errors is walking =
       let ws = occurrences W.possible T s in
       let n : length (keys ws) ≡ r.end.0 - r.first.0 = sym (ap (λ f. length (keys (occurrences f T s))) possible_is)
@@ -141,7 +143,8 @@ module _ {S P Q : Type 0} (shown : S → Shown) (c : Collector S P) (asks : Name
 
   -- ## A node of a group
 
-  module _ (p q : Plan S Q) (i : ℕ) (standing : IsStanding shown c asks possible p) (bound : i < length p.groups.items) (step : IsStep shown c asks possible p q)
+  module _ (p q : Plan S Q) (i : ℕ) (standing : IsStanding shown c asks possible p) (bound : i < length p.groups.items)
+      (step : IsStep shown c asks possible p q)
       (s : Forest)
       (selected : s ≡ all_below (view_all shown c (fields_at p i))) where
     pub still-selected : s ≡ all_below (view_all shown c (fields_at q i))
@@ -153,7 +156,8 @@ module _ {S P Q : Type 0} (shown : S → Shown) (c : Collector S P) (asks : Name
     pub node-falls : 2 * depth s < 2 * depth (all_below (view_all shown c (fields_at p i))) + 1
     node-falls = let same = ap depth selected in omega (arith, same)
 
-    pub step-made : (r : Plan S Q) (T : Name) (held : List Occurrence) (g : GroupRange) → IsMade shown c asks possible T held q r g → IsStep shown c asks possible p r
+    pub step-made : (r : Plan S Q) (T : Name) (held : List Occurrence) (g : GroupRange) → IsMade shown c asks possible T held q r g
+        → IsStep shown c asks possible p r
     step-made r T held g made = record { standing = made.standing; grown = grown-twice p q r step.grown made.grown }
 
     pub node-walked : {N : Type 0} (W : World N) (ns next : List (Spot N)) (vs more : List Value) (es further listed : List Listed) (n : Spot N) (T : Name)

@@ -1,5 +1,6 @@
 -- What stands in a plan goes on to stand while it is added to.
-use Rattle.std.proofs.Common.{◌≡◌, ℕ, zero, suc, ◌+◌, ◌-◌, ◌≤◌, ◌<◌, Bool, List, [], ◌∷◌, ◌++◌, length, get_or, map, take, drop, set, slice_range, append_assoc, refl, sym, ap, ◌∙◌, subst, arith, string_bytes, inl, inr, Some}
+use Rattle.std.proofs.Common.{◌≡◌, ℕ, zero, suc, ◌+◌, ◌-◌, ◌≤◌, ◌<◌, Bool, List, [], ◌∷◌, ◌++◌, length, get_or, map, take, drop, set, slice_range, append_assoc}
+use Rattle.std.proofs.Common.{refl, sym, ap, ◌∙◌, subst, arith, string_bytes, inl, inr, Some}
 use Rattle.std.proofs.lemmas.List.{append-nil, drop_more, drop-append-le, length-append, length-drop, length-map, length-set, length-take-le, take-append-le}
 use Rattle.std.proofs.lemmas.Bool.{cases_Bool}
 use Rattle.std.specs.Str.{bytes_eq}
@@ -15,7 +16,8 @@ use Rattle.juniper_plan.specs.declared.plan.Below.{Below}
 use Rattle.juniper_plan.specs.declared.plan.Group.{Group}
 use Rattle.juniper_plan.specs.declared.plan.GroupRange.{GroupRange}
 use Rattle.juniper_plan.specs.declared.plan.Plan.{Plan}
-use Rattle.juniper_plan.specs.Plans.{AllAsked, AllRight, AreRight, AreWithin, IsAskedAt, IsGrown, IsKept, IsNoneAdded, IsOneAdded, IsRight, IsStanding, IsStep, StandsFor, all_made, fields_at, fields_of, first_fields, first_key, first_made, grouped_by, key_at, made_at, view_groups}
+use Rattle.juniper_plan.specs.Plans.{AllAsked, AllRight, AreRight, AreWithin, IsAskedAt, IsGrown, IsKept, IsNoneAdded, IsOneAdded, IsRight, IsStanding, IsStep}
+use Rattle.juniper_plan.specs.Plans.{StandsFor, all_made, fields_at, fields_of, first_fields, first_key, first_made, grouped_by, key_at, made_at, view_groups}
 use Rattle.juniper_walk.specs.Asking.{IsAskedOf}
 use Rattle.juniper_plan.proofs.Keys.{map-at}
 
@@ -323,7 +325,8 @@ module _ {S P Q : Type 0} (shown : S → Shown) (c : Collector S P) (asks : Name
       }
 
   -- how many response keys there are
-  pub range-length : (T : Name) (p : Plan S Q) (r : GroupRange) (os : List Occurrence) → StandsFor shown c asks T p r os → length (keys os) ≡ r.end.0 - r.first.0
+  pub range-length : (T : Name) (p : Plan S Q) (r : GroupRange) (os : List Occurrence) → StandsFor shown c asks T p r os
+      → length (keys os) ≡ r.end.0 - r.first.0
   unfolding view_groups grouped_by
   range-length T p r os s =
       let gs = p.groups.items in

@@ -36,7 +36,8 @@ pub fn complete_group<'d, 'a, S: ScalarValue, R: Resolver<S>>(
     requires standing { IsStanding S.shown walk.now.collector (R.asks walk.now.collector.possible) (R.possible walk.now.collector.possible) plan.old }
     requires bound { group.0 < group_count plan.old }
     requires some { HasFirst (view_all S.shown walk.now.collector (fields_at plan.old group.0)) }
-    ensures plan { IfOk result (λ _. IsStep S.shown walk.now.collector (R.asks walk.now.collector.possible) (R.possible walk.now.collector.possible) plan.old plan.new) }
+    ensures plan { IfOk result (λ _. IsStep S.shown walk.now.collector (R.asks walk.now.collector.possible) (R.possible walk.now.collector.possible) plan.old
+        plan.new) }
     ensures told { IfOk result (λ _. IsTold asked.entry.answer) }
     ensures completed { (reply : _) → Answers S.shown asked.entry.answer reply → IfOk result (λ w. GroupCompleted whole first_start
         (R.world walk.now.collector.possible) (path_place path.now.value) [] (view_type (λ n. string_bytes n) asked.entry.declared.now) reply

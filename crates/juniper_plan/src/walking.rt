@@ -47,7 +47,8 @@ pub fn object<'d, 'a, S: ScalarValue, R: Resolver<S>>(
     requires standing { IsStanding S.shown walk.now.collector (R.asks walk.now.collector.possible) (R.possible walk.now.collector.possible) plan.old }
     requires groups { StandsFor S.shown walk.now.collector (R.asks walk.now.collector.possible) concrete.now plan.old groups
         (occurrences (R.possible walk.now.collector.possible) concrete.now (all_expanded S.shown walk.now.collector enclosing.now)) }
-    ensures plan { IfOk result (λ _. IsStep S.shown walk.now.collector (R.asks walk.now.collector.possible) (R.possible walk.now.collector.possible) plan.old plan.new) }
+    ensures plan { IfOk result (λ _. IsStep S.shown walk.now.collector (R.asks walk.now.collector.possible) (R.possible walk.now.collector.possible) plan.old
+        plan.new) }
     ensures walked { IfOk result (λ r. IsObjectWalked (R.world walk.now.collector.possible) (path_place path.now.value)
         (all_expanded S.shown walk.now.collector enclosing.now) concrete.now node.now
         (view_value S.shown r.value) (map (view_listed S.shown) r.errors.items)) }
@@ -88,7 +89,8 @@ pub(crate) fn objects_of<'d, 'a, S: ScalarValue, R: Resolver<S>>(
     requires ready { IsReadyWalk S.shown R.possible R.values (R.world walk.now.collector.possible) walk.now }
     requires standing { IsStanding S.shown walk.now.collector (R.asks walk.now.collector.possible) (R.possible walk.now.collector.possible) plan.old }
     requires bound { group.0 < group_count plan.old }
-    ensures plan { IfOk result (λ _. IsStep S.shown walk.now.collector (R.asks walk.now.collector.possible) (R.possible walk.now.collector.possible) plan.old plan.new) }
+    ensures plan { IfOk result (λ _. IsStep S.shown walk.now.collector (R.asks walk.now.collector.possible) (R.possible walk.now.collector.possible) plan.old
+        plan.new) }
     ensures walked { IfOk result (λ r. AreObjectsWalked (R.world walk.now.collector.possible)
         (all_below (view_all S.shown walk.now.collector (fields_at plan.old group.0))) (view_nodes nodes.now)
         (map (view_value S.shown) r.values.items) (map (view_listed S.shown) r.errors.items)) }

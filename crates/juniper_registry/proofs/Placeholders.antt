@@ -1,5 +1,6 @@
 -- Placeholders that are added, and declarations that take their place.
-use Rattle.std.proofs.Common.{◌≡◌, ℕ, Bool, true, false, cond, is_some, Option, Some, None, Result, Ok, Err, OnOk, OnErr, bytes_eq, refl, sym, ap, subst, ◌∙◌, inl, inr}
+use Rattle.std.proofs.Common.{◌≡◌, ℕ, Bool, true, false, cond, is_some, Option, Some, None, Result, Ok, Err, OnOk, OnErr, bytes_eq, refl, sym, ap, subst, ◌∙◌}
+use Rattle.std.proofs.Common.{inl, inr}
 use Rattle.std.proofs.lemmas.Bool.{cases_Bool}
 use Rattle.graphql_spec.specs.Shown.{Name}
 use Rattle.graphql_spec.specs.Schema.{Entry, placeholder}
@@ -8,7 +9,8 @@ use Rattle.graphql_spec.specs.Types.{TypeRef, named, list_of, innermost, nullabl
 use Rattle.graphql_spec.proofs.Lists.{same_true, same_refl}
 use Rattle.juniper_meta.specs.MetaView.{Meta, entry_at, unnamed_meta, is_placeholder}
 use Rattle.juniper_registry.specs.Referred.{referred}
-use Rattle.juniper_registry.specs.Entries.{Table, awaited, is_declared, is_named, is_own, awaiting, awaiting_each, declaring, AddsAt, AddsPlaceholders, KeepsAdding, Awaits, IsRegistered}
+use Rattle.juniper_registry.specs.Entries.{Table, awaited, is_declared, is_named, is_own, awaiting, awaiting_each, declaring, AddsAt, AddsPlaceholders}
+use Rattle.juniper_registry.specs.Entries.{KeepsAdding, Awaits, IsRegistered}
 
 -- ## One name
 

@@ -1,5 +1,6 @@
 -- What stands at the names of a map, and how a map changes where something is put.
-use Rattle.std.proofs.Common.{◌≡◌, Bool, true, false, not, cond, is_some, List, [], ◌∷◌, map, Option, Some, None, option_map, bytes_eq, refl, sym, ap, ◌∙◌, inl, inr}
+use Rattle.std.proofs.Common.{◌≡◌, Bool, true, false, not, cond, is_some, List, [], ◌∷◌, map, Option, Some, None, option_map, bytes_eq, refl, sym, ap, ◌∙◌, inl}
+use Rattle.std.proofs.Common.{inr}
 use Rattle.std.specs.Map.{lookup, update}
 use Rattle.std.proofs.lemmas.Bool.{cases_Bool}
 use Rattle.graphql_spec.specs.Shown.{Name}

@@ -2,7 +2,8 @@
 use Rattle.std.specs.Prelude.{List, [], ◌∷◌, ◌++◌, map}
 use Rattle.graphql_spec.specs.Shown.{Name}
 use Rattle.graphql_spec.specs.Types.{innermost}
-use Rattle.graphql_spec.specs.Schema.{Shape, FieldDeclaration, InputDeclaration, object_type, interface_type, union_type, input_object_type, list_type, nullable_type}
+use Rattle.graphql_spec.specs.Schema.{Shape, FieldDeclaration, InputDeclaration, object_type, interface_type, union_type, input_object_type, list_type}
+use Rattle.graphql_spec.specs.Schema.{nullable_type}
 
 -- of arguments and input fields (3.6.1, 3.10)
 abbrev pub inputs_refer : List InputDeclaration → List Name

@@ -4,7 +4,8 @@ ghost use Rattle.std.specs.Prelude.{◌≡◌, ◌++◌, ◌∷◌, [], IfOk, If
 ghost use Rattle.graphql_spec.specs.Fields.{typename_field};
 ghost use Rattle.graphql_spec.specs.Schema.{enum_type, input_object_type, interface_type, list_type, nullable_type, object_type, scalar_type, union_type};
 ghost use Rattle.graphql_spec.specs.Types.{innermost};
-ghost use Rattle.juniper_meta.specs.MetaView.{innermost_names, named_meta, unnamed_meta, view_argument, view_enum, view_enum_value, view_field, view_input_object, view_interface, view_kinds, view_list, view_nullable, view_object, view_scalar, view_union};
+ghost use Rattle.juniper_meta.specs.MetaView.{innermost_names, named_meta, unnamed_meta, view_argument, view_enum, view_enum_value, view_field};
+ghost use Rattle.juniper_meta.specs.MetaView.{view_input_object, view_interface, view_kinds, view_list, view_nullable, view_object, view_scalar, view_union};
 
 use crate::graphql_type::GraphQLReference;
 use crate::registry::{Registry, name_of};

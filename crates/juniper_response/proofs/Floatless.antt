@@ -6,7 +6,8 @@ use Rattle.graphql_spec.specs.Values.{Value, Values, Entries, null, scalar, list
 use Rattle.graphql_spec.specs.Errors.{Listed, Step, key, index}
 use Rattle.serde_json.specs.Data.{Data}
 use Rattle.serde_json.specs.Written.{has_float, items_have_float, members_have_float}
-use Rattle.juniper_response.specs.AnswerText.{scalar_data, value_data, values_data, entries_data, items_data, step_data, location_data, extensions_data, error_data, errors_data, answer_data}
+use Rattle.juniper_response.specs.AnswerText.{scalar_data, value_data, values_data, entries_data, items_data, step_data, location_data, extensions_data}
+use Rattle.juniper_response.specs.AnswerText.{error_data, errors_data, answer_data}
 use Rattle.juniper_response.specs.RefusalText.{Refusal, placed_data, refusal_data, refusals_data}
 
 scalar_has_none : (x : Shown) → has_float (scalar_data x) ≡ false

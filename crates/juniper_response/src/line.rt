@@ -7,7 +7,8 @@ ghost use Rattle.juniper_position.specs.Positions.{view_position};
 ghost use Rattle.juniper_syntax.specs.ValueView.{view_value, view_object, view_values};
 ghost use Rattle.serde_json.specs.Data.{array, object};
 ghost use Rattle.serde_json.specs.Events.{SendsValue, SendsMembers, members_len};
-ghost use Rattle.juniper_response.specs.AnswerText.{answer_data, answer_text, scalar_data, value_data, values_data, entries_data, items_data, location_data, step_data, extensions_data, error_data, errors_data};
+ghost use Rattle.juniper_response.specs.AnswerText.{answer_data, answer_text, scalar_data, value_data, values_data, entries_data, items_data, location_data};
+ghost use Rattle.juniper_response.specs.AnswerText.{step_data, extensions_data, error_data, errors_data};
 
 use juniper_syntax::{Object, ScalarValue, SourcePosition, Value};
 use juniper_values::{ExecutionError, PathSegment};

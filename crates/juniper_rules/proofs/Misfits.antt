@@ -1,5 +1,6 @@
 -- The variables without a fitting value: the errors that are listed, and then those of the variables that are left.
-use Rattle.std.proofs.Common.{◌≡◌, ℕ, ◌+◌, ◌<◌, ◌≤◌, List, [], ◌∷◌, ◌++◌, length, get_or, drop, map, refl, sym, ap, append-nil, append_assoc, ◌∙◌, cond, false, Some, None}
+use Rattle.std.proofs.Common.{◌≡◌, ℕ, ◌+◌, ◌<◌, ◌≤◌, List, [], ◌∷◌, ◌++◌, length, get_or, drop, map, refl, sym, ap, append-nil, append_assoc, ◌∙◌, cond, false}
+use Rattle.std.proofs.Common.{Some, None}
 use Rattle.std.proofs.lemmas.List.{drop_all}
 use Rattle.graphql_spec.specs.Documents.{VariableDefinition, variables_of}
 use Rattle.graphql_spec.specs.Inputs.{Variables}

@@ -1,5 +1,6 @@
 -- Putting declarations into a map, and the built-in scalars that are put.
-use Rattle.std.proofs.Common.{◌≡◌, Bool, true, false, ◌&&◌, cond, codes, List, [], ◌∷◌, map, Option, Some, option_map, bytes_eq, refl, sym, ap, subst, ◌∙◌, inl, inr}
+use Rattle.std.proofs.Common.{◌≡◌, Bool, true, false, ◌&&◌, cond, codes, List, [], ◌∷◌, map, Option, Some, option_map, bytes_eq, refl, sym, ap, subst, ◌∙◌, inl}
+use Rattle.std.proofs.Common.{inr}
 use Rattle.std.specs.List.{list_any, IsDistinct, AllByRecursion}
 use Rattle.std.specs.Map.{lookup, update}
 use Rattle.std.proofs.lemmas.Bool.{cases_Bool}

@@ -1,12 +1,15 @@
 -- What stands at a type through its lists.
-use Rattle.std.proofs.Common.{◌≡◌, ℕ, suc, ◌+◌, ◌<◌, ◌≤◌, Bool, true, false, not, ◌&&◌, ◌||◌, List, [], ◌∷◌, length, get_or, drop, string_bytes, bytes_eq, Option, Some, None, is_some, option_map, refl, sym, ap, ◌∙◌}
+use Rattle.std.proofs.Common.{◌≡◌, ℕ, suc, ◌+◌, ◌<◌, ◌≤◌, Bool, true, false, not, ◌&&◌, ◌||◌, List, [], ◌∷◌, length, get_or, drop, string_bytes, bytes_eq}
+use Rattle.std.proofs.Common.{Option, Some, None, is_some, option_map, refl, sym, ap, ◌∙◌}
 use Rattle.graphql_spec.specs.Shown.{Name, Shown}
 use Rattle.graphql_spec.specs.Inputs.{InputFields, InputItems, no_fields, input_field, count_items}
-use Rattle.graphql_spec.specs.Schema.{InputDeclaration, Schema, Shape, scalar_type, enum_type, object_type, interface_type, union_type, input_object_type, list_type, nullable_type, placeholder}
+use Rattle.graphql_spec.specs.Schema.{InputDeclaration, Schema, Shape, scalar_type, enum_type, object_type, interface_type, union_type, input_object_type}
+use Rattle.graphql_spec.specs.Schema.{list_type, nullable_type, placeholder}
 use Rattle.graphql_spec.specs.Executable.{values_of}
 use Rattle.graphql_spec.specs.Fields.{declaration_in, declares_value, leaf_accepts}
 use Rattle.graphql_spec.specs.Types.{TypeRef, named, list_of, innermost}
-use Rattle.graphql_spec.specs.Fits.{all_fit, all_written, enum_fits, fields_fit, fits, fits_declared, has_field, input_object_fits, scalar_fits, size_met, through}
+use Rattle.graphql_spec.specs.Fits.{all_fit, all_written, enum_fits, fields_fit, fits, fits_declared, has_field, input_object_fits, scalar_fits, size_met}
+use Rattle.graphql_spec.specs.Fits.{through}
 use Rattle.std.proofs.lemmas.List.{drop_all}
 use Rattle.juniper_syntax.specs.InputView.{view_input, view_items, view_fields}
 use Rattle.juniper_syntax.proofs.InputLists.{Item, Field}

@@ -8,7 +8,8 @@ use Rattle.std.proofs.Common.{refl, sym, inl, inr, subst, arith}
 use Rattle.graphql_spec.specs.Shown.{Name}
 use Rattle.graphql_spec.specs.Documents.{Fragment}
 use Rattle.graphql_spec.specs.Fragments.{reaches}
-use Rattle.juniper_spreads.proofs.Names.{has, same, itself, true_false, either, name_where, any_from, distinct_one, distinct_more, no_more, names, names_known, length_names, next, spreads_known}
+use Rattle.juniper_spreads.proofs.Names.{has, same, itself, true_false, either, name_where, any_from, distinct_one, distinct_more, no_more, names, names_known}
+use Rattle.juniper_spreads.proofs.Names.{length_names, next, spreads_known}
 
 -- b is spread by a, or by a fragment that a leads to
 pub data Leads (fs : List Fragment) : Name → Name → Type 0 where

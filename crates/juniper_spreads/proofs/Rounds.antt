@@ -1,5 +1,6 @@
 -- Rounds over names, in each of which some are taken and the others left.
-use Rattle.std.specs.Prelude.{ℕ, zero, Bool, true, false, ◌||◌, not, List, [], ◌∷◌, ◌++◌, length, get_or, drop, map, Option, Some, None, option_map, is_some, Vec, ◌≡◌, ◌≤◌, ◌<◌, ◌+◌}
+use Rattle.std.specs.Prelude.{ℕ, zero, Bool, true, false, ◌||◌, not, List, [], ◌∷◌, ◌++◌, length, get_or, drop, map, Option, Some, None, option_map, is_some}
+use Rattle.std.specs.Prelude.{Vec, ◌≡◌, ◌≤◌, ◌<◌, ◌+◌}
 use Rattle.std.specs.Borrow.{Bor}
 use Rattle.std.specs.List.{list_all}
 use Rattle.std.specs.Str.{bytes_eq}

@@ -8,7 +8,8 @@ module _ {A B : Type 0} (view : A → B) (test : B → Bool) (xs : List A) where
   abbrev pub AllSoFar : ℕ → Type 0
   AllSoFar i = list_all test (map view xs) ≡ list_all test (map view (drop i xs))
 
-  all-at : (i : ℕ) (d : A) → i < length xs → AllSoFar i → list_all test (map view xs) ≡ (test (view (get_or xs i d)) && list_all test (map view (drop (i + 1) xs)))
+  all-at : (i : ℕ) (d : A) → i < length xs → AllSoFar i → list_all test (map view xs)
+      ≡ (test (view (get_or xs i d)) && list_all test (map view (drop (i + 1) xs)))
   all-at i d below so_far = so_far ∙ ap (λ l. list_all test (map view l)) (drop_more xs i d below)
 
   pub all-next : (i : ℕ) (d : A) → i < length xs → test (view (get_or xs i d)) ≡ true → AllSoFar i → AllSoFar (i + 1)
@@ -24,7 +25,8 @@ module _ {A B : Type 0} (view : A → B) (test : B → Bool) (xs : List A) where
   abbrev pub NoneSoFar : ℕ → Type 0
   NoneSoFar i = list_any test (map view xs) ≡ list_any test (map view (drop i xs))
 
-  any-at : (i : ℕ) (d : A) → i < length xs → NoneSoFar i → list_any test (map view xs) ≡ (test (view (get_or xs i d)) || list_any test (map view (drop (i + 1) xs)))
+  any-at : (i : ℕ) (d : A) → i < length xs → NoneSoFar i → list_any test (map view xs)
+      ≡ (test (view (get_or xs i d)) || list_any test (map view (drop (i + 1) xs)))
   any-at i d below so_far = so_far ∙ ap (λ l. list_any test (map view l)) (drop_more xs i d below)
 
   pub any-next : (i : ℕ) (d : A) → i < length xs → test (view (get_or xs i d)) ≡ false → NoneSoFar i → NoneSoFar (i + 1)

@@ -1,5 +1,6 @@
 -- Keys beside their values, as one list: what a search of the keys finds, and what a change of one list makes of both.
-use Rattle.std.proofs.Common.{◌≡◌, ℕ, suc, ◌+◌, List, [], ◌∷◌, ◌++◌, length, zip, position, slice_get, slice_set, Some, None, inl, inr, String, Global, string_bytes, Bool, true, false, cond, ◌||◌, not, nat_lt, refl, sym, ap, ap₂, ◌∙◌, arith}
+use Rattle.std.proofs.Common.{◌≡◌, ℕ, suc, ◌+◌, List, [], ◌∷◌, ◌++◌, length, zip, position, slice_get, slice_set, Some, None, inl, inr, String, Global}
+use Rattle.std.proofs.Common.{string_bytes, Bool, true, false, cond, ◌||◌, not, nat_lt, refl, sym, ap, ap₂, ◌∙◌, arith}
 use Rattle.std.proofs.lemmas.Bool.{cases_Bool}
 use Rattle.std.specs.List.{position_or_len, list_any, AllZip}
 use Rattle.std.specs.Map.{lookup, set_value}

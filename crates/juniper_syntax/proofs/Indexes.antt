@@ -1,5 +1,7 @@
 -- Keys, and an index that says where each stands: one more key, and keys that say the same.
-use Rattle.std.proofs.Common.{◌≡◌, ◌<◌, ◌≤◌, ℕ, suc, zero, ◌+◌, ◌*◌, ◌%◌, ◌^◌, List, [], ◌∷◌, ◌++◌, length, get_or, take, drop, Option, Some, None, option_map, is_some, IfSome, inl, inr, String, Global, string_bytes, Bool, true, false, cond, ◌||◌, nat_lt, IsTrue, ◌↔◌, Decides, refl, sym, ap, ap₂, subst, ◌∙◌, arith}
+use Rattle.std.proofs.Common.{◌≡◌, ◌<◌, ◌≤◌, ℕ, suc, zero, ◌+◌, ◌*◌, ◌%◌, ◌^◌, List, [], ◌∷◌, ◌++◌, length, get_or, take, drop, Option, Some, None, option_map}
+use Rattle.std.proofs.Common.{is_some, IfSome, inl, inr, String, Global, string_bytes, Bool, true, false, cond, ◌||◌, nat_lt, IsTrue, ◌↔◌, Decides, refl, sym}
+use Rattle.std.proofs.Common.{ap, ap₂, subst, ◌∙◌, arith}
 use Rattle.std.proofs.lemmas.Bool.{cases_Bool, cases_lt, eqb-true, lt-ltb, le-ltb}
 use Rattle.std.proofs.lemmas.Map.Keys.{IsDistinct-push}
 use Rattle.std.proofs.lemmas.Slice.Eq.{bytes_eq-Decides}
@@ -297,7 +299,8 @@ module _ (p q : Places) (names : List (String Global)) (last : String Global) (g
       let numbered : (n : ℕ) → get nat_cmp q.by_number n ≡ get nat_cmp p.by_number n = λ n. ap (lookup (is_at (nat_cmp n))) same in
       grown shows
       (ap₂ (chosen names' (string_bytes last)) (numbered (name_number (string_bytes last)) ∙ some)
-      (updates (string_bytes last) ∙ ap (λ b. cond b (Some (length names)) (get_by_text p.tied (string_bytes last))) (nat_list_eq_equiv.refl (string_bytes last)))
+      (updates (string_bytes last) ∙ ap (λ b. cond b (Some (length names)) (get_by_text p.tied (string_bytes last)))
+      (nat_list_eq_equiv.refl (string_bytes last)))
       ∙ chosen-tied names last place gone)
       (λ key other.
       ap₂ (chosen names' key) (numbered (name_number key))

@@ -1,5 +1,6 @@
 -- A value beside what it stands for: level by level, and changes at a key.
-use Rattle.std.proofs.Common.{◌≡◌, suc, List, [], ◌∷◌, length, Option, Some, None, is_some, option_map, IfSome, Result, Ok, Err, IfOk, Bor, Bool, true, false, ◌||◌, cond, Vec, String, Global, string_bytes, bytes_eq, inl, inr, refl, sym, ap, ◌∙◌, rules}
+use Rattle.std.proofs.Common.{◌≡◌, suc, List, [], ◌∷◌, length, Option, Some, None, is_some, option_map, IfSome, Result, Ok, Err, IfOk, Bor, Bool, true, false}
+use Rattle.std.proofs.Common.{◌||◌, cond, Vec, String, Global, string_bytes, bytes_eq, inl, inr, refl, sym, ap, ◌∙◌, rules}
 use Rattle.std.proofs.lemmas.Bool.{cases_Bool}
 use Rattle.std.specs.Map.{lookup, set_value}
 use Rattle.std.specs.Option.{option_copied}

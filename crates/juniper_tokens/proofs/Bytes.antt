@@ -1,10 +1,12 @@
 -- Which bytes begin what.
-use Rattle.std.proofs.Common.{inl, inr, ◌≡◌, ℕ, suc, ◌==◌, Bool, true, false, not, ◌&&◌, ◌||◌, List, [], ◌∷◌, ◌++◌, IsTrue, length, take, drop, refl, ap, sym, ◌∙◌, arith}
+use Rattle.std.proofs.Common.{inl, inr, ◌≡◌, ℕ, suc, ◌==◌, Bool, true, false, not, ◌&&◌, ◌||◌, List, [], ◌∷◌, ◌++◌, IsTrue, length, take, drop, refl, ap, sym}
+use Rattle.std.proofs.Common.{◌∙◌, arith}
 use Rattle.std.proofs.lemmas.Bool.{cases_Bool, eqb-true, and_parts, and_from, or_cases, not-true, false≢true}
 use Rattle.std.proofs.lemmas.Bool.Decides.{nat_tests}
 use Rattle.std.specs.List.{prefix_len, list_all}
 use Rattle.juniper_tokens.specs.Lexing.{starts_int}
-use Rattle.graphql_spec.specs.Tokens.{Lexeme, mark, name, int, string, IsToken, is_blank, is_line_end, is_mark, is_source_byte, starts_name, continues_name, is_name, is_int, is_digits, ends_before, mark_text, dots, quote}
+use Rattle.graphql_spec.specs.Tokens.{Lexeme, mark, name, int, string, IsToken, is_blank, is_line_end, is_mark, is_source_byte, starts_name, continues_name}
+use Rattle.graphql_spec.specs.Tokens.{is_name, is_int, is_digits, ends_before, mark_text, dots, quote}
 
 -- a token may begin with the byte: it stands for itself, and nothing that is ignored begins with it
 unfoldable pub may_begin : ℕ → Bool

@@ -1,5 +1,6 @@
 -- What a string stands for, part by part.
-use Rattle.std.proofs.Common.{inl, inr, ◌≡◌, ◌≢◌, ℕ, suc, ◌+◌, ◌*◌, ◌<◌, ◌≤◌, ◌==◌, true, false, List, [], ◌∷◌, ◌++◌, length, take, drop, Option, Some, None, refl, ap, sym, ◌∙◌, arith, subst, append_assoc, append-nil}
+use Rattle.std.proofs.Common.{inl, inr, ◌≡◌, ◌≢◌, ℕ, suc, ◌+◌, ◌*◌, ◌<◌, ◌≤◌, ◌==◌, true, false, List, [], ◌∷◌, ◌++◌, length, take, drop, Option, Some, None}
+use Rattle.std.proofs.Common.{refl, ap, sym, ◌∙◌, arith, subst, append_assoc, append-nil}
 use Rattle.std.proofs.lemmas.Bool.{cases_Bool, cases_eq, eqb-true, eq-eqb, ne_eqb, false≢true, not-true, and_parts, or_parts}
 use Rattle.std.proofs.lemmas.Bool.Decides.{nat_tests}
 use Rattle.std.proofs.lemmas.Option.{none-some, same_Some}
@@ -10,7 +11,8 @@ use Rattle.std.specs.Str.{IsUtf8}
 use Rattle.std.specs.List.{prefix_len}
 use Rattle.std.specs.Char.{encode_utf8}
 use Rattle.graphql_spec.specs.Shown.{Text}
-use Rattle.graphql_spec.specs.Tokens.{Mode, characters, after_backslash, hex_digits, escaped, hex_value, is_surrogate, add_digit, read_byte, before, decode_from, is_source_byte, quote}
+use Rattle.graphql_spec.specs.Tokens.{Mode, characters, after_backslash, hex_digits, escaped, hex_value, is_surrogate, add_digit, read_byte, before}
+use Rattle.graphql_spec.specs.Tokens.{decode_from, is_source_byte, quote}
 use Rattle.juniper_tokens.specs.Strings.{backslash, is_plain, join, escape_from, escape, first_part}
 use Rattle.juniper_tokens.proofs.Bytes.{run_suc, run_zero}
 

@@ -1,12 +1,14 @@
 -- What stands at the front of a text, where something is ignored or taken there.
-use Rattle.std.proofs.Common.{inl, inr, ◌≡◌, ◌≢◌, ℕ, ◌+◌, ◌≤◌, true, not, ◌||◌, IsTrue, IsSome, ◌==◌, nat_eq, List, [], ◌∷◌, ◌++◌, length, take, drop, refl, ◌∙◌, ap, sym, arith}
+use Rattle.std.proofs.Common.{inl, inr, ◌≡◌, ◌≢◌, ℕ, ◌+◌, ◌≤◌, true, not, ◌||◌, IsTrue, IsSome, ◌==◌, nat_eq, List, [], ◌∷◌, ◌++◌, length, take, drop, refl}
+use Rattle.std.proofs.Common.{◌∙◌, ap, sym, arith}
 use Rattle.std.proofs.lemmas.Bool.{cases_Bool, eqb-true}
 use Rattle.std.proofs.lemmas.Bool.Decides.{Decides-eqb}
 use Rattle.std.proofs.lemmas.Slice.Eq.{starts_is}
 use Rattle.std.proofs.lemmas.List.{length-append}
 use Rattle.std.proofs.lemmas.List.Sums.{prefix_len-le-length}
 use Rattle.std.specs.List.{prefix_len, starts_with}
-use Rattle.graphql_spec.specs.Tokens.{decoded_string, is_nil, is_quote, quote, is_blank, is_mark, is_source_byte, starts_name, continues_name, is_int, continues_int, ends_before}
+use Rattle.graphql_spec.specs.Tokens.{decoded_string, is_nil, is_quote, quote, is_blank, is_mark, is_source_byte, starts_name, continues_name, is_int}
+use Rattle.graphql_spec.specs.Tokens.{continues_int, ends_before}
 use Rattle.juniper_tokens.specs.Lexing.{order_mark, three_dots, ignored_len, number_len, int_len, lexeme_len}
 use Rattle.juniper_tokens.specs.Strings.{string_len}
 use Rattle.juniper_tokens.proofs.Numbers.{int_taken, number_within}

@@ -2,7 +2,8 @@
 use Rattle.std.proofs.Common.{inl, inr, ◌≡◌, ◌≢◌, ℕ, suc, ◌+◌, ◌==◌, true, false, Some, None, List, [], ◌∷◌, ◌++◌, take, drop, refl, ap, sym, ◌∙◌, arith, subst}
 use Rattle.std.proofs.lemmas.Bool.{cases_Bool, eqb-true, false≢true}
 use Rattle.std.specs.List.{prefix_len}
-use Rattle.graphql_spec.specs.Tokens.{is_nil, is_blank, is_line_end, is_source_byte, is_ignored, between, in_comment, first_of_mark, second_of_mark, ignore_byte}
+use Rattle.graphql_spec.specs.Tokens.{is_nil, is_blank, is_line_end, is_source_byte, is_ignored, between, in_comment, first_of_mark, second_of_mark}
+use Rattle.graphql_spec.specs.Tokens.{ignore_byte}
 use Rattle.juniper_tokens.specs.Lexing.{order_mark, ignored_len}
 use Rattle.juniper_tokens.proofs.Bytes.{at_token, source_no_end, end_blank, no_gap, begins_source, begins_no_gap, run_suc, run_zero}
 use Rattle.juniper_tokens.proofs.Fronts.{IsIgnored, blank, comment, byte_order}

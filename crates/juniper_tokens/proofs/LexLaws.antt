@@ -1,14 +1,18 @@
 -- The tokens that are read are those of the text, and a text has just those.
-use Rattle.std.proofs.Common.{inl, inr, ◌≡◌, ◌≢◌, ℕ, zero, suc, ◌≤◌, ◌==◌, nat_eq, not, ◌||◌, ◌⊎◌, true, false, IsTrue, IsSome, List, [], ◌∷◌, ◌++◌, length, take, drop, refl, ap, ap₂, sym, ◌∙◌, arith, subst, append_assoc, append-nil}
+use Rattle.std.proofs.Common.{inl, inr, ◌≡◌, ◌≢◌, ℕ, zero, suc, ◌≤◌, ◌==◌, nat_eq, not, ◌||◌, ◌⊎◌, true, false, IsTrue, IsSome, List, [], ◌∷◌, ◌++◌, length}
+use Rattle.std.proofs.Common.{take, drop, refl, ap, ap₂, sym, ◌∙◌, arith, subst, append_assoc, append-nil}
 use Rattle.std.proofs.lemmas.Bool.{cases_Bool, cases_eq, eqb-true, eq-eqb, ne_eqb, false≢true, and_parts, and_from, or_cases}
 use Rattle.std.proofs.lemmas.List.{take-append-drop, nil_from_length, length-append}
 use Rattle.std.proofs.Math.Seq.{take-append_seam, drop-append_seam}
 use Rattle.std.specs.List.{prefix_len, list_all, starts_with}
 use Rattle.graphql_spec.specs.Positions.{Position, Spot, beginning, walk}
-use Rattle.graphql_spec.specs.Tokens.{Lexeme, mark, name, int, string, Token, IsToken, IsText, is_nil, is_quote, quote, decoded_string, is_mark, dots, mark_text, is_name, starts_name, continues_name, is_int, continues_int, ends_before, is_ignored, between}
-use Rattle.juniper_tokens.specs.Lexing.{Front, Lexed, whole, fault, past, three_dots, ignored_len, int_len, starts_int, lexeme_len, lexeme_of, token_of, at_end, at_fault, with_token, lex_step, lex, lex_from, lexed}
+use Rattle.graphql_spec.specs.Tokens.{Lexeme, mark, name, int, string, Token, IsToken, IsText, is_nil, is_quote, quote, decoded_string, is_mark, dots}
+use Rattle.graphql_spec.specs.Tokens.{mark_text, is_name, starts_name, continues_name, is_int, continues_int, ends_before, is_ignored, between}
+use Rattle.juniper_tokens.specs.Lexing.{Front, Lexed, whole, fault, past, three_dots, ignored_len, int_len, starts_int, lexeme_len, lexeme_of, token_of, at_end}
+use Rattle.juniper_tokens.specs.Lexing.{at_fault, with_token, lex_step, lex, lex_from, lexed}
 use Rattle.juniper_tokens.proofs.Rooms.{walk-append}
-use Rattle.juniper_tokens.proofs.Bytes.{at_token, token_begins, mark_no_name, mark_no_int, name_no_mark, mark_no_dot, int_no_mark, int_no_name, int_no_dot, int_no_quote, mark_no_quote, starts_continues, run_suc, run_exact, run_all, run_ends}
+use Rattle.juniper_tokens.proofs.Bytes.{at_token, token_begins, mark_no_name, mark_no_int, name_no_mark, mark_no_dot, int_no_mark, int_no_name, int_no_dot}
+use Rattle.juniper_tokens.proofs.Bytes.{int_no_quote, mark_no_quote, starts_continues, run_suc, run_exact, run_all, run_ends}
 use Rattle.juniper_tokens.proofs.Fronts.{IsIgnored, IsTaken, punctuator, letters, dotted, quoted, number, ignored_is, taken_is, ignored_fits, taken_fits}
 use Rattle.juniper_tokens.proofs.Numbers.{int_starts, int_exact}
 use Rattle.juniper_tokens.proofs.Gaps.{joins, splits, seen}

@@ -1,9 +1,11 @@
 -- Steps of the lexer's loop.
-use Rattle.std.proofs.Common.{inl, inr, ◌≡◌, ◌≢◌, ℕ, zero, suc, ◌<◌, ◌≤◌, true, false, ◌==◌, List, [], ◌∷◌, ◌++◌, length, drop, refl, ap, sym, ◌∙◌, arith, append_assoc, append-nil}
+use Rattle.std.proofs.Common.{inl, inr, ◌≡◌, ◌≢◌, ℕ, zero, suc, ◌<◌, ◌≤◌, true, false, ◌==◌, List, [], ◌∷◌, ◌++◌, length, drop, refl, ap, sym, ◌∙◌, arith}
+use Rattle.std.proofs.Common.{append_assoc, append-nil}
 use Rattle.std.proofs.lemmas.Bool.{cases_Bool, eqb-false, eq-eqb, ne_eqb}
 use Rattle.std.proofs.lemmas.List.{length-drop}
 use Rattle.graphql_spec.specs.Tokens.{Token, is_nil}
-use Rattle.juniper_tokens.specs.Lexing.{Front, Lexed, whole, fault, past, ignored_len, lexeme_len, token_of, at_end, at_fault, with_token, lex_step, lex, lex_from, behind}
+use Rattle.juniper_tokens.specs.Lexing.{Front, Lexed, whole, fault, past, ignored_len, lexeme_len, token_of, at_end, at_fault, with_token, lex_step, lex}
+use Rattle.juniper_tokens.specs.Lexing.{lex_from, behind}
 use Rattle.juniper_tokens.proofs.Fronts.{ignored_fits, taken_fits}
 
 pub shorter : (bs : List ℕ) (n : ℕ) → n ≢ 0 → n ≤ length bs → length (drop n bs) < length bs

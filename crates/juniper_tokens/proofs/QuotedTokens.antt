@@ -1,5 +1,6 @@
 -- A string token at the front of a text is one with its quotes, and each such token is read.
-use Rattle.std.proofs.Common.{inl, inr, ◌≡◌, ◌≢◌, ℕ, ◌+◌, ◌-◌, ◌<◌, ◌==◌, nat_eq, true, false, not, ◌||◌, IsTrue, IsSome, List, [], ◌∷◌, ◌++◌, length, get_or, Option, Some, None, refl, ap, sym, ◌∙◌, arith, subst, append_assoc, length-append}
+use Rattle.std.proofs.Common.{inl, inr, ◌≡◌, ◌≢◌, ℕ, ◌+◌, ◌-◌, ◌<◌, ◌==◌, nat_eq, true, false, not, ◌||◌, IsTrue, IsSome, List, [], ◌∷◌, ◌++◌, length, get_or}
+use Rattle.std.proofs.Common.{Option, Some, None, refl, ap, sym, ◌∙◌, arith, subst, append_assoc, length-append}
 use Rattle.std.proofs.lemmas.Bool.{cases_Bool, cases_eq, eqb-true, ne_eqb, false≢true}
 use Rattle.std.proofs.lemmas.Option.{none-some}
 use Rattle.std.proofs.lemmas.Str.{IsCharBoundary-after_ascii}
@@ -7,7 +8,8 @@ use Rattle.std.proofs.Math.Seq.{get_or-append_seam}
 use Rattle.std.specs.List.{starts_with}
 use Rattle.std.specs.Str.{IsUtf8, IsCharBoundary}
 use Rattle.graphql_spec.specs.Shown.{Text}
-use Rattle.graphql_spec.specs.Tokens.{Mode, characters, after_backslash, hex_digits, read_byte, before, decode_from, decoded_string, is_source_byte, quote, is_nil, is_quote, ends_before}
+use Rattle.graphql_spec.specs.Tokens.{Mode, characters, after_backslash, hex_digits, read_byte, before, decode_from, decoded_string, is_source_byte, quote}
+use Rattle.graphql_spec.specs.Tokens.{is_nil, is_quote, ends_before}
 use Rattle.juniper_tokens.specs.Strings.{three_quotes, behind_quote, closes, closing, string_len}
 use Rattle.juniper_tokens.proofs.Escapes.{decode_goes, decode_stops}
 use Rattle.juniper_tokens.proofs.StringTokens.{closing_ends, closing_goes, closing_is, three_len, none_len, open_len, closed_len}

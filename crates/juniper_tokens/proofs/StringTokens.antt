@@ -1,11 +1,13 @@
 -- Where a string ends.
-use Rattle.std.proofs.Common.{inl, inr, ◌≡◌, ◌≢◌, ℕ, suc, ◌+◌, ◌-◌, ◌<◌, ◌≤◌, ◌==◌, nat_eq, Bool, true, false, IsSome, List, [], ◌∷◌, ◌++◌, length, drop, Option, Some, None, is_some, option_map, MatchOption, Bor, refl, ap, sym, ◌∙◌, arith, subst, length-append}
+use Rattle.std.proofs.Common.{inl, inr, ◌≡◌, ◌≢◌, ℕ, suc, ◌+◌, ◌-◌, ◌<◌, ◌≤◌, ◌==◌, nat_eq, Bool, true, false, IsSome, List, [], ◌∷◌, ◌++◌, length, drop}
+use Rattle.std.proofs.Common.{Option, Some, None, is_some, option_map, MatchOption, Bor, refl, ap, sym, ◌∙◌, arith, subst, length-append}
 use Rattle.std.proofs.lemmas.Bool.{cases_Bool, cases_eq, eqb-true, eq-eqb, ne_eqb, false≢true, not-true, and_parts, or_parts}
 use Rattle.std.proofs.lemmas.Option.{none-some, same_Some}
 use Rattle.std.specs.List.{prefix_len, starts_with}
 use Rattle.graphql_spec.specs.Shown.{Text}
 use Rattle.graphql_spec.specs.Tokens.{Mode, characters, after_backslash, hex_digits, read_byte, before, decode_from, is_source_byte, quote}
-use Rattle.juniper_tokens.specs.Strings.{backslash, is_plain, join, escape_from, escape, first_part, three_quotes, behind_quote, closes, closing, string_len, without_last_quote, without_quotes}
+use Rattle.juniper_tokens.specs.Strings.{backslash, is_plain, join, escape_from, escape, first_part, three_quotes, behind_quote, closes, closing, string_len}
+use Rattle.juniper_tokens.specs.Strings.{without_last_quote, without_quotes}
 use Rattle.juniper_tokens.proofs.Bytes.{run_suc, run_zero}
 use Rattle.juniper_tokens.proofs.Escapes.{IsInside, read_plain, read_other, read_backslash, not_plain, escape_stops, escape_goes, decode_goes}
 

@@ -1,5 +1,6 @@
 -- What an escape stands for, by the bytes that stand there.
-use Rattle.std.proofs.Common.{inl, inr, ◌≡◌, ◌≢◌, ℕ, suc, ◌+◌, ◌-◌, ◌<◌, ◌≤◌, false, List, [], ◌∷◌, length, take, drop, get_or, Option, Some, None, option_map, refl, ap, sym, ◌∙◌, arith, add-one}
+use Rattle.std.proofs.Common.{inl, inr, ◌≡◌, ◌≢◌, ℕ, suc, ◌+◌, ◌-◌, ◌<◌, ◌≤◌, false, List, [], ◌∷◌, length, take, drop, get_or, Option, Some, None, option_map}
+use Rattle.std.proofs.Common.{refl, ap, sym, ◌∙◌, arith, add-one}
 use Rattle.std.proofs.lemmas.List.{take_all, length-drop}
 use Rattle.std.proofs.lemmas.Bool.{cases_Bool, ne_eqb}
 use Rattle.std.proofs.lemmas.Str.{IsCharBoundary-from_drop}
@@ -10,7 +11,8 @@ use Rattle.std.specs.Char.{encode_utf8, IsScalar}
 use Rattle.graphql_spec.specs.Shown.{Text}
 use Rattle.graphql_spec.specs.Tokens.{after_backslash, hex_digits, escaped, hex_value, is_surrogate}
 use Rattle.juniper_tokens.specs.Strings.{escape_from}
-use Rattle.juniper_tokens.proofs.Escapes.{letter_read, letter_unread, unicode_read, escape_from_utf8, behind_small, code_of, digit_unread, second_unread, third_unread, fourth_unread, four_read, surrogate_read, too_few}
+use Rattle.juniper_tokens.proofs.Escapes.{letter_read, letter_unread, unicode_read, escape_from_utf8, behind_small, code_of, digit_unread, second_unread}
+use Rattle.juniper_tokens.proofs.Escapes.{third_unread, fourth_unread, four_read, surrogate_read, too_few}
 
 at_four : (P : List ℕ → Type 0) → ((a b c d : ℕ) (rest : List ℕ) → P (a ∷ b ∷ c ∷ d ∷ rest)) → (bs : List ℕ) → 4 ≤ length bs → P bs
 at_four P f [] long = absurd (omega (arith, long))

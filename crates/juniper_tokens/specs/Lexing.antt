@@ -3,7 +3,8 @@ use Rattle.std.specs.Prelude.{ℕ, zero, suc, Bool, true, false, ◌+◌, ◌==�
 use Rattle.std.specs.List.{prefix_len, starts_with}
 use Rattle.std.specs.Char.{is_ascii_digit}
 use Rattle.graphql_spec.specs.Positions.{Position, Spot, Span, beginning, walk}
-use Rattle.graphql_spec.specs.Tokens.{Lexeme, mark, name, int, string, Token, quote, is_mark, dots, starts_name, continues_name, is_int, continues_int, ends_before, is_source_byte, is_blank, is_nil}
+use Rattle.graphql_spec.specs.Tokens.{Lexeme, mark, name, int, string, Token, quote, is_mark, dots, starts_name, continues_name, is_int, continues_int}
+use Rattle.graphql_spec.specs.Tokens.{ends_before, is_source_byte, is_blank, is_nil}
 use Rattle.juniper_tokens.specs.Strings.{string_len, without_quotes}
 
 -- where a reader of bytes stands, and the bytes left

@@ -10,7 +10,8 @@ ghost use Rattle.juniper_lookahead.specs.SelectionView.{view_selection};
 ghost use Rattle.juniper_lookahead.specs.Sites.{IsFirstOf};
 ghost use Rattle.juniper_errors.specs.ErrorView.{view_error, view_listed};
 ghost use Rattle.juniper_errors.specs.PathView.{path_place};
-ghost use Rattle.juniper_types.specs.ExecutorView.{IsAskedFor, concrete_of, context_of, enclosing_of, fragment_at, fragments_of, occurrence_of, occurrences_of, path_of, schema_of, start_of, type_of, variables_of, view_occurrence, view_occurrences};
+ghost use Rattle.juniper_types.specs.ExecutorView.{IsAskedFor, concrete_of, context_of, enclosing_of, fragment_at, fragments_of, occurrence_of, occurrences_of};
+ghost use Rattle.juniper_types.specs.ExecutorView.{path_of, schema_of, start_of, type_of, variables_of, view_occurrence, view_occurrences};
 
 use crate::executor::Executor;
 use juniper_errors::{ExecutionError, FieldError, FieldPath};

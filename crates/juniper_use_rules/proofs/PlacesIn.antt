@@ -6,7 +6,8 @@ use Rattle.graphql_spec.specs.Documents.{Argument}
 use Rattle.graphql_spec.specs.Executable.{input_fields_of}
 use Rattle.graphql_spec.specs.Fields.{declaration_in}
 use Rattle.graphql_spec.specs.Inputs.{Input}
-use Rattle.graphql_spec.specs.Schema.{Schema, Shape, InputDeclaration, scalar_type, enum_type, object_type, interface_type, union_type, input_object_type, list_type, nullable_type, placeholder}
+use Rattle.graphql_spec.specs.Schema.{Schema, Shape, InputDeclaration, scalar_type, enum_type, object_type, interface_type, union_type, input_object_type}
+use Rattle.graphql_spec.specs.Schema.{list_type, nullable_type, placeholder}
 use Rattle.graphql_spec.specs.Types.{TypeRef}
 use Rattle.graphql_spec.specs.VariableUses.{Use, at_declared, uses_at, uses_in_items, uses_in_fields, input_fields}
 use Rattle.juniper_position.specs.declared.position.Spanning.{Spanning}

@@ -8,7 +8,8 @@ ghost use Rattle.graphql_spec.specs.Rules as rules;
 ghost use Rattle.juniper_syntax.specs.DocumentView.{view_definition};
 ghost use Rattle.juniper_schema.specs.SchemaView.{view_schema};
 ghost use Rattle.juniper_written.specs.WrittenView.{has_name, view_names};
-ghost use Rattle.juniper_use_rules.specs.UsesView.{AreUsesOfFragments, IsReachOf, definition_at, is_unknown, reaches_unknown, usage_of, view_used, view_used_at};
+ghost use Rattle.juniper_use_rules.specs.UsesView.{AreUsesOfFragments, IsReachOf, definition_at, is_unknown, reaches_unknown, usage_of, view_used};
+ghost use Rattle.juniper_use_rules.specs.UsesView.{view_used_at};
 
 use crate::defined::{VariablesByName, variables_by_name};
 use crate::roots::has_root;

@@ -15,7 +15,8 @@ ghost use Rattle.juniper_syntax.specs.TypeView as types;
 ghost use Rattle.juniper_meta.specs.MetaView.{view_type};
 ghost use Rattle.juniper_schema.specs.SchemaView.{view_schema};
 ghost use Rattle.juniper_written.specs.WrittenView.{has_name};
-ghost use Rattle.juniper_use_rules.specs.UsesView.{AreUsesOfFragments, IsReachOf, allowed_by, definition_at, is_misused, is_null, reaches_misused, usage_of, view_use, view_used, view_used_at, view_uses};
+ghost use Rattle.juniper_use_rules.specs.UsesView.{AreUsesOfFragments, IsReachOf, allowed_by, definition_at, is_misused, is_null, reaches_misused, usage_of};
+ghost use Rattle.juniper_use_rules.specs.UsesView.{view_use, view_used, view_used_at, view_uses};
 
 use crate::defined::{Variable, VariablesByName, variables_by_name};
 use crate::roots::has_root;

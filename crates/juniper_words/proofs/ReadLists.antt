@@ -1,5 +1,6 @@
 -- Lists as they are read, item by item and by their shape.
-use Rattle.std.proofs.Common.{◌≡◌, ◌≤◌, ◌<◌, ◌+◌, ℕ, true, false, codes, List, [], ◌∷◌, ◌++◌, Option, Some, None, Result, Ok, Err, map, length, drop, get_or, ap, sym, subst, refl, ◌∙◌}
+use Rattle.std.proofs.Common.{◌≡◌, ◌≤◌, ◌<◌, ◌+◌, ℕ, true, false, codes, List, [], ◌∷◌, ◌++◌, Option, Some, None, Result, Ok, Err, map, length, drop, get_or}
+use Rattle.std.proofs.Common.{ap, sym, subst, refl, ◌∙◌}
 use Rattle.std.proofs.lemmas.List.{at_drop_more, drop_all, append-nil, append_assoc}
 use Rattle.graphql_spec.specs.Constants.{Constant, null, scalar, enumerated, variable, list, object, meaning}
 use Rattle.graphql_spec.specs.Resolvers.{Error}
@@ -59,8 +60,8 @@ module _ {A B : Type 0} (read : Constant → Result A Error) (f : B → Constant
   all_read i xs whole done so_far = so_far ∙ (ap (λ ys. after xs (read_items read (map f ys))) (drop_all i items done) ∙ ap Ok (append-nil xs))
 
 -- an error of an item is the list's
-pub error_stays : {A B C D S : Type 0} (seen : A → B) (other : C → D) (shown : S → Shown) (error : ResolveError S) (r : Result B Error) (whole : Result D Error) →
-    ((e : Error) → r ≡ Err e → whole ≡ Err e) → ReadsAs seen shown (Err error) r → ReadsAs other shown (Err error) whole
+pub error_stays : {A B C D S : Type 0} (seen : A → B) (other : C → D) (shown : S → Shown) (error : ResolveError S) (r : Result B Error) (whole : Result D Error)
+    → ((e : Error) → r ≡ Err e → whole ≡ Err e) → ReadsAs seen shown (Err error) r → ReadsAs other shown (Err error) whole
 error_stays seen other shown (Field e) r whole refused reads = refused (view_error shown e) reads
 error_stays seen other shown Memory r whole refused reads = tt
 

@@ -11,7 +11,7 @@ unfolding occurrence_at
 resolve_root-answered-requires g c =
     let shown = g.S.ScalarValue.shown in
     let made = c.at_field-executor.ensures in
-    asked-at shown c.at_field-executor.result _ _ _ _ _ c.args.site.now.occurrences.now c.args.written.now c.args.question.now.shown c.args.site.now.path.now _ _
-    made.schema made.variables made.fragments made.concrete_type made.enclosing made.occurrences
+    asked-at shown c.at_field-executor.result _ _ _ _ _ c.args.site.now.occurrences.now c.args.written.now c.args.question.now.shown c.args.site.now.path.now
+    _ _ made.schema made.variables made.fragments made.concrete_type made.enclosing made.occurrences
     (first-same c.args.site.now.occurrences.now _ c.args.written.now made.first c.requires.first) made.declared_type made.path c.requires.first
     refl c.requires.arguments c.requires.whole c.requires.question.shows c.requires.path c.args.served.now.executable

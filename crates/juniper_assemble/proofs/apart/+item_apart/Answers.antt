@@ -11,7 +11,8 @@ use Rattle.juniper_assemble.specs.SkeletonView.{skeletons_of, view_skeleton}
 use Rattle.juniper_assemble.specs.SpotView.{view_nodes}
 use Rattle.juniper_assemble.proofs.ByKind.{none_left}
 use Rattle.juniper_assemble.proofs.Views.{skeleton-Several}
-use Rattle.juniper_assemble.proofs.Parting.{below-more, placed-as, null-part, list-refused, list-apart, apart-turn, apart-falls, seen-as, skeletons-push, start-apart}
+use Rattle.juniper_assemble.proofs.Parting.{below-more, placed-as, null-part, list-refused, list-apart, apart-turn, apart-falls, seen-as, skeletons-push}
+use Rattle.juniper_assemble.proofs.Parting.{start-apart}
 use Rattle.juniper_assemble.proofs.apart.+item_apart.Goals as goal
 
 pub returns-in_ok-null-in-Null-clause-apart : goal.returns-in_ok-null-in-Null-clause-apart

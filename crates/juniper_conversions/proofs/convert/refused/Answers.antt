@@ -5,7 +5,9 @@ use Rattle.juniper_errors.specs.Messages.{message_alone}
 use Rattle.juniper_scalars.specs.Conversions.{refusal_text}
 use Rattle.juniper_conversions.proofs.Meanings.{means-Null, means-Scalar, means-Enum, means-Variable, means-List, means-Object}
 use Rattle.juniper_conversions.proofs.convert.refused.Goals as goal
-use Rattle.juniper_conversions.proofs.convert.refused.Goals.{in-Null+in_ok-message-in-Null, in-Scalar+in_ok-message-in-Scalar, in-Enum+in_ok-message-in-Enum, in-Variable+in_ok-message-in-Variable, in-List+in_ok-message-in-List, in-Object+in_ok-message-in-Object}
+use Rattle.juniper_conversions.proofs.convert.refused.Goals.{in-Null+in_ok-message-in-Null, in-Scalar+in_ok-message-in-Scalar, in-Enum+in_ok-message-in-Enum}
+use Rattle.juniper_conversions.proofs.convert.refused.Goals.{in-Variable+in_ok-message-in-Variable, in-List+in_ok-message-in-List}
+use Rattle.juniper_conversions.proofs.convert.refused.Goals.{in-Object+in_ok-message-in-Object}
 
 pub returns : goal.returns
 returns g c =

@@ -4,7 +4,8 @@ use Rattle.juniper_syntax.specs.InputView.{view_fields, view_input}
 use Rattle.juniper_syntax.proofs.Inputs.{view-Object}
 use Rattle.juniper_overlapping_fields.specs.NamedValues.{view_named}
 use Rattle.juniper_overlapping_fields.specs.SameValues.{passes, same_value}
-use Rattle.juniper_overlapping_fields.proofs.SameItems.{both-keyed, items-differ, items-done, items-pass, items-stop, one-differs, value-found, values-done, values-pass, values-stop}
+use Rattle.juniper_overlapping_fields.proofs.SameItems.{both-keyed, items-differ, items-done, items-pass, items-stop, one-differs, value-found, values-done}
+use Rattle.juniper_overlapping_fields.proofs.SameItems.{values-pass, values-stop}
 use Rattle.juniper_overlapping_fields.proofs.same_values.+same.Goals as goal
 
 pub same_value-returns-in-Object : goal.same_value-returns-in-Object

@@ -29,7 +29,8 @@ returns g c = λ rise.
     let key = λ (o : Occurrence g.row.S.Denot). response_key (head_of shown o.field.now) in
     let fields = c.args.fields.now in
     let made = c.loop-occurrence.invariant
-    ∙ (ap (map (λ o. name_number (key o))) (take_all c.loop-occurrence.occurrence-index fields c.loop-occurrence-test.false) ∙ sym (map-map name_number key fields)) in
+    ∙ (ap (map (λ o. name_number (key o))) (take_all c.loop-occurrence.occurrence-index fields c.loop-occurrence-test.false)
+    ∙ sym (map-map name_number key fields)) in
     sorted-differ (map key fields) c.sort_unstable.new.self.items
     (subst (λ l. IsPermutation l c.sort_unstable.new.self.items) made c.sort_unstable.ensures.permutation)
     (ap rises (sym c.deref.ensures.value) ∙ (sym c.do_rise.ensures ∙ rise))

@@ -79,7 +79,8 @@ returns-in-Leaf g c =
     let typed = c.ask-told.ensures.declared ∙ ap (type_of W T) fields in
     let answers = subst (λ os. Answers shown c.ask-told.result.answer (reply_of W T c.args.node.now os)) fields c.ask-told.ensures.answer in
     let leaf = subst (IsReply W shown c.ask-told.result) c.in-Leaf.is c.leaf_of.ensures in
-    leaf-prepared W shown _ _ _ leaf (path_place c.args.path.now.value) T c.args.node.now k all (view_all shown collector fs) _ c.requires.whole c.key.ensures typed
+    leaf-prepared W shown _ _ _ leaf (path_place c.args.path.now.value) T c.args.node.now k all (view_all shown collector fs) _ c.requires.whole c.key.ensures
+    typed
     answers
 
 pub returns : goal.returns

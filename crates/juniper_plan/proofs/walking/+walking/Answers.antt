@@ -11,11 +11,13 @@ use Rattle.juniper_plan.specs.Leaves.{IsTaken}
 use Rattle.juniper_plan.specs.PlanWalks.{AreObjectsWalked}
 use Rattle.juniper_plan.proofs.Leaves.{leaf-put}
 use Rattle.juniper_plan.proofs.Nodes.{none-yet}
-use Rattle.juniper_plan.proofs.Rounds.{group-asked, group-bound, group-falls, group-is, group-stops, group-walked, groups-walked, more-steps, no-items, no-step, node-falls, node-walked, step-made, still-bound, still-selected, take-none}
+use Rattle.juniper_plan.proofs.Rounds.{group-asked, group-bound, group-falls, group-is, group-stops, group-walked, groups-walked, more-steps, no-items, no-step}
+use Rattle.juniper_plan.proofs.Rounds.{node-falls, node-walked, step-made, still-bound, still-selected, take-none}
 use Rattle.juniper_plan.proofs.Turns.{start-walking}
 use Rattle.juniper_walk.specs.Walking.{IsReadyWalk}
 use Rattle.juniper_plan.proofs.walking.+walking.Goals as goal
-use Rattle.juniper_plan.proofs.walking.+walking.Goals.{object-in-Leaf+in_ok-put_leaf-in-Leaf, object-in-Apart+in_ok-walked-in-Apart+in_ok-rises-in-Apart+else-rises}
+use Rattle.juniper_plan.proofs.walking.+walking.Goals.{object-in-Leaf+in_ok-put_leaf-in-Leaf}
+use Rattle.juniper_plan.proofs.walking.+walking.Goals.{object-in-Apart+in_ok-walked-in-Apart+in_ok-rises-in-Apart+else-rises}
 
 pub object-loop-number-init : goal.object-loop-number-init
 object-loop-number-init g t c =
@@ -39,8 +41,10 @@ object-prepare-requires-clause-bound g t c =
     let possible = g.R.Conditions.possible c.args.walk.now.collector.possible in
     let s = all_expanded shown collector c.args.enclosing.now in
     let standing : IsStanding shown collector asks possible c.args.plan.now = c.requires.1.1.1.1.1.1.1.0 in
-    let stands : StandsFor shown collector asks c.args.concrete.now c.args.plan.now c.args.groups (occurrences possible c.args.concrete.now s) = c.requires.1.1.1.1.1.1.1.1 in
-    group-bound shown collector asks possible c.args.plan.now c.loop-number.plan c.args.groups c.args.concrete.now s standing stands c.loop-number.invariant.step
+    let stands : StandsFor shown collector asks c.args.concrete.now c.args.plan.now c.args.groups (occurrences possible c.args.concrete.now s)
+    = c.requires.1.1.1.1.1.1.1.1 in
+    group-bound shown collector asks possible c.args.plan.now c.loop-number.plan c.args.groups c.args.concrete.now s standing stands
+    c.loop-number.invariant.step
     c.loop-number.number c.loop-number.auto.number c.loop-number-test.true
 
 pub object-prepare-requires-clause-whole : goal.object-prepare-requires-clause-whole
@@ -51,7 +55,8 @@ object-prepare-requires-clause-whole g t c =
     let possible = g.R.Conditions.possible c.args.walk.now.collector.possible in
     let s = all_expanded shown collector c.args.enclosing.now in
     let standing : IsStanding shown collector asks possible c.args.plan.now = c.requires.1.1.1.1.1.1.1.0 in
-    let stands : StandsFor shown collector asks c.args.concrete.now c.args.plan.now c.args.groups (occurrences possible c.args.concrete.now s) = c.requires.1.1.1.1.1.1.1.1 in
+    let stands : StandsFor shown collector asks c.args.concrete.now c.args.plan.now c.args.groups (occurrences possible c.args.concrete.now s)
+    = c.requires.1.1.1.1.1.1.1.1 in
     group-is shown collector asks possible c.args.plan.now c.loop-number.plan c.args.groups c.args.concrete.now s standing stands c.loop-number.invariant.step
     c.loop-number.number c.loop-number.auto.number c.loop-number-test.true
 
@@ -76,12 +81,15 @@ object-objects_of-requires g t c κs within =
     let possible = g.R.Conditions.possible c.args.walk.now.collector.possible in
     let s = all_expanded shown collector c.args.enclosing.now in
     let standing : IsStanding shown collector asks possible c.args.plan.now = c.requires.1.1.1.1.1.1.1.0 in
-    let stands : StandsFor shown collector asks c.args.concrete.now c.args.plan.now c.args.groups (occurrences possible c.args.concrete.now s) = c.requires.1.1.1.1.1.1.1.1 in
+    let stands : StandsFor shown collector asks c.args.concrete.now c.args.plan.now c.args.groups (occurrences possible c.args.concrete.now s)
+    = c.requires.1.1.1.1.1.1.1.1 in
     let bound : c.loop-number.number < length c.loop-number.plan.groups.items =
-    group-bound shown collector asks possible c.args.plan.now c.loop-number.plan c.args.groups c.args.concrete.now s standing stands c.loop-number.invariant.step
+    group-bound shown collector asks possible c.args.plan.now c.loop-number.plan c.args.groups c.args.concrete.now s standing stands
+    c.loop-number.invariant.step
     c.loop-number.number c.loop-number.auto.number c.loop-number-test.true in
     let falls : 2 * depth (all_below (view_all shown collector (fields_at c.loop-number.plan c.loop-number.number))) + 1 < 2 * depth s =
-    group-falls shown collector asks possible c.args.plan.now c.loop-number.plan c.args.groups c.args.concrete.now s standing stands c.loop-number.invariant.step
+    group-falls shown collector asks possible c.args.plan.now c.loop-number.plan c.args.groups c.args.concrete.now s standing stands
+    c.loop-number.invariant.step
     c.loop-number.number c.loop-number.auto.number c.loop-number-test.true in
     let still : IsStanding shown collector asks possible c.loop-number.plan = c.loop-number.invariant.step.standing in
     (omega (arith, falls), search (rules, bound, still))
@@ -95,7 +103,8 @@ object-loop-number-preserved g t c =
     let W = g.R.Completer.world c.args.walk.now.collector.possible in
     let s = all_expanded shown collector c.args.enclosing.now in
     let standing : IsStanding shown collector asks possible c.args.plan.now = c.requires.1.1.1.1.1.1.1.0 in
-    let stands : StandsFor shown collector asks c.args.concrete.now c.args.plan.now c.args.groups (occurrences possible c.args.concrete.now s) = c.requires.1.1.1.1.1.1.1.1 in
+    let stands : StandsFor shown collector asks c.args.concrete.now c.args.plan.now c.args.groups (occurrences possible c.args.concrete.now s)
+    = c.requires.1.1.1.1.1.1.1.1 in
     let ready : IsReadyWalk shown g.R.Conditions.possible g.R.Resolver.values W c.args.walk.now = c.requires.1.1.1.1.1.1.0 in
     let same : possible ≡ W.possible = ready.same in
     elim c.match-taken.branch [
@@ -130,7 +139,8 @@ object-returns-then-rises g t c =
     let W = g.R.Completer.world c.args.walk.now.collector.possible in
     let s = all_expanded shown collector c.args.enclosing.now in
     let standing : IsStanding shown collector asks possible c.args.plan.now = c.requires.1.1.1.1.1.1.1.0 in
-    let stands : StandsFor shown collector asks c.args.concrete.now c.args.plan.now c.args.groups (occurrences possible c.args.concrete.now s) = c.requires.1.1.1.1.1.1.1.1 in
+    let stands : StandsFor shown collector asks c.args.concrete.now c.args.plan.now c.args.groups (occurrences possible c.args.concrete.now s)
+    = c.requires.1.1.1.1.1.1.1.1 in
     let ready : IsReadyWalk shown g.R.Conditions.possible g.R.Resolver.values W c.args.walk.now = c.requires.1.1.1.1.1.1.0 in
     let same : possible ≡ W.possible = ready.same in
     let apart = subst (IsTaken W shown _ c.args.concrete.now c.args.node.now _ _) c.in-Apart.is c.in_ok-taken.ensures in
@@ -151,7 +161,8 @@ object-returns g t c =
     let possible = g.R.Conditions.possible c.args.walk.now.collector.possible in
     let W = g.R.Completer.world c.args.walk.now.collector.possible in
     let s = all_expanded shown collector c.args.enclosing.now in
-    let stands : StandsFor shown collector asks c.args.concrete.now c.args.plan.now c.args.groups (occurrences possible c.args.concrete.now s) = c.requires.1.1.1.1.1.1.1.1 in
+    let stands : StandsFor shown collector asks c.args.concrete.now c.args.plan.now c.args.groups (occurrences possible c.args.concrete.now s)
+    = c.requires.1.1.1.1.1.1.1.1 in
     let ready : IsReadyWalk shown g.R.Conditions.possible g.R.Resolver.values W c.args.walk.now = c.requires.1.1.1.1.1.1.0 in
     let same : possible ≡ W.possible = ready.same in
     record {

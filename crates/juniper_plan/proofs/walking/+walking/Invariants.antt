@@ -22,7 +22,8 @@ invariant-object-loop-number g l =
     let shown = g.S.ScalarValue.shown in
     let W = g.R.Completer.world l.walk.collector.possible in
     record {
-      step : IsStep shown l.walk.collector (g.R.Resolver.asks l.walk.collector.possible) (g.R.Conditions.possible l.walk.collector.possible) l.initial.plan l.plan;
+      step : IsStep shown l.walk.collector (g.R.Resolver.asks l.walk.collector.possible) (g.R.Conditions.possible l.walk.collector.possible) l.initial.plan
+          l.plan;
       walked : IsWalking W (path_place l.path.value) l.concrete l.node
           (occurrences W.possible l.concrete (all_expanded shown l.walk.collector l.enclosing))
           (take (l.number - l.fn.groups.first.0) (keys (occurrences W.possible l.concrete (all_expanded shown l.walk.collector l.enclosing))))
@@ -34,7 +35,8 @@ abbrev pub invariant-objects_of-loop-spot : goal.invariant-objects_of-loop-spot
 invariant-objects_of-loop-spot g l =
     let shown = g.S.ScalarValue.shown in
     record {
-      step : IsStep shown l.walk.collector (g.R.Resolver.asks l.walk.collector.possible) (g.R.Conditions.possible l.walk.collector.possible) l.initial.plan l.plan;
+      step : IsStep shown l.walk.collector (g.R.Resolver.asks l.walk.collector.possible) (g.R.Conditions.possible l.walk.collector.possible) l.initial.plan
+          l.plan;
       walked : AreObjectsWalked (g.R.Completer.world l.walk.collector.possible)
           (all_below (view_all shown l.walk.collector (fields_at l.initial.plan l.fn.group.0))) (view_nodes (take l.spot-index l.nodes))
           (map (view_value shown) l.values.items) (map (view_listed shown) l.errors.items);

@@ -17,5 +17,6 @@ returns-then-contains c = or-true c.contains.result (has_name c.args.done.now c.
 
 pub returns-else-contains : goal.returns-else-contains
 returns-else-contains c =
-    or-false c.contains.result (has_name c.args.done.now c.args.name.now) c.contains-else-contains.result (is_some (spread_by c.args.spreads.now c.args.name.now))
+    or-false c.contains.result (has_name c.args.done.now c.args.name.now) c.contains-else-contains.result
+    (is_some (spread_by c.args.spreads.now c.args.name.now))
     c.contains.ensures c.if-contains.false (c.contains-else-contains.ensures ∙ found-by c.args.spreads.now c.args.name.now)

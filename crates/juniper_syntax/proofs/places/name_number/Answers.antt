@@ -9,7 +9,8 @@ loop-byte-preserved c =
     let name = c.args.name.now in
     let i = c.loop-byte.byte-index in
     let n = c.loop-byte.number in
-    subst (λ (b : ℕ). name_number name ≡ number_from ((n * 1099511628211 % 2 ^ 64 + b) % 2 ^ 64) (drop (i + 1) name)) (sym (c.from.ensures ∙ ap (λ l. get_or l i 0) c.as_bytes-byte-items.ensures.value))
+    subst (λ (b : ℕ). name_number name ≡ number_from ((n * 1099511628211 % 2 ^ 64 + b) % 2 ^ 64) (drop (i + 1) name))
+    (sym (c.from.ensures ∙ ap (λ l. get_or l i 0) c.as_bytes-byte-items.ensures.value))
     (one-byte name i (subst (λ l. i < length l) c.as_bytes-byte-items.ensures.value c.loop-byte-test.true) _ n c.loop-byte.invariant)
 
 pub returns : goal.returns

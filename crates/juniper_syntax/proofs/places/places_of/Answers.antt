@@ -20,7 +20,8 @@ loop-place-preserved c =
     let last = c.index-names-place.result in
     let said = sym c.as_str.ensures.value in
     let grown : take (at + 1) names ≡ take at names ++ last ∷ []
-    = ap (λ n. take n names) (one_more at) ∙ take-suc names at last c.loop-place-test.true ∙ ap (λ name. take at names ++ name ∷ []) (sym c.index-names-place.is) in
+    = ap (λ n. take n names) (one_more at) ∙ take-suc names at last c.loop-place-test.true
+    ∙ ap (λ name. take at names ++ name ∷ []) (sym c.index-names-place.is) in
     let gone : list_any (is_key c.as_str.result.now) (take at names) ≡ false
     = ap (λ text. list_any (is_key text) (take at names)) (c.as_str.ensures.value ∙ ap string_bytes c.index-names-place.is)
     ∙ before names at last c.loop-place-test.true c.requires in

@@ -11,7 +11,8 @@ loop-item-init g c =
 pub returns-in-Err : goal.returns-in-Err
 returns-in-Err g c =
     let shown = g.S.ScalarValue.shown in
-    error_stays g.T.InputType.seen (λ (v : Vec g.row.T.Denot Global). map g.T.InputType.seen v.items) shown c.in-Err.error (g.T.InputType.read (meant shown c.item-item.result))
+    error_stays g.T.InputType.seen (λ (v : Vec g.row.T.Denot Global). map g.T.InputType.seen v.items) shown c.in-Err.error
+    (g.T.InputType.read (meant shown c.item-item.result))
     (read_items g.T.InputType.read (map (meant shown) c.args.items.now))
     (λ e r. item_refused g.T.InputType.read (meant shown) c.args.items.now c.loop-item.item-index c.item-item.result
     (map g.T.InputType.seen c.loop-item.made.items) e (read_items g.T.InputType.read (map (meant shown) c.args.items.now)) c.loop-item-test.true

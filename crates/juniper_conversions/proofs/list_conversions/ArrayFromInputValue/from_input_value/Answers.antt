@@ -5,7 +5,8 @@ use Rattle.juniper_syntax.specs.InputView.{view_input}
 use Rattle.juniper_conversions.proofs.Counts.{counted, single}
 use Rattle.juniper_conversions.proofs.Shapes.{by_list, by_other}
 use Rattle.juniper_conversions.proofs.list_conversions.ArrayFromInputValue.from_input_value.Goals as goal
-use Rattle.juniper_conversions.proofs.list_conversions.ArrayFromInputValue.from_input_value.Goals.{in-Some+else-items+in_ok-converted-in-Some, in-None+in_ok-converted-in-None}
+use Rattle.juniper_conversions.proofs.list_conversions.ArrayFromInputValue.from_input_value.Goals.{in-Some+else-items+in_ok-converted-in-Some}
+use Rattle.juniper_conversions.proofs.list_conversions.ArrayFromInputValue.from_input_value.Goals.{in-None+in_ok-converted-in-None}
 
 pub returns-in-Ok : goal.returns-in-Ok
 returns-in-Ok g c =

@@ -13,7 +13,8 @@ use Rattle.juniper_syntax.specs.InputView.{view_fields, view_input, view_items}
 use Rattle.juniper_syntax.proofs.Inputs.{view-Null, view-Object}
 use Rattle.juniper_schema.specs.Fitting.{declared_of, fits_some, list_fits}
 use Rattle.juniper_schema.specs.SchemaView.{view_schema}
-use Rattle.juniper_schema.proofs.Fitting.{count_is, fields_done, fields_pass, fields_stop, items_done, items_pass, items_stop, list_met, object_is, through_no, through_yes}
+use Rattle.juniper_schema.proofs.Fitting.{count_is, fields_done, fields_pass, fields_stop, items_done, items_pass, items_stop, list_met, object_is, through_no}
+use Rattle.juniper_schema.proofs.Fitting.{through_yes}
 use Rattle.juniper_schema.proofs.TypeLevels.{view-List, view-NonNullList}
 use Rattle.juniper_schema.proofs.schema.SchemaType.+fits.Goals as goal
 

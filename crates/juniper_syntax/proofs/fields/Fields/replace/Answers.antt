@@ -14,7 +14,8 @@ returns-in_err-place-clause-old g c =
 pub returns-in_err-place-clause-new : goal.returns-in_err-place-clause-new
 returns-in_err-place-clause-new g c =
     let test = is_key c.args.key.now in
-    let same = stays test c.self.inside.keys c.self.inside.values.items c.args.value (none-position test c.self.inside.keys (sym c.in_err-place.ensures.index)) in
+    let same = stays test c.self.inside.keys c.self.inside.values.items c.args.value
+    (none-position test c.self.inside.keys (sym c.in_err-place.ensures.index)) in
     sym c.self.view_is ∙ sym same ∙ ap (λ es. set_value test es c.args.value) c.self.view_is
 
 pub returns-clause-old : goal.returns-clause-old

@@ -15,7 +15,8 @@ on_err (Ok x) p = tt
 on_err (Err e) p = p
 
 pub returns-in_err-insert-clause-err : goal.returns-in_err-insert-clause-err
-returns-in_err-insert-clause-err c = on_err c.from_residual-in_err-insert.result (λ names shows. same-shows c.args.self.now _ names refl c.in_err-insert.ensures.err shows)
+returns-in_err-insert-clause-err c = on_err c.from_residual-in_err-insert.result
+    (λ names shows. same-shows c.args.self.now _ names refl c.in_err-insert.ensures.err shows)
 
 pub returns-in_err-insert-2-clause-err : goal.returns-in_err-insert-2-clause-err
 returns-in_err-insert-2-clause-err c =

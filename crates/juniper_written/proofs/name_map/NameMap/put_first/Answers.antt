@@ -19,4 +19,5 @@ returns g c = λ k.
     sym (found-is k c.insert.new.self.entries)
     ∙ (btree_map_updates_str name m.sorted c.insert.new.self _ c.in_ok-insert.ensures.updates k
     ∙ (ap (cond (bytes_eq name k) (Some c.args.value)) (found-is k m.sorted.entries)
-    ∙ put-new (named m) k name c.args.value (λ e. subst (λ j. is_some (named m j) ≡ false) (sym (same k name e)) (sym c.contains.ensures ∙ c.if-contains.false))))
+    ∙ put-new (named m) k name c.args.value (λ e. subst (λ j. is_some (named m j) ≡ false) (sym (same k name e))
+    (sym c.contains.ensures ∙ c.if-contains.false))))
