@@ -4,9 +4,9 @@ use Rattle.std.specs.List.{slice_get}
 use Rattle.std.proofs.Common.{refl, sym, ap, subst, inl, inr, ◌∙◌}
 use Rattle.graphql_spec.specs.Laws.{In}
 use Rattle.juniper_merging.specs.MergingGraph.{view_vertex}
-use Rattle.juniper_merging.specs.Sets.{Extends, IsInside, IsSetOf, IsTable, joined}
+use Rattle.juniper_merging.specs.Sets.{Extends, IsInside, IsSetOf, IsTable}
 use Rattle.juniper_merging.specs.Standing.{AreAlike}
-use Rattle.juniper_merging.specs.Tables.{below_in, set_at, table_from, table_of}
+use Rattle.juniper_merging.specs.Tables.{below_in, joined, set_at, table_from, table_of}
 use Rattle.juniper_merging.specs.declared.graph.Vertex.{Vertex}
 use Rattle.juniper_merging.specs.declared.sets.FieldSet.{FieldSet}
 use Rattle.juniper_merging.specs.declared.sets.Gathering.{Gathering}
@@ -15,7 +15,7 @@ use Rattle.juniper_field_graph.specs.Gathering.{AreSets, Pairwise}
 
 pub empty-table : (xs : List FieldSet) → xs ≡ [] → IsTable xs
 unfolding table_of table_from
-empty-table xs e = subst IsTable (sym e) (record { count = refl; fields = λ i f g. cc; both = λ i a b g. cc })
+empty-table xs e = subst IsTable (sym e) (record { count = refl; held = λ i x g. cc; before = λ i x p g m. cc })
 
 -- ## Tables
 
@@ -44,8 +44,6 @@ module _ (t u : List (List ℕ)) (more : Extends t u) where
   set-of-more g all is = record {
     inside = λ b i. inside-more b (is.inside b i);
     alike = subst (λ l. AreAlike (λ x i. x ≡ i) all (g.fields.items ++ l)) (sym (joined-still g.parts.items is.inside)) is.alike;
-    first = is.first;
-    second = is.second;
   }
 
   below-still : (o : Option ℕ) → ((b : ℕ) → o ≡ Some b → IsInside t b) → below_in u o ≡ below_in t o

@@ -342,7 +342,7 @@ module _ {S : Type 0} (shown : S → Shown) (s : Schema) (fs : List Fragment) (e
       x ≡ InlineFragment f → view_selections shown (out-InlineFragment S f.item).selection_set.items ≡ below →
       IsReadyIn shown s fs old held (put_selection shown x rest) →
       (IsReadyIn shown s fs old held below → IsSetGatheredAt shown s fs old new sets then (name_or (view_inline shown f).condition p) below inner) →
-      (IsGraphOf shown s new → IsPutTo (table_in shown new) n m inner) →
+      IsPutTo (table_in shown new) n m inner →
       IsGathered shown s fs old new sets then n m p rest (put_selection shown x rest)
   inline-step old new sets then n m rest x f below inner is set ready inside numbers =
       let e : put_selection shown x rest ≡ inline (view_inline shown f) below rest = ap (λ y. put_selection shown y rest) is
@@ -350,4 +350,4 @@ module _ {S : Type 0} (shown : S → Shown) (s : Schema) (fs : List Fragment) (e
       let r = ready-inline s fs (vertices_of shown old) (heads_of shown old) (table_in shown old) held (view_inline shown f) below rest
       (subst (IsReadyIn shown s fs old held) e ready) in
       subst (IsGathered shown s fs old new sets then n m p rest) (sym e)
-      (let a = inside r.0 in inline-gathered shown s fs old new sets then n m p (view_inline shown f) below rest inner a (numbers a.2.grown.graph))
+      (inline-gathered shown s fs old new sets then n m p (view_inline shown f) below rest inner (inside r.0) numbers)

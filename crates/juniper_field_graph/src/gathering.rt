@@ -12,7 +12,7 @@ ghost use Rattle.juniper_merging.specs.Sets.{IsInside, IsSetOf};
 ghost use Rattle.juniper_schema.specs.SchemaView.{view_schema};
 ghost use Rattle.juniper_syntax.specs.DocumentView.{put_selection, view_selections};
 ghost use Rattle.juniper_written.specs.WrittenView.{view_field, view_inline};
-ghost use Rattle.juniper_field_graph.specs.Gathering.{IsGathered, IsReadyIn, IsPutTo, IsSetGatheredAt, IsSetMade, set_named};
+ghost use Rattle.juniper_field_graph.specs.Gathering.{IsGathered, IsReadyIn, IsSetGatheredAt, IsSetMade, set_named};
 ghost use Rattle.juniper_field_graph.specs.GraphView.{IsGraphOf, IsPushed, table_in};
 
 use crate::graph::FieldGraph;
@@ -40,8 +40,6 @@ pub(crate) struct Gathered<'d, 'a, S: ScalarValue> {
     pub(crate) graph: FieldGraph<'d, 'a, S>,
     /// The numbers of the sets that were gathered.
     pub(crate) sets: Vec<usize>,
-    /// How many numbers of fields were copied out of sets into other sets.
-    pub(crate) copied: usize,
 }
 
 /// Gathers a selection set on a type, and all sets in it; gives the number of the set of the fields that it holds.
@@ -94,7 +92,7 @@ fn gather_selection<'d, 'a, S: ScalarValue>(
             let fragments = known.fragments;
             match fragments.get(spread.item.name.item) {
                 Some(held) => {
-                    put_held(&gathered.graph, *held, numbers, &mut gathered.copied)?;
+                    numbers.put(*held)?;
                     Ok(())
                 }
                 None => Ok(()),
@@ -103,7 +101,7 @@ fn gather_selection<'d, 'a, S: ScalarValue>(
         Selection::InlineFragment(inline) => {
             let inner = type_inside(parent, inline);
             let held = gather_set(alloc, known, inner, &inline.item.selection_set, gathered)?;
-            put_held(&gathered.graph, held, numbers, &mut gathered.copied)?;
+            numbers.put(held)?;
             Ok(())
         }
     }
@@ -149,26 +147,6 @@ fn gather_field<'d, 'a, S: ScalarValue>(
     Ok(())
 }
 
-/// Puts the fields of a set to what is gathered: as fields, as long as hardly more are copied than the graph has, else as a set. So
-/// sets hold few fields more than are written, however often fragments are spread.
-fn put_held<'d, 'a, S: ScalarValue>(
-    graph: &FieldGraph<'d, 'a, S>,
-    held: usize,
-    numbers: &mut Gathering,
-    copied: &mut usize,
-) -> Result<(), AllocError>
-    ensures { OnOk result ((s : Schema) → IsGraphOf S.shown s graph.now → IsPutTo (table_in S.shown graph.now) numbers.old numbers.new held) }
-{
-    let most = graph.vertices.len().saturating_add(SPARE);
-    let room = most.saturating_sub(*copied);
-    let more = numbers.put(&graph.sets, held, room)?;
-    *copied = copied.saturating_add(more);
-    Ok(())
-}
-
-/// How many fields are copied beyond one for each field of the graph.
-const SPARE: usize = 64;
-
 /// Puts a field, which selects these fields, to the graph, and to the numbers.
 fn put_field<'d, 'a, S: ScalarValue>(
     alloc: Global,
@@ -188,13 +166,8 @@ fn put_field<'d, 'a, S: ScalarValue>(
         → (i : ℕ) × IsPushed S.shown (view_schema S.shown known.now.schema.now) graph.old graph.new parent.now (view_field S.shown field.now) below i
         × ((t : List (List ℕ)) (all : List ℕ) → IsSetOf t numbers.old all → IsSetOf t numbers.new (all ++ i ∷ []))) }
 {
-    let fresh = graph.vertices.len();
     let number = graph.push(alloc, known.schema, parent, field, declared_type, below)?;
-    if number < fresh {
-        numbers.push_again(number)?;
-    } else {
-        numbers.push(number)?;
-    }
+    numbers.push(number)?;
     Ok(())
 }
 

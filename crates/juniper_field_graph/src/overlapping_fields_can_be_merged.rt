@@ -115,7 +115,6 @@ fn nothing_gathered<'d, 'a, S: ScalarValue>(alloc: Global) -> Gathered<'d, 'a, S
     Gathered {
         graph: FieldGraph::new(alloc),
         sets: Vec::new(alloc),
-        copied: 0,
     }
 }
 

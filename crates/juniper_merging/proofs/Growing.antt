@@ -1,6 +1,5 @@
 -- What vertices stand for, they stand for in every graph that has them; and each at most twice is enough.
 use Rattle.std.specs.Prelude.{ℕ, zero, suc, List, ◌≡◌}
-use Rattle.std.specs.List.{slice_get}
 use Rattle.std.proofs.Common.{sym, subst, ◌∙◌}
 use Rattle.graphql_spec.specs.Documents.{Head}
 use Rattle.graphql_spec.specs.Schema.{Schema}
@@ -40,15 +39,3 @@ module _ (s : Schema) (vs ws : List FieldAt) (heads more : ℕ → Head) (g : Gr
   pub stands-more : (n : ℕ) (x : Field) (i : ℕ) → StandsFor s vs heads n x i → StandsFor s ws more n x i
   stands-more zero x i r = (r.0, at-more x i r.0 r.1)
   stands-more (suc n) x i r = (r.0, at-more x i r.0 r.1, alike-more (StandsFor s vs heads n) (StandsFor s ws more n) (λ y j. stands-more n y j) _ _ r.2)
-
--- and at each vertex that is the same
-pub at-same : (s : Schema) (vs : List FieldAt) (heads : ℕ → Head) (x : Field) (i j : ℕ) (v : FieldAt) → slice_get vs j ≡ slice_get vs i →
-    IsAt s vs heads x i v → IsAt s vs heads x j v
-at-same s vs heads x i j v same a = record {
-  there = same ∙ a.there;
-  like = a.like;
-  like_there = a.like_there;
-  head = a.head;
-  parent = a.parent;
-  on_object = a.on_object;
-}

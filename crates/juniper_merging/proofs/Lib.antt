@@ -3,18 +3,19 @@ pub mod Tests
 pub mod Grouping
 pub mod Places
 mod Telling
-mod Told
-mod Alone
-mod RegularSets
-mod TakenSets
-mod ClosedUnions
-mod Sound
-mod Vertices
 mod Passed
+mod Listing
+mod Told
+mod Added
+mod Quiet
+mod Rows
+mod Looked
+mod Alike
+mod Compared
+mod Looks
+mod Kept
+mod Vertices
 pub mod Tables
-mod Below
-mod Asked
-mod Keyed
 pub mod Gathered
 mod Settling
 pub mod Whole

@@ -1,9 +1,9 @@
 -- Loops over a list, all of whose elements before some place passed a test.
-use Rattle.std.specs.Prelude.{ℕ, Bool, true, ◌&&◌, List, [], ◌∷◌, ◌++◌, ◌≡◌, ◌<◌, ◌≤◌, ◌+◌, length, get_or, take}
+use Rattle.std.specs.Prelude.{ℕ, Bool, true, ◌&&◌, List, [], ◌∷◌, ◌++◌, ◌≡◌, ◌<◌, ◌+◌, length, get_or, take}
 use Rattle.std.specs.List.{list_all}
-use Rattle.std.proofs.lemmas.List.{take_all, take_more}
+use Rattle.std.proofs.lemmas.List.{take_more}
 use Rattle.std.proofs.lemmas.List.Folds.{list_all-append}
-use Rattle.std.proofs.Common.{refl, sym, ap, ◌∙◌, subst}
+use Rattle.std.proofs.Common.{refl, sym, ap, ◌∙◌}
 
 and-true : (b : Bool) → (b && true) ≡ b
 and-true b = go b
@@ -21,10 +21,3 @@ module _ {A : Type 0} (xs : List A) (i : ℕ) where
       list_all test (take (i + 1) xs) ≡ (list_all test (take i xs) && test x)
   all-more test x below is =
       ap (list_all test) (one-more x below is) ∙ (list_all-append test (take i xs) (x ∷ []) ∙ ap (λ b. list_all test (take i xs) && b) (and-true (test x)))
-
-  pub passed-more : (test : A → Bool) (x : A) → i < length xs → x ≡ get_or xs i x → list_all test (take i xs) ≡ true → test x ≡ true →
-      list_all test (take (i + 1) xs) ≡ true
-  passed-more test x below is e f = all-more test x below is ∙ (λ t. e t && f t)
-
-  pub passed-all : (test : A → Bool) → length xs ≤ i → list_all test (take i xs) ≡ true → list_all test xs ≡ true
-  passed-all test done e = subst (λ l. list_all test l ≡ true) (take_all i xs done) e

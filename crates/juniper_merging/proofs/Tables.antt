@@ -1,19 +1,18 @@
--- Tables of sets, and the tests of sets that are made of others.
-use Rattle.std.specs.Prelude.{ℕ, zero, suc, Bool, true, false, ◌&&◌, List, [], ◌∷◌, ◌++◌, ◌≡◌, ◌⊎◌, ◌<◌, ◌≤◌, ◌+◌, Option, Some, None, Vec, length}
+-- Tables of sets, and tests of what sets hold.
+use Rattle.std.specs.Prelude.{ℕ, zero, suc, ◌&&◌, List, [], ◌∷◌, ◌++◌, ◌≡◌, ◌⊎◌, ◌<◌, ◌+◌, Option, Some, None, length, get_or}
 use Rattle.std.specs.List.{slice_get}
-use Rattle.std.specs.declared.alloc.Global.{Global}
 use Rattle.std.proofs.lemmas.List.{length-append}
-use Rattle.std.proofs.lemmas.Option.{slice_get_past}
-use Rattle.std.proofs.Common.{nat_lt, refl, sym, ap, ◌∙◌, inl, inr, subst, arith, rules}
-use Rattle.juniper_merging.specs.MergingGraph.{FieldAt, each_pair_at, merge_at}
-use Rattle.juniper_merging.specs.Questions.{IsTold, between_at, between_test, join, within_test}
-use Rattle.juniper_merging.specs.Sets.{Extends, IsInside, IsPartAt, IsPartOf, IsTable}
-use Rattle.juniper_merging.specs.Tables.{list_or_none, set_at, set_of, table_from, table_of}
+use Rattle.std.proofs.lemmas.Option.{slice_get-get_or, slice_get_within}
+use Rattle.std.proofs.Common.{refl, sym, ap, ◌∙◌, inl, inr, subst, arith}
+use Rattle.juniper_merging.specs.MergingGraph.{FieldAt, merge_at}
+use Rattle.graphql_spec.specs.Laws.{In}
+use Rattle.juniper_merging.specs.Questions.{Pairs, Tells, between_test, within_test, worse}
+use Rattle.juniper_merging.specs.declared.clash.Clash.{Clash}
+use Rattle.juniper_merging.specs.Sets.{Extends, IsInside, IsTable}
+use Rattle.juniper_merging.specs.Tables.{joined, list_or_none, set_at, set_of, table_from, table_of}
 use Rattle.juniper_merging.specs.declared.sets.FieldSet.{FieldSet}
-use Rattle.juniper_merging.specs.declared.sets.FieldSet.TheVariants as field_set
-use Rattle.juniper_merging.specs.declared.sets.Part.{Part}
-use Rattle.juniper_merging.specs.declared.sets.Part.TheVariants as part
-use Rattle.juniper_merging.proofs.Told.{between-left, between-none, between-right, pairs-both, pairs-none, pairs-one, told-join, told-same, told-true}
+use Rattle.juniper_merging.proofs.Telling.{merge-at-turn}
+use Rattle.juniper_merging.proofs.Told.{between-turn, pairs-both, tells-both, tells-same, tells-worse}
 
 -- ## What stands at a number
 
@@ -25,156 +24,59 @@ pub set-none : (t : List (List ℕ)) (i : ℕ) → slice_get t i ≡ None → se
 unfolding set_at list_or_none
 set-none t i e = ap list_or_none e
 
+pub earlier : (i k : ℕ) → i < k + 1 → (i < k) ⊎ (i ≡ k)
+earlier zero zero h = inr refl
+earlier zero (suc k) h = inl (omega arith)
+earlier (suc i) zero h = absurd (omega (arith, h))
+earlier (suc i) (suc k) h = elim (earlier i k (omega (arith, h))) [ inl l ↦ inl (omega (arith, l)) | inr e ↦ inr (ap suc e) ]
+
+pub is-there : {A : Type 0} (o : Option A) → (o ≡ None) ⊎ ((x : A) × (o ≡ Some x))
+is-there None = inl refl
+is-there (Some x) = inr (x, refl)
+
+-- a list as long as one that has nothing at a number has nothing there
+pub none-there : {A B : Type 0} (xs : List A) (ys : List B) (i : ℕ) → length xs ≡ length ys → slice_get xs i ≡ None → slice_get ys i ≡ None
+none-there xs [] i c f = refl
+none-there [] (y ∷ ys) i c f = absurd (omega (arith, c))
+none-there (x ∷ xs) (y ∷ ys) zero c f = cc
+none-there (x ∷ xs) (y ∷ ys) (suc i) c f = none-there xs ys i (omega (arith, c)) f
+
+inside-of : (t : List (List ℕ)) (p : ℕ) → p < length t → IsInside t p
+inside-of t p l = (get_or t p [], slice_get-get_or t p [] l)
+
 module _ (xs : List FieldSet) (is : IsTable xs) where
-  pub fields-at : (i : ℕ) (f : Vec ℕ Global) → slice_get xs i ≡ Some (field_set.Fields f) → set_at (table_of xs) i ≡ f.items
-  fields-at i f e = set-some (table_of xs) i f.items (is.fields i f e)
+  -- what a set holds
+  pub set-held : (i : ℕ) (s : FieldSet) → slice_get xs i ≡ Some s → set_at (table_of xs) i ≡ set_of (table_of xs) s
+  set-held i s e = set-some (table_of xs) i (set_of (table_of xs) s) (is.held i s e)
 
-  pub both-at : (i a b : ℕ) → slice_get xs i ≡ Some (field_set.Both a b) → set_at (table_of xs) i ≡ set_at (table_of xs) a ++ set_at (table_of xs) b
-  both-at i a b e = let r = is.both i a b e in
-      set-some (table_of xs) i (r.0 ++ r.1) r.4 ∙ sym (λ k. set-some (table_of xs) a r.0 r.2 k ++ set-some (table_of xs) b r.1 r.3 k)
+  -- it is made of sets that are there
+  pub part-inside : (i : ℕ) (s : FieldSet) (p : ℕ) → slice_get xs i ≡ Some s → In p s.parts.items → IsInside (table_of xs) p
+  part-inside i s p e m = inside-of (table_of xs) p (let l = slice_get_within xs i s e in let b = is.before i s p e m in let c = is.count in omega
+      (arith, l, b, c))
 
-  pub nothing-at : (i : ℕ) → slice_get xs i ≡ None → set_at (table_of xs) i ≡ []
-  nothing-at i e = set-none (table_of xs) i (slice_get_past (table_of xs) i (subst (λ n. n ≤ i) (sym is.count) (past xs i e)))
-    where
-      past : (ys : List FieldSet) (j : ℕ) → slice_get ys j ≡ None → length ys ≤ j
-      past [] j f = omega arith
-      past (y ∷ ys) zero f = cc
-      past (y ∷ ys) (suc j) f = let h = past ys j f in omega (arith, h)
-
-  pub is-part : (i : ℕ) (x : FieldSet) (p : Part) → slice_get xs i ≡ Some x → IsPartOf x p → IsPartAt (table_of xs) i p
-  is-part i x (part.Fields f) e r = fields-at i r.0 (e ∙ ap Some r.1) ∙ r.2
-  is-part i x (part.Both a b) e r = both-at i a b (e ∙ ap Some r)
-  is-part i x part.Nothing e r = absurd r
+-- sets of the same fields and parts hold the same
+pub same-held : (xs : List FieldSet) → IsTable xs → (i j : ℕ) (s u : FieldSet) → slice_get xs i ≡ Some s → slice_get xs j ≡ Some u →
+    s.fields.items ≡ u.fields.items → s.parts.items ≡ u.parts.items → set_at (table_of xs) i ≡ set_at (table_of xs) j
+unfolding set_of
+same-held xs is i j s u e f own parts =
+    set-held xs is i s e ∙ ((λ k. own k ++ joined (table_of xs) (parts k)) ∙ sym (set-held xs is j u f))
 
 -- ## The tests of a set by its parts
 
-module _ (t : List (List ℕ)) (vs : List FieldAt) (m : Bool) where
-  pub within-fields : (i : ℕ) (f : List ℕ) (o : Option Bool) → set_at t i ≡ f → IsTold (λ n. each_pair_at vs (merge_at vs n m) f) o →
-      IsTold (within_test vs t m i) o
-  unfolding within_test
-  within-fields i f o e = told-same (λ n. each_pair_at vs (merge_at vs n m) f) (within_test vs t m i) o (λ n. ap (each_pair_at vs (merge_at vs n m)) e)
-
-  pub within-both : (i a b : ℕ) (x y z : Option Bool) → set_at t i ≡ set_at t a ++ set_at t b → IsTold (within_test vs t m a) x →
-      IsTold (within_test vs t m b) y → IsTold (between_test vs t m a b) z → IsTold (within_test vs t m i) (join x (join y z))
+module _ (t : List (List ℕ)) (vs : List FieldAt) where
+  -- what two sets hold, one behind the other
+  pub pairs-told : (a b : ℕ) (x y z : Clash) → Tells (λ m. within_test vs t m a) x → Tells (λ m. within_test vs t m b) y →
+      Tells (λ m. between_test vs t m a b) z → Tells (Pairs vs (set_at t a ++ set_at t b)) (worse x (worse y z))
   unfolding within_test between_test
-  within-both i a b x y z e p q r =
-      told-same (λ n. within_test vs t m a n && (within_test vs t m b n && between_test vs t m a b n)) (within_test vs t m i) (join x (join y z))
-      (λ n. ap (each_pair_at vs (merge_at vs n m)) e ∙ pairs-both vs (merge_at vs n m) (set_at t a) (set_at t b))
-      (told-join (within_test vs t m a) (λ n. within_test vs t m b n && between_test vs t m a b n) x (join y z) p
-      (told-join (within_test vs t m b) (between_test vs t m a b) y z q r))
+  pairs-told a b x y z p q r = tells-both (λ m. within_test vs t m a) (λ m n. within_test vs t m b n && between_test vs t m a b n) (Pairs vs
+      (set_at t a ++ set_at t b))
+      x (worse y z) (λ m n. pairs-both vs (merge_at vs n m) (set_at t a) (set_at t b)) p (tells-worse (λ m. within_test vs t m b)
+      (λ m. between_test vs t m a b) y z q r)
 
-  -- the same for two lists of fields, one behind the other
-  pub pairs-told : (a b : ℕ) (x y z : Option Bool) → IsTold (within_test vs t m a) x → IsTold (within_test vs t m b) y →
-      IsTold (between_test vs t m a b) z → IsTold (λ n. each_pair_at vs (merge_at vs n m) (set_at t a ++ set_at t b)) (join x (join y z))
-  unfolding within_test between_test
-  pairs-told a b x y z p q r =
-      told-same (λ n. within_test vs t m a n && (within_test vs t m b n && between_test vs t m a b n))
-      (λ n. each_pair_at vs (merge_at vs n m) (set_at t a ++ set_at t b)) (join x (join y z))
-      (λ n. pairs-both vs (merge_at vs n m) (set_at t a) (set_at t b))
-      (told-join (within_test vs t m a) (λ n. within_test vs t m b n && between_test vs t m a b n) x (join y z) p
-      (told-join (within_test vs t m b) (between_test vs t m a b) y z q r))
-
-  pub single-told : (i : ℕ) → ((R : ℕ → ℕ → Bool) → each_pair_at vs R (set_at t i) ≡ true) → IsTold (within_test vs t m i) (Some true)
-  unfolding within_test
-  single-told i f = told-true (within_test vs t m i) (λ n. f (merge_at vs n m))
-
-  pub within-nothing : (i : ℕ) → set_at t i ≡ [] → IsTold (within_test vs t m i) (Some true)
-  unfolding within_test
-  within-nothing i e = told-true (within_test vs t m i) (λ n. ap (each_pair_at vs (merge_at vs n m)) e ∙ pairs-none vs (merge_at vs n m))
-
-  pub between-fields : (i j : ℕ) (f g : List ℕ) (o : Option Bool) → set_at t i ≡ f → set_at t j ≡ g → IsTold (λ n. between_at vs (merge_at vs n m) f g) o →
-      IsTold (between_test vs t m i j) o
+  pub between-turned : (i j : ℕ) (x : Clash) → Tells (λ m. between_test vs t m i j) x → Tells (λ m. between_test vs t m j i) x
   unfolding between_test
-  between-fields i j f g o e h =
-      told-same (λ n. between_at vs (merge_at vs n m) f g) (between_test vs t m i j) o (λ n k. between_at vs (merge_at vs n m) (e k) (h k))
-
-  pub between-first : (i j a b : ℕ) (x y : Option Bool) → set_at t i ≡ set_at t a ++ set_at t b → IsTold (between_test vs t m a j) x →
-      IsTold (between_test vs t m b j) y → IsTold (between_test vs t m i j) (join x y)
-  unfolding between_test
-  between-first i j a b x y e p q =
-      told-same (λ n. between_test vs t m a j n && between_test vs t m b j n) (between_test vs t m i j) (join x y)
-      (λ n. ap (λ l. between_at vs (merge_at vs n m) l (set_at t j)) e ∙ between-left vs (merge_at vs n m) (set_at t a) (set_at t b) (set_at t j))
-      (told-join (between_test vs t m a j) (between_test vs t m b j) x y p q)
-
-  pub between-second : (i j a b : ℕ) (x y : Option Bool) → set_at t j ≡ set_at t a ++ set_at t b → IsTold (between_test vs t m i a) x →
-      IsTold (between_test vs t m i b) y → IsTold (between_test vs t m i j) (join x y)
-  unfolding between_test
-  between-second i j a b x y e p q =
-      told-same (λ n. between_test vs t m i a n && between_test vs t m i b n) (between_test vs t m i j) (join x y)
-      (λ n. ap (λ l. between_at vs (merge_at vs n m) (set_at t i) l) e ∙ between-right vs (merge_at vs n m) (set_at t i) (set_at t a) (set_at t b))
-      (told-join (between_test vs t m i a) (between_test vs t m i b) x y p q)
-
-  pub between-no-first : (i j : ℕ) → set_at t i ≡ [] → IsTold (between_test vs t m i j) (Some true)
-  unfolding between_test
-  between-no-first i j e = told-true (between_test vs t m i j)
-      (λ n. ap (λ l. between_at vs (merge_at vs n m) l (set_at t j)) e ∙ between-none vs (merge_at vs n m) (set_at t j))
-
-  pub between-no-second : (i j : ℕ) → set_at t j ≡ [] → IsTold (between_test vs t m i j) (Some true)
-  unfolding between_test between_at
-  between-no-second i j e = told-true (between_test vs t m i j) (λ n. ap (λ l. between_at vs (merge_at vs n m) (set_at t i) l) e)
-
-  -- between two sets all passes as it does between two others
-  abbrev SameBetween : ℕ → ℕ → ℕ → ℕ → Type 0
-  SameBetween i j k l = (n : ℕ) → between_at vs (merge_at vs n m) (set_at t i) (set_at t j) ≡ between_at vs (merge_at vs n m) (set_at t k) (set_at t l)
-
-  pub apart-told : (i j k l : ℕ) → SameBetween i j k l → ((n : ℕ) → between_at vs (merge_at vs n m) (set_at t k) (set_at t l) ≡ true) →
-      IsTold (between_test vs t m i j) (Some true)
-  unfolding between_test
-  apart-told i j k l f g = told-true (between_test vs t m i j) (λ n. f n ∙ g n)
-
-  pub rest-told : (i j k l : ℕ) (o : Option Bool) → SameBetween i j k l → IsTold (between_test vs t m k l) o → IsTold (between_test vs t m i j) o
-  unfolding between_test
-  rest-told i j k l o f = told-same (between_test vs t m k l) (between_test vs t m i j) o f
-
--- ## Few fields, and parts that are apart
-
-module _ (t : List (List ℕ)) (vs : List FieldAt) (R : ℕ → ℕ → Bool) where
-  few-pass : (is : List ℕ) → length is < 2 → each_pair_at vs R is ≡ true
-  few-pass [] h = pairs-none vs R
-  few-pass (i ∷ []) h = pairs-one vs R i
-  few-pass (i ∷ j ∷ is) h = absurd (omega (arith, h))
-
-  pub single-passes : (i : ℕ) (f : List ℕ) → set_at t i ≡ f → nat_lt (length f) 2 ≡ true → each_pair_at vs R (set_at t i) ≡ true
-  single-passes i f e l = ap (each_pair_at vs R) e ∙ few-pass f (less (length f) l)
-    where
-      less : (n : ℕ) → nat_lt n 2 ≡ true → n < 2
-      less n h = search rules
-
-  pub nothing-passes : (i : ℕ) → set_at t i ≡ [] → each_pair_at vs R (set_at t i) ≡ true
-  nothing-passes i e = ap (each_pair_at vs R) e ∙ pairs-none vs R
-
-  module _ (i j a b : ℕ) (e : set_at t j ≡ set_at t a ++ set_at t b) where
-    abbrev B : ℕ → ℕ → Bool
-    B p q = between_at vs R (set_at t p) (set_at t q)
-
-    by-parts : B i j ≡ (B i a && B i b)
-    by-parts = ap (between_at vs R (set_at t i)) e ∙ between-right vs R (set_at t i) (set_at t a) (set_at t b)
-
-    pub first-apart : B i a ≡ true → B i j ≡ B i b
-    first-apart f = by-parts ∙ ap (λ c. c && B i b) f
-
-    pub second-apart : B i b ≡ true → B i j ≡ B i a
-    second-apart f = by-parts ∙ (ap (λ c. B i a && c) f ∙ and-true (B i a))
-      where
-        and-true : (c : Bool) → (c && true) ≡ c
-        and-true true = refl
-        and-true false = refl
-
-  module _ (i j a b : ℕ) (e : set_at t i ≡ set_at t a ++ set_at t b) where
-    first-parts : between_at vs R (set_at t i) (set_at t j) ≡ (between_at vs R (set_at t a) (set_at t j) && between_at vs R (set_at t b) (set_at t j))
-    first-parts = ap (λ l. between_at vs R l (set_at t j)) e ∙ between-left vs R (set_at t a) (set_at t b) (set_at t j)
-
-    pub left-apart : between_at vs R (set_at t a) (set_at t j) ≡ true →
-        between_at vs R (set_at t i) (set_at t j) ≡ between_at vs R (set_at t b) (set_at t j)
-    left-apart f = first-parts ∙ ap (λ c. c && between_at vs R (set_at t b) (set_at t j)) f
-
-    pub right-apart : between_at vs R (set_at t b) (set_at t j) ≡ true →
-        between_at vs R (set_at t i) (set_at t j) ≡ between_at vs R (set_at t a) (set_at t j)
-    right-apart f = first-parts ∙ (ap (λ c. between_at vs R (set_at t a) (set_at t j) && c) f ∙ and-true (between_at vs R (set_at t a) (set_at t j)))
-      where
-        and-true : (c : Bool) → (c && true) ≡ c
-        and-true true = refl
-        and-true false = refl
+  between-turned i j x = tells-same (λ m. between_test vs t m i j) (λ m. between_test vs t m j i) x
+      (λ m n. between-turn vs (merge_at vs n m) (merge-at-turn vs n m) (set_at t j) (set_at t i))
 
 -- ## One set more
 
@@ -217,23 +119,26 @@ module _ (xs : List FieldSet) (x : FieldSet) (is : IsTable xs) where
   last-set = subst (λ t. slice_get t (length xs) ≡ Some (set_of was x)) (sym (table-more xs x))
       (subst (λ n. slice_get (was ++ set_of was x ∷ []) n ≡ Some (set_of was x)) is.count (at-end was (set_of was x)))
 
-  pub table-with : ((a b : ℕ) → x ≡ field_set.Both a b → IsInside was a × IsInside was b) → IsTable (xs ++ x ∷ [])
+  joined-same : (ps : List ℕ) → ((p : ℕ) → In p ps → IsInside was p) → joined now ps ≡ joined was ps
+  unfolding joined
+  joined-same [] inside = refl
+  joined-same (p ∷ ps) inside = let r = inside p (inl refl) in
+      (λ k. (set-some now p r.0 (extends-more p r.0 r.1) ∙ sym (set-some was p r.0 r.1)) k ++ joined-same ps (λ q m. inside q (inr m)) k)
+
+  set-same : (s : FieldSet) → ((p : ℕ) → In p s.parts.items → IsInside was p) → set_of now s ≡ set_of was s
   unfolding set_of
+  set-same s inside = ap (λ l. s.fields.items ++ l) (joined-same s.parts.items inside)
+
+  pub table-with : ((p : ℕ) → In p x.parts.items → IsInside was p) → IsTable (xs ++ x ∷ [])
   table-with inside = record {
     count = ap length (table-more xs x) ∙ (length-append was (set_of was x ∷ []) ∙ (ap (λ n. n + 1) is.count ∙ sym (length-append xs (x ∷ []))));
-    fields = λ i f e. elim (one-of xs x (field_set.Fields f) i e) [
-      | inl g ↦ extends-more i f.items (is.fields i f g)
-      | inr g ↦ subst (λ n. slice_get now n ≡ Some f.items) (sym g.0) (last-set ∙ ap (λ y. Some (set_of was y)) g.1)
+    held = λ i s e. elim (one-of xs x s i e) [
+      | inl g ↦ subst (λ l. slice_get now i ≡ Some l) (sym (set-same s (λ p. part-inside xs is i s p g))) (extends-more i (set_of was s) (is.held i s g))
+      | inr g ↦ subst (λ n. slice_get now n ≡ Some (set_of now s)) (sym g.0) (last-set ∙ ap Some (sym (set-same x inside) ∙ ap (set_of now) g.1))
     ];
-    both = λ i a b e. elim (one-of xs x (field_set.Both a b) i e) [
-      | inl g ↦ (let r = is.both i a b g in (r.0, r.1, extends-more a r.0 r.2, extends-more b r.1 r.3, extends-more i (r.0 ++ r.1) r.4))
-      | inr g ↦ (let r = inside a b g.1 in (
-        r.0.0,
-        r.1.0,
-        extends-more a r.0.0 r.0.1,
-        extends-more b r.1.0 r.1.1,
-        subst (λ n. slice_get now n ≡ Some (r.0.0 ++ r.1.0)) (sym g.0) (last-set ∙ (ap (λ y. Some (set_of was y)) g.1
-            ∙ (λ k. Some (set-some was a r.0.0 r.0.1 k ++ set-some was b r.1.0 r.1.1 k)))),
-      ))
+    before = λ i s p e m. elim (one-of xs x s i e) [
+      | inl g ↦ is.before i s p g m
+      | inr g ↦ (let r = inside p (subst (λ (z : FieldSet). In p z.parts.items) (sym g.1) m) in let l = slice_get_within was p r.0 r.1 in let c = is.count in
+          let q = g.0 in omega (arith, l, c, q))
     ];
   }

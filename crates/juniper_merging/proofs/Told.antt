@@ -2,14 +2,13 @@
 use Rattle.std.specs.Prelude.{ℕ, zero, suc, Bool, true, false, ◌&&◌, List, [], ◌∷◌, ◌++◌, ◌≡◌, Option, Some, None, nat_eq}
 use Rattle.std.specs.List.{list_all, slice_get}
 use Rattle.std.proofs.lemmas.List.Folds.{list_all-append}
-use Rattle.std.proofs.Common.{refl, sym, ap, ◌∙◌}
+use Rattle.std.proofs.Common.{refl, sym, ap, ◌∙◌, subst}
 use Rattle.graphql_spec.specs.Merging.{each_two}
 use Rattle.juniper_merging.specs.MergingGraph.{FieldAt, agree, can_meet, each_pair_at, merge_at, same_key_at}
-use Rattle.juniper_merging.specs.Questions.{IsTold, between_at, join, tested_at}
+use Rattle.juniper_merging.specs.Questions.{IsTold, Tells, between_at, passes, tested_at, worse}
+use Rattle.juniper_merging.specs.declared.clash.Clash.{Clash}
+use Rattle.juniper_merging.specs.declared.clash.Clash.TheVariants as clash
 use Rattle.juniper_merging.proofs.Telling.{found-alone, found-pair, keyed-at-turn}
-
-some-none : {A B : Type 0} {x : A} → None ≡ Some x → B
-some-none e = cc
 
 true-false : {A : Type 0} → true ≡ false → A
 true-false e = cc
@@ -27,9 +26,6 @@ told-true T all = record { yes = λ e. all; no = λ e. some-true-false e }
 
 pub told-false : (T : ℕ → Bool) (n : ℕ) → T n ≡ false → IsTold T (Some false)
 told-false T n e = record { yes = λ f. some-true-false (sym f); no = λ f. (n, e) }
-
-pub told-open : (T : ℕ → Bool) → IsTold T None
-told-open T = record { yes = λ e. some-none e; no = λ e. some-none e }
 
 pub told-when : (T : ℕ → Bool) (b : Bool) → (b ≡ true → (n : ℕ) → T n ≡ true) → (b ≡ false → (n : ℕ) × (T n ≡ false)) → IsTold T (Some b)
 told-when T b right wrong = record { yes = λ e. right (some-same e); no = λ e. wrong (some-same e) }
@@ -50,16 +46,44 @@ right-false : (a b : Bool) → b ≡ false → (a && b) ≡ false
 right-false true b e = e
 right-false false b e = refl
 
-pub told-join : (T U : ℕ → Bool) (a b : Option Bool) → IsTold T a → IsTold U b → IsTold (λ n. T n && U n) (join a b)
-unfolding join
-told-join T U (Some true) b s t = record {
+pub told-and : (T U : ℕ → Bool) (a b : Bool) → IsTold T (Some a) → IsTold U (Some b) → IsTold (λ n. T n && U n) (Some (a && b))
+told-and T U true b s t = record {
   yes = λ e n. both (T n) (U n) (s.yes refl n) (t.yes e n);
   no = λ e. let r = t.no e in (r.0, right-false (T r.0) (U r.0) r.1);
 }
-told-join T U (Some false) b s t = let r = s.no refl in told-false (λ n. T n && U n) r.0 (left-false (T r.0) (U r.0) r.1)
-told-join T U None None s t = told-open (λ n. T n && U n)
-told-join T U None (Some true) s t = told-open (λ n. T n && U n)
-told-join T U None (Some false) s t = let r = t.no refl in told-false (λ n. T n && U n) r.0 (right-false (T r.0) (U r.0) r.1)
+told-and T U false b s t = let r = s.no refl in told-false (λ n. T n && U n) r.0 (left-false (T r.0) (U r.0) r.1)
+
+pub passes-worse : (m : Bool) (a b : Clash) → passes m (worse a b) ≡ (passes m a && passes m b)
+unfolding passes worse
+passes-worse m clash.Nothing b = refl
+passes-worse m clash.Shape b = refl
+passes-worse true clash.Merging clash.Nothing = refl
+passes-worse true clash.Merging clash.Merging = refl
+passes-worse true clash.Merging clash.Shape = refl
+passes-worse false clash.Merging clash.Nothing = refl
+passes-worse false clash.Merging clash.Merging = refl
+passes-worse false clash.Merging clash.Shape = refl
+
+-- what stands against two tests together
+pub tells-worse : (T U : Bool → ℕ → Bool) (a b : Clash) → Tells T a → Tells U b → Tells (λ m n. T m n && U m n) (worse a b)
+tells-worse T U a b p q m =
+    subst (λ c. IsTold (λ n. T m n && U m n) (Some c)) (sym (passes-worse m a b)) (told-and (T m) (U m) (passes m a) (passes m b) (p m) (q m))
+
+pub tells-same : (T U : Bool → ℕ → Bool) (a : Clash) → ((m : Bool) (n : ℕ) → U m n ≡ T m n) → Tells T a → Tells U a
+tells-same T U a same p m = told-same (T m) (U m) (Some (passes m a)) (same m) (p m)
+
+-- what stands against a test that is two
+pub tells-both : (T U V : Bool → ℕ → Bool) (a b : Clash) → ((m : Bool) (n : ℕ) → V m n ≡ (T m n && U m n)) → Tells T a → Tells U b → Tells V (worse a b)
+tells-both T U V a b same p q = tells-same (λ m n. T m n && U m n) V (worse a b) same (tells-worse T U a b p q)
+
+pub tells-nothing : (T : Bool → ℕ → Bool) → ((m : Bool) (n : ℕ) → T m n ≡ true) → Tells T clash.Nothing
+unfolding passes
+tells-nothing T all m = told-true (T m) (all m)
+
+-- nothing stands against it: it holds
+pub tells-all : (T : Bool → ℕ → Bool) (a : Clash) → a ≡ clash.Nothing → Tells T a → (m : Bool) (n : ℕ) → T m n ≡ true
+unfolding passes
+tells-all T a e p m = (p m).yes (ap (λ c. Some (passes m c)) e)
 
 -- ## Pairs of lists
 
@@ -80,17 +104,13 @@ module _ (vs : List FieldAt) (R : ℕ → ℕ → Bool) where
   abbrev B : List ℕ → List ℕ → Bool
   B = between_at vs R
 
-  between-first : (is : List ℕ) → B is [] ≡ true
-  unfolding between_at
-  between-first is = refl
-
   pub between-none : (js : List ℕ) → B [] js ≡ true
   unfolding between_at
   between-none [] = refl
   between-none (j ∷ js) = between-none js
 
   -- one field more on the one side
-  between-more : (i : ℕ) (is js : List ℕ) → B (i ∷ is) js ≡ (list_all (T i) js && B is js)
+  pub between-more : (i : ℕ) (is js : List ℕ) → B (i ∷ is) js ≡ (list_all (T i) js && B is js)
   unfolding between_at
   between-more i is js = all-both (T i) (λ j. list_all (λ k. T k j) is) js
 
@@ -140,10 +160,6 @@ module _ (vs : List FieldAt) (R : ℕ → ℕ → Bool) where
       and-true : (b : Bool) → (true && (b && true)) ≡ b
       and-true true = refl
       and-true false = refl
-
-  pub pairs-one : (i : ℕ) → each_pair_at vs R (i ∷ []) ≡ true
-  unfolding each_pair_at each_two
-  pairs-one i = refl
 
   pub pairs-none : each_pair_at vs R [] ≡ true
   unfolding each_pair_at each_two

@@ -1,11 +1,11 @@
 -- What a look-up by number finds.
-use Rattle.std.specs.Prelude.{ℕ, Bool, List, ◌≡◌, ◌≤◌, ◌<◌, Some, None, Option, length, map, option_map}
+use Rattle.std.specs.Prelude.{ℕ, List, ◌≡◌, ◌≤◌, ◌<◌, Some, None, Option, length, map, option_map}
 use Rattle.std.specs.Borrow.{Bor}
 use Rattle.std.specs.List.{slice_get, HoldsAt}
 use Rattle.std.specs.Option.{MatchOption}
 use Rattle.std.proofs.lemmas.Option.{slice_get-map, slice_get_read, slice_get_past, MatchOption-at_some, MatchOption-at_none}
 use Rattle.std.proofs.Common.{refl, ap, ◌∙◌}
-use Rattle.juniper_merging.specs.MergingGraph.{agree, can_meet, view_vertex}
+use Rattle.juniper_merging.specs.MergingGraph.{can_meet, view_vertex}
 use Rattle.juniper_merging.specs.declared.graph.Vertex.{Vertex}
 
 -- what reading a list at a number tells
@@ -24,11 +24,6 @@ module _ (t : List (List ℕ)) where
 
   pub vertex-none : (vs : List Vertex) (i : ℕ) → slice_get vs i ≡ None → slice_get (map (view_vertex t) vs) i ≡ None
   vertex-none vs i e = slice_get-map (view_vertex t) vs i ∙ ap (option_map (view_vertex t)) e
-
--- what two fields select makes no difference to these tests
-pub same-agree : (m : Bool) (t u : List (List ℕ)) (x y : Vertex) → agree m (view_vertex t x) (view_vertex t y) ≡ agree m (view_vertex u x) (view_vertex u y)
-unfolding agree can_meet view_vertex
-same-agree m t u x y = refl
 
 pub same-meet : (t u : List (List ℕ)) (x y : Vertex) → can_meet (view_vertex t x) (view_vertex t y) ≡ can_meet (view_vertex u x) (view_vertex u y)
 unfolding can_meet view_vertex

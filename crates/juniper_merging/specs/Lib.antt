@@ -1,9 +1,8 @@
 pub mod Tables
 pub mod MergingGraph
 pub mod Groups
+pub mod Listed
 pub mod Standing
 pub mod Sets
-pub mod Regular
-pub mod Unions
 pub mod Questions
-pub mod PutUnions
+pub mod Conflicts

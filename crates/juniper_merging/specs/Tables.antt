@@ -1,8 +1,7 @@
--- The fields that sets hold which are made of other sets.
+-- The fields that sets hold which are made of fields and of other sets.
 use Rattle.std.specs.Prelude.{ℕ, List, [], ◌∷◌, ◌++◌, Option, Some, None}
 use Rattle.std.specs.List.{slice_get}
 use Rattle.juniper_merging.specs.declared.sets.FieldSet.{FieldSet}
-use Rattle.juniper_merging.specs.declared.sets.FieldSet.TheVariants as field_set
 
 -- the numbers, if any
 unfoldable pub list_or_none : Option (List ℕ) → List ℕ
@@ -18,10 +17,14 @@ unfoldable pub below_in : List (List ℕ) → Option ℕ → List ℕ
 below_in t None = []
 below_in t (Some i) = set_at t i
 
+-- what several sets hold, one behind the other
+unfoldable pub joined : List (List ℕ) → List ℕ → List ℕ
+joined t [] = []
+joined t (i ∷ is) = set_at t i ++ joined t is
+
 -- the fields of a set, by those of the sets before it
 unfoldable pub set_of : List (List ℕ) → FieldSet → List ℕ
-set_of t (field_set.Fields f) = f.items
-set_of t (field_set.Both a b) = set_at t a ++ set_at t b
+set_of t s = s.fields.items ++ joined t s.parts.items
 
 -- the fields of each set, behind a table of those before
 unfoldable pub table_from : List (List ℕ) → List FieldSet → List (List ℕ)

@@ -1,22 +1,21 @@
-//! Which written fields can be merged (section 5.3.2 of the Specification): questions on sets of fields, each answered once,
-//! however often fragments are spread.
+//! Which written fields can be merged (section 5.3.2 of the Specification): how sets of fields conflict, each set looked at once, however
+//! often fragments are spread.
 #![tactic(auto)]
 
+mod clash;
+mod conflicts;
+mod field_index;
 mod graph;
 mod groups;
 mod known;
 mod laws;
+mod marks;
 mod pairs;
-mod plain;
-mod regular;
-mod search;
+mod row;
 mod sets;
-mod taking;
-mod unions;
 
 pub use graph::{Graph, Vertex};
 pub use groups::{Groups, put_group, take_group};
-pub use known::Known;
+pub use known::{Known, set_merges};
 pub use laws::{numbers_tell, sets_tell};
-pub use search::set_merges;
 pub use sets::{FieldSet, Gathering, are_same};

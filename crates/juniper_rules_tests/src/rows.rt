@@ -149,6 +149,32 @@ query A { number(plus: 1) } query B { number(plus: 2) } =>
 { number(plus: 1) ...F } fragment F on Query { ... { number(plus: 2) } } => Fields cannot be merged@0:0;
 { hero { id ... on Droid { name friends { id } } ... on Human { name friends { id } } } mustHero { id name friends { id } } } =>";
 
+/// Small ones of the texts that are made to cost much: chains and fans of fragments, sets that are written many times, and fields of one
+/// response key that differ at their ends.
+const MADE: &str = "\
+{ id ...T @skip(if: true) } fragment T on Query { hero { ...F0 } } fragment F0 on Character { id a: friends { ...F1 } ...F1 } fragment F1 on Character { id a: friends { ...F2 } ...F2 } fragment F2 on Character { id } =>
+{ id ...T @skip(if: true) } fragment T on Query { hero { ... on Human { x: name } ... on Droid { x: secret } ...F0 } } fragment F0 on Character { id a: friends { ...F1 } ...F1 } fragment F1 on Character { id a: friends { ...F2 } ...F2 } fragment F2 on Character { id } =>
+{ id ...T @skip(if: true) } fragment T on Query { hero { ...F0 } } fragment F0 on Character { id a: friends { ...F1 } ...F1 } fragment F1 on Character { id a: friends { ...F2 } ...F2 } fragment F2 on Character { id ... on Human { x: name } ... on Droid { x: secret } } =>
+{ id ...T @skip(if: true) } fragment T on Query { hero { k1: friends { z: id } k2: friends { z: name } ...F0 } } fragment F0 on Character { id a: friends { ...F1 } ...F1 b: friends { ...F1 } } fragment F1 on Character { id a: friends { ...F2 } ...F2 b: friends { ...F2 } } fragment F2 on Character { id ... on Human { x: name } ... on Droid { x: secret } } =>
+{ id ...T @skip(if: true) } fragment T on Query { hero { ...F0 } } fragment F0 on Character { id a: friends { ...F1 } ...F1 } fragment F1 on Character { id a: friends { ...F2 } ...F2 } fragment F2 on Character { id ... on Human { y: friends { x: name } } ... on Droid { y: friends { x: secret } } } =>
+{ id ...T @skip(if: true) } fragment T on Query { hero { ...F0 } d1: hero { x: name } d2: hero { x: secret } } fragment F0 on Character { id a: friends { ...F1 } ...F1 } fragment F1 on Character { id a: friends { ...F2 } ...F2 } fragment F2 on Character { id x: name } =>
+{ id ...T @skip(if: true) } fragment T on Query { hero { ...F0 } } fragment F0 on Character { id a: friends { ...F1 } ...F1 } fragment F1 on Character { id a: friends { ...F2 } ...F2 } fragment F2 on Character { id x: name x: secret } => Fields cannot be merged@0:28; Fields cannot be merged@0:67; Fields cannot be merged@0:126; Fields cannot be merged@0:185;
+{ id ...T @skip(if: true) } fragment T on Query { hero { ...F0 } } fragment F0 on Character { id a: friends { ...F1 } ...F1 } fragment F1 on Character { id a: friends { ...F2 } ...F2 } fragment F2 on Character { id y: friends { x: name } y: friends { x: secret } } => Fields cannot be merged@0:28; Fields cannot be merged@0:67; Fields cannot be merged@0:126; Fields cannot be merged@0:185;
+{ id ...T @skip(if: true) } fragment T on Query { hero { x: secret ...F0 } } fragment F0 on Character { id a: friends { ...F1 } ...F1 } fragment F1 on Character { id a: friends { ...F2 } ...F2 } fragment F2 on Character { id x: name } => Fields cannot be merged@0:28;
+{ id ...T @skip(if: true) } fragment T on Query { d1: hero { x: name } d2: hero { x: secret } hero { id friends { id x: name } } hero { id friends { id x: name } } hero { id friends { id x: name } } } =>
+{ id ...T @skip(if: true) } fragment T on Query { d1: hero { x: name } d2: hero { x: secret } hero { id friends { id x: name k0: id } } hero { id friends { id x: name k1: id } } hero { id friends { id x: name k2: id } } } =>
+{ id ...T @skip(if: true) } fragment T on Query { d1: hero { x: name } d2: hero { x: secret } hero { a:friends{k0:id x:name}a:friends{k1:id x:name}a:friends{k2:id x:name} } } =>
+{ id ...T @skip(if: true) } fragment T on Query { d1: hero { x: name } d2: hero { x: secret } f0: hero { ...F k7: id } f1: hero { ...F k7: id } f2: hero { ...F k7: id } } fragment F on Character { p0: friends { id j3: name x: name } p1: friends { id j3: name x: name } p2: friends { id j3: name x: name } p3: friends { id j3: name x: name } p4: friends { id j3: name x: name } p5: friends { id j3: name x: name } p6: friends { id j3: name x: name } p7: friends { id j3: name x: name } } =>
+{ id ...T @skip(if: true) } fragment T on Query { d1: hero { x: name } d2: hero { x: secret } hero { ...F0 ...F1 ...F2 } } fragment F0 on Character { k0: id a: friends { x: name } } fragment F1 on Character { k1: id a: friends { x: name } } fragment F2 on Character { k2: id a: friends { x: name } } =>
+{ id ...T @skip(if: true) } fragment T on Query { hero { ...F0 } } fragment F0 on Character { k0: friends { ... on Human { x: name } ... on Droid { x: secret } m0: id } ...F1 } fragment F1 on Character { k0: friends { ... on Human { x: name } ... on Droid { x: secret } m1: id } ...F2 } fragment F2 on Character { id } =>
+{ id ...T @skip(if: true) } fragment T on Query { a: hero { ...F0 } b: hero { ...G0 } } fragment F0 on Character { id a: friends { ...F1 } ...F1 } fragment F1 on Character { id a: friends { ...F2 } ...F2 } fragment F2 on Character { id x: name } fragment G0 on Character { id a: friends { ...G1 } ...G1 } fragment G1 on Character { id a: friends { ...G2 } ...G2 } fragment G2 on Character { id x: secret } =>
+{ id ...T @skip(if: true) } fragment T on Query { a: hero { ...F0 } a: hero { ...G0 } } fragment F0 on Character { id a: friends { ...F1 } ...F1 } fragment F1 on Character { id a: friends { ...F2 } ...F2 } fragment F2 on Character { id x: name } fragment G0 on Character { id a: friends { ...G1 } ...G1 } fragment G1 on Character { id a: friends { ...G2 } ...G2 } fragment G2 on Character { id x: secret } => Fields cannot be merged@0:0; Fields cannot be merged@0:28;
+{ id ...T @skip(if: true) } fragment T on Query { hero { ...F0 } } fragment F0 on Character { x: secret a: friends { ...F1 } b: friends { ...F1 } } fragment F1 on Character { x: name a: friends { ...F2 } b: friends { ...F2 } } fragment F2 on Character { id } =>
+{ id ...T @skip(if: true) } fragment T on Query { d1: hero { x: name } d2: hero { x: secret } hero { ...S0 } } fragment S0 on Character { x: name a: friends { ...S1 } b: friends { ...S1 ...W0_0 } } fragment S1 on Character { x: name a: friends { ...S2 } b: friends { ...S2 ...W0_1 } } fragment S2 on Character { id } fragment W0_0 on Character { g0: id x: name a: friends { ...V1 } b: friends { ...V1 } } fragment W0_1 on Character { g1: id x: name a: friends { ...V2 } b: friends { ...V2 } } fragment V0 on Character { x: name h0: id a: friends { ...V1 } b: friends { ...V1 } } fragment V1 on Character { x: name h1: id a: friends { ...V2 } b: friends { ...V2 } } fragment V2 on Character { id } =>
+{ id ...T @skip(if: true) } fragment T on Query { d1: hero { x: name } d2: hero { x: secret } hero { friends { friends { friends { x: name } friends { x: name } } friends { friends { x: name } friends { x: name } } } friends { friends { friends { x: name } friends { x: name } } friends { friends { x: name } friends { x: name } } } } } =>
+{ d1: hero { a: friends { k0: id x: name } a: friends { k1: id x: name } a: friends { k2: id x: name } } d1: hero { a: friends { k0: id x: secret } a: friends { k1: id x: secret } a: friends { k2: id x: secret } } } => Fields cannot be merged@0:0;
+{ hero { ... on Droid { x: name a0: friends { id } } ... on Human { x: secret } } hero { ... on Droid { x: name a1: friends { id } } ... on Human { x: secret } } hero { ... on Droid { x: name a2: friends { id } } ... on Human { x: secret } } } =>";
+
 /// Several rules at one definition, and earlier phases before later ones.
 const ORDERS: &str = "\
 query Q($n: Int, $n: Int) { id @what ... on Villain { id } } => Variable name is not unique@0:0; Unknown directive@0:0; Unknown type@0:0;
@@ -235,6 +261,14 @@ fn merging_is_tested(rt: HostRuntime) {
     check(
         &rt,
         first_other(rt.alloc(), &Look::Errors, DEMO, "\n", MERGING),
+    );
+}
+
+#[test]
+fn merging_is_tested_on_texts_made_for_it(rt: HostRuntime) {
+    check(
+        &rt,
+        first_other(rt.alloc(), &Look::Errors, DEMO, "\n", MADE),
     );
 }
 

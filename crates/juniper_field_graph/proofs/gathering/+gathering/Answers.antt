@@ -5,6 +5,7 @@ use Rattle.juniper_schema.specs.SchemaView.{view_schema}
 use Rattle.juniper_syntax.specs.DocumentView.{put_selection, view_selections, view_set}
 use Rattle.juniper_syntax.specs.declared.ast.Selection as selections
 use Rattle.juniper_field_graph.specs.Gathering.{IsGathered, IsReadyIn, IsSetGatheredAt, set_named}
+use Rattle.juniper_field_graph.specs.GraphView.{table_in}
 use Rattle.juniper_field_graph.proofs.Holding.{set-none, set-some}
 use Rattle.juniper_field_graph.proofs.Steps.{field-step, none-as, set-as, spread-step, unknown-step, inline-step, so-far-all, so-far-next, so-far-none}
 use Rattle.juniper_field_graph.proofs.gathering.+gathering.Goals as goal
@@ -73,15 +74,15 @@ gather_selection-returns-in_ok-gather_field-in-Field g t c fs ends unknown is re
     (subst (λ x. IsReadyIn shown s fs c.args.gathered.now.graph (set_named c.args.known.now.fragments.now) (put_selection shown x rest)) c.in-Field.is
     ready))
 
-pub gather_selection-returns-in_ok-put_held-in-Some : goal.gather_selection-returns-in_ok-put_held-in-Some
-gather_selection-returns-in_ok-put_held-in-Some g t c fs ends unknown is rest ready =
+pub gather_selection-returns-in_ok-put-in-Some : goal.gather_selection-returns-in_ok-put-in-Some
+gather_selection-returns-in_ok-put-in-Some g t c fs ends unknown is rest ready =
     let shown = g.S.ScalarValue.shown in
     spread-step shown (view_schema shown c.args.known.now.schema.now) fs ends
     (set_named c.args.known.now.fragments.now) c.args.parent.now c.args.gathered.now.graph
-    c.args.gathered.now.sets.items c.args.numbers.now c.put_held.new.numbers
+    c.args.gathered.now.sets.items c.args.numbers.now c.put.new.self
     rest c.args.selection.now c.in-FragmentSpread.spread c.in-Some.held.now c.in-FragmentSpread.is is ready
     (set-some c.args.known.now.fragments.now c.in-FragmentSpread.spread.item.name.item.now c.in-Some.held.now c.in-Some.ensures.value)
-    (c.in_ok-put_held-in-Some.ensures (view_schema shown c.args.known.now.schema.now) is)
+    (c.in_ok-put-in-Some.ensures (table_in shown c.args.gathered.now.graph))
 
 pub gather_selection-returns-in-None : goal.gather_selection-returns-in-None
 gather_selection-returns-in-None g t c fs ends unknown is rest ready =
@@ -91,12 +92,12 @@ gather_selection-returns-in-None g t c fs ends unknown is rest ready =
     rest c.args.selection.now c.in-FragmentSpread.spread c.in-FragmentSpread.is is ready
     (set-none c.args.known.now.fragments.now c.in-FragmentSpread.spread.item.name.item.now c.in-None.ensures.value)
 
-pub gather_selection-returns-in_ok-put_held-in-InlineFragment : goal.gather_selection-returns-in_ok-put_held-in-InlineFragment
-gather_selection-returns-in_ok-put_held-in-InlineFragment g t c fs ends unknown is rest ready =
+pub gather_selection-returns-in_ok-put-in-InlineFragment : goal.gather_selection-returns-in_ok-put-in-InlineFragment
+gather_selection-returns-in_ok-put-in-InlineFragment g t c fs ends unknown is rest ready =
     let shown = g.S.ScalarValue.shown in
     inline-step shown (view_schema shown c.args.known.now.schema.now) fs ends
     (set_named c.args.known.now.fragments.now) c.args.parent.now c.args.gathered.now.graph c.gather_set.new.gathered.graph
-    c.args.gathered.now.sets.items c.gather_set.new.gathered.sets.items c.args.numbers.now c.put_held-in-InlineFragment.new.numbers rest
+    c.args.gathered.now.sets.items c.gather_set.new.gathered.sets.items c.args.numbers.now c.put-in-InlineFragment.new.self rest
     c.args.selection.now c.in-InlineFragment.inline
     (view_selections shown c.deref.result.now) c.in_ok-held-in-InlineFragment.held c.in-InlineFragment.is
     (sym (ap (view_selections shown) c.deref.ensures.value)) ready
@@ -104,4 +105,4 @@ gather_selection-returns-in_ok-put_held-in-InlineFragment g t c fs ends unknown 
     c.args.gathered.now.sets.items c.gather_set.new.gathered.sets.items q
     (view_selections shown c.deref.result.now) c.in_ok-held-in-InlineFragment.held)
     c.type_inside-inner.ensures (c.in_ok-held-in-InlineFragment.ensures fs ends unknown is r))
-    (c.in_ok-put_held-in-InlineFragment.ensures (view_schema shown c.args.known.now.schema.now))
+    (c.in_ok-put-in-InlineFragment.ensures (table_in shown c.gather_set.new.gathered.graph))

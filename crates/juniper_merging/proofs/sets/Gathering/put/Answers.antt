@@ -1,12 +1,10 @@
 use Rattle.std.proofs.Common.{refl}
-use Rattle.juniper_merging.specs.Tables.{table_of}
-use Rattle.juniper_merging.proofs.Gathered.{set-put}
+use Rattle.juniper_merging.specs.declared.sets.Gathering.{Gathering}
+use Rattle.juniper_merging.proofs.Gathered.{set-gathered}
 use Rattle.juniper_merging.proofs.sets.Gathering.put.Goals as goal
 
-pub returns-then-fields-room : goal.returns-then-fields-room
-returns-then-fields-room c is all inside so =
-    set-put (table_of c.args.sets.now) c.args.self.now _ all c.args.set refl c.in_ok-push-in-Fields.ensures.items refl refl inside so
-
-pub returns-in_ok-push-in-Both : goal.returns-in_ok-push-in-Both
-returns-in_ok-push-in-Both c is all inside so =
-    set-put (table_of c.args.sets.now) c.args.self.now _ all c.args.set refl c.in_ok-push-in-Both.ensures.items refl refl inside so
+pub returns : goal.returns
+returns c t all =
+    let old = c.args.self.now in
+    let new : Gathering = record { fields = old.fields; parts = c.push.new.self } in
+    set-gathered t old new all c.args.set refl c.in_ok-push.ensures.items
