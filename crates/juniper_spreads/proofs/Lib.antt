@@ -3,9 +3,9 @@ mod Testing
 mod Reaching
 mod Searching
 mod Weights
-mod Orders
 mod Looking
 mod ByName
+mod Grouping
 mod Ruling
 pub mod Taking
 mod Rounds

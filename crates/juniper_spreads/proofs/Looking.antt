@@ -1,5 +1,5 @@
 -- What a map of spreads has at a name, and names that are taken from a list.
-use Rattle.std.proofs.Common.{◌≡◌, ℕ, ◌+◌, ◌<◌, arith, Bool, true, false, not, ◌&&◌, ◌||◌, cond, List, [], ◌∷◌, ◌++◌, length, Option, Some, None, option_map}
+use Rattle.std.proofs.Common.{◌≡◌, ℕ, ◌+◌, ◌<◌, arith, Bool, true, false, not, ◌||◌, cond, List, [], ◌∷◌, ◌++◌, length, Option, Some, None, option_map}
 use Rattle.std.proofs.Common.{is_some, Vec, Bor, refl, sym, ap, ◌∙◌}
 use Rattle.std.specs.Option.{option_to_list, option_copied}
 use Rattle.std.specs.List.{list_all}
@@ -13,8 +13,7 @@ use Rattle.juniper_syntax.proofs.Lists.{seen-push}
 use Rattle.juniper_written.specs.WrittenView.{entries_of, named, view_names}
 use Rattle.juniper_written.specs.declared.name_map.NameMap.{NameMap}
 use Rattle.juniper_spreads.specs.SpreadsView.{AreSpreadsOf, spread_by, spreads_at, names_or_none, step_count}
-use Rattle.juniper_spreads.proofs.Names.{next}
-use Rattle.juniper_spreads.proofs.Orders.{or_unknown}
+use Rattle.juniper_spreads.proofs.Names.{next, or_unknown}
 use Rattle.juniper_spreads.proofs.Weights.{weight, less, falls, fewer}
 
 -- the names that a fragment spreads, if there is one
@@ -26,6 +25,13 @@ names-of (Some f) = refl
 some-map : {A B : Type 0} (f : A → B) (o : Option A) → is_some (option_map f o) ≡ is_some o
 some-map f None = refl
 some-map f (Some x) = refl
+
+-- what a look-up has found
+pub got : {A : Type 0} (o : Option (Bor A)) (n : Option A) (x : Bor A) → option_copied o ≡ n → o ≡ Some x → n ≡ Some x.now
+got o n x e is = sym e ∙ ap option_copied is
+
+pub got-none : {A : Type 0} (o : Option (Bor A)) (n : Option A) → option_copied o ≡ n → o ≡ None → n ≡ None
+got-none o n e is = sym e ∙ ap option_copied is
 
 module _ (m : NameMap (Vec (Bor (List ℕ)) Global)) where
   pub next-is : (fs : List Fragment) → AreSpreadsOf m fs → (k : Name) → names_or_none (spread_by m k) ≡ next fs k
@@ -40,12 +46,12 @@ module _ (m : NameMap (Vec (Bor (List ℕ)) Global)) where
       option_copied o ≡ named m k → o ≡ Some v →
       spread_by m k ≡ Some (view_names v.now.items)
   unfolding spread_by
-  found-is k o v e is = ap (option_map (λ w. view_names w.items)) (sym e ∙ ap option_copied is)
+  found-is k o v e is = ap (option_map (λ w. view_names w.items)) (got o (named m k) v e is)
 
   pub missing-is : (k : Name) (o : Option (Bor (Vec (Bor (List ℕ)) Global))) → option_copied o ≡ named m k → o ≡ None →
       spread_by m k ≡ None
   unfolding spread_by
-  missing-is k o e is = ap (option_map (λ w. view_names w.items)) (sym e ∙ ap option_copied is)
+  missing-is k o e is = ap (option_map (λ w. view_names w.items)) (got-none o (named m k) e is)
 
 -- what the opposite of a test tells
 pub not-true : (a b : Bool) → a ≡ not b → a ≡ true → b ≡ false
@@ -102,10 +108,6 @@ pub found-by : (m : NameMap (Vec (Bor (List ℕ)) Global)) (k : Name) →
     is_some (named m k) ≡ is_some (spread_by m k)
 unfolding spread_by
 found-by m k = sym (some-map (λ v. view_names v.items) (named m k))
-
-pub all-names : (f : Name → Bool) (ks : List (Bor (List ℕ))) → list_all (λ k. f k.now) ks ≡ list_all f (view_names ks)
-all-names f [] = refl
-all-names f (k ∷ ks) = ap (λ b. f k.now && b) (all-names f ks)
 
 module _ (m : NameMap (Vec (Bor (List ℕ)) Global)) (fs : List Fragment) (are : AreSpreadsOf m fs) (done : Name → Bool) where
   -- what a fragment spreads is done, as the document has it

@@ -1,10 +1,10 @@
 -- Names in lists, and the names of fragments.
-use Rattle.std.specs.Prelude.{suc, Bool, true, false, List, [], ◌∷◌, ◌++◌, map, length, Option, Some, None, is_some, ◌≡◌, ◌≤◌, ◌⊎◌}
-use Rattle.std.specs.List.{list_any, IsDistinct, AllByRecursion}
+use Rattle.std.specs.Prelude.{suc, Bool, true, false, not, ◌||◌, List, [], ◌∷◌, ◌++◌, map, length, Option, Some, None, is_some, ◌≡◌, ◌≤◌, ◌⊎◌}
+use Rattle.std.specs.List.{list_all, list_any, IsDistinct, AllByRecursion}
 use Rattle.std.specs.Set.{is_member}
 use Rattle.std.specs.Str.{bytes_eq}
 use Rattle.std.specs.Bool.{Decides}
-use Rattle.std.proofs.lemmas.Bool.{cases_Bool, both_ways, or_cases, or_left, or_right, or_parts}
+use Rattle.std.proofs.lemmas.Bool.{cases_Bool, both_ways, and_parts, or_cases, or_left, or_right, or_parts}
 use Rattle.std.proofs.lemmas.Slice.Eq.{bytes_eq-Decides}
 use Rattle.std.proofs.lemmas.Cmp.{nat_list_eq_equiv}
 use Rattle.std.proofs.lemmas.Map.Made.{length-le_from_is_member}
@@ -52,6 +52,13 @@ pub any_from : (f : Name → Bool) (ks : List Name) (k : Name) → has ks k ≡ 
 any_from f [] k i e = true_false false i refl
 any_from f (j ∷ ks) k i e =
     either k j ks i (λ q. or_left (f j) (list_any f ks) (subst (λ z. f z ≡ true) q e)) (λ q. or_right (f j) (list_any f ks) (any_from f ks k q e))
+
+pub all_at : (f : Name → Bool) (ks : List Name) → list_all f ks ≡ true → (k : Name) → has ks k ≡ true → f k ≡ true
+all_at f [] a k e = true_false false e refl
+all_at f (j ∷ ks) a k e = let p = and_parts (f j) (list_all f ks) a in either k j ks e (λ q. subst (λ z. f z ≡ true) (sym q) p.0) (λ q. all_at f ks p.1 k q)
+
+pub only : (k j : Name) → has (j ∷ []) k ≡ true → k ≡ j
+only k j e = either k j [] e (λ q. q) (λ q. true_false false q refl)
 
 pub has_first : (ks js : List Name) (k : Name) → has ks k ≡ true → has (ks ++ js) k ≡ true
 has_first [] js k e = true_false false e refl
@@ -116,3 +123,7 @@ some_spreads (Some f) b e = refl
 
 pub spreads_known : (fs : List Fragment) (k b : Name) → has (next fs k) b ≡ true → is_some (fragment_of fs k) ≡ true
 spreads_known fs k b e = some_spreads (fragment_of fs k) b e
+
+-- done, or the name of no fragment
+abbrev pub or_unknown : List Fragment → (Name → Bool) → Name → Bool
+or_unknown fs done i = done i || not (is_some (fragment_of fs i))

@@ -16,9 +16,8 @@ use Rattle.juniper_written.specs.WrittenView.{named, view_names}
 use Rattle.juniper_written.specs.declared.name_map.NameMap.{NameMap}
 use Rattle.juniper_spreads.specs.Order.{found, is_ready, put}
 use Rattle.juniper_spreads.specs.SpreadsView.{AreSpreadsOf, names_or_none, spread_by}
-use Rattle.juniper_spreads.proofs.Names.{has, true_false, either, has_first, has_second, next, itself}
+use Rattle.juniper_spreads.proofs.Names.{has, true_false, either, has_first, has_second, next, itself, or_unknown}
 use Rattle.juniper_spreads.proofs.Looking.{found-by, known-is, next-is}
-use Rattle.juniper_spreads.proofs.Orders.{or_unknown}
 use Rattle.juniper_spreads.proofs.Taking.{IsStuck}
 
 not-ready : (b : Bool) → not b ≡ true → b ≡ false

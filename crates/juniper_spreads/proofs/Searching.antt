@@ -10,6 +10,27 @@ use Rattle.graphql_spec.specs.VariableUses.{is_reached}
 use Rattle.juniper_spreads.proofs.Names.{has, same, itself, true_false, same_bool, either, name_where, any_from, has_first, has_second, has_split, next}
 use Rattle.juniper_spreads.proofs.Reaching.{at_once, reaches-leads, leads-reaches, leads-on}
 
+module _ (fs : List Fragment) (P : Name → Type 0) (step : (k : Name) → P k → (i : Name) → has (next fs k) i ≡ true → P i) where
+  steps : (m : ℕ) (k j : Name) → P k → reaches fs m k j ≡ true → P j
+  unfolding reaches
+  steps zero k j p e = true_false false e refl
+  steps (suc m) k j p e =
+      let r = name_where (λ i. bytes_eq j i || reaches fs m i j) (next fs k) e in
+      elim (or_cases (bytes_eq j r.0) (reaches fs m r.0 j) r.2) [
+        | inl q ↦ subst P (sym (same j r.0 q)) (step k p r.0 r.1)
+        | inr q ↦ steps m r.0 j (step k p r.0 r.1) q
+      ]
+
+  -- what holds of names, and goes on from each to those that it spreads, holds of all that they reach
+  pub carried : (ks : List Name) → ((k : Name) → has ks k ≡ true → P k) → (n : Name) → is_reached fs ks n ≡ true → P n
+  unfolding is_reached
+  carried ks all n e =
+      let r = name_where (λ j. bytes_eq n j || reaches fs (length fs) j n) ks e in
+      elim (or_cases (bytes_eq n r.0) (reaches fs (length fs) r.0 n) r.2) [
+        | inl q ↦ subst P (sym (same n r.0 q)) (all r.0 r.1)
+        | inr q ↦ steps (length fs) r.0 n (all r.0 r.1) q
+      ]
+
 module _ (fs : List Fragment) (start : List Name) where
   -- a search from names that has seen some, and has others left to look at
   pub record IsSearched (seen : Name → Bool) (left : List Name) : Type 0 where
@@ -17,11 +38,11 @@ module _ (fs : List Fragment) (start : List Name) where
     pub followed : (k : Name) → seen k ≡ true → (i : Name) → has (next fs k) i ≡ true → (seen i || has left i) ≡ true
     pub sound : (k : Name) → (seen k || has left k) ≡ true → is_reached fs start k ≡ true
 
-  reached-start : (k : Name) → has start k ≡ true → is_reached fs start k ≡ true
+  pub reached-start : (k : Name) → has start k ≡ true → is_reached fs start k ≡ true
   unfolding is_reached
   reached-start k e = any_from (λ j. bytes_eq k j || reaches fs (length fs) j k) start k e (or_left (bytes_eq k k) (reaches fs (length fs) k k) (itself k))
 
-  reached-next : (k i : Name) → is_reached fs start k ≡ true → has (next fs k) i ≡ true → is_reached fs start i ≡ true
+  pub reached-next : (k i : Name) → is_reached fs start k ≡ true → has (next fs k) i ≡ true → is_reached fs start i ≡ true
   unfolding is_reached
   reached-next k i e s =
       let r = name_where (λ j. bytes_eq k j || reaches fs (length fs) j k) start e in
@@ -93,28 +114,10 @@ module _ (fs : List Fragment) (start : List Name) where
         IsSearched now (rest ++ more)
     search-old is old s none = search-next is old (λ i h. true_false false (subst (λ l. has l i ≡ true) none h) refl) (λ i h. kept is i (old.followed x s i h))
 
-  -- what is reached from what was seen was seen
-  closed : (seen : Name → Bool) → ((k : Name) → seen k ≡ true → (i : Name) → has (next fs k) i ≡ true → seen i ≡ true) → (m : ℕ) (k j : Name) → seen k ≡ true →
-      reaches fs m k j ≡ true → seen j ≡ true
-  unfolding reaches
-  closed seen c zero k j s e = true_false false e refl
-  closed seen c (suc m) k j s e =
-      let r = name_where (λ i. bytes_eq j i || reaches fs m i j) (next fs k) e in
-      elim (or_cases (bytes_eq j r.0) (reaches fs m r.0 j) r.2) [
-        | inl q ↦ subst (λ i. seen i ≡ true) (sym (same j r.0 q)) (c k s r.0 r.1)
-        | inr q ↦ closed seen c m r.0 j (c k s r.0 r.1) q
-      ]
-
   only_seen : (b : Bool) → (b || false) ≡ true → b ≡ true
   only_seen true e = refl
   only_seen false e = e
 
   pub search-ends : (seen : Name → Bool) → IsSearched seen [] → (n : Name) → seen n ≡ is_reached fs start n
-  unfolding is_reached
-  search-ends seen end n = same_bool (seen n) (is_reached fs start n) (λ s. end.sound n (or_left (seen n) false s)) (λ e.
-      let r = name_where (λ j. bytes_eq n j || reaches fs (length fs) j n) start e in
-      let s : seen r.0 ≡ true = only_seen (seen r.0) (end.first r.0 r.1) in
-      elim (or_cases (bytes_eq n r.0) (reaches fs (length fs) r.0 n) r.2) [
-        | inl q ↦ subst (λ i. seen i ≡ true) (sym (same n r.0 q)) s
-        | inr q ↦ closed seen (λ k t i h. only_seen (seen i) (end.followed k t i h)) (length fs) r.0 n s q
-      ])
+  search-ends seen end n = same_bool (seen n) (is_reached fs start n) (λ s. end.sound n (or_left (seen n) false s))
+      (carried fs (λ k. seen k ≡ true) (λ k s i h. only_seen (seen i) (end.followed k s i h)) start (λ k h. only_seen (seen k) (end.first k h)) n)

@@ -11,8 +11,7 @@ use Rattle.graphql_spec.specs.Documents.{Fragment}
 use Rattle.graphql_spec.specs.Fragments.{HasNoCycle, deep, deep_in, fragment_of, spreads, spreads_in}
 use Rattle.graphql_spec.specs.Laws.{In}
 use Rattle.juniper_spreads.specs.Order.{AreInOrder, Follow, Follows, IsInOrder, IsTaken, StandBehind, StandsBehind, found, put}
-use Rattle.juniper_spreads.proofs.Names.{has, same, itself, true_false, either, any_from, next}
-use Rattle.juniper_spreads.proofs.Orders.{all_at, or_unknown}
+use Rattle.juniper_spreads.proofs.Names.{has, same, itself, true_false, either, any_from, next, all_at, or_unknown}
 
 late : (a b c : Bool) → (a || cond b true c) ≡ cond b true (a || c)
 late true true c = refl

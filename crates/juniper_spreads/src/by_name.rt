@@ -8,7 +8,7 @@ ghost use Rattle.graphql_spec.specs.Fragments.{fragment_of};
 ghost use Rattle.juniper_syntax.specs.DocumentView.{view_definition, view_fragment};
 ghost use Rattle.juniper_spreads.specs.SpreadsView.{AreFragmentsOf, AreSpreadsOf, fragment_at, spread_by, spreads_at};
 
-use crate::cycles::has_no_cycle;
+use crate::groups::{Groups, grouped};
 use crate::reach::SpreadsByName;
 use juniper_syntax::{Definition, Fragment, ScalarValue, Span, Spanning};
 use juniper_written::{NameMap, written_in};
@@ -21,8 +21,8 @@ pub struct FragmentsByName<'d, 'a, S> {
     pub fragments: NameMap<'a, &'d Spanning<Fragment<'a, S>, Span>>,
     /// The names that each of them spreads, at any depth, in document order.
     pub spreads: SpreadsByName<'a>,
-    /// Whether it was found that none of them reaches itself (5.5.2.2).
-    pub is_free_of_cycles: bool,
+    /// The root of each one's group: the fragments of a group lead to one another (5.5.2.2).
+    pub groups: Groups<'a>,
 }
 
 /// The fragments of a document by name; the time grows with the size of the document. An error where memory is
@@ -35,11 +35,11 @@ pub fn fragments_by_name<'d, 'a, S: ScalarValue>(
 {
     let fragments = first_fragments(alloc, document)?;
     let spreads = first_spreads(alloc, document)?;
-    let is_free_of_cycles = has_no_cycle(alloc, &spreads)?;
+    let groups = grouped(alloc, &spreads)?;
     Ok(FragmentsByName {
         fragments,
         spreads,
-        is_free_of_cycles,
+        groups,
     })
 }
 

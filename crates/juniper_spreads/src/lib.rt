@@ -3,10 +3,12 @@
 #![tactic(auto)]
 
 mod by_name;
-mod cycles;
+mod groups;
 mod ordered;
 mod reach;
 mod rules;
+mod walk;
 
 pub use by_name::{FragmentsByName, fragments_by_name};
+pub use groups::{Groups, Root};
 pub use reach::SpreadsByName;

@@ -1,16 +1,17 @@
 //! The fragments of a document in an order in which each stands behind those that it spreads.
 
-ghost use Rattle.std.specs.Prelude.{◌≡◌, ◌≤◌, ◌||◌, IfOk, List, OnOk, false, length, map, true};
+ghost use Rattle.std.specs.Prelude.{◌≡◌, ◌≤◌, ◌||◌, IfOk, List, OnOk, false, is_some, length, map, not, true};
+ghost use Rattle.std.specs.List.{list_all};
 ghost use Rattle.graphql_spec.specs.Shown.{Name};
 ghost use Rattle.graphql_spec.specs.Documents.{Document, Fragment as SpecFragment, fragments};
 ghost use Rattle.juniper_syntax.specs.DocumentView.{view_fragment};
 ghost use Rattle.juniper_written.specs.WrittenView.{has_name, view_names};
 ghost use Rattle.juniper_spreads.specs.Order.{AreInOrder, IsInOrder, IsTaken, found, is_among, is_ready};
-ghost use Rattle.juniper_spreads.specs.SpreadsView.{AreFragmentsOf, AreSpreadsOf};
+ghost use Rattle.juniper_spreads.specs.SpreadsView.{AreFragmentsOf, AreSpreadsOf, names_or_none, spread_by};
 
 use crate::by_name::FragmentsByName;
-use crate::cycles::{are_done, walk_order};
 use crate::reach::SpreadsByName;
+use crate::walk::walked;
 use juniper_syntax::{Fragment, ScalarValue, Span, Spanning};
 use juniper_written::NameSet;
 use std::alloc::{AllocError, Global};
@@ -72,9 +73,10 @@ fn names_in_order<'a>(
         order: Vec::new(alloc),
         names: NameSet::new(alloc),
     };
-    let walked = walk_order(alloc, spreads)?;
-    taken.take_ready(alloc, spreads, &walked)?;
-    let mut left = spreads.names(alloc)?;
+    let names = spreads.names(alloc)?;
+    let walk = walked(alloc, spreads, &names)?;
+    taken.take_ready(alloc, spreads, &walk.left)?;
+    let mut left = names;
     loop {
         let kept = taken.take_ready(alloc, spreads, &left)?;
         if kept.len() == left.len() {
@@ -128,4 +130,33 @@ impl<'a> Taken<'a> {
         self.order.push(name)?;
         Ok(true)
     }
+}
+
+/// Whether the fragments that a fragment spreads are done.
+fn are_done<'a>(spreads: &SpreadsByName<'a>, name: &str, done: &NameSet<'a>) -> bool
+    ensures { result ≡ list_all (λ n. has_name done.now n || not (is_some (spread_by spreads.now n))) (names_or_none (spread_by spreads.now name.now)) }
+{
+    match spreads.get(name) {
+        Some(names) => all_done(spreads, names, done),
+        None => true,
+    }
+}
+
+/// Whether the names are done, or no fragment's.
+fn all_done<'a>(spreads: &SpreadsByName<'a>, names: &[&str], done: &NameSet<'a>) -> bool
+    ensures { result ≡ list_all (λ k. has_name done.now k || not (is_some (spread_by spreads.now k))) (view_names names.now) }
+{
+    for name in names {
+        if !is_done(spreads, *name, done) {
+            return false;
+        }
+    }
+    true
+}
+
+/// Whether a name is done, or no fragment's.
+fn is_done<'a>(spreads: &SpreadsByName<'a>, name: &str, done: &NameSet<'a>) -> bool
+    ensures { result ≡ (has_name done.now name.now || not (is_some (spread_by spreads.now name.now))) }
+{
+    done.contains(name) || !spreads.contains(name)
 }

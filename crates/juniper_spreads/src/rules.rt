@@ -1,6 +1,6 @@
 //! Rules on spreads: fragments that are unknown, or spread themselves; and the fragments that an operation reaches.
 
-ghost use Rattle.std.specs.Prelude.{◌≡◌, ◌↔◌, IfOk, IsTrue, List, Some, is_some, not, true};
+ghost use Rattle.std.specs.Prelude.{◌≡◌, IfOk, List, is_some, not};
 ghost use Rattle.std.specs.List.{list_any};
 ghost use Rattle.graphql_spec.specs.Shown.{Name};
 ghost use Rattle.graphql_spec.specs.Documents.{Document, Fragment as SpecFragment, fragments};
@@ -11,9 +11,10 @@ ghost use Rattle.graphql_spec.specs.VariableUses.{is_reached};
 ghost use Rattle.graphql_spec.specs.Written.{selections_of};
 ghost use Rattle.juniper_syntax.specs.DocumentView.{view_definition};
 ghost use Rattle.juniper_written.specs.WrittenView.{has_name, view_names};
-ghost use Rattle.juniper_spreads.specs.SpreadsView.{AreFragmentsOf, AreSpreadsOf, NoneReachesItself, spread_by};
+ghost use Rattle.juniper_spreads.specs.SpreadsView.{AreFragmentsOf, AreGroups, AreSpreadsOf, spread_by};
 
 use crate::by_name::FragmentsByName;
+use crate::groups::{Groups, told};
 use crate::reach::{SpreadsByName, reached};
 use juniper_syntax::{Definition, ScalarValue};
 use juniper_written::NameSet;
@@ -28,9 +29,9 @@ impl<'d, 'a, S: ScalarValue> FragmentsByName<'d, 'a, S> {
         has_unknown(&self.spreads, names)
     }
 
-    /// Whether a definition that spreads these names is a fragment that they lead to (5.5.2.2). Of a name's first
-    /// fragment it looks at the names alone, where no fragment reaches itself; else it goes through all that they lead
-    /// to. An error where memory is refused.
+    /// Whether a definition that spreads these names is a fragment that they lead to (5.5.2.2). The time grows with the
+    /// number of the names, where the definition is the first fragment of its name; of a later one it may have to go
+    /// through all that they lead to. An error where memory is refused.
     pub fn spreads_itself(
         &self,
         alloc: Global,
@@ -44,7 +45,7 @@ impl<'d, 'a, S: ScalarValue> FragmentsByName<'d, 'a, S> {
         match definition {
             Definition::Fragment(fragment) => {
                 let name = fragment.item.name.item;
-                let found = leads_to(alloc, &self.spreads, self.is_free_of_cycles, names, name)?;
+                let found = leads_to(alloc, &self.spreads, &self.groups, names, name)?;
                 Ok(found)
             }
             Definition::Operation(_) => Ok(false),
@@ -84,33 +85,18 @@ fn is_unknown<'a>(spreads: &SpreadsByName<'a>, name: &str) -> bool
 fn leads_to<'a>(
     alloc: Global,
     spreads: &SpreadsByName<'a>,
-    is_free_of_cycles: bool,
+    groups: &Groups<'a>,
     names: &[&'a str],
     name: &str,
 ) -> Result<bool, AllocError>
-    ensures { IfOk result (λ b. (fs : List SpecFragment) → AreSpreadsOf spreads.now fs → (is_free_of_cycles ≡ true → NoneReachesItself fs) →
+    ensures { IfOk result (λ b. (fs : List SpecFragment) → AreSpreadsOf spreads.now fs → AreGroups groups.now fs →
         b ≡ is_reached fs (view_names names.now) name.now) }
 {
-    if is_free_of_cycles && are_first(spreads, name, names) {
-        return Ok(false);
+    match told(groups, names, name) {
+        Some(leads) => Ok(leads),
+        None => {
+            let found = reached(alloc, spreads, names)?;
+            Ok(found.contains(name))
+        }
     }
-    let found = reached(alloc, spreads, names)?;
-    Ok(found.contains(name))
-}
-
-/// Whether the names are those that the first fragment of a name spreads.
-fn are_first<'a>(spreads: &SpreadsByName<'a>, name: &str, names: &[&str]) -> bool
-    ensures { IsTrue result ↔ (spread_by spreads.now name.now ≡ Some (view_names names.now)) }
-{
-    match spreads.get(name) {
-        Some(first) => are_same(first, names),
-        None => false,
-    }
-}
-
-/// Whether two lists have the same names in the same order.
-fn are_same(first: &[&str], names: &[&str]) -> bool
-    ensures { IsTrue result ↔ (view_names first.now ≡ view_names names.now) }
-{
-    first == names
 }

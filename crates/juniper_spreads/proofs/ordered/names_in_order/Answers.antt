@@ -13,7 +13,7 @@ loop-left-init c = λ fs are.
     (taken-first fs names c.new-2.ensures) in (
       c.in_ok-take_ready.ensures.taken fs are first,
       λ k known. or_right (has_name c.take_ready.new.self.names k)
-          (is_among (view_names c.in_ok-left.left.items) k) (known-among c.args.spreads.now fs are c.in_ok-left.left.items c.in_ok-left.ensures k known),
+          (is_among (view_names c.in_ok-names.names.items) k) (known-among c.args.spreads.now fs are c.in_ok-names.names.items c.in_ok-names.ensures k known),
     )
 
 pub returns-then-len : goal.returns-then-len

@@ -1,12 +1,8 @@
 use Rattle.std.proofs.Common.{◌∙◌}
-use Rattle.juniper_written.specs.WrittenView.{view_names}
-use Rattle.juniper_spreads.proofs.Ruling.{first-is-free}
 use Rattle.juniper_spreads.proofs.rules.leads_to.Goals as goal
 
-pub returns-then-are_first : goal.returns-then-are_first
-returns-then-are_first c = λ fs are free.
-    first-is-free c.args.spreads.now fs are (free c.if-is_free_of_cycles.true) c.args.name.now (view_names c.args.names.now)
-    (c.are_first.ensures.0 c.if-are_first.true)
+pub returns-in-Some : goal.returns-in-Some
+returns-in-Some c = λ fs are groups. c.told.ensures fs groups c.in-Some.leads c.in-Some.is
 
-pub returns : goal.returns
-returns c = λ fs are free. c.contains.ensures ∙ c.in_ok-found.ensures fs are c.args.name.now
+pub returns-in_ok-found-in-None : goal.returns-in_ok-found-in-None
+returns-in_ok-found-in-None c = λ fs are groups. c.contains.ensures ∙ c.in_ok-found-in-None.ensures fs are c.args.name.now

@@ -8,7 +8,7 @@ use Rattle.juniper_spreads.proofs.by_name.FragmentsByName.spreads_itself.Goals a
 pub returns-in_ok-found-in-Fragment : goal.returns-in_ok-found-in-Fragment
 returns-in_ok-found-in-Fragment g c = λ d are is.
     let view = view_definition g.S.ScalarValue.shown in
-    c.in_ok-found-in-Fragment.ensures (fragments d) are.spread are.free
+    c.in_ok-found-in-Fragment.ensures (fragments d) are.spread are.groups
     ∙ itself-is d (view c.args.definition.now) (view_fragment g.S.ScalarValue.shown c.in-Fragment.fragment) (ap view c.in-Fragment.is)
     (view_names c.args.names.now) is
 
