@@ -1,15 +1,14 @@
--- Lists with an item for each definition, and the names that one reaches.
-use Rattle.std.proofs.Common.{◌≡◌, ℕ, Bool, false, ◌<◌, List, [], ◌∷◌, length, get_or, map, arith, refl, sym, ap, ◌∙◌}
+-- Lists with an item for each definition, and what one uses with the fragments that it reaches.
+use Rattle.std.proofs.Common.{◌≡◌, ℕ, Bool, false, ◌<◌, List, [], ◌∷◌, length, get_or, map, Bor, arith, refl, sym, ap, ◌∙◌}
 use Rattle.std.proofs.lemmas.List.{get_or-map, length-map}
 use Rattle.graphql_spec.specs.Shown.{Name}
-use Rattle.graphql_spec.specs.Documents.{Definition, Document, fragments}
+use Rattle.graphql_spec.specs.Documents.{Definition, Document}
 use Rattle.graphql_spec.specs.Fragments.{spreads}
-use Rattle.graphql_spec.specs.VariableUses.{is_reached}
+use Rattle.graphql_spec.specs.Schema.{Schema}
 use Rattle.graphql_spec.specs.Written.{selections_of}
-use Rattle.juniper_use_rules.specs.UsesView.{IsReachOf}
+use Rattle.juniper_use_rules.specs.UsesView.{AreUsesOfParts, Usage, usage_of, uses_reached, view_used_at}
+use Rattle.juniper_use_rules.specs.declared.uses.Used.{Used}
 use Rattle.juniper_written.proofs.Lists.{seen-twice}
-use Rattle.juniper_written.specs.WrittenView.{has_name}
-use Rattle.juniper_written.specs.declared.name_set.NameSet.{NameSet}
 
 seen-at : {A C : Type 0} (g : A → C) (xs : List A) (i : ℕ) (x : A) (e : C) → i < length xs → x ≡ get_or xs i x → get_or (map g xs) i e ≡ g x
 seen-at g xs i x e below is = get_or-map g xs i x e below ∙ ap g (sym is)
@@ -48,8 +47,9 @@ module _ {A L D : Type 0} (view : A → L) (own : L → D) (of : D → L) (own-o
       sym (seen-at view xs i x (view x) below is) ∙ (ap (λ l. get_or l i (view x)) (sym again)
       ∙ seen-at (λ a. of (own (view a))) xs i x (view x) below is)
 
--- the names that a definition's spreads reach are those that an operation reaches
-pub reach-is : (r : NameSet) (d : Document) (x : Definition) (names : List Name) → names ≡ spreads (selections_of x) →
-    ((n : Name) → has_name r n ≡ is_reached (fragments d) names n) → IsReachOf r d x
+-- what a definition uses, and the fragments that its spreads reach, is what an operation and its fragments use
+pub parts-are : (s : Schema) (us : List (Bor Used)) (d : Document) (x : Definition) (own : Usage) (names : List Name) →
+    names ≡ spreads (selections_of x) → own ≡ usage_of s x → view_used_at us ≡ own ∷ uses_reached s d names → AreUsesOfParts s us d x
 unfolding selections_of
-reach-is r d x names same reaches = λ o is n. reaches n ∙ ap (λ ns. is_reached (fragments d) ns n) (same ∙ ap (λ y. spreads (selections_of y)) is)
+parts-are s us d x own names same at_own reaches = λ o is. reaches ∙ (ap (λ u. u ∷ uses_reached s d names) at_own
+    ∙ ap (λ ns. usage_of s x ∷ uses_reached s d ns) (same ∙ ap (λ y. spreads (selections_of y)) is))

@@ -4,11 +4,12 @@ ghost use Rattle.std.specs.Prelude.{◌≡◌, ◌++◌, IfOk, List, OnOk, false
 ghost use Rattle.graphql_spec.specs.Documents as documents;
 ghost use Rattle.graphql_spec.specs.Rules as rules;
 ghost use Rattle.graphql_spec.specs.Rules.{at_each};
+ghost use Rattle.graphql_spec.specs.Schema.{Schema};
 ghost use Rattle.juniper_position.specs.RuleView.{view_rule_error};
 ghost use Rattle.juniper_schema.specs.SchemaView.{view_schema};
 ghost use Rattle.juniper_spreads.specs.SpreadsView.{AreFragmentsOf};
 ghost use Rattle.juniper_syntax.specs.DocumentView.{view_definition};
-ghost use Rattle.juniper_use_rules.specs.UsesView.{AreUsesOfFragments, IsReachOf, usage_of, view_used};
+ghost use Rattle.juniper_use_rules.specs.UsesView.{AreUsesOfFragments, AreUsesOfParts, usage_of, view_used};
 ghost use Rattle.juniper_phases.specs.Listing.{AreListedOnTypes, IsListed, IsListedOnTypes, definition_of};
 
 use crate::lists::{Listed, ListedOnTypes};
@@ -17,9 +18,9 @@ use juniper_schema::SchemaType;
 use juniper_spreads::FragmentsByName;
 use juniper_syntax::{Definition, RuleError, ScalarValue};
 use juniper_use_rules::{
-    Used, looks_at_schema, misuses_variable, used_in, uses_of_fragments, uses_undefined,
+    Used, UsesOfFragments, looks_at_schema, misuses_variable, used_in, uses_of_fragments,
+    uses_undefined,
 };
-use juniper_written::NameSet;
 use std::alloc::{AllocError, Global};
 
 /// What the rules on variables, merging and introspection find in a document, of whose definitions this is listed, with these
@@ -38,10 +39,9 @@ pub fn use_errors<'d, 'a, S: ScalarValue>(
         map view_rule_error es.items ≡ at_each (rules.use_errors (view_schema S.shown schema.now) introspection_disabled d) [] d) }
 {
     let used = used_by_each(alloc, schema, listed)?;
-    let used_by_fragments = uses_of_fragments(alloc, &used)?;
+    let used_by_fragments = uses_of_fragments(alloc, &used, &fragments.spreads)?;
     let given = Given {
         schema,
-        fragments,
         used_by_fragments: &used_by_fragments,
         introspection_disabled,
     };
@@ -57,28 +57,26 @@ pub fn use_errors<'d, 'a, S: ScalarValue>(
 
 /// What the rules look at beside a definition.
 #[derive(Drop)]
-struct Given<'r, 'd, 'a, 'u, S: ScalarValue> {
+struct Given<'r, 'u, S: ScalarValue> {
     /// The schema.
     schema: &'r SchemaType<S>,
-    /// The fragments of the document.
-    fragments: &'r FragmentsByName<'d, 'a, S>,
-    /// What each of them uses of variables.
-    used_by_fragments: &'r Vec<&'r Used<'u>>,
+    /// What the fragments of the document use of variables.
+    used_by_fragments: &'r UsesOfFragments<'r, 'u>,
     /// Whether introspection is disabled.
     introspection_disabled: bool,
 }
 
 /// Adds what the rules on uses find at a definition, of which this is listed, and which uses these variables.
-fn find_uses<'d, 'a, 'u, S: ScalarValue>(
+fn find_uses<'r, 'u, S: ScalarValue>(
     alloc: Global,
-    given: &Given<'_, 'd, 'a, 'u, S>,
-    listed: &Listed<'d, 'a, S>,
-    own: &Used<'u>,
+    given: &Given<'r, 'u, S>,
+    listed: &Listed<'_, '_, S>,
+    own: &'r Used<'u>,
     cannot_merge: bool,
     errors: &mut Vec<RuleError>,
 ) -> Result<(), AllocError>
-    ensures { OnOk result ((d : documents.Document) (ds : List documents.Definition) → AreFragmentsOf S.shown given.now.fragments.now d →
-        AreUsesOfFragments (view_schema S.shown given.now.schema.now) given.now.used_by_fragments.now.items d → IsListed S.shown listed.now →
+    ensures { OnOk result ((d : documents.Document) (ds : List documents.Definition) →
+        AreUsesOfFragments (view_schema S.shown given.now.schema.now) given.now.used_by_fragments.now d → IsListed S.shown listed.now →
         view_used own.now ≡ usage_of (view_schema S.shown given.now.schema.now) (definition_of S.shown listed.now) →
         cannot_merge ≡ rules.cannot_merge (view_schema S.shown given.now.schema.now) d (definition_of S.shown listed.now) →
         map view_rule_error errors.new.items ≡ map view_rule_error errors.old.items
@@ -105,25 +103,24 @@ struct UsesInside {
 
 /// Which rules on uses are violated by what is written inside a definition, of which this is listed, and which uses these
 /// variables.
-fn uses_inside<'d, 'a, 'u, S: ScalarValue>(
+fn uses_inside<'r, 'u, S: ScalarValue>(
     alloc: Global,
-    given: &Given<'_, 'd, 'a, 'u, S>,
-    listed: &Listed<'d, 'a, S>,
-    own: &Used<'u>,
+    given: &Given<'r, 'u, S>,
+    listed: &Listed<'_, '_, S>,
+    own: &'r Used<'u>,
 ) -> Result<UsesInside, AllocError>
-    ensures undefined { IfOk result (λ u. (d : documents.Document) → AreFragmentsOf S.shown given.now.fragments.now d →
-        AreUsesOfFragments (view_schema S.shown given.now.schema.now) given.now.used_by_fragments.now.items d → IsListed S.shown listed.now →
+    ensures undefined { IfOk result (λ u. (d : documents.Document) →
+        AreUsesOfFragments (view_schema S.shown given.now.schema.now) given.now.used_by_fragments.now d → IsListed S.shown listed.now →
         view_used own.now ≡ usage_of (view_schema S.shown given.now.schema.now) (definition_of S.shown listed.now) →
         u.undefined ≡ rules.uses_undefined (view_schema S.shown given.now.schema.now) d (definition_of S.shown listed.now)) }
-    ensures misused { IfOk result (λ u. (d : documents.Document) → AreFragmentsOf S.shown given.now.fragments.now d →
-        AreUsesOfFragments (view_schema S.shown given.now.schema.now) given.now.used_by_fragments.now.items d → IsListed S.shown listed.now →
+    ensures misused { IfOk result (λ u. (d : documents.Document) →
+        AreUsesOfFragments (view_schema S.shown given.now.schema.now) given.now.used_by_fragments.now d → IsListed S.shown listed.now →
         view_used own.now ≡ usage_of (view_schema S.shown given.now.schema.now) (definition_of S.shown listed.now) →
         u.misused ≡ rules.misuses_variable (view_schema S.shown given.now.schema.now) d (definition_of S.shown listed.now)) }
     ensures schema { IfOk result (λ u. IsListed S.shown listed.now → u.looks_at_schema
         ≡ rules.looks_at_schema (view_schema S.shown given.now.schema.now) given.now.introspection_disabled (definition_of S.shown listed.now)) }
 {
     let schema = given.schema;
-    let fragments = given.used_by_fragments;
     let definition = listed.definition;
     let looks_at_schema = looks_at_schema(
         schema,
@@ -131,9 +128,9 @@ fn uses_inside<'d, 'a, 'u, S: ScalarValue>(
         definition,
         &listed.written,
     );
-    let reached = reach_of(alloc, given.fragments, listed)?;
-    let undefined = uses_undefined(alloc, schema, definition, own, fragments, &reached)?;
-    let misused = misuses_variable(alloc, schema, definition, own, fragments, &reached)?;
+    let parts = uses_of_parts(alloc, given.used_by_fragments, listed, own)?;
+    let undefined = uses_undefined(alloc, schema, definition, &parts)?;
+    let misused = misuses_variable(alloc, schema, definition, &parts)?;
     Ok(UsesInside {
         undefined,
         misused,
@@ -141,18 +138,20 @@ fn uses_inside<'d, 'a, 'u, S: ScalarValue>(
     })
 }
 
-/// The names of the fragments that an operation reaches, of which this is listed.
-fn reach_of<'d, 'a, S: ScalarValue>(
+/// What an operation, of which this is listed, and the fragments that it reaches use of variables, where this is what it uses
+/// by itself; nothing where it is a fragment.
+fn uses_of_parts<'r, 'u, S: ScalarValue>(
     alloc: Global,
-    fragments: &FragmentsByName<'d, 'a, S>,
-    listed: &Listed<'d, 'a, S>,
-) -> Result<NameSet<'a>, AllocError>
-    ensures { IfOk result (λ r. (d : documents.Document) → AreFragmentsOf S.shown fragments.now d → IsListed S.shown listed.now →
-        IsReachOf r d (definition_of S.shown listed.now)) }
+    fragments: &UsesOfFragments<'r, 'u>,
+    listed: &Listed<'_, '_, S>,
+    own: &'r Used<'u>,
+) -> Result<Vec<&'r Used<'u>>, AllocError>
+    ensures { IfOk result (λ us. (s : Schema) (d : documents.Document) → AreUsesOfFragments s fragments.now d → IsListed S.shown listed.now →
+        view_used own.now ≡ usage_of s (definition_of S.shown listed.now) → AreUsesOfParts s us.items d (definition_of S.shown listed.now)) }
 {
     match listed.definition {
-        Definition::Operation(_) => fragments.reached(alloc, &listed.written.spreads),
-        Definition::Fragment(_) => Ok(NameSet::new(alloc)),
+        Definition::Operation(_) => fragments.with_reached(alloc, own, &listed.written.spreads),
+        Definition::Fragment(_) => Ok(Vec::new(alloc)),
     }
 }
 

@@ -7,9 +7,10 @@ use juniper_language::Definition;
 use juniper_placed::{calls, placed_in};
 use juniper_schema::SchemaType;
 use juniper_schema_text::{Line, kept, placed};
-use juniper_spreads::{FragmentsByName, fragments_by_name};
+use juniper_spreads::fragments_by_name;
 use juniper_use_rules::{
-    Used, looks_at_schema, misuses_variable, used_in, uses_of_fragments, uses_undefined,
+    Used, UsesOfFragments, looks_at_schema, misuses_variable, used_in, uses_of_fragments,
+    uses_undefined,
 };
 use juniper_written::{argument_lists, written_in};
 use std::alloc::Global;
@@ -26,6 +27,11 @@ query Q($n: Int!) { add(n: $n, in: {k: $n, l: [$n]}) { id } } => ;
 query Q($n: [Int!]) { add(n: 1, in: {k: 1, l: $n}) { id } } => ;
 query Q { ...F } fragment F on Query { ...G } fragment G on Query { number(plus: $n) } => undefined;;;
 query Q($n: String) { ...F } fragment F on Query { number(plus: $n) } => misused;;
+query A { ...F } query B { ...G } fragment F on Query { id } fragment G on Query { number(plus: $n) } => ;undefined;;;
+query A { ...G } query B($n: String) { ...F } fragment F on Query { ...G id } fragment G on Query { number(plus: $n) } => undefined;misused;;;
+query Q { ...F ...H } fragment F on Query { ...G } fragment G on Query { ...F number(plus: $n) } => undefined;;;
+query Q { ...F } fragment F on Query { id } fragment F on Query { ...G } fragment G on Query { number(plus: $n) } => ;;;;
+query Q { ...F } fragment F on Query { id } fragment F on Query { number(plus: $n) } => undefined;;;
 fragment F on Query { number(plus: $n) } query Q($m: Int) { id } => ;;
 { id @skip(if: $b) __schema { types { name } } } => undefinedlooks;
 fragment F on Query { add(n: 1) { __type(name: \"x\") { name } } } => looks;
@@ -40,12 +46,12 @@ pub fn put_uses(
 ) -> Option<()> {
     let by_name = kept(alloc, fragments_by_name(alloc, document))?;
     let all = used_by_all(alloc, schema, document)?;
-    let fragments = kept(alloc, uses_of_fragments(alloc, all))?;
+    let fragments = kept(alloc, uses_of_fragments(alloc, all, &by_name.spreads))?;
     line.put(" ", "");
     for index in 0..document.len() {
         let definition = document.get(index)?;
         let own = all.get(index)?;
-        put_definition(alloc, schema, by_name, definition, own, fragments, line)?;
+        put_definition(alloc, schema, definition, own, fragments, line)?;
     }
     Some(())
 }
@@ -78,17 +84,16 @@ fn used(
 fn put_definition(
     alloc: Global,
     schema: &SchemaType<Scalar>,
-    by_name: &'static FragmentsByName<'static, 'static, Scalar>,
     definition: &'static Definition<'static, Scalar>,
     own: &'static Used<'static>,
-    fragments: &'static Vec<&'static Used<'static>>,
+    fragments: &'static UsesOfFragments<'static, 'static>,
     line: &mut Line,
 ) -> Option<()> {
     let written = kept(alloc, written_in(alloc, definition))?;
-    let reached = kept(alloc, by_name.reached(alloc, &written.spreads))?;
-    let lacks = uses_undefined(alloc, schema, definition, own, fragments, reached).ok()?;
+    let parts = kept(alloc, fragments.with_reached(alloc, own, &written.spreads))?;
+    let lacks = uses_undefined(alloc, schema, definition, parts).ok()?;
     line.put_if(lacks, "", "undefined");
-    let misuses = misuses_variable(alloc, schema, definition, own, fragments, reached).ok()?;
+    let misuses = misuses_variable(alloc, schema, definition, parts).ok()?;
     line.put_if(misuses, "", "misused");
     let looks = looks_at_schema(schema, true, definition, written);
     line.put_if(looks, "", "looks");

@@ -1,7 +1,12 @@
 mod ByName
 mod Defaults
+pub mod Growing
+mod Marked
 mod NamesIn
+pub mod Numbering
 mod Parts
 mod PlacesIn
+pub mod Reaching
 mod Ruling
 mod Tests
+pub mod Walking

@@ -1,16 +1,16 @@
 -- The rules on the uses of variables, by what each definition uses.
-use Rattle.std.proofs.Common.{◌≡◌, Bool, true, false, not, ◌&&◌, ◌||◌, List, map, Option, is_some, refl, sym, ap, ◌∙◌}
+use Rattle.std.proofs.Common.{◌≡◌, true, false, not, ◌&&◌, ◌∷◌, List, Option, is_some, refl, sym, ap, ◌∙◌}
 use Rattle.std.specs.List.{list_any, flat_map}
 use Rattle.graphql_spec.specs.Shown.{Name}
-use Rattle.graphql_spec.specs.Documents.{Document, Definition, Operation, VariableDefinition, operation, fragment, fragments, variables_of}
+use Rattle.graphql_spec.specs.Documents.{Document, Definition, Operation, VariableDefinition, operation, fragment, variables_of}
 use Rattle.graphql_spec.specs.Fragments.{spreads}
 use Rattle.graphql_spec.specs.Placed.{calls}
 use Rattle.graphql_spec.specs.Rules.{has_root, uses_undefined, misuses_variable}
 use Rattle.graphql_spec.specs.Schema.{Schema}
-use Rattle.graphql_spec.specs.VariableUses.{as_definitions, is_reached, parts, names_used, definition_of, all_defined, uses_in_call, uses, allowed, all_allowed}
-use Rattle.juniper_use_rules.specs.UsesView.{Usage, usage_of, is_reached_by, allowed_by}
+use Rattle.graphql_spec.specs.VariableUses.{parts, names_used, definition_of, all_defined, uses_in_call, uses, allowed, all_allowed}
+use Rattle.juniper_use_rules.specs.UsesView.{Usage, usage_of, uses_reached, uses_unknown, uses_misused, allowed_by}
 use Rattle.juniper_use_rules.proofs.Parts.{any-part}
-use Rattle.juniper_use_rules.proofs.Tests.{one-fails}
+use Rattle.juniper_use_rules.proofs.Tests.{no-items, one-fails}
 
 module _ (s : Schema) (d : Document) (x : Definition) (o : Operation) (is : x ≡ operation o) where
   -- an operation without root type breaks none of the rules
@@ -22,27 +22,25 @@ module _ (s : Schema) (d : Document) (x : Definition) (o : Operation) (is : x �
   unfolding misuses_variable
   rootless-misused none = sym (ap (λ b. b && not (all_allowed s d o)) none) ∙ ap (misuses_variable s d) (sym is)
 
-  module _ (own : Usage) (us : List Usage) (reach : Name → Bool) (at : Name → Option VariableDefinition) (root : has_root s o ≡ true)
-      (at_own : own ≡ usage_of s x) (at_us : us ≡ map (usage_of s) (as_definitions (fragments d)))
-      (at_reach : (n : Name) → reach n ≡ is_reached (fragments d) (spreads o.selections) n)
-      (at_name : (n : Name) → at n ≡ definition_of (variables_of o) n) where
-    pub undefined-is : (list_any (λ n. not (is_some (at n))) own.names
-        || list_any (λ u. is_reached_by reach u && list_any (λ n. not (is_some (at n))) u.names) us) ≡ uses_undefined s d x
+  module _ (us : List Usage) (at : Name → Option VariableDefinition) (root : has_root s o ≡ true)
+      (at_us : us ≡ usage_of s x ∷ uses_reached s d (spreads o.selections)) (at_name : (n : Name) → at n ≡ definition_of (variables_of o) n) where
+    pub undefined-is : list_any (uses_unknown at) us ≡ uses_undefined s d x
     unfolding uses_undefined all_defined usage_of
     undefined-is =
         let same : at ≡ definition_of (variables_of o) = λ i n. at_name n i in
-        any-part names_used (λ n. not (is_some (at n))) reach s (λ u. u.names) (λ y. refl) d o own us (at_own ∙ ap (usage_of s) is) at_us at_reach
+        any-part names_used (λ n. not (is_some (at n))) s (λ u. u.names) (λ y. refl) (λ u e. (no-items u.names u.uses e).0) d o us
+        (at_us ∙ ap (λ y. usage_of s y ∷ uses_reached s d (spreads o.selections)) is)
         ∙ (ap (λ f. list_any (λ n. not (is_some (f n))) (flat_map names_used (parts d o))) same
         ∙ (sym (one-fails (λ n. is_some (definition_of (variables_of o) n)) (flat_map names_used (parts d o)))
         ∙ (sym (ap (λ b. b && not (all_defined d o)) root) ∙ ap (uses_undefined s d) (sym is))))
 
-    pub misused-is : (list_any (λ v. not (allowed_by at v)) own.uses
-        || list_any (λ u. is_reached_by reach u && list_any (λ v. not (allowed_by at v)) u.uses) us) ≡ misuses_variable s d x
+    pub misused-is : list_any (uses_misused at) us ≡ misuses_variable s d x
     unfolding misuses_variable all_allowed uses allowed allowed_by usage_of
     misused-is =
         let same : at ≡ definition_of (variables_of o) = λ i n. at_name n i in
-        any-part (λ y. flat_map (uses_in_call s) (calls s y)) (λ v. not (allowed_by at v)) reach s (λ u. u.uses) (λ y. refl) d o own us
-        (at_own ∙ ap (usage_of s) is) at_us at_reach
+        any-part (λ y. flat_map (uses_in_call s) (calls s y)) (λ v. not (allowed_by at v)) s (λ u. u.uses) (λ y. refl)
+        (λ u e. (no-items u.names u.uses e).1) d o us
+        (at_us ∙ ap (λ y. usage_of s y ∷ uses_reached s d (spreads o.selections)) is)
         ∙ (ap (λ f. list_any (λ v. not (allowed_by f v)) (uses s d o)) same
         ∙ (sym (one-fails (allowed (variables_of o)) (uses s d o))
         ∙ (sym (ap (λ b. b && not (all_allowed s d o)) root) ∙ ap (misuses_variable s d) (sym is))))

@@ -3,10 +3,13 @@
 #![tactic(auto)]
 
 mod defined;
+mod found;
 mod introspection;
 mod names;
 mod no_undefined_variables;
+mod numbers;
 mod places;
+mod reach;
 mod roots;
 mod uses;
 mod values;
@@ -14,5 +17,6 @@ mod variables_in_allowed_position;
 
 pub use introspection::looks_at_schema;
 pub use no_undefined_variables::uses_undefined;
-pub use uses::{Use, Used, used_in, uses_of_fragments};
+pub use reach::{UsesOfFragments, uses_of_fragments};
+pub use uses::{Use, Used, used_in};
 pub use variables_in_allowed_position::misuses_variable;

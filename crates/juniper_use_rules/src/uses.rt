@@ -1,22 +1,20 @@
 //! What a definition uses of variables (section 5.8 of the Specification).
 
-ghost use Rattle.std.specs.Prelude.{◌≡◌, ◌++◌, IfOk, OnOk, map, option_map};
-ghost use Rattle.graphql_spec.specs.Documents.{Document};
+ghost use Rattle.std.specs.Prelude.{◌≡◌, IfOk, map, option_map};
 ghost use Rattle.graphql_spec.specs.Placed as placed;
-ghost use Rattle.graphql_spec.specs.Schema.{Schema};
 ghost use Rattle.graphql_spec.specs.Written.{argument_lists};
 ghost use Rattle.juniper_syntax.specs.DocumentView.{view_definition};
 ghost use Rattle.juniper_schema.specs.SchemaView.{view_schema};
-ghost use Rattle.juniper_written.specs.WrittenView.{has_name, view_lists};
+ghost use Rattle.juniper_written.specs.WrittenView.{view_lists};
 ghost use Rattle.juniper_placed.specs.CallView.{view_call};
-ghost use Rattle.juniper_use_rules.specs.UsesView.{AreUsesOfFragments, fragment_name, is_reached_by, of_fragment, usage_of, view_used, view_used_at};
+ghost use Rattle.juniper_use_rules.specs.UsesView.{fragment_name, has_variables, usage_of, view_used};
 
 use crate::names::names_in_lists;
 use crate::places::uses_in_calls;
 use juniper_placed::Call;
 use juniper_schema::SchemaType;
 use juniper_syntax::{Definition, ScalarValue, Type};
-use juniper_written::{ArgumentLists, NameSet};
+use juniper_written::ArgumentLists;
 use std::alloc::{AllocError, Global};
 
 /// A variable at a place (5.8.5).
@@ -41,6 +39,15 @@ pub struct Used<'u> {
     pub uses: Vec<Use<'u>>,
 }
 
+impl<'u> Used<'u> {
+    /// Whether there is a variable.
+    pub fn has_variables(&self) -> bool
+        ensures { result ≡ has_variables (view_used self.now) }
+    {
+        !self.names.is_empty() || !self.uses.is_empty()
+    }
+}
+
 /// What a definition uses, whose arguments are these, and those with their declarations these calls. An error where
 /// memory is refused.
 pub fn used_in<'u, 'd: 'u, 'a: 'u, 's: 'u, S: ScalarValue>(
@@ -63,36 +70,6 @@ pub fn used_in<'u, 'd: 'u, 'a: 'u, 's: 'u, S: ScalarValue>(
     })
 }
 
-/// Of what the definitions of a document use, what its fragments use, in order. An error where memory is refused.
-pub fn uses_of_fragments<'r, 'u>(
-    alloc: Global,
-    all: &'r [Used<'u>],
-) -> Result<Vec<&'r Used<'u>>, AllocError>
-    ensures { IfOk result (λ us. (s : Schema) (d : Document) → map view_used all.now ≡ map (usage_of s) d → AreUsesOfFragments s us.items d) }
-{
-    let mut fragments = Vec::new(alloc);
-    for used in all {
-        push_fragment(used, &mut fragments)?;
-    }
-    Ok(fragments)
-}
-
-/// Adds what a definition uses, where it is a fragment.
-fn push_fragment<'r, 'u>(
-    used: &'r Used<'u>,
-    fragments: &mut Vec<&'r Used<'u>>,
-) -> Result<(), AllocError>
-    ensures { OnOk result (view_used_at fragments.new.items ≡ view_used_at fragments.old.items ++ of_fragment (view_used used.now)) }
-{
-    match used.fragment {
-        Some(_) => {
-            fragments.push(used)?;
-            Ok(())
-        }
-        None => Ok(()),
-    }
-}
-
 /// The name of a fragment.
 fn fragment_name<'u, 'a: 'u, S: ScalarValue>(definition: &Definition<'a, S>) -> Option<&'u str>
     ensures { option_map (λ n. n.now) result ≡ fragment_name (view_definition S.shown definition.now) }
@@ -100,15 +77,5 @@ fn fragment_name<'u, 'a: 'u, S: ScalarValue>(definition: &Definition<'a, S>) -> 
     match definition {
         Definition::Fragment(fragment) => Some(fragment.item.name.item),
         Definition::Operation(_) => None,
-    }
-}
-
-/// Whether it is what a fragment of one of the names uses.
-pub(crate) fn is_reached(reached: &NameSet<'_>, used: &Used<'_>) -> bool
-    ensures { result ≡ is_reached_by (has_name reached.now) (view_used used.now) }
-{
-    match used.fragment {
-        Some(name) => reached.contains(name),
-        None => false,
     }
 }

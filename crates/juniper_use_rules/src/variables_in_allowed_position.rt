@@ -14,31 +14,27 @@ ghost use Rattle.juniper_syntax.specs.InputView.{view_input};
 ghost use Rattle.juniper_syntax.specs.TypeView as types;
 ghost use Rattle.juniper_meta.specs.MetaView.{view_type};
 ghost use Rattle.juniper_schema.specs.SchemaView.{view_schema};
-ghost use Rattle.juniper_written.specs.WrittenView.{has_name};
-ghost use Rattle.juniper_use_rules.specs.UsesView.{AreUsesOfFragments, IsReachOf, allowed_by, definition_at, is_misused, is_null, reaches_misused, usage_of};
-ghost use Rattle.juniper_use_rules.specs.UsesView.{view_use, view_used, view_used_at, view_uses};
+ghost use Rattle.juniper_use_rules.specs.UsesView.{AreUsesOfParts, allowed_by, definition_at, is_misused, is_null, uses_misused};
+ghost use Rattle.juniper_use_rules.specs.UsesView.{view_use, view_used_at, view_uses};
 
 use crate::defined::{Variable, VariablesByName, variables_by_name};
 use crate::roots::has_root;
-use crate::uses::{Use, Used, is_reached};
+use crate::uses::{Use, Used};
 use juniper_schema::SchemaType;
 use juniper_syntax::{Definition, InputValue, ScalarValue, Span, Spanning, Type};
-use juniper_written::NameSet;
 use std::alloc::{AllocError, Global};
 
 /// Whether a definition is an operation that can be executed and uses, in itself or in fragments that it reaches, a
-/// variable where it may not stand. `own` is what the definition uses, `fragments` what each fragment of the document
-/// uses, and `reached` has the names that an operation reaches. An error where memory is refused.
+/// variable where it may not stand. `parts` is what an operation and the fragments that it reaches use. An error where
+/// memory is refused.
 pub fn misuses_variable<S: ScalarValue>(
     alloc: Global,
     schema: &SchemaType<S>,
     definition: &Definition<'_, S>,
-    own: &Used<'_>,
-    fragments: &Vec<&Used<'_>>,
-    reached: &NameSet<'_>,
+    parts: &Vec<&Used<'_>>,
 ) -> Result<bool, AllocError>
-    ensures { IfOk result (λ b. (d : Document) → view_used own.now ≡ usage_of (view_schema S.shown schema.now) (view_definition S.shown definition.now) →
-        AreUsesOfFragments (view_schema S.shown schema.now) fragments.now.items d → IsReachOf reached.now d (view_definition S.shown definition.now) →
+    ensures { IfOk result (λ b. (d : Document) →
+        AreUsesOfParts (view_schema S.shown schema.now) parts.now.items d (view_definition S.shown definition.now) →
         b ≡ rules.misuses_variable (view_schema S.shown schema.now) d (view_definition S.shown definition.now)) }
 {
     match definition {
@@ -47,41 +43,25 @@ pub fn misuses_variable<S: ScalarValue>(
                 return Ok(false);
             }
             let defined = variables_by_name(alloc, &operation.item.variable_definitions)?;
-            if misuses_one(&defined, &own.uses) {
-                return Ok(true);
-            }
-            Ok(misuses_reached(&defined, fragments, reached))
+            Ok(misuses_in_parts(&defined, parts))
         }
         Definition::Fragment(_) => Ok(false),
     }
 }
 
-/// Whether a fragment of one of the names uses a variable where it may not stand.
-fn misuses_reached<S: ScalarValue>(
+/// Whether one of the parts uses a variable where it may not stand.
+fn misuses_in_parts<S: ScalarValue>(
     defined: &VariablesByName<'_, '_, S>,
-    fragments: &Vec<&Used<'_>>,
-    reached: &NameSet<'_>,
+    parts: &Vec<&Used<'_>>,
 ) -> bool
-    ensures { result ≡ list_any (reaches_misused (has_name reached.now) (definition_at S.shown defined.now)) (view_used_at fragments.now.items) }
+    ensures { result ≡ list_any (uses_misused (definition_at S.shown defined.now)) (view_used_at parts.now.items) }
 {
-    for index in 0..fragments.len() {
-        let used = fragments[index];
-        if misuses_if_reached(defined, used, reached) {
+    for index in 0..parts.len() {
+        if misuses_one(defined, &parts[index].uses) {
             return true;
         }
     }
     false
-}
-
-/// Whether it is what a fragment of one of the names uses, and a variable in it may not stand where it stands.
-fn misuses_if_reached<S: ScalarValue>(
-    defined: &VariablesByName<'_, '_, S>,
-    used: &Used<'_>,
-    reached: &NameSet<'_>,
-) -> bool
-    ensures { result ≡ reaches_misused (has_name reached.now) (definition_at S.shown defined.now) (view_used used.now) }
-{
-    is_reached(reached, used) && misuses_one(defined, &used.uses)
 }
 
 /// Whether one of the variables may not stand where it stands.

@@ -12,9 +12,9 @@ returns g c =
     let shown = g.S.ScalarValue.shown in
     let x : Definition = definition_of shown c.args.listed.now in
     let inside = c.in_ok-inside.ensures in
-    on_ok_weaker c.report.result (λ listed d ds are uses is own merging. listed ∙ ap (λ es. map view_rule_error c.args.errors.now.items ++ es)
+    on_ok_weaker c.report.result (λ listed d ds uses is own merging. listed ∙ ap (λ es. map view_rule_error c.args.errors.now.items ++ es)
     (uses-found (view_schema shown c.args.given.now.schema.now) c.args.given.now.introspection_disabled d ds x _ _ _ _
-    (inside.undefined d are uses is own)
-    (inside.misused d are uses is own)
+    (inside.undefined d uses is own)
+    (inside.misused d uses is own)
     merging
     (inside.schema is))) c.report.ensures

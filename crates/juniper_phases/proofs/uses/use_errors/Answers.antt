@@ -30,13 +30,13 @@ loop-index-preserved g c = λ d listed are merging.
     let within : i < length us = omega (arith, below, c.in_ok-used.ensures.count) in
     let own = beside-is (λ y. definition_of shown y.listed.now) (usage_of s) xs i x below c.index-listed-index.is view_used us
     c.index-own.result.now same within c.index-own.ensures in
-    let uses = c.in_ok-used_by_fragments.ensures s d (ap (map view_used) c.deref.ensures.value ∙ used) in
+    let uses = c.in_ok-used_by_fragments.ensures s d (ap (map view_used) c.deref.ensures.value ∙ used) are.spread in
     let marked = c.is_marked-cannot_merge.ensures ∙ mark-is (λ y. definition_of shown y.listed.now)
     (cannot_merge s d) xs i x below c.index-listed-index.is c.args.cannot_merge.now (merging ∙ ap (map (cannot_merge s d)) (sym own_definitions)) in
     let is = listed-is shown s x (on-types-at shown s xs d listed i x below c.index-listed-index.is) in
     found-next (λ y. definition_of shown y.listed.now) (use_errors s c.args.introspection_disabled d) xs i x below c.index-listed-index.is
     (map view_rule_error c.loop-index.errors.items) _
-    (c.in_ok-find_uses.ensures d (map (λ y. definition_of shown y.listed.now) (take i xs)) are uses is own marked)
+    (c.in_ok-find_uses.ensures d (map (λ y. definition_of shown y.listed.now) (take i xs)) uses is own marked)
     (c.loop-index.invariant d listed are merging)
 
 pub returns : goal.returns
