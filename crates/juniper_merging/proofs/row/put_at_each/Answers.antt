@@ -16,4 +16,5 @@ loop-number-preserved c =
 
 pub returns : goal.returns
 returns c =
-    all-added c.args.row.now.items c.loop-number.row.items c.args.numbers.now c.loop-number.number-index c.args.clash c.loop-number-test.false c.loop-number.invariant
+    all-added c.args.row.now.items c.loop-number.row.items c.args.numbers.now c.loop-number.number-index c.args.clash
+    c.loop-number-test.false c.loop-number.invariant
