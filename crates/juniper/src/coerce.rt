@@ -11,6 +11,7 @@ ghost use Rattle.juniper_meta.specs.MetaView.{view_argument as view_meta_argumen
 ghost use Rattle.juniper_values.specs.ArgumentView.{members_of, view_arguments};
 ghost use Rattle.juniper_walk.specs.FieldWords.{head_of};
 
+use crate::small::are_small;
 use indexmap::IndexMap;
 use juniper_language::{Field, InputValue, ScalarValue, Span, Spanning, Variables};
 use juniper_meta::meta::Argument;
@@ -18,7 +19,7 @@ use juniper_values::Arguments;
 use std::alloc::{AllocError, Global};
 
 /// An argument's name and value as they are written.
-type Written<'a, S> = (Spanning<&'a str, Span>, Spanning<InputValue<S>, Span>);
+pub(crate) type Written<'a, S> = (Spanning<&'a str, Span>, Spanning<InputValue<S>, Span>);
 
 /// Arguments by their names.
 type Given<'a, S> = IndexMap<&'a str, Spanning<InputValue<S>, Span>>;
@@ -40,7 +41,7 @@ pub(crate) fn coerce_arguments<'a, 'b, S: ScalarValue>(
 
 /// The same with the names of the declaration, so that they outlast the document; none where one is written that is not declared, which
 /// no valid document has (5.4.1).
-pub(crate) fn declared_arguments<'s, S: ScalarValue>(
+fn declared_arguments<'s, S: ScalarValue>(
     alloc: Global,
     declared: &'s [Argument<S>],
     field: &Spanning<Field<S>, Span>,
@@ -56,6 +57,23 @@ pub(crate) fn declared_arguments<'s, S: ScalarValue>(
             Ok(Some(made))
         }
     }
+}
+
+/// The same, where they are small: of large ones who keeps them for many fields would keep as many copies.
+pub(crate) fn kept_arguments<'s, S: ScalarValue>(
+    alloc: Global,
+    declared: &'s [Argument<S>],
+    field: &Spanning<Field<S>, Span>,
+    variables: &Variables<S>,
+) -> Result<Option<Arguments<'s, S>>, AllocError>
+    ensures { IfOk result (λ found. IfSome found (λ made. view_arguments S.shown made ≡ coerced_arguments (map (view_meta_argument S.shown) declared.now)
+        (view_variables S.shown variables.now) (written (head_of S.shown field.now).arguments))) }
+{
+    if !are_small(written_arguments(field), variables) {
+        return Ok(None);
+    }
+    let made = declared_arguments(alloc, declared, field, variables)?;
+    Ok(made)
 }
 
 /// The arguments that are written at a field, in order (2.6).

@@ -14,6 +14,7 @@ mod request;
 mod root_walk;
 mod served;
 mod service;
+mod small;
 pub mod twin;
 mod variables;
 mod walking;

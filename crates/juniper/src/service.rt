@@ -21,7 +21,7 @@ ghost use Rattle.juniper_walk.specs.FieldWords.{head_of};
 ghost use Rattle.juniper.specs.Questions.{IsQuestion};
 ghost use Rattle.juniper.specs.Services.{is_undeclared, world_with};
 
-use crate::coerce::{coerce_arguments, declared_arguments};
+use crate::coerce::{coerce_arguments, kept_arguments};
 use crate::node_resolver::{NodeResolver, NodeTypes};
 use crate::question::{Question, arguments_of, declared_type, shown_type};
 use juniper_assemble::Completer;
@@ -93,7 +93,7 @@ impl<'c, 's, Q: NodeResolver<S>, S: ScalarValue> Resolver<S> for Service<'c, 's,
         let declaration = schema.field_of(concrete, field.item.name.item);
         let declared = declared_type(declaration, self.undeclared);
         let of_field = arguments_of(declaration);
-        let arguments = declared_arguments(alloc, of_field, field, self.variables)?;
+        let arguments = kept_arguments(alloc, of_field, field, self.variables)?;
         let shown = shown_type(alloc, schema, self.query_type, declared)?;
         Ok(Question {
             declaration,

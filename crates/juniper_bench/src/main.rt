@@ -79,8 +79,12 @@ fn unread(alloc: Global, file: &str) -> Result<Answer, AllocError>
 }
 
 fn main(rt: HostRuntime) -> ExitCode {
-    let Ok(arguments) = env::args(&rt) else {
-        return ExitCode::from(1);
+    let arguments = match env::args(&rt) {
+        Ok(arguments) => arguments,
+        Err(error) => {
+            let _written = println!(rt; "refused: The arguments cannot be read: {error}");
+            return ExitCode::from(1);
+        }
     };
     let answered = match arguments.skip(1).collect::<Vec<String>>(rt.alloc()) {
         Ok(words) => answer(&rt, words.as_slice()),

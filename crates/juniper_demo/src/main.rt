@@ -11,8 +11,12 @@ use std::process::ExitCode;
 
 fn main(rt: HostRuntime) -> ExitCode {
     let alloc = rt.alloc();
-    let Ok(arguments) = env::args(&rt) else {
-        return ExitCode::from(1);
+    let arguments = match env::args(&rt) {
+        Ok(arguments) => arguments,
+        Err(error) => {
+            let _written = println!(rt; "refused: The arguments cannot be read: {error}");
+            return ExitCode::from(1);
+        }
     };
     let mut context = DemoContext::new();
     let answered = match arguments.skip(1).collect::<Vec<String>>(alloc) {
