@@ -1,13 +1,13 @@
 //! Which sets of fields conflict with which, one set after the other, in the order in which they were made (section 5.3.2). Nothing is kept
 //! for a set that conflicts with none.
 
-ghost use Rattle.std.specs.Prelude.{◌≡◌, ◌++◌, ◌∷◌, ◌+◌, ◌<◌, IfOk, List, OnOk, Some, false, length, map, nat_eq, true, ℕ, []};
-ghost use Rattle.std.specs.List.{list_all, slice_get};
+ghost use Rattle.std.specs.Prelude.{◌≡◌, ◌++◌, ◌∷◌, ◌+◌, ◌<◌, IfOk, List, OnOk, Some, false, length, true, ℕ, []};
+ghost use Rattle.std.specs.List.{slice_get};
 ghost use Rattle.graphql_spec.specs.Laws.{In};
 ghost use Rattle.juniper_merging.specs.Conflicts.{AreKnown, AreSettled, AreTold, IsCompared, IsIndexOf, IsLook, IsMadeBefore, IsQuiet, IsRowAdded, IsRowOf};
 ghost use Rattle.juniper_merging.specs.Conflicts.{IsRowSoFar, IsSettled, IsStep};
 ghost use Rattle.juniper_merging.specs.Conflicts.{in_row, own_in};
-ghost use Rattle.juniper_merging.specs.MergingGraph.{FieldAt, can_meet, each_pair_at, merge_at, view_vertex};
+ghost use Rattle.juniper_merging.specs.MergingGraph.{FieldAt, view_vertex};
 ghost use Rattle.juniper_merging.specs.Questions.{Pairs, Tells, Tested, Themselves, between_test, fields_of, seen, within_test};
 ghost use Rattle.juniper_merging.specs.Sets.{IsTable};
 ghost use Rattle.juniper_merging.specs.Tables.{below_in, joined, set_at, table_of};

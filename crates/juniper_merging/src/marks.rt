@@ -1,6 +1,6 @@
 //! Numbers that are marked, and the response keys whose fields differ.
 
-ghost use Rattle.std.specs.Prelude.{◌≡◌, IfOk, List, Some, false, length, map, nat_eq, true, ℕ};
+ghost use Rattle.std.specs.Prelude.{◌≡◌, IfOk, List, Some, false, length, nat_eq, true, ℕ};
 ghost use Rattle.std.specs.List.{slice_get};
 ghost use Rattle.juniper_merging.specs.Conflicts.{AreLike};
 ghost use Rattle.juniper_merging.specs.Questions.{seen};

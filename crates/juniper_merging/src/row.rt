@@ -1,6 +1,6 @@
 //! How a set clashes with each of those before it. A row that ends has nothing behind its end.
 
-ghost use Rattle.std.specs.Prelude.{◌≡◌, ◌<◌, IfOk, OnOk, Some, cond, false, length, nat_eq, true, ℕ, []};
+ghost use Rattle.std.specs.Prelude.{◌≡◌, ◌<◌, OnOk, Some, cond, false, length, nat_eq, true, ℕ, []};
 ghost use Rattle.std.specs.List.{slice_get};
 ghost use Rattle.graphql_spec.specs.Laws.{In};
 ghost use Rattle.juniper_merging.specs.Conflicts.{IsPutAtEach, IsSpread, IsSpreadTo, clash_in, clash_or_nothing, parts_or_none};

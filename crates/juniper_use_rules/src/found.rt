@@ -1,6 +1,6 @@
 //! Which numbers others lead to.
 
-ghost use Rattle.std.specs.Prelude.{◌≡◌, ◌∷◌, [], IfOk, List, OnOk, get_or, length, map, ℕ};
+ghost use Rattle.std.specs.Prelude.{◌≡◌, ◌∷◌, [], IfOk, OnOk, get_or, length, ℕ};
 ghost use Rattle.juniper_use_rules.specs.Numbers.{Adds, IsFound, IsReach, view_lists};
 ghost use Rattle.std.specs.List.{slice_get};
 
