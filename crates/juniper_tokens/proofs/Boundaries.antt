@@ -17,7 +17,7 @@ blank_small : (b : ℕ) → is_blank b ≡ true → b < 128
 unfolding is_blank
 blank_small b h = grind (arith, nat_tests)
 
-mark_small : (b : ℕ) → is_mark b ≡ true → b < 128
+pub mark_small : (b : ℕ) → is_mark b ≡ true → b < 128
 unfolding is_mark
 mark_small b h = grind (arith, nat_tests)
 
@@ -25,18 +25,18 @@ no_source_small : (b : ℕ) → is_source_byte b ≡ false → b < 128
 unfolding is_source_byte
 no_source_small b h = grind (arith, nat_tests)
 
-name_small : (b : ℕ) → continues_name b ≡ true → b < 128
+pub name_small : (b : ℕ) → continues_name b ≡ true → b < 128
 unfolding continues_name starts_name
 name_small b h = grind (arith, nat_tests)
 
-first_small : (b : ℕ) (bs : List ℕ) → IsUtf8 (b ∷ bs) → b < 128 → IsCharBoundary (b ∷ bs) 1
+pub first_small : (b : ℕ) (bs : List ℕ) → IsUtf8 (b ∷ bs) → b < 128 → IsCharBoundary (b ∷ bs) 1
 first_small b bs u small = IsCharBoundary-after_ascii (b ∷ bs) 0 u (omega arith) small
 
 digit_small : (b : ℕ) → is_ascii_digit b ≡ true → b < 128
 digit_small b h = grind (arith, nat_tests)
 
 -- a run of ASCII
-run_boundary : (p : ℕ → Bool) → ((b : ℕ) → p b ≡ true → b < 128) → (bs : List ℕ) → IsUtf8 bs → IsCharBoundary bs (prefix_len p bs)
+pub run_boundary : (p : ℕ → Bool) → ((b : ℕ) → p b ≡ true → b < 128) → (bs : List ℕ) → IsUtf8 bs → IsCharBoundary bs (prefix_len p bs)
 run_boundary p small [] u = IsCharBoundary-start [] u
 run_boundary p small (b ∷ bs) u = elim (cases_Bool (p b)) [
   | inl e ↦

@@ -12,4 +12,5 @@ pub mod StringTokens
 pub mod QuotedTokens
 pub mod Gaps
 pub mod Plain
+pub mod Shorts
 pub mod LexLaws

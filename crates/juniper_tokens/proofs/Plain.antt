@@ -38,17 +38,17 @@ walk_plain s b (c ∷ cs) all =
     ∙ (walk_plain (spot_at (s.position.index + 1) s.position.line (s.position.column + 1)) c cs h.1
     ∙ spot_same s.position.line _ _ _ _ (omega arith) (omega arith))
 
-all_plain : (p : ℕ → Bool) → ((b : ℕ) → p b ≡ true → is_plain b ≡ true) → (xs : List ℕ) → list_all p xs ≡ true → list_all is_plain xs ≡ true
+pub all_plain : (p : ℕ → Bool) → ((b : ℕ) → p b ≡ true → is_plain b ≡ true) → (xs : List ℕ) → list_all p xs ≡ true → list_all is_plain xs ≡ true
 all_plain p plain [] all = refl
 all_plain p plain (x ∷ xs) all =
     let h = and_parts (p x) (list_all p xs) all in
     and_from (is_plain x) (list_all is_plain xs) (plain x h.0) (all_plain p plain xs h.1)
 
-mark_plain : (b : ℕ) → is_mark b ≡ true → is_plain b ≡ true
+pub mark_plain : (b : ℕ) → is_mark b ≡ true → is_plain b ≡ true
 unfolding is_mark is_plain
 mark_plain b e = grind (arith, nat_tests)
 
-name_plain : (b : ℕ) → continues_name b ≡ true → is_plain b ≡ true
+pub name_plain : (b : ℕ) → continues_name b ≡ true → is_plain b ≡ true
 unfolding continues_name starts_name is_plain
 name_plain b e = grind (arith, nat_tests)
 

@@ -1,5 +1,5 @@
 -- Reading tokens as a function, step by step. `LexLaws` proves that it reads just the tokens that the Specification gives a text.
-use Rattle.std.specs.Prelude.{ℕ, zero, suc, Bool, true, false, ◌+◌, ◌==◌, ◌&&◌, ◌||◌, cond, nat_eq, take, drop, length, List, [], ◌∷◌, ◌++◌}
+use Rattle.std.specs.Prelude.{ℕ, zero, suc, Bool, true, false, ◌≡◌, ◌≢◌, ◌<◌, ◌+◌, ◌==◌, ◌&&◌, ◌||◌, cond, nat_eq, take, drop, length, List, [], ◌∷◌, ◌++◌}
 use Rattle.std.specs.List.{prefix_len, starts_with}
 use Rattle.std.specs.Char.{is_ascii_digit}
 use Rattle.graphql_spec.specs.Positions.{Position, Spot, Span, beginning, walk}
@@ -102,3 +102,11 @@ lexed bytes = lex_from (record { at = beginning; ahead = bytes })
 -- what is found, before what is still to be read
 abbrev pub behind : List Token → Lexed → Lexed
 behind found l = record { tokens = found ++ l.tokens; ending = l.ending }
+
+-- the token is what stands at the front, and the reader then stands past it
+abbrev pub IsRead : Token → Front → Front → Type 0
+IsRead t s u = (ignored_len s.ahead ≡ 0) × (lexeme_len s.ahead ≢ 0) × (t ≡ token_of (lexeme_len s.ahead) s) × (u ≡ past (lexeme_len s.ahead) s)
+
+-- less is left, and of it the same is read
+abbrev pub IsSkipped : Front → Front → Type 0
+IsSkipped s u = (length u.ahead < length s.ahead) × (lex_from u ≡ lex_from s)

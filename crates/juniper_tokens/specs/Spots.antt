@@ -1,5 +1,5 @@
 -- What the fields of the lexer show. Only private clauses cite it.
-use Rattle.std.specs.Prelude.{ℕ, Bool, false, List, [], ◌∷◌, ◌+◌, ◌≤◌, ◌<◌, ◌^◌, ◌==◌, ◌&&◌, nat_le, nat_lt}
+use Rattle.std.specs.Prelude.{ℕ, Bool, false, List, [], ◌∷◌, ◌+◌, ◌≤◌, ◌<◌, ◌^◌, ◌==◌, ◌&&◌, ◌||◌, nat_le, nat_lt}
 use Rattle.graphql_spec.specs.Tokens.{quote}
 use Rattle.graphql_spec.specs.Positions as spec
 use Rattle.juniper_position.specs.Positions.{view_position}
@@ -21,7 +21,11 @@ view_front l = record { at = view_spot l.spot; ahead = l.rest.now }
 
 -- the byte is a character, and ends no line
 unfoldable pub is_plain : ℕ → Bool
-is_plain b = nat_le 32 b && nat_lt b 128
+is_plain b = (b == 9) || (nat_le 32 b && nat_lt b 128)
+
+-- a blank that ends no line
+unfoldable pub is_space : ℕ → Bool
+is_space b = (b == 9) || ((b == 32) || (b == 44))
 
 -- the bytes begin as a string does
 unfoldable pub begins_quoted : List ℕ → Bool

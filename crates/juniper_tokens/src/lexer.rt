@@ -1,20 +1,20 @@
 //! The lexer: from a text to its tokens (section 2.1 of the Specification).
 
-ghost use Rattle.std.specs.Prelude.{take, ◌≡◌, ◌≤◌, ◌+◌, ◌^◌, ◌<◌, ◌≢◌, List, [], ◌∷◌, ◌++◌, ℕ, false, length, true, IfOk, MatchOption, option_map};
+ghost use Rattle.std.specs.Prelude.{take, ◌≡◌, ◌≤◌, ◌+◌, ◌^◌, ◌<◌, ◌≢◌, List, [], ◌∷◌, ◌++◌, ℕ, false, length, true, IfOk, IsFalse, IsTrue, MatchOption, option_map};
 ghost use Rattle.std.specs.List.{list_all, prefix_len};
 ghost use Rattle.std.specs.Str.{IsCharBoundary};
 ghost use Rattle.graphql_spec.specs.Positions as spec;
 ghost use Rattle.graphql_spec.specs.Positions.{beginning};
 ghost use Rattle.graphql_spec.specs.Tokens as tokens;
-ghost use Rattle.juniper_tokens.specs.Spots.{HasRoom, begins_quoted, is_plain, view_spot};
+ghost use Rattle.juniper_tokens.specs.Spots.{HasRoom, begins_quoted, is_plain, is_space, view_spot};
 ghost use Rattle.juniper_tokens.specs.Lexing as read;
-ghost use Rattle.juniper_position.specs.Positions.{view_position};
+ghost use Rattle.juniper_position.specs.Positions.{view_position, view_span};
 ghost use Rattle.juniper_tokens.specs.TokenViews.{view_lexeme, view_lexed, view_token};
 
 use crate::number::{int_len, number_fault, starts_int};
 use crate::string::{string_fault, string_len, without_quotes};
 use crate::token::{Ending, Fault, Lexed, Lexeme, ScalarToken, Token};
-use juniper_position::{SourcePosition, Span};
+use juniper_position::{SourcePosition, Span, Spanning};
 use std::alloc::{AllocError, Global};
 use std::marker::Model;
 
@@ -53,12 +53,37 @@ fn starts_name(b: u8) -> bool
     b == b'_' || b.is_ascii_alphabetic()
 }
 
+/// Each byte that a name goes on with stands at its own place, and a comma at every other.
+static NAME_BYTES: [u8; 256] = *b"\
+    ,,,,,,,,,,,,,,,,,,,,,,,,,,,,,,,,\
+    ,,,,,,,,,,,,,,,,0123456789,,,,,,\
+    ,ABCDEFGHIJKLMNOPQRSTUVWXYZ,,,,_\
+    ,abcdefghijklmnopqrstuvwxyz,,,,,\
+    ,,,,,,,,,,,,,,,,,,,,,,,,,,,,,,,,\
+    ,,,,,,,,,,,,,,,,,,,,,,,,,,,,,,,,\
+    ,,,,,,,,,,,,,,,,,,,,,,,,,,,,,,,,\
+    ,,,,,,,,,,,,,,,,,,,,,,,,,,,,,,,,";
+
 /// What a name goes on with (2.1.9).
-#[tactic(auto, unfolding(graphql_spec::specs::Tokens::continues_name))]
 pub fn continues_name(b: u8) -> bool
     ensures { result ≡ tokens.continues_name b }
 {
-    starts_name(b) || b.is_ascii_digit()
+    NAME_BYTES[b as usize] != b','
+}
+
+/// The blanks that end no line: space, tab and comma.
+#[tactic(auto, unfolding(crate::specs::Spots::is_space))]
+fn is_space(b: u8) -> bool
+    ensures { result ≡ is_space b }
+{
+    matches!(b, b' ' | b'\t' | b',')
+}
+
+/// How many blanks stand at the front before one that ends a line.
+fn spaces_len(text: &[u8]) -> usize
+    ensures { result ≡ prefix_len is_space text.now }
+{
+    text.iter().take_while(|b| is_space(**b)).count()
 }
 
 /// How many bytes of a comment stand at the front (2.1.4).
@@ -298,6 +323,72 @@ impl<'a> Lexer<'a> {
         word
     }
 
+    /// Takes so many bytes of which each is a character, and none ends a line. Answers them and their place.
+    fn take_plain(&mut self, count: usize) -> Spanning<&'a str, Span>
+        requires boundary { IsCharBoundary self.old.ahead count }
+        requires some { 0 < count }
+        requires plain { list_all is_plain (take count self.old.ahead) ≡ true }
+        ensures word { result.item.now ≡ take count self.old.ahead }
+        ensures place { view_span result.span ≡ read.span_past count self.old }
+        ensures moved { self.new ≡ read.past count self.old }
+    {
+        let start = self.spot.position;
+        let (word, rest) = self.rest.split_at(count);
+        self.spot = self.spot.past_plain(word.as_bytes());
+        self.rest = rest;
+        let end = self.spot.position;
+        Spanning::new(Span { start, end }, word)
+    }
+
+    /// Takes the blanks at the front up to one that ends a line, or that one, and answers whether some were there.
+    fn skip_blanks(&mut self) -> bool
+        ensures some { IsTrue result → read.IsSkipped self.old self.new }
+        ensures none { IsFalse result → self.new ≡ self.old }
+    {
+        let bytes = self.rest().as_bytes();
+        match bytes {
+            [] => false,
+            [first, ..] => {
+                if is_space(*first) {
+                    self.take_plain(spaces_len(bytes));
+                    true
+                } else if *first == b'\n' {
+                    self.take(1);
+                    true
+                } else {
+                    false
+                }
+            }
+        }
+    }
+
+    /// Takes the token at the front, if it is a punctuator of one byte or a name.
+    fn short_token(&mut self) -> Option<Token<'a>>
+        ensures { MatchOption result (self.new ≡ self.old) (λ t. read.IsRead (view_token t) self.old self.new) }
+    {
+        let bytes = self.rest().as_bytes();
+        match bytes {
+            [] => None,
+            [first, ..] => {
+                if is_mark(*first) {
+                    let taken = self.take_plain(1);
+                    Some(Token {
+                        lexeme: Lexeme::Mark(*first),
+                        span: taken.span,
+                    })
+                } else if starts_name(*first) {
+                    let taken = self.take_plain(name_len(bytes));
+                    Some(Token {
+                        lexeme: Lexeme::Name(taken.item),
+                        span: taken.span,
+                    })
+                } else {
+                    None
+                }
+            }
+        }
+    }
+
     /// Takes so many bytes, the word of a token, in which no character is cut.
     fn take_lexeme(&mut self, count: usize) -> &'a str
         requires boundary { IsCharBoundary self.old.ahead count }
@@ -335,8 +426,11 @@ impl<'a> Lexer<'a> {
     }
 }
 
-/// As many bytes of a text as a token and what is ignored around it mostly take: so many tokens the list has room for at first.
-const BYTES_A_TOKEN: usize = 4;
+/// As many bytes of a text as a token and what is ignored around it mostly take: for so many tokens the list has room at first.
+const BYTES_A_TOKEN: usize = 3;
+
+/// And for so many more, since a short text has more tokens for its bytes.
+const FIRST_TOKENS: usize = 8;
 
 /// The tokens of a text, each as long as possible, with their places; up to the end of the text or to the first place where
 /// none stands (2.1).
@@ -344,12 +438,20 @@ const BYTES_A_TOKEN: usize = 4;
 /// # Errors
 /// An [`AllocError`] where there is no memory for the tokens.
 #[tactic(auto, using(crate::proofs::LexSteps::lex_ignored, crate::proofs::LexSteps::shorter, crate::proofs::Fronts::ignored_fits, crate::proofs::Fronts::taken_fits))]
+#[inline(never)]
 pub fn lex<'a>(alloc: Global, text: &'a str) -> Result<Lexed<'a>, AllocError>
     ensures { IfOk result (λ l. view_lexed l ≡ read.lexed text.now) }
 {
     let mut lexer = Lexer::new(text);
-    let mut tokens = Vec::with_capacity(alloc, text.len() / BYTES_A_TOKEN)?;
+    let mut tokens = Vec::with_capacity(alloc, text.len() / BYTES_A_TOKEN + FIRST_TOKENS)?;
     while !lexer.rest().is_empty() {
+        if lexer.skip_blanks() {
+            continue;
+        }
+        if let Some(token) = lexer.short_token() {
+            tokens.push(token)?;
+            continue;
+        }
         let ignored = ignored_len(lexer.rest().as_bytes());
         if ignored > 0 {
             lexer.take(ignored);
