@@ -1,4 +1,5 @@
 pub mod Rooms
+pub mod Tables
 pub mod Fronts
 pub mod Numbers
 pub mod Decoding

@@ -18,6 +18,18 @@ use juniper_position::{SourcePosition, Span, Spanning};
 use std::alloc::{AllocError, Global};
 use std::marker::Model;
 
+/// For each byte what it is: `,` for a blank that ends no line, `!` for a punctuator, `0` for a digit, `a` for what a name begins with, and `.` for any
+/// other. So a name goes on with the bytes that stand as `0` or above.
+static CLASSES: [u8; 256] = *b"\
+    .........,......................\
+    ,!..!.!.!!..,...0000000000!..!..\
+    !aaaaaaaaaaaaaaaaaaaaaaaaaa!.!.a\
+    .aaaaaaaaaaaaaaaaaaaaaaaaaa!!!..\
+    ................................\
+    ................................\
+    ................................\
+    ................................";
+
 /// Tab, line ends, space and comma (2.1.2, 2.1.3, 2.1.5).
 #[tactic(auto, unfolding(graphql_spec::specs::Tokens::is_blank))]
 fn is_blank(b: u8) -> bool
@@ -35,48 +47,31 @@ pub fn is_source_byte(b: u8) -> bool
 }
 
 /// The punctuators of one byte (2.1.8).
-#[tactic(auto, unfolding(graphql_spec::specs::Tokens::is_mark))]
 fn is_mark(b: u8) -> bool
     ensures { result ≡ tokens.is_mark b }
 {
-    matches!(
-        b,
-        b'!' | b'$' | b'&' | b'(' | b')' | b':' | b'=' | b'@' | b'[' | b']' | b'{' | b'|' | b'}'
-    )
+    CLASSES[b as usize] == b'!'
 }
 
 /// What a name begins with (2.1.9).
-#[tactic(auto, unfolding(graphql_spec::specs::Tokens::starts_name))]
 fn starts_name(b: u8) -> bool
     ensures { result ≡ tokens.starts_name b }
 {
-    b == b'_' || b.is_ascii_alphabetic()
+    CLASSES[b as usize] == b'a'
 }
-
-/// Each byte that a name goes on with stands at its own place, and a comma at every other.
-static NAME_BYTES: [u8; 256] = *b"\
-    ,,,,,,,,,,,,,,,,,,,,,,,,,,,,,,,,\
-    ,,,,,,,,,,,,,,,,0123456789,,,,,,\
-    ,ABCDEFGHIJKLMNOPQRSTUVWXYZ,,,,_\
-    ,abcdefghijklmnopqrstuvwxyz,,,,,\
-    ,,,,,,,,,,,,,,,,,,,,,,,,,,,,,,,,\
-    ,,,,,,,,,,,,,,,,,,,,,,,,,,,,,,,,\
-    ,,,,,,,,,,,,,,,,,,,,,,,,,,,,,,,,\
-    ,,,,,,,,,,,,,,,,,,,,,,,,,,,,,,,,";
 
 /// What a name goes on with (2.1.9).
 pub fn continues_name(b: u8) -> bool
     ensures { result ≡ tokens.continues_name b }
 {
-    NAME_BYTES[b as usize] != b','
+    CLASSES[b as usize] >= b'0'
 }
 
 /// The blanks that end no line: space, tab and comma.
-#[tactic(auto, unfolding(crate::specs::Spots::is_space))]
 fn is_space(b: u8) -> bool
     ensures { result ≡ is_space b }
 {
-    matches!(b, b' ' | b'\t' | b',')
+    CLASSES[b as usize] == b','
 }
 
 /// How many blanks stand at the front before one that ends a line.
