@@ -7,4 +7,4 @@ use Rattle.juniper_language.specs.declared.cursor.Parser.TheInside.{Inside}
 
 -- what is left of the tokens
 abbrev pub view_at : Inside → At
-view_at p = record { last = view_position p.last; ahead = map view_token p.tokens.now }
+view_at p = record { last = view_position p.last.now; ahead = map view_token p.tokens.now }

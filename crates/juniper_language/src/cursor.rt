@@ -2,6 +2,7 @@
 
 ghost use Rattle.std.specs.Prelude.{◌≡◌, ◌≢◌, length, map, option_map, IfOk};
 ghost use Rattle.graphql_spec.specs.Grammar.{before_all, begin_of};
+ghost use Rattle.graphql_spec.specs.Positions.{origin};
 ghost use Rattle.juniper_position.specs.Positions.{view_position, view_span};
 ghost use Rattle.juniper_syntax.specs.DocumentView.{view_word};
 ghost use Rattle.juniper_language.specs.Readers as read;
@@ -28,7 +29,7 @@ const LONG: usize = 10_000;
 #[derive(Drop)]
 pub struct Parser<'t, 'a> {
     tokens: &'t [Token<'a>],
-    last: SourcePosition,
+    last: &'t SourcePosition,
     ending: Ending<'a>,
     alloc: Global,
 }
@@ -44,13 +45,19 @@ impl<'t, 'a> Model for Parser<'t, 'a> {
 }
 
 impl<'t, 'a> Parser<'t, 'a> {
-    /// Before all tokens.
-    pub fn new(alloc: Global, tokens: &'t [Token<'a>], ending: Ending<'a>) -> Self
+    /// Before all tokens of a text, with the place where it begins.
+    pub fn new(
+        alloc: Global,
+        tokens: &'t [Token<'a>],
+        beginning: &'t SourcePosition,
+        ending: Ending<'a>,
+    ) -> Self
+        requires { view_position beginning.now ≡ origin }
         ensures { result ≡ before_all (map view_token tokens.now) }
     {
         Parser {
             tokens,
-            last: SourcePosition::new_origin(),
+            last: beginning,
             ending,
             alloc,
         }
@@ -75,7 +82,7 @@ impl<'t, 'a> Parser<'t, 'a> {
         ensures { view_position result ≡ begin_of self.now.last self.now.ahead }
     {
         match self.tokens {
-            [] => self.last,
+            [] => *self.last,
             [first, ..] => first.span.start,
         }
     }
@@ -86,11 +93,13 @@ impl<'t, 'a> Parser<'t, 'a> {
     {
         Span {
             start,
-            end: self.last,
+            end: *self.last,
         }
     }
 
     /// The refusal of what comes next: a token, what is none, or the end of the text.
+    #[cold]
+    #[inline(never)]
     pub fn unexpected(&self) -> Result<Spanning<ParseError, Span>, AllocError>
         ensures { IfOk result (λ e. e.item ≢ Memory) }
     {
@@ -101,6 +110,7 @@ impl<'t, 'a> Parser<'t, 'a> {
     }
 
     /// Takes the next token.
+    #[inline(always)]
     pub fn next(&mut self) -> ParseResult<Token<'a>>
         ensures { Gives view_token result self.new (read.next self.old) }
     {
@@ -109,7 +119,7 @@ impl<'t, 'a> Parser<'t, 'a> {
             [first, rest @ ..] => {
                 let token = *first;
                 self.tokens = rest;
-                self.last = token.span.end;
+                self.last = &first.span.end;
                 Ok(token)
             }
         }
@@ -145,6 +155,7 @@ impl<'t, 'a> Parser<'t, 'a> {
 
     /// Takes this punctuator.
     #[tactic(auto, unfolding(crate::specs::Readers::expect))]
+    #[inline(always)]
     pub fn expect(&mut self, mark: u8) -> ParseResult<()>
         ensures { Gives (λ _. tt) result self.new (read.expect mark self.old) }
     {
@@ -154,7 +165,7 @@ impl<'t, 'a> Parser<'t, 'a> {
                 Lexeme::Mark(found) => {
                     if found == mark {
                         self.tokens = rest;
-                        self.last = first.span.end;
+                        self.last = &first.span.end;
                         Ok(())
                     } else {
                         Err(refused(first.span))
@@ -168,6 +179,7 @@ impl<'t, 'a> Parser<'t, 'a> {
 
     /// Takes a name.
     #[tactic(auto, unfolding(crate::specs::Readers::a_name))]
+    #[inline(always)]
     pub fn name(&mut self) -> ParseResult<Word<'a>>
         ensures { Gives view_word result self.new (read.a_name self.old) }
     {
@@ -176,7 +188,7 @@ impl<'t, 'a> Parser<'t, 'a> {
             [first, rest @ ..] => match first.lexeme {
                 Lexeme::Name(word) => {
                     self.tokens = rest;
-                    self.last = first.span.end;
+                    self.last = &first.span.end;
                     Ok(Spanning::new(first.span, word))
                 }
                 Lexeme::Mark(_) | Lexeme::Scalar(ScalarToken::Int(_) | ScalarToken::String(_)) =>

@@ -9,7 +9,7 @@ ghost use Rattle.juniper_tokens.specs.TokenViews.{view_ending};
 
 use crate::cursor::{ParseResult, Parser};
 use crate::definitions::document;
-use juniper_syntax::{Document, ParseError, ScalarValue, Span, Spanning};
+use juniper_syntax::{Document, ParseError, ScalarValue, SourcePosition, Span, Spanning};
 use juniper_tokens::{Ending, lex};
 use std::alloc::Global;
 
@@ -44,7 +44,8 @@ pub fn parse_document_source<'a, S: ScalarValue>(
         (λ e. e.item ≢ ParseError.Memory → (d : spec.Document) → Spells text.now d → ⊥) }
 {
     let lexed = lex(alloc, text)?;
-    let mut parser = Parser::new(alloc, &lexed.tokens, lexed.ending);
+    let beginning = SourcePosition::new_origin();
+    let mut parser = Parser::new(alloc, &lexed.tokens, &beginning, lexed.ending);
     let found = document(alloc, &mut parser)?;
     whole_text(alloc, lexed.ending)?;
     Ok(found)

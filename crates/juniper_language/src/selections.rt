@@ -89,7 +89,7 @@ fn selections<'a, S: ScalarValue>(
     if parser.sees(b'}') {
         return Err(parser.unexpected()?);
     }
-    let mut found = Vec::with_capacity(alloc, parser.room_for(4))?;
+    let mut found = Vec::with_capacity(alloc, parser.room_for(3))?;
     for _turn in 0..parser.left() {
         if parser.sees(b'}') {
             parser.next()?;

@@ -97,6 +97,7 @@ fn owned(alloc: Global, name: Word<'_>) -> Result<Spanning<String, Span>, AllocE
 /// A value (2.9). At most so many brackets may be opened in it, and no variable stands in a constant.
 #[cycle(values)]
 #[tactic(auto, using(crate::proofs::RuleSteps::value_is))]
+#[inline(never)]
 pub fn value<S: ScalarValue>(
     alloc: Global,
     parser: &mut Parser<'_, '_>,
@@ -167,6 +168,7 @@ pub fn placed_value<S: ScalarValue>(
 /// An argument: name, colon and value (2.6).
 #[cycle(values)]
 #[tactic(auto, unfolding(crate::specs::Reading::argument))]
+#[inline(always)]
 pub fn argument<'a, S: ScalarValue>(
     alloc: Global,
     parser: &mut Parser<'_, 'a>,
