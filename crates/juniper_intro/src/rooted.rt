@@ -46,6 +46,7 @@ pub fn rooted_answer<N: Drop, S: ScalarValue>(
     ensures memory { KeepsWant answered result }
 {
     match answered {
+        Ok(Resolved::Scalar(scalar)) => Ok(Resolved::Scalar(scalar)),
         Ok(answer) => {
             let seen = rooted(alloc, answer)?;
             Ok(seen)

@@ -2,7 +2,7 @@
 
 ghost use Rattle.std.specs.Option.{option_and_then};
 ghost use Rattle.std.specs.Option.{is_some};
-ghost use Rattle.std.specs.Prelude.{◌≡◌, cond, option_map, suc};
+ghost use Rattle.std.specs.Prelude.{◌≡◌, [], cond, option_map, suc, unwrap_or};
 ghost use Rattle.graphql_spec.specs.Introspected.{declaration_of, declared_kind, lists_field, lists_value, listed_inputs, listed_interfaces, of_type};
 ghost use Rattle.graphql_spec.specs.Introspected.{own_fields, own_name, own_values, possible_types, url_of};
 ghost use Rattle.graphql_spec.specs.Introspection.{all_of, answer_at, if_any};
@@ -32,15 +32,13 @@ use juniper_syntax::ScalarValue;
 use juniper_values::{Arguments, ResolveError};
 use std::alloc::Global;
 
-/// Where a type is referred to, how many non-nulls and lists were taken off, what is left, and what is declared at its name,
-/// which has this number.
+/// Where a type is referred to, how many non-nulls and lists were taken off, what is left, and what is declared at its name.
 #[derive(Drop)]
 struct TypeSite<'t, S: ScalarValue> {
     place: TypePlace,
     depth: usize,
     reference: Reference<'t>,
     declared: Option<&'t MetaType<S>>,
-    number: usize,
 }
 
 impl<S: ScalarValue> Introspector<S> {
@@ -131,7 +129,6 @@ impl<S: ScalarValue> Introspector<S> {
             depth,
             reference,
             declared,
-            number: self.names.number(reference.name_or_empty()),
         };
         self.of_site(alloc, &site, field_name, arguments)
     }
@@ -148,23 +145,41 @@ impl<S: ScalarValue> Introspector<S> {
         requires { IsDeclaredSo S.shown (view_schema S.shown (schema_of self.now)) site.now }
         ensures { Answers S.shown result (answered (map_tree of_handle (answer_at field_name.now
             (type_held (view_schema S.shown (schema_of self.now)) (names_of self.now) (number_in self.now) (view_type_place site.now.place) site.now.depth
-            (view_reference site.now.reference) (shape_in S.shown site.now.declared) site.now.number (view_arguments S.shown arguments.now))))) }
+            (view_reference site.now.reference) (shape_in S.shown site.now.declared)
+            (number_in self.now (unwrap_or (own_name (view_reference site.now.reference)) [])) (view_arguments S.shown arguments.now))))) }
     {
         let declared = site.declared;
         match field_name {
             "kind" => text_or_null(alloc, kind_of(site.reference, declared)),
             "name" => text_or_null(alloc, site.reference.own_name()),
+            "ofType" => inside(site.place, site.depth, site.reference),
             "description" => text_or_null(alloc, description_of(declared)),
             "specifiedByURL" => text_or_null(alloc, url_of(declared)),
             "specifiedByUrl" => text_or_null(alloc, url_of(declared)),
-            "fields" => fields_of(alloc, site.number, declared, includes_deprecated(arguments)),
+            "fields" => fields_of(
+                alloc,
+                self.number_at(site),
+                declared,
+                includes_deprecated(arguments),
+            ),
             "interfaces" => interfaces_of(alloc, &self.names, declared),
             "possibleTypes" => self.possible_types(alloc, site.reference, declared),
-            "enumValues" => values_of(alloc, site.number, declared, includes_deprecated(arguments)),
-            "inputFields" => inputs_of(alloc, site.number, declared),
-            "ofType" => inside(site.place, site.depth, site.reference),
+            "enumValues" => values_of(
+                alloc,
+                self.number_at(site),
+                declared,
+                includes_deprecated(arguments),
+            ),
+            "inputFields" => inputs_of(alloc, self.number_at(site), declared),
             _ => null(),
         }
+    }
+
+    /// The number of the type that is referred to.
+    fn number_at(&self, site: &TypeSite<'_, S>) -> usize
+        ensures { result ≡ number_in self.now (unwrap_or (own_name (view_reference site.now.reference)) []) }
+    {
+        self.names.number(site.reference.name_or_empty())
     }
 
     /// The object types that are possible at an interface or a union.

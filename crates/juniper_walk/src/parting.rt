@@ -87,6 +87,9 @@ fn fault_errors<'a, S: ScalarValue>(
 ) -> Result<Vec<Spot<'a, FieldError<S>>>, AllocError>
     ensures { IfOk result (λ made. view_errors S.shown made.items ≡ view_faults faults.now) }
 {
+    if faults.is_empty() {
+        return Ok(Vec::new(alloc));
+    }
     let mut made = Vec::with_capacity(alloc, faults.len())?;
     for fault in faults {
         let error = fault_error(alloc, fault.what)?;

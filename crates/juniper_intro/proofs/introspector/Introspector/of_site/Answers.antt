@@ -1,4 +1,5 @@
-use Rattle.std.proofs.Common.{subst, sym, ◌∙◌}
+use Rattle.std.proofs.Common.{[], subst, sym, unwrap_or, ◌∙◌}
+use Rattle.graphql_spec.specs.Introspected.{own_name}
 use Rattle.graphql_spec.specs.Introspection.{answer_at, if_any, says}
 use Rattle.graphql_spec.specs.Resolvers.{answered}
 use Rattle.graphql_spec.specs.SeenNodes.{map_tree}
@@ -21,8 +22,8 @@ returns-in-kind g c =
     let s = view_schema shown (schema_of c.args.self.now) in
     let o = shape_in shown site.declared in
     subst (λ f. Answers shown c.text_or_null.result (answered (map_tree of_handle (answer_at f
-    (type_held s (names_of c.args.self.now) (number_of c.args.self.now) (view_type_place site.place) site.depth (view_reference site.reference) o site.number
-    (view_arguments shown c.args.arguments.now))))))
+    (type_held s (names_of c.args.self.now) (number_of c.args.self.now) (view_type_place site.place) site.depth (view_reference site.reference) o
+    (number_of c.args.self.now (unwrap_or (own_name (view_reference site.reference)) [])) (view_arguments shown c.args.arguments.now))))))
     (sym c.in-kind.is)
     (subst (λ k. Answers shown c.text_or_null.result (answered (map_tree of_handle (if_any says k))))
     (c.kind_of.ensures ∙ kind-looked s (view_reference site.reference) o c.requires.shape) c.text_or_null.ensures)

@@ -13,7 +13,6 @@ use Rattle.juniper_intro.specs.HandleView.{of_handle, view_type_place}
 use Rattle.juniper_intro.specs.Handles.{held_answers, reference_at, taken_off, type_held}
 use Rattle.juniper_intro.specs.Introspectors.{names_of, number_of, schema_of}
 use Rattle.juniper_intro.specs.References.{view_reference}
-use Rattle.juniper_intro.specs.Shapes.{shape_in}
 use Rattle.juniper_intro.proofs.introspector.Introspector.of_type.Goals as goal
 
 pub returns : goal.returns
@@ -29,5 +28,4 @@ returns g c =
     (type_held s names number place c.args.depth t o i (view_arguments shown c.args.arguments.now))))) in
     let at : v ≡ taken_off c.args.depth (reference_at s names place) = c.without-reference.ensures ∙ ap (taken_off c.args.depth) c.reference.ensures in
     subst (λ t. gives t (shape_of (declared_as s t)) (number (unwrap_or (own_name t) []))) at
-    (subst (λ o. gives v o (number (unwrap_or (own_name v) []))) c.declared_as-declared.ensures.shape
-    (subst (λ i. gives v (shape_in shown c.declared_as-declared.result) i) (c.number.ensures ∙ ap number c.name_or_empty.ensures) c.of_site.ensures))
+    (subst (λ o. gives v o (number (unwrap_or (own_name v) []))) c.declared_as-declared.ensures.shape c.of_site.ensures)
