@@ -4,7 +4,6 @@ ghost use Rattle.std.specs.Prelude.{◌≡◌, Bool, IfOk, List, None, OnOk, Som
 ghost use Rattle.std.specs.Str.{bytes_eq};
 ghost use Rattle.graphql_spec.specs.Shown.{Name};
 ghost use Rattle.graphql_spec.specs.Documents as documents;
-ghost use Rattle.graphql_spec.specs.Documents.{Document};
 ghost use Rattle.graphql_spec.specs.Fields as fields;
 ghost use Rattle.graphql_spec.specs.Fragments.{HasNoCycle};
 ghost use Rattle.graphql_spec.specs.Laws.{In};
@@ -20,7 +19,7 @@ ghost use Rattle.juniper_merging.specs.Tables.{set_at, table_of};
 ghost use Rattle.juniper_schema.specs.SchemaView.{view_schema};
 ghost use Rattle.juniper_spreads.specs.Order.{IsInOrder};
 ghost use Rattle.juniper_spreads.specs.SpreadsView.{AreFragmentsOf};
-ghost use Rattle.juniper_syntax.specs.DocumentView.{view_definition, view_fragment, view_selections};
+ghost use Rattle.juniper_syntax.specs.DocumentView.{view_definition, view_fragment};
 ghost use Rattle.juniper_field_graph.specs.Gathering.{AllKnown, AreGathered, AreWritten, IsAnswer, IsDefinitionGathered, IsHeld, IsReadyIn, Pairwise};
 ghost use Rattle.juniper_field_graph.specs.Gathering.{set_named};
 ghost use Rattle.juniper_field_graph.specs.GraphView.{IsGraphOf};

@@ -8,7 +8,6 @@ ghost use Rattle.graphql_spec.specs.Schema.{Schema};
 ghost use Rattle.juniper_position.specs.RuleView.{view_rule_error};
 ghost use Rattle.juniper_schema.specs.SchemaView.{view_schema};
 ghost use Rattle.juniper_spreads.specs.SpreadsView.{AreFragmentsOf};
-ghost use Rattle.juniper_syntax.specs.DocumentView.{view_definition};
 ghost use Rattle.juniper_use_rules.specs.UsesView.{AreUsesOfFragments, AreUsesOfParts, usage_of, view_used};
 ghost use Rattle.juniper_phases.specs.Listing.{AreListedOnTypes, IsListed, IsListedOnTypes, definition_of};
 
@@ -128,6 +127,13 @@ fn uses_inside<'r, 'u, S: ScalarValue>(
         definition,
         &listed.written,
     );
+    if given.used_by_fragments.has_none_beside(own) {
+        return Ok(UsesInside {
+            undefined: false,
+            misused: false,
+            looks_at_schema,
+        });
+    }
     let parts = uses_of_parts(alloc, given.used_by_fragments, listed, own)?;
     let undefined = uses_undefined(alloc, schema, definition, &parts)?;
     let misused = misuses_variable(alloc, schema, definition, &parts)?;

@@ -33,6 +33,9 @@ query Q { ...F ...H } fragment F on Query { ...G } fragment G on Query { ...F nu
 query Q { ...F } fragment F on Query { id } fragment F on Query { ...G } fragment G on Query { number(plus: $n) } => ;;;;
 query Q { ...F } fragment F on Query { id } fragment F on Query { number(plus: $n) } => undefined;;;
 fragment F on Query { number(plus: $n) } query Q($m: Int) { id } => ;;
+query Q($n: Int!) { ...F } fragment F on Query { add(n: $n, in: {k: $n, l: [$n $n $n $n $n $n $n $n $n $n $n $n $n $n $n $n $n $n]}) { id } } => ;;
+query Q($n: Int!, $m: String) { ...F } fragment F on Query { add(n: $n, in: {k: $n, l: [$n $n $n $n $n $n $n $n $n $n $n $n $n $n $n $n $n $n $m $o]}) { id } } => undefinedmisused;;
+query Q($n: Int) { ...F } fragment F on Query { add(n: 1, in: {l: [$n $n $n $n $n $n $n $n $n $n $n $n $n $n $n $n $n $n], k: $n}) { id } } => misused;;
 { id @skip(if: $b) __schema { types { name } } } => undefinedlooks;
 fragment F on Query { add(n: 1) { __type(name: \"x\") { name } } } => looks;
 mutation M { add(n: $n) { __schema { types { name } } } } => ;";

@@ -1,6 +1,7 @@
 mod ByName
 mod Defaults
 pub mod Growing
+mod LeavingOut
 mod Marked
 mod NamesIn
 pub mod Numbering
@@ -9,4 +10,5 @@ mod PlacesIn
 pub mod Reaching
 mod Ruling
 mod Tests
+mod Unused
 pub mod Walking

@@ -8,9 +8,15 @@ use Rattle.graphql_spec.specs.Placed.{calls}
 use Rattle.graphql_spec.specs.Rules.{has_root, uses_undefined, misuses_variable}
 use Rattle.graphql_spec.specs.Schema.{Schema}
 use Rattle.graphql_spec.specs.VariableUses.{parts, names_used, definition_of, all_defined, uses_in_call, uses, allowed, all_allowed}
-use Rattle.juniper_use_rules.specs.UsesView.{Usage, usage_of, uses_reached, uses_unknown, uses_misused, allowed_by}
+use Rattle.juniper_use_rules.specs.UsesView.{Usage, has_variables, usage_of, uses_reached, uses_unknown, uses_misused, allowed_by}
 use Rattle.juniper_use_rules.proofs.Parts.{any-part}
-use Rattle.juniper_use_rules.proofs.Tests.{no-items, one-fails}
+use Rattle.juniper_use_rules.proofs.Tests.{neither-passes, none-pass, one-fails}
+
+-- a definition without variables uses none
+pub unused : (s : Schema) (x : Definition) → has_variables (usage_of s x) ≡ false →
+    (list_any (λ n. true) (names_used x) ≡ false) × (list_any (λ u. true) (flat_map (uses_in_call s) (calls s x)) ≡ false)
+unfolding usage_of
+unused s x e = neither-passes _ _ e
 
 module _ (s : Schema) (d : Document) (x : Definition) (o : Operation) (is : x ≡ operation o) where
   -- an operation without root type breaks none of the rules
@@ -28,7 +34,8 @@ module _ (s : Schema) (d : Document) (x : Definition) (o : Operation) (is : x �
     unfolding uses_undefined all_defined usage_of
     undefined-is =
         let same : at ≡ definition_of (variables_of o) = λ i n. at_name n i in
-        any-part names_used (λ n. not (is_some (at n))) s (λ u. u.names) (λ y. refl) (λ u e. (no-items u.names u.uses e).0) d o us
+        any-part names_used (λ n. not (is_some (at n))) s (uses_unknown at) (λ y. refl)
+        (λ y e. none-pass (names_used y) (λ n. not (is_some (at n))) (unused s y e).0) d o us
         (at_us ∙ ap (λ y. usage_of s y ∷ uses_reached s d (spreads o.selections)) is)
         ∙ (ap (λ f. list_any (λ n. not (is_some (f n))) (flat_map names_used (parts d o))) same
         ∙ (sym (one-fails (λ n. is_some (definition_of (variables_of o) n)) (flat_map names_used (parts d o)))
@@ -38,8 +45,8 @@ module _ (s : Schema) (d : Document) (x : Definition) (o : Operation) (is : x �
     unfolding misuses_variable all_allowed uses allowed allowed_by usage_of
     misused-is =
         let same : at ≡ definition_of (variables_of o) = λ i n. at_name n i in
-        any-part (λ y. flat_map (uses_in_call s) (calls s y)) (λ v. not (allowed_by at v)) s (λ u. u.uses) (λ y. refl)
-        (λ u e. (no-items u.names u.uses e).1) d o us
+        any-part (λ y. flat_map (uses_in_call s) (calls s y)) (λ v. not (allowed_by at v)) s (uses_misused at) (λ y. refl)
+        (λ y e. none-pass (flat_map (uses_in_call s) (calls s y)) (λ v. not (allowed_by at v)) (unused s y e).1) d o us
         (at_us ∙ ap (λ y. usage_of s y ∷ uses_reached s d (spreads o.selections)) is)
         ∙ (ap (λ f. list_any (λ v. not (allowed_by f v)) (uses s d o)) same
         ∙ (sym (one-fails (allowed (variables_of o)) (uses s d o))

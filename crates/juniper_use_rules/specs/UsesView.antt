@@ -25,11 +25,12 @@ use Rattle.juniper_use_rules.specs.declared.reach.UsesOfFragments.{UsesOfFragmen
 use Rattle.juniper_use_rules.specs.declared.uses.Use.{Use}
 use Rattle.juniper_use_rules.specs.declared.uses.Used.{Used}
 
--- what a definition uses: its name, where it is a fragment; the names of the variables; the variables with their places
+-- what a definition uses: its name, where it is a fragment; which tests one of the names of the variables passes; and which one of the
+-- variables with their places
 pub record Usage : Type 0 where
   pub fragment : Option Name
-  pub names : List Name
-  pub uses : List uses.Use
+  pub names : (Name → Bool) → Bool
+  pub uses : (uses.Use → Bool) → Bool
 
 -- the name of a fragment
 unfoldable pub fragment_name : Definition → Option Name
@@ -38,7 +39,11 @@ fragment_name (fragment f) = Some f.name.item
 
 -- what a definition uses in its own arguments (5.8.3, 5.8.5)
 unfoldable pub usage_of : Schema → Definition → Usage
-usage_of s x = record { fragment = fragment_name x; names = names_used x; uses = flat_map (uses_in_call s) (calls s x) }
+usage_of s x = record {
+  fragment = fragment_name x;
+  names = λ test. list_any test (names_used x);
+  uses = λ test. list_any test (flat_map (uses_in_call s) (calls s x));
+}
 
 -- ## Views
 
@@ -51,19 +56,18 @@ view_uses = map view_use
 
 -- what a definition uses
 abbrev pub view_used : Used → Usage
-view_used u = record { fragment = option_map (λ n. n.now) u.fragment; names = view_names u.names.items; uses = view_uses u.uses.items }
+view_used u = record {
+  fragment = option_map (λ n. n.now) u.fragment;
+  names = λ test. list_any test (view_names u.names.items);
+  uses = λ test. list_any test (view_uses u.uses.items);
+}
 
 abbrev pub view_used_at : List (Bor Used) → List Usage
 view_used_at = map (λ u. view_used u.now)
 
--- there are items
-abbrev pub has_items : {A : Type 0} → List A → Bool
-has_items [] = false
-has_items (x ∷ xs) = true
-
 -- it has a variable
 abbrev pub has_variables : Usage → Bool
-has_variables u = has_items u.names || has_items u.uses
+has_variables u = u.names (λ n. true) || u.uses (λ u. true)
 
 -- what those fragments with variables use that names lead to (5.8.3)
 unfoldable pub uses_reached : Schema → Document → List Name → List Usage
@@ -118,11 +122,11 @@ is_misused defined u = not (allowed_by defined u)
 
 -- what is used is not all defined
 abbrev pub uses_unknown : (Name → Option spec.VariableDefinition) → Usage → Bool
-uses_unknown defined u = list_any (is_unknown defined) u.names
+uses_unknown defined u = u.names (is_unknown defined)
 
 -- what is used may not all stand where it stands
 abbrev pub uses_misused : (Name → Option spec.VariableDefinition) → Usage → Bool
-uses_misused defined u = list_any (is_misused defined) u.uses
+uses_misused defined u = u.uses (is_misused defined)
 
 -- the name of a fragment
 abbrev pub named_in : Usage → List Name

@@ -8,6 +8,7 @@ mod introspection;
 mod names;
 mod no_undefined_variables;
 mod numbers;
+mod once;
 mod places;
 mod reach;
 mod roots;

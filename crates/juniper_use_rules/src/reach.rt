@@ -1,8 +1,9 @@
 //! What the fragments that an operation reaches use of variables (section 5.8.3 of the Specification).
 
-ghost use Rattle.std.specs.Prelude.{◌≡◌, ◌∷◌, ◌++◌, IfOk, OnOk, false, get_or, map};
+ghost use Rattle.std.specs.Prelude.{◌≡◌, ◌∷◌, ◌++◌, IfOk, IsTrue, OnOk, false, get_or, map};
 ghost use Rattle.std.specs.List.{flat_map};
-ghost use Rattle.graphql_spec.specs.Documents.{Document, fragments};
+ghost use Rattle.graphql_spec.specs.Documents.{Definition, Document, fragments};
+ghost use Rattle.graphql_spec.specs.Rules as rules;
 ghost use Rattle.graphql_spec.specs.Schema.{Schema};
 ghost use Rattle.juniper_written.specs.WrittenView.{view_names};
 ghost use Rattle.juniper_spreads.specs.SpreadsView.{AreSpreadsOf};
@@ -58,6 +59,15 @@ pub fn uses_of_fragments<'r, 'u>(
 }
 
 impl<'r, 'u> UsesOfFragments<'r, 'u> {
+    /// Whether variables stand neither in a definition, which uses this by itself, nor in any fragment: then the definition
+    /// violates none of the rules on variables (5.8.3, 5.8.5), and nothing more has to be looked at.
+    pub fn has_none_beside(&self, own: &Used<'_>) -> bool
+        ensures { IsTrue result → (s : Schema) (d : Document) (x : Definition) → AreUsesOfFragments s self.now d → view_used own.now ≡ usage_of s x →
+            (rules.uses_undefined s d x ≡ false) × (rules.misuses_variable s d x ≡ false) }
+    {
+        self.numbered.is_empty() && !own.has_variables()
+    }
+
     /// What an operation uses by itself, and then what those fragments with variables use that its spreads, which are of these
     /// names, lead to (5.8.3). Where there are both, names and such fragments, the time grows with the number of fragments, a
     /// byte for each, and of the spreads in those that are reached. An error where memory is refused.

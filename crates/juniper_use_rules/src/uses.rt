@@ -10,6 +10,7 @@ ghost use Rattle.juniper_placed.specs.CallView.{view_call};
 ghost use Rattle.juniper_use_rules.specs.UsesView.{fragment_name, has_variables, usage_of, view_used};
 
 use crate::names::names_in_lists;
+use crate::once::{names_once, uses_once};
 use crate::places::uses_in_calls;
 use juniper_placed::Call;
 use juniper_schema::SchemaType;
@@ -61,8 +62,8 @@ pub fn used_in<'u, 'd: 'u, 'a: 'u, 's: 'u, S: ScalarValue>(
         map (view_call S.shown) calls.now ≡ placed.calls (view_schema S.shown schema.now) (view_definition S.shown definition.now) →
         view_used u ≡ usage_of (view_schema S.shown schema.now) (view_definition S.shown definition.now)) }
 {
-    let names = names_in_lists(alloc, arguments)?;
-    let uses = uses_in_calls(alloc, schema, calls)?;
+    let names = names_once(alloc, names_in_lists(alloc, arguments)?)?;
+    let uses = uses_once(alloc, uses_in_calls(alloc, schema, calls)?)?;
     Ok(Used {
         fragment: fragment_name(definition),
         names,
