@@ -1,11 +1,10 @@
 -- Keys beside their values, as one list: what a search of the keys finds, and what a change of one list makes of both.
-use Rattle.std.proofs.Common.{◌≡◌, ℕ, suc, ◌+◌, List, [], ◌∷◌, ◌++◌, length, zip, position, slice_get, slice_set, Some, None, inl, inr, String, Global}
-use Rattle.std.proofs.Common.{string_bytes, Bool, true, false, cond, ◌||◌, not, nat_lt, refl, sym, ap, ap₂, ◌∙◌, arith}
+use Rattle.std.proofs.Common.{◌≡◌, ℕ, suc, ◌+◌, ◌<◌, List, [], ◌∷◌, ◌++◌, length, zip, position, slice_get, slice_set, Some, None, inl, inr}
+use Rattle.std.proofs.Common.{Bool, true, false, cond, ◌||◌, not, nat_lt, refl, sym, ap, ◌∙◌, arith}
 use Rattle.std.proofs.lemmas.Bool.{cases_Bool}
-use Rattle.std.specs.List.{position_or_len, list_any, AllZip}
+use Rattle.std.specs.List.{position_or_len, list_any}
 use Rattle.std.specs.Map.{lookup, set_value}
 use Rattle.indexmap.specs.IndexMap.{insert_entry}
-use Rattle.juniper_syntax.specs.FieldWords.{names}
 
 one_more : (n : ℕ) → 1 + n ≡ suc n
 one_more n = omega arith
@@ -17,6 +16,16 @@ some_inner false x y e = cc
 -- the place that a search answers
 pub place_of : {K : Type 0} (test : K → Bool) (ks : List K) (i : ℕ) → position test ks ≡ Some i → position_or_len test ks ≡ i
 place_of test ks i e = some_inner (nat_lt (position_or_len test ks) (length ks)) (position_or_len test ks) i e
+
+module _ {K : Type 0} (test : K → Bool) where
+  -- a key that is there stands before the end
+  pub there-within : (ks : List K) → list_any test ks ≡ true → position_or_len test ks < length ks
+  there-within [] there = cc
+  there-within (k ∷ ks) there =
+      elim (cases_Bool (test k)) [
+        | inl here ↦ rw here (omega arith)
+        | inr here ↦ rw here (omega (arith, there-within ks (sym (ap (λ b. b || list_any test ks) here) ∙ there)))
+      ]
 
 module _ {K X : Type 0} (test : K → Bool) where
   -- what is found at the place where the search of the keys ends
@@ -90,22 +99,3 @@ was_new false e = refl
 pub was_there : (b : Bool) → not b ≡ false → b ≡ true
 was_there true e = refl
 was_there false e = cc
-
--- keys and their clones say the same
-abbrev pub AreClones : List (String Global) → List (String Global) → Type 0
-AreClones = AllZip (λ s t. string_bytes t ≡ string_bytes s)
-
-pub cloned_length : (ks ls : List (String Global)) → AreClones ks ls → length ls ≡ length ks
-cloned_length [] [] c = refl
-cloned_length [] (l ∷ ls) c = absurd c
-cloned_length (k ∷ ks) [] c = absurd c
-cloned_length (k ∷ ks) (l ∷ ls) c = ap suc (cloned_length ks ls c.1)
-
-pub cloned_names : {X Y : Type 0} (ks ls : List (String Global)) (vs : List X) (ws : List Y) → AreClones ks ls → length vs ≡ length ks → length ws ≡ length ls →
-    names (zip ls ws) ≡ names (zip ks vs)
-cloned_names [] [] vs ws c e f = refl
-cloned_names [] (l ∷ ls) vs ws c e f = absurd c
-cloned_names (k ∷ ks) [] vs ws c e f = absurd c
-cloned_names (k ∷ ks) (l ∷ ls) [] ws c e f = absurd (omega arith)
-cloned_names (k ∷ ks) (l ∷ ls) (v ∷ vs) [] c e f = absurd (omega arith)
-cloned_names (k ∷ ks) (l ∷ ls) (v ∷ vs) (w ∷ ws) c e f = ap₂ (λ n ns. n ∷ ns) c.0 (cloned_names ks ls vs ws c.1 (omega arith) (omega arith))

@@ -361,6 +361,14 @@ same-distinct [] (l ∷ ls) same distinct = absurd same
 same-distinct (k ∷ ks) [] same distinct = absurd same
 same-distinct (k ∷ ks) (l ∷ ls) same distinct = (others-same k l ks ls same.0 same.1 distinct.0, same-distinct ks ls same.1 distinct.1)
 
+-- so do as many of both, from the first on
+pub same-first : (n : ℕ) (ks ls : List (String Global)) → AreSame ks ls → AreSame (take n ks) (take n ls)
+same-first zero ks ls same = tt
+same-first (suc n) [] [] same = tt
+same-first (suc n) [] (l ∷ ls) same = absurd same
+same-first (suc n) (k ∷ ks) [] same = absurd same
+same-first (suc n) (k ∷ ks) (l ∷ ls) same = (same.0, same-first n ks ls same.1)
+
 module _ (p : Places) where
   pub index-of : (names ms : List (String Global)) → ms ≡ names → IsIndex p names → IsIndex p ms
   index-of names ms same index = subst (IsIndex p) (sym same) index

@@ -1,4 +1,5 @@
 pub mod Columns
+pub mod FirstKeys
 pub mod Lists
 pub mod Documents
 pub mod Inputs

@@ -4,12 +4,11 @@ use Rattle.std.proofs.Common.{◌||◌, cond, Vec, String, Global, string_bytes,
 use Rattle.std.proofs.lemmas.Bool.{cases_Bool}
 use Rattle.std.specs.Map.{lookup, set_value}
 use Rattle.std.specs.Option.{option_copied}
-use Rattle.std.specs.String.{string_eq}
 use Rattle.indexmap.specs.IndexMap.{insert_entry}
 use Rattle.graphql_spec.specs.Shown.{Shown, Name}
 use Rattle.graphql_spec.specs.Values as spec
 use Rattle.graphql_spec.specs.Values.{Entries, no_entries, entry, look_up, has_entry, put, count_entries}
-use Rattle.juniper_syntax.specs.FieldWords.{is_key}
+use Rattle.juniper_syntax.specs.FieldWords.{is_key, said}
 use Rattle.juniper_syntax.specs.ValueView.{view_value, view_object, view_values, view_entries}
 use Rattle.juniper_syntax.specs.declared.value.Value.{Value, Null, Scalar, List as ListOf, Object as ObjectOf, the_lemmas}
 use Rattle.juniper_syntax.specs.declared.value.Object.{Object, out-Object, roll-Object}
@@ -96,16 +95,32 @@ module _ {S : Type 0} (shown : S → Shown) (key : Name) where
         | inr here ↦ rw here (ap (λ l. e ∷ l) (set-none es w (sym (ap (λ b. cond b (Some e.1) (lookup (is_key key) es)) here) ∙ none)))
       ]
 
--- a value put at a key
-pub put-insert : {S : Type 0} (shown : S → Shown) (es : List (Pair S)) (k : String Global) (w : Value S)
-    → view_entries shown (insert_entry string_eq es k w) ≡ put (string_bytes k) (view_value shown w) (view_entries shown es)
-unfolding put
-put-insert shown [] k w = refl
-put-insert shown (e ∷ es) k w =
-    elim (cases_Bool (bytes_eq (string_bytes k) (string_bytes e.0))) [
-      | inl here ↦ rw here refl
-      | inr here ↦ rw here (ap (entry (string_bytes e.0) (view_value shown e.1)) (put-insert shown es k w))
-    ]
+-- entries, by what their keys say
+module _ {S : Type 0} (shown : S → Shown) where
+  abbrev seen_said : List (Name × Value S) → Entries
+  seen_said [] = no_entries
+  seen_said (p ∷ ps) = entry p.0 (view_value shown p.1) (seen_said ps)
+
+  view-said : (es : List (Pair S)) → view_entries shown es ≡ seen_said (said es)
+  view-said [] = refl
+  view-said (e ∷ es) = ap (entry (string_bytes e.0) (view_value shown e.1)) (view-said es)
+
+  pub same-view : (es fs : List (Pair S)) → said es ≡ said fs → view_entries shown es ≡ view_entries shown fs
+  same-view es fs same = view-said es ∙ ap seen_said same ∙ sym (view-said fs)
+
+  put-said : (ps : List (Name × Value S)) (k : Name) (w : Value S) → seen_said (insert_entry bytes_eq ps k w) ≡ put k (view_value shown w) (seen_said ps)
+  unfolding put
+  put-said [] k w = refl
+  put-said (p ∷ ps) k w =
+      elim (cases_Bool (bytes_eq k p.0)) [
+        | inl here ↦ rw here refl
+        | inr here ↦ rw here (ap (entry p.0 (view_value shown p.1)) (put-said ps k w))
+      ]
+
+  -- a value put at a key
+  pub put-view : (es fs : List (Pair S)) (k : Name) (w : Value S) → said fs ≡ insert_entry bytes_eq (said es) k w →
+      view_entries shown fs ≡ put k (view_value shown w) (view_entries shown es)
+  put-view es fs k w more = view-said fs ∙ ap seen_said more ∙ put-said (said es) k w ∙ ap (put k (view_value shown w)) (sym (view-said es))
 
 -- what is seen behind the reference, and what follows of an answer's value
 pub option_map-copied : {A B : Type 0} (f : A → B) (o : Option (Bor A)) → option_map (λ v. f v.now) o ≡ option_map f (option_copied o)

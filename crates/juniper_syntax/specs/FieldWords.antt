@@ -1,5 +1,6 @@
 -- Keys with values, as a list of pairs.
-use Rattle.std.specs.Prelude.{ℕ, Bool, ◌&&◌, List, map, String, string_bytes}
+use Rattle.std.specs.Prelude.{◌≡◌, ℕ, Bool, ◌&&◌, not, if◌then◌else◌, List, [], ◌∷◌, ◌++◌, map, String, string_bytes}
+use Rattle.std.specs.List.{list_any, position_or_len}
 use Rattle.std.specs.Global.{Global}
 use Rattle.std.specs.Str.{bytes_eq}
 use Rattle.std.specs.String.{string_eq}
@@ -13,9 +14,22 @@ use Rattle.std.specs.contracts.string.String as text
 abbrev pub is_key : List ℕ → String Global → Bool
 is_key text key = bytes_eq text (string_bytes key)
 
+-- what these keys say, in order
+abbrev pub texts : List (String Global) → List (List ℕ)
+texts ks = map string_bytes ks
+
 -- what the keys say, in order
 abbrev pub names : {X : Type 0} → List (String Global × X) → List (List ℕ)
 names es = map (λ e. string_bytes e.0) es
+
+-- what is answered of a key's place, and whether it is new: one that is there stays, and a new one goes last
+abbrev pub IsKeyAdded : List ℕ → List (List ℕ) → List (List ℕ) → ℕ × Bool → Type 0
+IsKeyAdded key old new (place, is_new) =
+    (is_new ≡ not (list_any (bytes_eq key) old)) × (place ≡ position_or_len (bytes_eq key) old) × (new ≡ (if is_new then old ++ key ∷ [] else old))
+
+-- what the keys say, with their values
+abbrev pub said : {X : Type 0} → List (String Global × X) → List (List ℕ × X)
+said es = map (λ e. (string_bytes e.0, e.1)) es
 
 -- two keys are equal, and their values are
 abbrev pub pair_eq : {X : Type 0} → (X → X → Bool) → String Global × X → String Global × X → Bool

@@ -3,10 +3,10 @@
 //! A few are compared one by one. Beside many stands an index that is ordered by what they say, not by a hash, so that names which a
 //! stranger chose take no longer than others.
 
-ghost use Rattle.std.specs.Prelude.{◌≡◌, ◌++◌, ◌∷◌, [], ◌<◌, IfOk, IfSome, OnOk, OnErr, false, length, not, if◌then◌else◌, string_bytes};
+ghost use Rattle.std.specs.Prelude.{◌≡◌, ◌++◌, ◌∷◌, [], ◌<◌, IfOk, IfSome, OnOk, OnErr, false, length, take, not, if◌then◌else◌, string_bytes};
 ghost use Rattle.std.specs.List.{IsDistinct, list_any, position, position_or_len};
 ghost use Rattle.std.specs.String.{string_eq};
-ghost use Rattle.juniper_syntax.specs.FieldWords.{is_key};
+ghost use Rattle.juniper_syntax.specs.FieldWords.{is_key, texts, IsKeyAdded};
 ghost use Rattle.juniper_syntax.specs.Indexes.{AreSame, IsIndex};
 
 use crate::places::{Places, places_of};
@@ -54,6 +54,11 @@ impl Keys {
         })
     }
 
+    /// What gives them memory.
+    pub(crate) fn alloc(&self) -> Global {
+        self.alloc
+    }
+
     /// The keys, in order.
     pub(crate) fn as_slice(&self) -> &[String]
         ensures keys { result.now ≡ self.now }
@@ -77,10 +82,7 @@ impl Keys {
 
     /// The place of a key, and whether it is new: a new key goes last. Where memory is refused all stays as it was.
     pub(crate) fn insert_full(&mut self, key: String) -> Result<(usize, bool), AllocError>
-        ensures added { IfOk result (λ r. r.1 ≡ not (list_any (string_eq key) self.old)) }
-        ensures keys { IfOk result (λ r. self.new ≡ (if r.1 then self.old ++ key ∷ [] else self.old)) }
-        ensures index { IfOk result (λ r. r.0 ≡ position_or_len (string_eq key) self.old) }
-        ensures within { IfOk result (λ r. r.1 ≡ false → r.0 < length self.old) }
+        ensures added { IfOk result (λ r. IsKeyAdded (string_bytes key) (texts self.old) (texts self.new) r) }
         ensures err { OnErr result (self.new ≡ self.old) }
     {
         if let Some(place) = self.get_index_of(key.as_str()) {
@@ -108,13 +110,15 @@ impl Keys {
         Ok(())
     }
 
-    /// The same keys once more; an error where memory is refused.
-    pub(crate) fn try_clone(&self) -> Result<Keys, AllocError>
-        ensures { IfOk result (λ made. AreSame self.now made) }
+    /// So many of the keys once more, from the first on; an error where memory is refused.
+    pub(crate) fn first(&self, count: usize) -> Result<Keys, AllocError>
+        ensures { IfOk result (λ made. AreSame (take count self.now) made) }
     {
+        let mut names = self.names.clone()?;
+        names.truncate(count);
         Ok(Keys {
             alloc: self.alloc,
-            names: self.names.clone()?,
+            names,
             places: Places::new(self.alloc),
         })
     }

@@ -20,6 +20,7 @@ pub use ast::{
     Operation, OperationType, Selection, VariableDefinition, VariableDefinitions,
 };
 pub use entries::{Entries, IntoEntries};
+pub use fields::SharedKeys;
 pub use input::{InputValue, Variables};
 pub use juniper_position::{LexerError, ParseError, RuleError, SourcePosition, Span, Spanning};
 pub use places::name_number;

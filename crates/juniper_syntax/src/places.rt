@@ -83,8 +83,8 @@ pub(crate) fn places_of(alloc: Global, names: &[String]) -> Result<Places, Alloc
     Ok(places)
 }
 
-// Whether the key stands at the place.
-fn is_at(names: &[String], place: usize, key: &str) -> bool
+/// Whether the key stands at the place.
+pub(crate) fn is_at(names: &[String], place: usize, key: &str) -> bool
     ensures { result ≡ stands_at names.now place key.now }
 {
     place < names.len() && names[place].as_str() == key

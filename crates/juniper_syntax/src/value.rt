@@ -5,7 +5,7 @@ ghost use Rattle.graphql_spec.specs.Values.{no_entries, look_up, has_entry, put,
 ghost use Rattle.juniper_syntax.specs.ValueView.{view_value, view_object, view_values, view_entries};
 
 use crate::entries::{Entries, IntoEntries};
-use crate::fields::Fields;
+use crate::fields::{Fields, SharedKeys};
 use crate::scalar::ScalarValue;
 use std::alloc::{AllocError, Global};
 
@@ -68,6 +68,25 @@ impl<S: ScalarValue> Object<S> {
         })
     }
 
+    /// An object without keys, with a hint at those that come: what is put at them, in their order, shares them. An error where memory is
+    /// refused.
+    pub fn hinted(alloc: Global, keys: &SharedKeys) -> Result<Object<S>, AllocError>
+        ensures { IfOk result (λ o. view_object S.shown o ≡ no_entries) }
+    {
+        Ok(Object {
+            fields: Fields::hinted(alloc, keys.keys.clone()?)?,
+        })
+    }
+
+    /// Puts a value at a key, which is copied where it is not the next that was hinted at. A new key goes last; one that is there keeps its
+    /// place, and its old value is let go. Where memory is refused the object stays as it was.
+    pub fn put_field(&mut self, alloc: Global, key: &str, value: Value<S>) -> Result<(), AllocError>
+        ensures ok { OnOk result (view_object S.shown self.new ≡ put key.now (view_value S.shown value) (view_object S.shown self.old)) }
+        ensures err { OnErr result (view_object S.shown self.new ≡ view_object S.shown self.old) }
+    {
+        self.fields.put(alloc, key, value)
+    }
+
     /// Puts a value at a key. A new key goes last; one that is there keeps its place, and its old value is handed back.
     /// Where memory is refused the object stays as it was.
     pub fn add_field(
@@ -105,9 +124,9 @@ impl<S: ScalarValue> Object<S> {
         self.fields.replace(key, Value::Null)
     }
 
-    /// The keys with their values, handed over in order.
-    pub fn into_fields(self) -> IntoEntries<Value<S>>
-        ensures { view_entries S.shown result ≡ view_object S.shown self }
+    /// The keys with their values, handed over in order; an error where memory is refused for keys that other objects share.
+    pub fn into_fields(self) -> Result<IntoEntries<Value<S>>, AllocError>
+        ensures { IfOk result (λ entries. view_entries S.shown entries ≡ view_object S.shown self) }
     {
         self.fields.into_entries()
     }

@@ -1,8 +1,8 @@
 -- `Fields` as a type that may hold the type that holds it, by its values.
-use Rattle.std.specs.Prelude.{◌≡◌, ℕ, max, ◌&&◌, List, [], ◌∷◌, map, length, zip, String}
-use mathlib.Core.Path.{refl, sym, ap, ◌∙◌}
+use Rattle.std.specs.Prelude.{◌≡◌, ◌≤◌, ℕ, max, ◌&&◌, List, [], ◌∷◌, map, length, zip, String}
+use mathlib.Core.Path.{refl, sym, ap, subst, ◌∙◌}
 use mathlib.Core.Former.{Former, Count, Row, one_more, this, const, pair, list, list_count, list_put, via, children}
-use native.Mathlib.Nat.{ℕ_set}
+use native.Mathlib.Bridge.{le_prop}
 use native.Mathlib.Omega.{arith}
 use lib.ListN.{length-map}
 use base.Stored.{code_map, coded×, gcons}
@@ -21,6 +21,7 @@ use Rattle.std.specs.formers.vec.Vec as vec
 use Rattle.std.specs.contracts.alloc.Global as heap
 use Rattle.std.specs.contracts.impls.GlobalAllocator.TheImpl.{ghosts}
 use Rattle.std.specs.declared.cmp.PartialEq as eq
+use Rattle.std.specs.declared.rc.Rc.{Rc}
 use Rattle.juniper_syntax.specs.FieldWords.{key_code, fields_eq}
 use Rattle.juniper_syntax.specs.declared.fields.Fields.TheInside.{Inside}
 use Rattle.juniper_syntax.specs.declared.fields.Fields.TheView.{view, invariant}
@@ -56,7 +57,7 @@ the_items_listed X [] = refl
 the_items_listed X (e ∷ es) = ap (λ l. e.1 ∷ l) (the_items_listed X es)
 
 abbrev fields : Former {0}
-fields = via (pair (const (List (String Global))) (vec.the_former this Global)) Inside (λ X a. (a.keys, a.values)) (λ X v. record { keys = v.0; values = v.1 })
+fields = via (pair (const (Rc (List (String Global)) Global)) (vec.the_former this Global)) Inside (λ X a. (a.keys, a.values)) (λ X v. record { keys = v.0; values = v.1 })
     (λ X a. refl) (λ X v. refl)
 
 -- the entry, with h applied to its value
@@ -68,21 +69,24 @@ zip-map h [] vs = refl
 zip-map h (k ∷ ks) [] = refl
 zip-map h (k ∷ ks) (v ∷ vs) = ap (λ l. (k, h v) ∷ l) (zip-map h ks vs)
 
-zip-held : (X : Type 0) (ks : List (String Global)) (vs : List X) → length vs ≡ length ks → held (list (entry this)) X (zip ks vs) ≡ held (list this) X vs
+zip-held : (X : Type 0) (ks : List (String Global)) (vs : List X) → length vs ≤ length ks → held (list (entry this)) X (zip ks vs) ≡ held (list this) X vs
 zip-held X [] [] e = refl
 zip-held X [] (v ∷ vs) e = absurd (omega arith)
-zip-held X (k ∷ ks) [] e = absurd (omega arith)
+zip-held X (k ∷ ks) [] e = refl
 zip-held X (k ∷ ks) (v ∷ vs) e = λ i. (one_more (zip-held X ks vs (omega arith) i).0, (v, (zip-held X ks vs (omega arith) i).1))
+
+at_most : {m n k : ℕ} → n ≡ m → m ≤ k → n ≤ k
+at_most {k = k} e below = subst (λ j. j ≤ k) (sym e) below
 
 module _ (R R' : RattleType) (h : R.Denot → R'.Denot) where
   pub the_places : Alike R R' h → Alike (F.the_row R) (F.the_row R') ((the_former this).map R.Denot R'.Denot h)
   the_places a = view_places_where fields (the_former this) view
-      (λ X Y k u. zip-map k u.keys u.values.items)
-      (λ X u. length u.values.items ≡ length u.keys) (λ X Y k u e. sym (length-map u.values.items k) ∙ e)
-      (λ X u e. zip-held X u.keys u.values.items e)
+      (λ X Y k u. zip-map k u.keys.value u.values.items)
+      (λ X u. length u.values.items ≤ length u.keys.value) (λ X Y k u e. at_most (sym (length-map u.values.items k)) e)
+      (λ X u e. zip-held X u.keys.value u.values.items e)
       R.Denot R'.Denot h (F.the_row R).coded (F.the_row R').coded
-      (invariant R.Denot) (invariant R'.Denot) (λ u. ℕ_set _ _) (λ u. ℕ_set _ _)
-      (λ u e. length-map u.values.items h ∙ e) (λ u e. sym (length-map u.values.items h) ∙ e) (λ u e. e)
+      (invariant R.Denot) (invariant R'.Denot) (λ u. le_prop) (λ u. le_prop)
+      (λ u e. at_most (length-map u.values.items h) e) (λ u e. at_most (sym (length-map u.values.items h)) e) (λ u e. e)
       (over (I.the_row R)) (over (I.the_row R'))
       (struct_places (I.the_type R) (I.the_type R') (λ n. n, (vec.mapped h, tt)) _ (λ d. refl) refl
       ((refl, (λ n. refl, λ n. refl)), (laid _ _ _ (vec.the_places heap.the_row ghosts R R' h a), tt)))

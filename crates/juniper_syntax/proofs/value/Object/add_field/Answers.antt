@@ -1,9 +1,9 @@
 use Rattle.std.proofs.Common.{◌≡◌, option_map, string_bytes, sym, ap, ◌∙◌}
-use Rattle.std.proofs.lemmas.Result.{on_ok_weaker}
+use Rattle.std.proofs.lemmas.Result.{on_ok_weaker, on_err_weaker}
 use Rattle.graphql_spec.specs.Values.{look_up, put}
-use Rattle.juniper_syntax.specs.ValueView.{view_value, view_object, view_entries}
+use Rattle.juniper_syntax.specs.ValueView.{view_value, view_object}
 use Rattle.juniper_syntax.specs.declared.value.Object.{out-Object}
-use Rattle.juniper_syntax.proofs.Values.{view-out, view-roll, look_up-view, put-insert, if_ok_weaker}
+use Rattle.juniper_syntax.proofs.Values.{view-out, view-roll, look_up-view, put-view, same-view, if_ok_weaker}
 use Rattle.juniper_syntax.proofs.value.Object.add_field.Goals as goal
 
 pub returns-clause-old : goal.returns-clause-old
@@ -21,6 +21,14 @@ returns-clause-ok g c =
     let key = string_bytes c.args.key in
     let fields = (out-Object g.row.S.Denot c.args.self.now).fields in
     on_ok_weaker c.insert.result
-    (λ e. view-roll shown c.insert.new.self ∙ ap (view_entries shown) e ∙ put-insert shown fields c.args.key c.args.value
+    (λ e. view-roll shown c.insert.new.self ∙ put-view shown fields c.insert.new.self key c.args.value e
     ∙ ap (put key (view_value shown c.args.value)) (sym (view-out shown c.args.self.now)))
     c.insert.ensures.ok
+
+pub returns-clause-err : goal.returns-clause-err
+returns-clause-err g c =
+    let shown = g.S.ScalarValue.shown in
+    let fields = (out-Object g.row.S.Denot c.args.self.now).fields in
+    on_err_weaker c.insert.result
+    (λ e. view-roll shown c.insert.new.self ∙ same-view shown c.insert.new.self fields e ∙ sym (view-out shown c.args.self.now))
+    c.insert.ensures.err
