@@ -1,6 +1,6 @@
 //! Scalars and values.
 
-use juniper_syntax::{DefaultScalarValue, Object, ScalarValue, Value};
+use juniper_syntax::{DefaultScalarValue, Object, ScalarValue, SharedKeys, Value};
 use std::alloc::{AllocError, Global};
 use std::test::Fail;
 
@@ -99,15 +99,15 @@ fn hands(entry: Option<(String, Value<DefaultScalarValue>)>, key: &str, int: Opt
 }
 
 /// Whether taking a value leaves null at its key, and the entries are handed over in order.
-fn leaves_null(object: Object<DefaultScalarValue>) -> bool {
+fn leaves_null(object: Object<DefaultScalarValue>) -> Result<bool, AllocError> {
     let mut object = object;
     let taken = object.take_field("a");
     let absent = object.take_field("c");
-    let mut entries = object.into_fields();
+    let mut entries = object.into_fields()?;
     let first = hands(entries.next(), "a", None);
     let second = hands(entries.next(), "b", Some(2));
     let ended = entries.next().is_none();
-    is_int(taken, 3) && absent.is_none() && first && second && ended
+    Ok(is_int(taken, 3) && absent.is_none() && first && second && ended)
 }
 
 fn is_int(value: Option<Value<DefaultScalarValue>>, int: i32) -> bool {
@@ -119,7 +119,7 @@ fn is_int(value: Option<Value<DefaultScalarValue>>, int: i32) -> bool {
 
 #[test]
 fn what_is_taken_leaves_null(rt: HostRuntime) -> Result<(), Fail> {
-    assert!(rt; leaves_null(object_of_two(rt.alloc())?));
+    assert!(rt; leaves_null(object_of_two(rt.alloc())?)?);
     Ok(())
 }
 
@@ -193,5 +193,67 @@ fn is_copied(alloc: Global, value: Value<DefaultScalarValue>) -> Result<bool, Al
 fn a_copy_of_a_value_shows_the_same(rt: HostRuntime) -> Result<(), Fail> {
     let alloc = rt.alloc();
     assert!(rt; is_copied(alloc, value_of(alloc)?)?);
+    Ok(())
+}
+
+/// The keys that are hinted at: one comes twice, and more come than are put.
+static HINTED: [&str; 5] = ["a", "b", "a", "c", "d"];
+
+/// What is put: in the order of the hint, in another order, and at a key that is there.
+static IN_ORDER: [(&str, i32); 2] = [("a", 1), ("b", 2)];
+
+static OTHERWISE: [(&str, i32); 3] = [("b", 2), ("a", 1), ("b", 4)];
+
+static TWICE: [(&str, i32); 3] = [("a", 1), ("b", 2), ("a", 3)];
+
+fn hinted(
+    alloc: Global,
+    shared: &SharedKeys,
+    entries: &[(&str, i32)],
+) -> Result<Object<DefaultScalarValue>, AllocError> {
+    let mut object = Object::hinted(alloc, shared)?;
+    for entry in entries {
+        let value = Value::Scalar(DefaultScalarValue::from_int(entry.1));
+        object.put_field(alloc, entry.0, value)?;
+    }
+    Ok(object)
+}
+
+/// Whether a hint changes nothing of what an object is.
+fn hints_mean_nothing(alloc: Global, shared: &SharedKeys) -> Result<bool, AllocError> {
+    let first = hinted(alloc, shared, &IN_ORDER)?;
+    let other = hinted(alloc, shared, &OTHERWISE)?;
+    let third = hinted(alloc, shared, &TWICE)?;
+    let equal = third == object_of_two(alloc)? && first != third;
+    Ok(
+        has_entries(&first, ("a", 1), ("b", 2))
+            && has_entries(&other, ("b", 4), ("a", 1))
+            && !first.contains_field("c")
+            && equal
+            && leaves_null(third)?,
+    )
+}
+
+/// Whether a key that one object takes on is none of another's that shares its keys.
+fn shared_keys_stay(alloc: Global, shared: &SharedKeys) -> Result<bool, AllocError> {
+    let mut first = hinted(alloc, shared, &IN_ORDER)?;
+    let other = hinted(alloc, shared, &IN_ORDER)?;
+    let copy = Value::Object(hinted(alloc, shared, &TWICE)?);
+    put(alloc, &mut first, "d", 4)?;
+    Ok(
+        first.field_count() == 3
+            && first.contains_field("d")
+            && !first.contains_field("c")
+            && has_entries(&other, ("a", 1), ("b", 2))
+            && is_copied(alloc, copy)?,
+    )
+}
+
+#[test]
+fn objects_share_keys(rt: HostRuntime) -> Result<(), Fail> {
+    let alloc = rt.alloc();
+    let shared = SharedKeys::new(alloc, &HINTED)?;
+    assert!(rt; hints_mean_nothing(alloc, &shared)?);
+    assert!(rt; shared_keys_stay(alloc, &shared)?);
     Ok(())
 }
