@@ -1,6 +1,6 @@
 -- Keys of which the first count, each beside its value: a search of them, and a key more or a value changed.
-use Rattle.std.proofs.Common.{◌≡◌, ℕ, zero, suc, ◌+◌, ◌<◌, ◌≤◌, List, [], ◌∷◌, ◌++◌, length, take, zip, position, slice_get, slice_set, Option, Some, None, inl, inr}
-use Rattle.std.proofs.Common.{option_map, String, Global, string_bytes, Bool, true, false, cond, not, ◌||◌, nat_lt, refl, sym, ap, ap₂, subst, ◌∙◌, arith}
+use Rattle.std.proofs.Common.{◌≡◌, ℕ, zero, suc, ◌+◌, ◌<◌, ◌≤◌, List, [], ◌∷◌, ◌++◌, length, take, zip, position, slice_get, slice_set, Option, Some, None}
+use Rattle.std.proofs.Common.{inl, inr, option_map, String, Global, string_bytes, Bool, true, false, cond, not, ◌||◌, nat_lt, refl, sym, ap, ap₂, subst, ◌∙◌, arith}
 use Rattle.std.proofs.lemmas.Bool.{cases_lt, cases_Bool, lt-ltb, le-ltb}
 use Rattle.std.proofs.lemmas.List.{length-set, length-take-le, length-map, map-append, take-map, take_more, length_push}
 use Rattle.std.proofs.lemmas.Option.{slice_get_within, get_or_from_slice_get}
@@ -10,7 +10,7 @@ use Rattle.std.specs.Map.{keys_of, values_of, lookup, set_value}
 use Rattle.std.specs.Str.{bytes_eq}
 use Rattle.std.specs.String.{string_eq}
 use Rattle.indexmap.specs.IndexMap.{insert_entry}
-use Rattle.juniper_syntax.specs.FieldWords.{is_key, names, texts, said}
+use Rattle.juniper_syntax.specs.FieldWords.{is_key, names, texts, said, IsKeyAdded}
 use Rattle.juniper_syntax.specs.Indexes.{AreSame, says, stands_at}
 use Rattle.juniper_syntax.proofs.Columns.{found, put, missing, place_of, insert-found, insert-new}
 use Rattle.juniper_syntax.proofs.Indexes.{position-cons, before, same_text}
@@ -69,7 +69,8 @@ module _ {K : Type 0} (test : K → Bool) where
       position-cons test k (take n ks) ∙ ap (λ o. cond (test k) (Some 0) (option_map suc o)) (position-first ks n)
       ∙ step (test k) ∙ ap (bounded (suc n)) (sym (position-cons test k ks))
     where
-      step : (b : Bool) → cond b (Some 0) (option_map suc (bounded n (position test ks))) ≡ bounded (suc n) (cond b (Some 0) (option_map suc (position test ks)))
+      step : (b : Bool) → cond b (Some 0) (option_map suc (bounded n (position test ks)))
+          ≡ bounded (suc n) (cond b (Some 0) (option_map suc (position test ks)))
       step true = bounded-start n
       step false = bounded-next n (position test ks)
 
@@ -175,6 +176,10 @@ module _ {X : Type 0} (ks ls : List (String Global)) (vs : List X) (key : List �
       said-zip ls (slice_set vs (position_or_len (bytes_eq key) ts) w) ∙ ap (λ ns. zip ns (slice_set vs (position_or_len (bytes_eq key) ts) w)) same
       ∙ put (bytes_eq key) ts vs w (texts-long ks vs enough) ∙ sym (insert-found bytes_eq key w ts vs (texts-long ks vs enough) there)
       ∙ ap (λ es. insert_entry bytes_eq es key w) (front ks vs key enough)
+
+-- a key added to so many of the keys
+pub added-first : (key : List ℕ) (n m : ℕ) (ts new : List (List ℕ)) (r : ℕ × Bool) → n ≡ m → IsKeyAdded key (take n ts) new r → IsKeyAdded key (take m ts) new r
+added-first key n m ts new r same added = subst (λ k. IsKeyAdded key (take k ts) new r) same added
 
 -- the name at a place
 stands-some : (o : Option (String Global)) (key : List ℕ) → says o key ≡ true → (name : String Global) × (o ≡ Some name) × (is_key key name ≡ true)

@@ -1,8 +1,7 @@
 //! Keys with values, in the order in which the keys came: a key is found without going over the others.
 
-ghost use Rattle.std.specs.Prelude.{◌≡◌, ◌≤◌, ◌<◌, ◌++◌, ◌∷◌, [], false, not, if◌then◌else◌, length, take, slice_get, slice_set, Some, None};
-ghost use Rattle.std.specs.Prelude.{IfOk, IfSome, OnOk, OnErr, string_bytes};
-ghost use Rattle.std.specs.List.{IsDistinct, list_any, position, position_or_len};
+ghost use Rattle.std.specs.Prelude.{◌≡◌, ◌≤◌, ◌<◌, [], length, take, slice_get, slice_set, Some, IfOk, IfSome, OnOk, OnErr, string_bytes};
+ghost use Rattle.std.specs.List.{IsDistinct, position};
 ghost use Rattle.std.specs.Map.{keys_of, values_of, lookup, set_value};
 ghost use Rattle.std.specs.Option.{option_copied};
 ghost use Rattle.std.specs.String.{string_eq};

@@ -3,8 +3,8 @@
 //! A few are compared one by one. Beside many stands an index that is ordered by what they say, not by a hash, so that names which a
 //! stranger chose take no longer than others.
 
-ghost use Rattle.std.specs.Prelude.{◌≡◌, ◌++◌, ◌∷◌, [], ◌<◌, IfOk, IfSome, OnOk, OnErr, false, length, take, not, if◌then◌else◌, string_bytes};
-ghost use Rattle.std.specs.List.{IsDistinct, list_any, position, position_or_len};
+ghost use Rattle.std.specs.Prelude.{◌≡◌, ◌++◌, ◌∷◌, [], ◌<◌, IfOk, IfSome, OnOk, OnErr, false, length, take, string_bytes};
+ghost use Rattle.std.specs.List.{IsDistinct, list_any, position};
 ghost use Rattle.std.specs.String.{string_eq};
 ghost use Rattle.juniper_syntax.specs.FieldWords.{is_key, texts, IsKeyAdded};
 ghost use Rattle.juniper_syntax.specs.Indexes.{AreSame, IsIndex};

@@ -57,8 +57,8 @@ the_items_listed X [] = refl
 the_items_listed X (e ∷ es) = ap (λ l. e.1 ∷ l) (the_items_listed X es)
 
 abbrev fields : Former {0}
-fields = via (pair (const (Rc (List (String Global)) Global)) (vec.the_former this Global)) Inside (λ X a. (a.keys, a.values)) (λ X v. record { keys = v.0; values = v.1 })
-    (λ X a. refl) (λ X v. refl)
+fields = via (pair (const (Rc (List (String Global)) Global)) (vec.the_former this Global)) Inside (λ X a. (a.keys, a.values))
+    (λ X v. record { keys = v.0; values = v.1 }) (λ X a. refl) (λ X v. refl)
 
 -- the entry, with h applied to its value
 abbrev on_value : {K X Y : Type 0} → (X → Y) → K × X → K × Y

@@ -9,7 +9,8 @@ returns-in_err-place-clause-index g c =
     let ks = c.self.inside.keys.value in
     let vs = c.self.inside.values.items in
     let test = is_key c.args.key.now in
-    c.from_residual.ensures ∙ ap (bounded (length vs)) (c.in_err-place.ensures.index ∙ ap (position test) c.as_ref.ensures) ∙ sym (place-first test ks vs c.args.self.now c.self.view_is c.self.invariant)
+    c.from_residual.ensures ∙ ap (bounded (length vs)) (c.in_err-place.ensures.index ∙ ap (position test) c.as_ref.ensures)
+    ∙ sym (place-first test ks vs c.args.self.now c.self.view_is c.self.invariant)
 
 pub returns-then-place-len-clause-index : goal.returns-then-place-len-clause-index
 returns-then-place-len-clause-index g c =
@@ -18,7 +19,8 @@ returns-then-place-len-clause-index g c =
     let test = is_key c.args.key.now in
     let i = c.in_ok-place.place in
     let below : i < length vs = omega (arith, c.if-place-len.true, c.len.ensures, c.self.inside.values.ok.0) in
-    ap (λ b. cond b (Some i) None) (sym (lt-ltb i (length vs) below)) ∙ ap (bounded (length vs)) (c.in_ok-place.ensures.index ∙ ap (position test) c.as_ref.ensures)
+    ap (λ b. cond b (Some i) None) (sym (lt-ltb i (length vs) below))
+    ∙ ap (bounded (length vs)) (c.in_ok-place.ensures.index ∙ ap (position test) c.as_ref.ensures)
     ∙ sym (place-first test ks vs c.args.self.now c.self.view_is c.self.invariant)
 
 pub returns-then-place-len-clause-within : goal.returns-then-place-len-clause-within
@@ -35,5 +37,6 @@ returns-else-place-len-clause-index g c =
     let test = is_key c.args.key.now in
     let i = c.in_ok-place.place in
     let above : length vs ≤ i = omega (arith, c.if-place-len.false, c.len.ensures, c.self.inside.values.ok.0) in
-    ap (λ b. cond b (Some i) None) (sym (le-ltb i (length vs) above)) ∙ ap (bounded (length vs)) (c.in_ok-place.ensures.index ∙ ap (position test) c.as_ref.ensures)
+    ap (λ b. cond b (Some i) None) (sym (le-ltb i (length vs) above))
+    ∙ ap (bounded (length vs)) (c.in_ok-place.ensures.index ∙ ap (position test) c.as_ref.ensures)
     ∙ sym (place-first test ks vs c.args.self.now c.self.view_is c.self.invariant)

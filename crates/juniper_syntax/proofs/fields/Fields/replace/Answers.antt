@@ -22,7 +22,8 @@ returns-clause-old g c =
     let ks = c.self.inside.keys.value in
     let vs = c.self.inside.values.items in
     let test = is_key c.args.key.now in
-    sym c.put_at.ensures.old ∙ sym (found-first test ks vs c.args.self.now c.self.view_is c.self.invariant c.in_ok-place.place (sym c.in_ok-place.ensures.index))
+    sym c.put_at.ensures.old
+    ∙ sym (found-first test ks vs c.args.self.now c.self.view_is c.self.invariant c.in_ok-place.place (sym c.in_ok-place.ensures.index))
 
 pub returns-clause-new : goal.returns-clause-new
 returns-clause-new g c =
