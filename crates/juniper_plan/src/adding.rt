@@ -41,22 +41,8 @@ pub(crate) fn add_value<'a, N: Drop, S: ScalarValue>(
     if rises {
         return Ok(true);
     }
-    put_field(alloc, entries, key, value)?;
+    entries.put_field(alloc, key, value)?;
     Ok(false)
-}
-
-/// Puts a value at a key.
-fn put_field<S: ScalarValue>(
-    alloc: Global,
-    entries: &mut Object<S>,
-    key: &str,
-    value: Value<S>,
-) -> Result<(), AllocError>
-    ensures { OnOk result (view_object S.shown entries.new ≡ put key.now (view_value S.shown value) (view_object S.shown entries.old)) }
-{
-    let key = String::from_str(alloc, key)?;
-    drop(entries.add_field(key, value)?);
-    Ok(())
 }
 
 /// Puts a scalar at a key.
@@ -68,5 +54,5 @@ pub(crate) fn put_leaf<S: ScalarValue>(
 ) -> Result<(), AllocError>
     ensures { OnOk result (view_object S.shown entries.new ≡ put key.now (leaf (S.shown scalar)) (view_object S.shown entries.old)) }
 {
-    put_field(alloc, entries, key, Value::Scalar(scalar))
+    entries.put_field(alloc, key, Value::Scalar(scalar))
 }

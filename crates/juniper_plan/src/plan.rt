@@ -2,12 +2,14 @@
 //! Specification).
 
 ghost use Rattle.std.specs.Prelude.{◌≡◌, ◌<◌, ◌≤◌, ◌+◌, ◌∷◌, IfOk, OnOk, [], drop, length, slice_range};
+ghost use Rattle.graphql_spec.specs.Values.{no_entries};
+ghost use Rattle.juniper_syntax.specs.ValueView.{view_object};
 ghost use Rattle.juniper_plan.specs.Plans.{IsBare, IsEnded, IsKept, IsOneAdded, IsWithin, fields_at, group_count, key_at, made_at};
 ghost use Rattle.juniper_plan.specs.PlanLists.{named_in};
 
 use juniper_collect::Collected;
 use juniper_lookahead::Occurrence;
-use juniper_syntax::{Field, ScalarValue, Span, Spanning};
+use juniper_syntax::{Field, Object, ScalarValue, SharedKeys, Span, Spanning};
 use std::alloc::{AllocError, Global};
 
 /// The number of a group in a plan, counted from 0.
@@ -25,6 +27,13 @@ pub struct GroupRange {
     pub first: GroupNo,
     /// The one behind the last.
     pub end: GroupNo,
+}
+
+impl GroupRange {
+    // How many there are.
+    fn count(self) -> usize {
+        self.end.0.saturating_sub(self.first.0)
+    }
 }
 
 /// The fields of one response key.
@@ -58,6 +67,8 @@ pub struct Plan<'d, 'a, S, Q> {
     pub(crate) questions: Vec<Q>,
     /// For each group, by its number: what was made below it.
     pub(crate) below: Vec<Vec<Below>>,
+    /// By the number of the first group of an object below a group: the keys of the object. They are but a hint to its objects.
+    pub(crate) keys: Vec<Option<SharedKeys>>,
 }
 
 impl<'d, 'a, S: ScalarValue, Q: Drop> Plan<'d, 'a, S, Q> {
@@ -70,6 +81,7 @@ impl<'d, 'a, S: ScalarValue, Q: Drop> Plan<'d, 'a, S, Q> {
             occurrences: Vec::new(alloc),
             questions: Vec::new(alloc),
             below: Vec::new(alloc),
+            keys: Vec::new(alloc),
         }
     }
 
@@ -82,6 +94,7 @@ impl<'d, 'a, S: ScalarValue, Q: Drop> Plan<'d, 'a, S, Q> {
             occurrences: Vec::with_capacity(alloc, capacity)?,
             questions: Vec::with_capacity(alloc, capacity)?,
             below: Vec::with_capacity(alloc, capacity)?,
+            keys: Vec::new(alloc),
         })
     }
 
@@ -121,6 +134,35 @@ impl<'d, 'a, S: ScalarValue, Q: Drop> Plan<'d, 'a, S, Q> {
         find_made(made, concrete)
     }
 
+    /// An object without entries, which is to have the keys of these groups.
+    pub(crate) fn new_object(
+        &self,
+        alloc: Global,
+        groups: GroupRange,
+    ) -> Result<Object<S>, AllocError>
+        ensures { IfOk result (λ object. view_object S.shown object ≡ no_entries) }
+    {
+        match self.keys.get(groups.first.0) {
+            Some(kept) => match kept {
+                Some(keys) => Object::hinted(alloc, keys),
+                None => Object::with_capacity(alloc, groups.count()),
+            },
+            None => Object::with_capacity(alloc, groups.count()),
+        }
+    }
+
+    // The keys of groups, for their objects to share.
+    fn shared_keys(&self, alloc: Global, groups: GroupRange) -> Result<SharedKeys, AllocError> {
+        let mut names = Vec::with_capacity(alloc, groups.count())?;
+        for number in groups.first.0..groups.end.0 {
+            match self.groups.get(number) {
+                Some(group) => names.push(group.key)?,
+                None => {}
+            }
+        }
+        SharedKeys::new(alloc, names.as_slice())
+    }
+
     /// Keeps what was made below a group for the nodes of an object type.
     pub(crate) fn keep_below(
         &mut self,
@@ -132,6 +174,8 @@ impl<'d, 'a, S: ScalarValue, Q: Drop> Plan<'d, 'a, S, Q> {
         requires { group.0 < length self.old.below.items }
         ensures { OnOk result (IsKept group.0 concrete.now groups self.old self.new) }
     {
+        let keys = self.shared_keys(alloc, groups)?;
+        keep_keys(&mut self.keys, groups, keys)?;
         let concrete = String::from_str(alloc, concrete)?;
         let made = &mut self.below[group.0];
         made.push(Below { concrete, groups })?;
@@ -187,6 +231,21 @@ impl<'d, 'a, S: ScalarValue, Q: Drop> Plan<'d, 'a, S, Q> {
         self.below.push(Vec::new(alloc))?;
         Ok(())
     }
+}
+
+// Keeps the keys of an object at the number of its first group.
+fn keep_keys(
+    kept: &mut Vec<Option<SharedKeys>>,
+    groups: GroupRange,
+    keys: SharedKeys,
+) -> Result<(), AllocError> {
+    for _number in kept.len()..groups.first.0 {
+        kept.push(None)?;
+    }
+    if kept.len() == groups.first.0 && groups.first.0 < groups.end.0 {
+        kept.push(Some(keys))?;
+    }
+    Ok(())
 }
 
 /// A part of a list.

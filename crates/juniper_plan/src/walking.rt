@@ -19,7 +19,7 @@ use crate::preparing::{Taken, prepare};
 use juniper_assemble::Spot;
 use juniper_errors::{ExecutionError, FieldPath};
 use juniper_lookahead::Enclosing;
-use juniper_syntax::{Object, ScalarValue, Value};
+use juniper_syntax::{ScalarValue, Value};
 use juniper_walk::{Resolver, Walk, Walked, add_object};
 use std::alloc::AllocError;
 use std::rc::Rc;
@@ -53,7 +53,7 @@ pub fn object<'d, 'a, S: ScalarValue, R: Resolver<S>>(
         (all_expanded S.shown walk.now.collector enclosing.now) concrete.now node.now
         (view_value S.shown r.value) (map (view_listed S.shown) r.errors.items)) }
 {
-    let mut entries = Object::with_capacity(walk.alloc, groups.end.0 - groups.first.0)?;
+    let mut entries = plan.new_object(walk.alloc, groups)?;
     let mut errors = Vec::new(walk.alloc);
     for number in groups.first.0..groups.end.0 {
         let group = GroupNo(number);

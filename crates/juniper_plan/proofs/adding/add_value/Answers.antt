@@ -19,4 +19,4 @@ returns g c =
     put-kept _ _ _ _ _ _ _ _ _ _ _ (ap (map (view_value shown)) c.into_iter-values.ensures.rest) c.in_ok-value.ensures
     (appended (view_listed shown) c.args.errors.now.items c.append.new.self.items c.append-2.new.self.items c.args.prepared.errors.items
     c.args.walked.errors.items c.in_ok-append.ensures.items c.in_ok-append-2.ensures.items)
-    c.does_rise-rises.result _ c.does_rise-rises.ensures c.if-rises.false c.in_ok-put_field.ensures
+    c.does_rise-rises.result _ c.does_rise-rises.ensures c.if-rises.false c.in_ok-put_field.ensures.ok
