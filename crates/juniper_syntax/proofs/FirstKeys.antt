@@ -1,6 +1,7 @@
 -- Keys of which the first count, each beside its value: a search of them, and a key more or a value changed.
 use Rattle.std.proofs.Common.{◌≡◌, ℕ, zero, suc, ◌+◌, ◌<◌, ◌≤◌, List, [], ◌∷◌, ◌++◌, length, take, zip, position, slice_get, slice_set, Option, Some, None}
-use Rattle.std.proofs.Common.{inl, inr, option_map, String, Global, string_bytes, Bool, true, false, cond, not, ◌||◌, nat_lt, refl, sym, ap, ap₂, subst, ◌∙◌, arith}
+use Rattle.std.proofs.Common.{inl, inr, option_map, String, Global, string_bytes, Bool, true, false, cond, not, ◌||◌, nat_lt}
+use Rattle.std.proofs.Common.{refl, sym, ap, ap₂, subst, ◌∙◌, arith}
 use Rattle.std.proofs.lemmas.Bool.{cases_lt, cases_Bool, lt-ltb, le-ltb}
 use Rattle.std.proofs.lemmas.List.{length-set, length-take-le, length-map, map-append, take-map, take_more, length_push}
 use Rattle.std.proofs.lemmas.Option.{slice_get_within, get_or_from_slice_get}

@@ -1,6 +1,7 @@
 //! The lexer: from a text to its tokens (section 2.1 of the Specification).
 
-ghost use Rattle.std.specs.Prelude.{take, ◌≡◌, ◌≤◌, ◌+◌, ◌^◌, ◌<◌, ◌≢◌, List, [], ◌∷◌, ◌++◌, ℕ, false, length, true, IfOk, IsFalse, IsTrue, MatchOption, option_map};
+ghost use Rattle.std.specs.Prelude.{take, ◌≡◌, ◌≤◌, ◌+◌, ◌^◌, ◌<◌, ◌≢◌, List, [], ◌∷◌, ◌++◌, ℕ, false, length, true};
+ghost use Rattle.std.specs.Prelude.{IfOk, IsFalse, IsTrue, MatchOption, option_map};
 ghost use Rattle.std.specs.List.{list_all, prefix_len};
 ghost use Rattle.std.specs.Str.{IsCharBoundary};
 ghost use Rattle.graphql_spec.specs.Positions as spec;
