@@ -11,7 +11,9 @@ ghost use Rattle.juniper_schema.specs.SchemaView.{view_schema};
 ghost use Rattle.juniper_syntax.specs.DocumentView.{view_operation, view_variable};
 ghost use Rattle.juniper_syntax.specs.InputView.{view_input, view_variables};
 ghost use Rattle.juniper_syntax.specs.TypeView.{view_type};
+ghost use Rattle.juniper_rules.specs.GivenView.{view_given};
 
+use crate::given::Given;
 use juniper_schema::SchemaType;
 use juniper_syntax::{
     InputValue, Operation, RuleError, ScalarValue, Span, Spanning, Type, VariableDefinition,
@@ -36,9 +38,24 @@ pub fn validate_input_values<S: ScalarValue>(
     ensures { IfOk result (λ es. map view_rule_error es.items ≡ variable_errors (view_schema S.shown schema.now)
         (variables_of (view_operation S.shown operation.now)) (view_variables S.shown variables.now)) }
 {
+    let given = Given::new(alloc, operation, variables)?;
+    let errors = validate_given(alloc, &given, operation, schema)?;
+    Ok(errors)
+}
+
+/// The same of values that are looked up so.
+pub fn validate_given<S: ScalarValue>(
+    alloc: Global,
+    given: &Given<'_, S>,
+    operation: &Spanning<Operation<'_, S>, Span>,
+    schema: &SchemaType<S>,
+) -> Result<Vec<RuleError>, AllocError>
+    ensures { IfOk result (λ es. map view_rule_error es.items ≡ variable_errors (view_schema S.shown schema.now)
+        (variables_of (view_operation S.shown operation.now)) (view_given S.shown given.now)) }
+{
     match &operation.item.variable_definitions {
         Some(defined) => {
-            let errors = misfits(alloc, variables, defined.item.items.as_slice(), schema)?;
+            let errors = misfits(alloc, given, defined.item.items.as_slice(), schema)?;
             Ok(errors)
         }
         None => Ok(Vec::new(alloc)),
@@ -48,16 +65,16 @@ pub fn validate_input_values<S: ScalarValue>(
 /// One error for each of the variables that has no fitting value.
 fn misfits<S: ScalarValue>(
     alloc: Global,
-    variables: &Variables<S>,
+    given: &Given<'_, S>,
     defined: &[Defined<'_, S>],
     schema: &SchemaType<S>,
 ) -> Result<Vec<RuleError>, AllocError>
     ensures { IfOk result (λ es. map view_rule_error es.items ≡ variable_errors (view_schema S.shown schema.now) (map (view_variable S.shown) defined.now)
-        (view_variables S.shown variables.now)) }
+        (view_given S.shown given.now)) }
 {
     let mut errors = Vec::new(alloc);
     for variable in defined {
-        report(alloc, &mut errors, variables, variable, schema)?;
+        report(alloc, &mut errors, given, variable, schema)?;
     }
     Ok(errors)
 }
@@ -67,16 +84,16 @@ fn misfits<S: ScalarValue>(
 fn report<S: ScalarValue>(
     alloc: Global,
     errors: &mut Vec<RuleError>,
-    variables: &Variables<S>,
+    given: &Given<'_, S>,
     variable: &Defined<'_, S>,
     schema: &SchemaType<S>,
 ) -> Result<(), AllocError>
     ensures { OnOk result ((rest : List documents.VariableDefinition) →
-        map view_rule_error errors.new.items ++ variable_errors (view_schema S.shown schema.now) rest (view_variables S.shown variables.now)
+        map view_rule_error errors.new.items ++ variable_errors (view_schema S.shown schema.now) rest (view_given S.shown given.now)
         ≡ map view_rule_error errors.old.items ++ variable_errors (view_schema S.shown schema.now) (view_variable S.shown variable.now ∷ rest)
-        (view_variables S.shown variables.now)) }
+        (view_given S.shown given.now)) }
 {
-    if !is_fitting(alloc, variables, variable, schema)? {
+    if !is_fitting(alloc, given, variable, schema)? {
         let name = variable.0.item;
         let message = format!(in alloc; "Variable `${name}` has no fitting value")?;
         errors.push(RuleError::new(alloc, message.as_str(), variable.0.span.start)?)?;
@@ -88,15 +105,15 @@ fn report<S: ScalarValue>(
 #[tactic(auto, unfolding(graphql_spec::specs::Requests::variable_fits))]
 fn is_fitting<S: ScalarValue>(
     alloc: Global,
-    variables: &Variables<S>,
+    given: &Given<'_, S>,
     variable: &Defined<'_, S>,
     schema: &SchemaType<S>,
 ) -> Result<bool, AllocError>
     ensures { IfOk result (λ b. b ≡ variable_fits (view_schema S.shown schema.now) (view_variable S.shown variable.now)
-        (view_variables S.shown variables.now variable.now.0.item.now)) }
+        (view_given S.shown given.now variable.now.0.item.now)) }
 {
     let reference = owned_type(alloc, &variable.1.var_type.item)?;
-    match variables.get(variable.0.item) {
+    match given.get(variable.0.item) {
         Some(value) => Ok(schema.fits(value, &reference, true)),
         None => Ok(default_fits(schema, &reference, &variable.1.default_value)),
     }

@@ -40,6 +40,8 @@ query Q($b: [Box!]!) { id } { v(b: {width: 1, sizes: 2}) } =>
 query Q($t: String = \"é\", $n: Int!) { id } { v } => Variable `$n` has no fitting value@0:26 byte 27;
 mutation M($n: Int!) { add(n: $n) { total } } { v(n: [1]) } => Variable `$n` has no fitting value@0:11;
 query Q($c: Cell) { id } { v(c: {a: 1, b: 2}) } => Variable `$c` has no fitting value@0:8;
+query Q($q:Int=7,$a:Int!,$c:Int!=8,$aa:Int!,$ab:Int,$ba:Int,$A:Int,$_:Int,$B:Int,$b1:Int,$b0:Int,$a_:Int,$aA:Int,$abc:Int,$z:Int,$y:Int) { id } { v(z: null, y: true, other: \"\", a: \"5\", c: null, abc: 1) } => Variable `$a` has no fitting value@0:17; Variable `$c` has no fitting value@0:25; Variable `$aa` has no fitting value@0:35; Variable `$y` has no fitting value@0:129;
+query Q($q:Int=7,$a:Int!,$c:Int!=8,$aa:Int!,$ab:Int,$ba:Int,$A:Int,$_:Int,$B:Int,$b1:Int,$b0:Int,$a_:Int,$aA:Int,$abc:Int,$z:Int,$y:Int,$x:Int) { id } { v(z: null, x: true, other: \"\", a: \"5\", c: null, abc: 1) } => Variable `$a` has no fitting value@0:17; Variable `$c` has no fitting value@0:25; Variable `$aa` has no fitting value@0:35; Variable `$x` has no fitting value@0:136;
 { id } { v(n: 1) } =>";
 
 /// Writes the errors of the values that are given to the first operation; `None` where memory is refused, or there are no two

@@ -1,26 +1,12 @@
-use Rattle.std.proofs.Common.{ap, ◌∙◌, List, map}
-use Rattle.graphql_spec.specs.Documents.{VariableDefinition}
+use Rattle.std.proofs.Common.{ap, ◌∙◌}
+use Rattle.graphql_spec.specs.Documents.{variables_of}
 use Rattle.graphql_spec.specs.Requests.{variable_errors}
-use Rattle.graphql_spec.specs.Rules.{RuleError}
-use Rattle.juniper_position.specs.RuleView.{view_rule_error}
 use Rattle.juniper_schema.specs.SchemaView.{view_schema}
-use Rattle.juniper_syntax.specs.DocumentView.{view_variable}
-use Rattle.juniper_syntax.specs.InputView.{view_variables}
-use Rattle.juniper_rules.proofs.Misfits.{variables-none, variables-some}
+use Rattle.juniper_syntax.specs.DocumentView.{view_operation}
 use Rattle.juniper_rules.proofs.input_values.validate_input_values.Goals as goal
 
-pub returns-in_ok-errors-in-Some : goal.returns-in_ok-errors-in-Some
-returns-in_ok-errors-in-Some g c =
+pub returns : goal.returns
+returns g c =
     let shown = g.S.ScalarValue.shown in
-    let errors_of : List VariableDefinition → List RuleError = λ vs. variable_errors (view_schema shown c.args.schema.now) vs
-    (view_variables shown c.args.variables.now) in
-    c.in_ok-errors-in-Some.ensures ∙ (ap (λ l. errors_of (map (view_variable shown) l)) c.as_slice.ensures.value
-    ∙ ap errors_of (variables-some shown c.args.operation.now c.in-Some.defined c.in-Some.is))
-
-pub returns-in-None : goal.returns-in-None
-unfolding variable_errors
-returns-in-None g c =
-    let shown = g.S.ScalarValue.shown in
-    let errors_of : List VariableDefinition → List RuleError = λ vs. variable_errors (view_schema shown c.args.schema.now) vs
-    (view_variables shown c.args.variables.now) in
-    ap (map view_rule_error) c.new.ensures.items ∙ ap errors_of (variables-none shown c.args.operation.now c.in-None.is)
+    c.in_ok-errors.ensures
+    ∙ ap (variable_errors (view_schema shown c.args.schema.now) (variables_of (view_operation shown c.args.operation.now))) c.in_ok-given.ensures
