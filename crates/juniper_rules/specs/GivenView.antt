@@ -21,6 +21,6 @@ unfoldable pub value_at : {S : Type 0} → Given S → Name → Option (InputVal
 value_at (code.Hashed m) n = get_by_text m.now n
 value_at (code.Ordered m) n = value_in_order m n
 
--- the values of variables
-abbrev pub view_given : {S : Type 0} → (S → Shown) → Given S → spec.Variables
-view_given shown g = λ name. option_map (view_input shown) (value_at g name)
+-- the given values, name by name
+abbrev pub view_given_values : {S : Type 0} → (S → Shown) → Given S → spec.Variables
+view_given_values shown g = λ name. option_map (view_input shown) (value_at g name)

@@ -7,7 +7,7 @@ ghost use Rattle.std.specs.Prelude.{◌≡◌, IfOk, option_map};
 ghost use Rattle.std.specs.HashMap.{get_by_text};
 ghost use Rattle.graphql_spec.specs.Shown.{Name};
 ghost use Rattle.juniper_syntax.specs.InputView.{view_input, view_variables};
-ghost use Rattle.juniper_rules.specs.GivenView.{value_in_order, view_given};
+ghost use Rattle.juniper_rules.specs.GivenView.{value_in_order, view_given_values};
 
 use juniper_syntax::{InputValue, Operation, ScalarValue, Span, Spanning, Variables};
 use std::alloc::{AllocError, Global};
@@ -36,7 +36,7 @@ impl<'b, S: ScalarValue> Given<'b, S> {
         operation: &Spanning<Operation<'_, S>, Span>,
         variables: &'b Variables<S>,
     ) -> Result<Self, AllocError>
-        ensures { IfOk result (λ g. view_given S.shown g ≡ view_variables S.shown variables.now) }
+        ensures { IfOk result (λ g. view_given_values S.shown g ≡ view_variables S.shown variables.now) }
     {
         if declares_few(operation) {
             return Ok(Given::Hashed(variables));
@@ -47,7 +47,7 @@ impl<'b, S: ScalarValue> Given<'b, S> {
 
     /// The value that is given for the name.
     pub fn get(&self, name: &str) -> Option<&InputValue<S>>
-        ensures { option_map (λ v. view_input S.shown v.now) result ≡ view_given S.shown self.now name.now }
+        ensures { option_map (λ v. view_input S.shown v.now) result ≡ view_given_values S.shown self.now name.now }
     {
         match self {
             Given::Hashed(variables) => variables.get(name),

@@ -11,7 +11,7 @@ ghost use Rattle.juniper_schema.specs.SchemaView.{view_schema};
 ghost use Rattle.juniper_syntax.specs.DocumentView.{view_operation, view_variable};
 ghost use Rattle.juniper_syntax.specs.InputView.{view_input, view_variables};
 ghost use Rattle.juniper_syntax.specs.TypeView.{view_type};
-ghost use Rattle.juniper_rules.specs.GivenView.{view_given};
+ghost use Rattle.juniper_rules.specs.GivenView.{view_given_values};
 
 use crate::given::Given;
 use juniper_schema::SchemaType;
@@ -51,7 +51,7 @@ pub fn validate_given<S: ScalarValue>(
     schema: &SchemaType<S>,
 ) -> Result<Vec<RuleError>, AllocError>
     ensures { IfOk result (λ es. map view_rule_error es.items ≡ variable_errors (view_schema S.shown schema.now)
-        (variables_of (view_operation S.shown operation.now)) (view_given S.shown given.now)) }
+        (variables_of (view_operation S.shown operation.now)) (view_given_values S.shown given.now)) }
 {
     match &operation.item.variable_definitions {
         Some(defined) => {
@@ -70,7 +70,7 @@ fn misfits<S: ScalarValue>(
     schema: &SchemaType<S>,
 ) -> Result<Vec<RuleError>, AllocError>
     ensures { IfOk result (λ es. map view_rule_error es.items ≡ variable_errors (view_schema S.shown schema.now) (map (view_variable S.shown) defined.now)
-        (view_given S.shown given.now)) }
+        (view_given_values S.shown given.now)) }
 {
     let mut errors = Vec::new(alloc);
     for variable in defined {
@@ -89,9 +89,9 @@ fn report<S: ScalarValue>(
     schema: &SchemaType<S>,
 ) -> Result<(), AllocError>
     ensures { OnOk result ((rest : List documents.VariableDefinition) →
-        map view_rule_error errors.new.items ++ variable_errors (view_schema S.shown schema.now) rest (view_given S.shown given.now)
+        map view_rule_error errors.new.items ++ variable_errors (view_schema S.shown schema.now) rest (view_given_values S.shown given.now)
         ≡ map view_rule_error errors.old.items ++ variable_errors (view_schema S.shown schema.now) (view_variable S.shown variable.now ∷ rest)
-        (view_given S.shown given.now)) }
+        (view_given_values S.shown given.now)) }
 {
     if !is_fitting(alloc, given, variable, schema)? {
         let name = variable.0.item;
@@ -110,7 +110,7 @@ fn is_fitting<S: ScalarValue>(
     schema: &SchemaType<S>,
 ) -> Result<bool, AllocError>
     ensures { IfOk result (λ b. b ≡ variable_fits (view_schema S.shown schema.now) (view_variable S.shown variable.now)
-        (view_given S.shown given.now variable.now.0.item.now)) }
+        (view_given_values S.shown given.now variable.now.0.item.now)) }
 {
     let reference = owned_type(alloc, &variable.1.var_type.item)?;
     match given.get(variable.0.item) {

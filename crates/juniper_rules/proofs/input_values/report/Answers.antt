@@ -4,7 +4,7 @@ use Rattle.graphql_spec.specs.Requests.{no_fitting_value}
 use Rattle.juniper_position.specs.RuleView.{view_rule_error}
 use Rattle.juniper_schema.specs.SchemaView.{view_schema}
 use Rattle.juniper_syntax.specs.DocumentView.{view_variable}
-use Rattle.juniper_rules.specs.GivenView.{view_given}
+use Rattle.juniper_rules.specs.GivenView.{view_given_values}
 use Rattle.juniper_rules.proofs.Misfits.{misfit-listed}
 use Rattle.juniper_rules.proofs.input_values.report.Goals as goal
 
@@ -13,7 +13,7 @@ unfolding no_fitting_value
 returns-in_ok-push g c =
     let shown = g.S.ScalarValue.shown in
     let s = view_schema shown c.args.schema.now in
-    let given = view_given shown c.args.given.now in
+    let given = view_given_values shown c.args.given.now in
     misfit-listed s given (view_variable shown c.args.variable.now) (map view_rule_error c.args.errors.now.items) (map view_rule_error c.push.new.self.items)
     (view_rule_error c.in_ok-new.field-0)
     (sym c.in_ok-is_fitting.ensures ∙ c.if-not-branch.true)
