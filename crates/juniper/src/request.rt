@@ -20,7 +20,7 @@ use juniper_intro::RootNode;
 use juniper_language::{
     Document, Operation, ScalarValue, Span, Spanning, Value, Variables, parse_document_source,
 };
-use juniper_rules::{validate, validate_input_values};
+use juniper_rules::{Given, validate, validate_given};
 use juniper_schema::SchemaType;
 use juniper_types::{GraphQLMutationValue, GraphQLType, GraphQLValue};
 use juniper_values::ExecutionError;
@@ -91,11 +91,12 @@ pub fn check_variables<S: ScalarValue>(
         (λ e. StandsFor (AreRefused (view_schema S.shown schema.now) (view_operation S.shown operation.now) (view_variables S.shown variables.now))
         (view_request_error e)) }
 {
-    let errors = validate_input_values(alloc, variables, operation, schema)?;
+    let given = Given::new(alloc, operation, variables)?;
+    let errors = validate_given(alloc, &given, operation, schema)?;
     if !errors.is_empty() {
         return Err(GraphQLError::from(errors));
     }
-    match first_not_constant(operation, variables) {
+    match first_not_constant(operation, &given) {
         Some(name) => {
             let held = String::from_str(alloc, name)?;
             Err(GraphQLError::VariableNotConstant(held))

@@ -127,6 +127,26 @@ query Q($f: Boolean = true) { name @skip(if: $f) hero @include(if: $f) { height 
 variables: {"f": true}
 query Q($f: Boolean!) { ...F @include(if: $f) ... @skip(if: $f) { name } } fragment F on Query { number } => {"data":{"number":1}}
 
+# As many variables as are looked up as they are given (16), and one more, which are looked up in order: given, missing, null, and of wrong types.
+variables: {"a": 5, "c": null, "other": 3, "y": 6}
+query Q($b: Int = 7, $a: Int, $c: Int = 8, $aa: Int, $ab: Int, $ba: Int,
+    $A: Int, $_: Int, $B: Int, $b1: Int, $b0: Int, $a_: Int, $aA: Int, $abc: Int, $z: Int, $y: Int)
+    { a: number(plus: $a) b: number(plus: $b) c: number(plus: $c) aa: number(plus: $aa) y: number(plus: $y) }
+=> {"data":{"a":5,"b":7,"c":null,"aa":1,"y":6}}
+variables: {"a": 5, "c": null, "other": 3, "x": 6}
+query Q($b: Int = 7, $a: Int, $c: Int = 8, $aa: Int, $ab: Int, $ba: Int,
+    $A: Int, $_: Int, $B: Int, $b1: Int, $b0: Int, $a_: Int, $aA: Int, $abc: Int, $z: Int, $y: Int, $x: Int)
+    { a: number(plus: $a) b: number(plus: $b) c: number(plus: $c) aa: number(plus: $aa) x: number(plus: $x) }
+=> {"data":{"a":5,"b":7,"c":null,"aa":1,"x":6}}
+variables: {"a": "5", "c": null, "y": true, "z": 1, "other": "x"}
+query Q($b: Int! = 7, $a: Int!, $c: Int! = 8, $aa: Int!, $ab: Int, $ba: Int,
+    $A: Int, $_: Int, $B: Int, $b1: Int, $b0: Int, $a_: Int, $aA: Int, $abc: Int, $z: Int, $y: Int) { name }
+=> refused: Variable `$a` has no fitting value; Variable `$c` has no fitting value; Variable `$aa` has no fitting value; Variable `$y` has no fitting value
+variables: {"a": "5", "c": null, "x": true, "z": 1, "other": "x"}
+query Q($b: Int! = 7, $a: Int!, $c: Int! = 8, $aa: Int!, $ab: Int, $ba: Int,
+    $A: Int, $_: Int, $B: Int, $b1: Int, $b0: Int, $a_: Int, $aA: Int, $abc: Int, $z: Int, $y: Int, $x: Int) { name }
+=> refused: Variable `$a` has no fitting value; Variable `$c` has no fitting value; Variable `$aa` has no fitting value; Variable `$x` has no fitting value
+
 # Operations by name: only the variables of the one that runs must have values.
 name: B
 variables: {"n": 1}
@@ -160,20 +180,24 @@ fn arguments_are_seen(rt: HostRuntime) -> Result<(), Fail> {
 fn variables_have_values(rt: HostRuntime) -> Result<(), Fail> {
     assert_eq!(rt;
         report(rt.alloc(), VARIABLES)?.as_str(),
-        "43 rows, 0 differ"
+        "47 rows, 0 differ"
     );
     Ok(())
 }
 
+/// As many variables as are looked up in order; `a` is the last but one.
+const MANY: &str =
+    "query Q($b: Int, $c: Int, $d: Int, $e: Int, $f: Int, $g: Int, $h: Int, $i: Int, $j: Int, $k: Int, $l: Int,
+    $m: Int, $n: Int, $o: Int, $p: Int, $a: Int, $q: Int) { number(plus: $a) }";
+
 /// A request whose variable `a` is given the variable `a`.
-fn given_a_variable(alloc: Global) -> Result<String, AllocError> {
+fn given_a_variable(alloc: Global, text: &str) -> Result<String, AllocError> {
     let Ok(root) = read_root(alloc, "type Query { number(plus: Int): Int }", "") else {
         return String::from_str(alloc, "no root");
     };
     let mut variables = HashMap::new(alloc);
     let name = String::from_str(alloc, "a")?;
     variables.insert(name, InputValue::Variable(String::from_str(alloc, "a")?))?;
-    let text = "query Q($a: Int) { number(plus: $a) }";
     let mut context = Notes::new(alloc, String::new(alloc));
     match execute_sync(alloc, text, None, &root, &variables, &mut context) {
         Ok(_) => String::from_str(alloc, "answered"),
@@ -184,7 +208,11 @@ fn given_a_variable(alloc: Global) -> Result<String, AllocError> {
 #[test]
 fn values_of_variables_hold_no_variables(rt: HostRuntime) -> Result<(), Fail> {
     assert_eq!(rt;
-        given_a_variable(rt.alloc())?.as_str(),
+        given_a_variable(rt.alloc(), "query Q($a: Int) { number(plus: $a) }")?.as_str(),
+        "Variable `$a` holds a variable"
+    );
+    assert_eq!(rt;
+        given_a_variable(rt.alloc(), MANY)?.as_str(),
         "Variable `$a` holds a variable"
     );
     Ok(())
