@@ -11,7 +11,7 @@ use Rattle.graphql_spec.specs.Values.{Value}
 use Rattle.graphql_spec.specs.Documents.{Document, Operation, query, mutation, subscription, variables_of}
 use Rattle.graphql_spec.specs.Inputs.{Variables}
 use Rattle.graphql_spec.specs.Errors.{Listed}
-use Rattle.graphql_spec.specs.ExactAnswers.{ListsOnce, whole}
+use Rattle.graphql_spec.specs.ExactAnswers.{whole}
 use Rattle.graphql_spec.specs.Rules.{RuleError}
 use Rattle.graphql_spec.specs.Schema.{Schema}
 use Rattle.graphql_spec.specs.Requests as spec
@@ -26,7 +26,12 @@ use Rattle.juniper_syntax.specs.declared.value.Value.{Value as Value'}
 use Rattle.juniper_errors.specs.ErrorView.{view_listed}
 use Rattle.juniper_errors.specs.declared.execution_error.ExecutionError.{ExecutionError}
 use Rattle.juniper.specs.Answering.{AnswersAs, AreCoercible, AreRefused, IsInvalid, IsUnchosen, Responds, StandsFor, outcome_of}
+use Rattle.juniper.specs.Promised.{IsFullOutcome, IsFullOutcomeOf}
 use Rattle.juniper.specs.Stepping.{IsLeftOf}
+use Rattle.juniper.specs.Walkings.{ListsBy, TellsQuery, TellsRun}
+use Rattle.juniper.specs.declared.walking.Walking.{Walking}
+use Rattle.juniper.specs.declared.walking.Walking.TheVariants.{Grouped, Joined}
+use Rattle.juniper.proofs.ToldFirsts.{firsts-become, mutation-told, query-told, told-of-run}
 use Rattle.juniper_position.specs.RuleView.{view_rule_error}
 use Rattle.juniper_position.specs.declared.rule.RuleError.{RuleError as CodeError}
 use Rattle.juniper_position.specs.declared.error.ParseError.{ParseError}
@@ -100,6 +105,13 @@ module _ {C N : Type 0} (S : Service C N) (s : Schema) (d : Document) (o : Opera
           (m, T, has, answer),
     )
 
+    -- and what it tells of its failures
+    pub mutation-lists : (w : Walking) (v : Value) (es : List Listed) → TellsRun w (mutation_in S m vars) T (selected d o vars) c es →
+        ListsBy S w (outcome_of s d o given) c (responds v es)
+    mutation-lists Grouped v es t = told-of-run S c (outcome_of s d o given) d o vars (mutation-runs k T is ∙ ap (runs d o) (sym e)) v es
+        (mutation-told S c vars (selected d o vars) es m T has o.kind k t)
+    mutation-lists Joined v es t = tt
+
     pub mutation-left : IsLeftOf (mutation_in S m vars) T (selected d o vars) c after →
         IsOutcomeOf S whole (outcome_of s d o given) c outcome.out_of_memory after
     mutation-left left = inr (d, o, vars, mutation-runs k T is ∙ ap (runs d o) (sym e), k, (m, T, has, left))
@@ -113,6 +125,13 @@ module _ {C N : Type 0} (S : Service C N) (s : Schema) (d : Document) (o : Opera
       IsOutcomeOf S whole (outcome_of s d o given) c (responds v es) c
   query-ends k vars e v es answer =
       (d, o, vars, query-runs k ∙ ap (runs d o) (sym e), subst (λ z. IsExecuted S whole z vars (selected d o vars) c v es c) (sym k) (answer, refl))
+
+  -- and what a query tells of its failures
+  pub query-lists : o.kind ≡ query → (vars : Variables) → vars ≡ coerced_variables (variables_of o) given → (w : Walking) (v : Value) (es : List Listed) →
+      TellsQuery w (world_in S vars c) S.schema.query S.root (selected d o vars) es → ListsBy S w (outcome_of s d o given) c (responds v es)
+  query-lists k vars e Grouped v es t = told-of-run S c (outcome_of s d o given) d o vars (query-runs k ∙ ap (runs d o) (sym e)) v es
+      (query-told S c vars (selected d o vars) es o.kind k t)
+  query-lists k vars e Joined v es t = tt
 
 -- ## The steps of a request
 
@@ -132,6 +151,19 @@ module _ {C N : Type 0} (S : Service C N) (q : Request) (c : C) where
   stands-for P refuse not_subscription (r, is, p) = (r, is, (refuse r p, refl))
   stands-for P refuse no_mutation_type (r, is, p) = (r, is, (refuse r p, refl))
   stands-for P refuse (variable_not_constant n) (r, is, p) = (r, is, (refuse r p, refl))
+
+  -- a refusal lists nothing
+  pub refused-full : (e : RequestError) → Ends e → Responds (λ r. IsFullOutcome S q c r c) e
+  refused-full out_of_memory p = ((p, tt), tt)
+  refused-full (not_parsed e) (r, is, p) = (r, is, ((p, tt), tt))
+  refused-full (not_valid es) (r, is, p) = (r, is, ((p, tt), tt))
+  refused-full no_operation (r, is, p) = (r, is, ((p, tt), tt))
+  refused-full multiple_operations (r, is, p) = (r, is, ((p, tt), tt))
+  refused-full unknown_operation (r, is, p) = (r, is, ((p, tt), tt))
+  refused-full is_subscription (r, is, p) = (r, is, ((p, tt), tt))
+  refused-full not_subscription (r, is, p) = (r, is, ((p, tt), tt))
+  refused-full no_mutation_type (r, is, p) = (r, is, ((p, tt), tt))
+  refused-full (variable_not_constant n) (r, is, p) = (r, is, ((p, tt), tt))
 
   pub at-parse : (e : RequestError) → StandsFor (λ r. (r ≡ spec.not_parsed) × Reads q.text None) e → Ends e
   at-parse e m = stands-for _ (λ r p. subst (λ z. Becomes S q (refused z)) (sym p.0) ((steps-decide S).unread q p.1)) e m
@@ -159,20 +191,15 @@ module _ {C N : Type 0} (S : Service C N) (q : Request) (c : C) where
         at-execute a x after i =
             known-outcome S whole q (outcome_of S.schema d o q.variables) ((steps-decide S).kind q d o v choice a.fitting a.constant) c x after i
 
--- an error's response under another reading
--- a refusal lists nothing
-pub refused-once : (P : Response → Type 0) (e : RequestError) → Responds P e → Responds (λ r. P r × ListsOnce r) e
-refused-once P out_of_memory p = (p, tt)
-refused-once P (not_parsed e) (r, is, p) = (r, is, (p, tt))
-refused-once P (not_valid es) (r, is, p) = (r, is, (p, tt))
-refused-once P no_operation (r, is, p) = (r, is, (p, tt))
-refused-once P multiple_operations (r, is, p) = (r, is, (p, tt))
-refused-once P unknown_operation (r, is, p) = (r, is, (p, tt))
-refused-once P is_subscription (r, is, p) = (r, is, (p, tt))
-refused-once P not_subscription (r, is, p) = (r, is, (p, tt))
-refused-once P no_mutation_type (r, is, p) = (r, is, (p, tt))
-refused-once P (variable_not_constant n) (r, is, p) = (r, is, (p, tt))
+        -- the whole of what is promised
+        pub full-execute : AreCoercible S.schema o q.variables → (x : Response) (after : C) →
+            IsFullOutcomeOf S (outcome_of S.schema d o q.variables) c x after → IsFullOutcome S q c x after
+        full-execute a x after i = (
+          (at-execute a x after i.0, i.1),
+          firsts-become S c q (outcome_of S.schema d o q.variables) ((steps-decide S).kind q d o v choice a.fitting a.constant) x i.2,
+        )
 
+-- an error's response under another reading
 pub responds-so : (P Q : Response → Type 0) → ((r : Response) → P r → Q r) → (e : RequestError) → Responds P e → Responds Q e
 responds-so P Q f out_of_memory p = f outcome.out_of_memory p
 responds-so P Q f (not_parsed e) (r, is, p) = (r, is, f (refuses r) p)
@@ -191,11 +218,6 @@ pub answers-so : {S : Type 0} (shown : S → Shown) (P Q : Response → Type 0) 
 answers-so shown P Q f (Ok p) x = f (responds (view_value shown p.0) (map (view_listed shown) p.1.items)) x
 answers-so shown P Q f (Err e) x = responds-so P Q f (view_request_error e) x
 
--- and so where more is said of it, which may be left unsaid
-module _ {S : Type 0} (shown : S → Shown) (P R : Response → Type 0) (a : Result (Value' S × Vec (ExecutionError S) Global) GraphQLError)
-    (x : AnswersAs shown (λ r. P r × R r) a) where
-  pub answers-beside : (Q : Response → Type 0) → ((r : Response) → P r → Q r) → AnswersAs shown (λ r. Q r × R r) a
-  answers-beside Q f = answers-so shown (λ r. P r × R r) (λ r. Q r × R r) (λ r p. (f r p.0, p.1)) a x
-
-  pub answers-alone : AnswersAs shown P a
-  answers-alone = answers-so shown (λ r. P r × R r) P (λ r p. p.0) a x
+pub answers-then : {S : Type 0} (shown : S → Shown) (P : Response → Type 0) (a : Result (Value' S × Vec (ExecutionError S) Global) GraphQLError) →
+    AnswersAs shown P a → (Q : Response → Type 0) → ((r : Response) → P r → Q r) → AnswersAs shown Q a
+answers-then shown P a x Q f = answers-so shown P Q f a x

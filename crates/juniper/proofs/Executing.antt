@@ -31,9 +31,10 @@ use Rattle.graphql_spec.specs.MutationLaws.{HasRun}
 use Rattle.graphql_spec.proofs.Exact.{runs-exact-answer}
 use Rattle.graphql_spec.proofs.Running.{may-stop-after, run-answers}
 use Rattle.juniper.specs.Stepping.{IsLeftOf}
-use Rattle.juniper.specs.Walkings.{Lists, starts_by}
+use Rattle.juniper.specs.Walkings.{Lists, TellsQuery, TellsRun, starts_by}
 use Rattle.juniper.specs.declared.walking.Walking.{Walking}
 use Rattle.juniper.specs.declared.walking.Walking.TheVariants.{Grouped, Joined}
+use Rattle.juniper.proofs.ToldFirsts.{run-tells}
 use Rattle.juniper_walk.specs.Walking.{SelectionsAgree}
 
 -- something is declared as the query type
@@ -72,6 +73,12 @@ pub answer-moves : {N : Type 0} (W : World N) (T U : Name) (m n : N) (x y : Fore
 answer-moves W T U m n x y v es t e f a =
     subst (λ z. IsAnswerFor whole W U n z v es) f (subst (λ z. IsAnswerFor whole W U z x v es) e (subst (λ z. IsAnswerFor whole W z m x v es) t a))
 
+-- and what it tells of its failures
+pub tells-move : (w : Walking) {N : Type 0} (W : World N) (T U : Name) (m n : N) (x y : Forest) (es : List Listed) → T ≡ U → m ≡ n → x ≡ y →
+    TellsQuery w W T m x es → TellsQuery w W U n y es
+tells-move w W T U m n x y es t e f a =
+    subst (λ z. TellsQuery w W U n z es) f (subst (λ z. TellsQuery w W U z x es) e (subst (λ z. TellsQuery w W z m x es) t a))
+
 module _ {N : Type 0} (s : Schema) (disabled : Bool) (executable : IsTrue (is_executable s)) (d : Document) (valid : rule_errors s disabled d ≡ [])
     (o : Operation)
     (member : In (operation o) d)
@@ -106,11 +113,16 @@ module _ {C N : Type 0} (M : Mutation C N) (T : Name) (c after : C) (possible : 
   pub run-is-answer : (w : Walking) (v : Value) (es ds : List Listed) →
       HasRun whole (starts_by w) M T (keys (occurrences possible T x)) (occurrences possible T x) c v es after →
       ((p : Listed → Bool) → count_listed p ds ≡ count_listed p es) → IsTrue (is_sorted ds) →
-      IsMutationAnswerFor M T whole y c v ds after × Lists w (responds v ds)
+      IsMutationAnswerFor M T whole y c v ds after × Lists w (responds v ds) × TellsRun w M T y c ds
   run-is-answer Grouped v es ds r same_count sorted =
-      runs-exact-answer M T y c after v es ds (subst (λ os. HasRun whole first_start M T (keys os) os c v es after) fields-are r) same_count sorted
-  run-is-answer Joined v es ds r same_count sorted =
-      (run-answers whole M T y c after v es ds (inl (subst (λ os. HasRun whole all_starts M T (keys os) os c v es after) fields-are r)) same_count sorted, tt)
+      let ran = subst (λ os. HasRun whole first_start M T (keys os) os c v es after) fields-are r in
+      let answer = runs-exact-answer M T y c after v es ds ran same_count sorted in
+      (answer.0, answer.1, run-tells M T y c after v es ds ran same_count sorted)
+  run-is-answer Joined v es ds r same_count sorted = (
+    run-answers whole M T y c after v es ds (inl (subst (λ os. HasRun whole all_starts M T (keys os) os c v es after) fields-are r)) same_count sorted,
+    tt,
+    tt,
+  )
 
   pub run-left : (pick : List Position → List Position) (v : Value) (es : List Listed) →
       HasRun whole pick M T (keys (occurrences possible T x)) (occurrences possible T x) c v es after → IsLeftOf M T y c after

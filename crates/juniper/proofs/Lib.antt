@@ -6,6 +6,11 @@ mod RootPlans
 pub mod Messages
 mod Undeclared
 mod VariableValues
+mod ToldFirsts
+mod SeenFailures
+mod FullOutcomes
+pub mod Headlines
+pub mod Ending
 pub mod Asked
 pub mod RootOutcomes
 pub mod Asking

@@ -5,7 +5,7 @@ use Rattle.graphql_spec.specs.Constants.{Members}
 use Rattle.graphql_spec.specs.ExactAnswers.{whole}
 use Rattle.graphql_spec.specs.Introspection as rooted
 use Rattle.graphql_spec.specs.Introspection.{rooted_answer, rooted_concrete, rooted_service}
-use Rattle.graphql_spec.specs.Outcomes.{IsOutcomeOf, Response, Service, Steps}
+use Rattle.graphql_spec.specs.Outcomes.{Response, Service, Steps, out_of_memory, refuses, responds}
 use Rattle.graphql_spec.specs.Requests.{Outcome}
 use Rattle.graphql_spec.specs.Resolvers.{Reply}
 use Rattle.graphql_spec.specs.Schema.{Schema}
@@ -14,6 +14,10 @@ use Rattle.graphql_spec.specs.Shown.{Name}
 use Rattle.juniper_intro.specs.RootLaws.{RepliesAreSeen, TypesAreSeen, UsersAreSeen}
 use Rattle.juniper_intro.specs.declared.node.RootedNode.{RootedNode}
 use Rattle.juniper.specs.Services.{rooted_steps, service_in, steps_at}
+use Rattle.juniper.specs.Walkings.{IsWalkedOutcome, ListsBy}
+use Rattle.juniper.specs.declared.walking.Walking.{Walking}
+use Rattle.juniper.specs.declared.walking.Walking.TheVariants.{Grouped, Joined}
+use Rattle.juniper.proofs.SeenFailures.{firsts-seen}
 
 -- steps whose replies are a root's nodes are seen as the user's
 steps-seen : {M J C N : Type 0} (sees : RootedNode N → rooted.RootedNode N) → UsersAreSeen sees →
@@ -40,27 +44,44 @@ module _ {Q M C N I J : Type 0} (concrete : Q → I → C → N → Name) (answe
 
   module _ (s : Schema) (types : TypesAreSeen sees (root q) (concrete q) held_concrete) (replies : RepliesAreSeen sees (root q) s (answer q) held_answer)
       (is_root : sees top ≡ rooted.root) (users : UsersAreSeen sees) where
-    pub outcome-seen : (disabled : Bool) (i : I) (m : M) (j : J) (y : Outcome) (c : C) (x : Response) (after : C) →
-        IsOutcomeOf (held_service s disabled i m j) whole y c x after → IsOutcomeOf (seen_service s disabled i m j) whole y c x after
+    -- the steps of a mutation whose replies are a root's nodes
+    abbrev held_steps : M → J → Option (Steps C (RootedNode N))
+    held_steps m j = option_map (λ (T : Name). rooted_steps step torn m j) s.mutation
+
+    abbrev seen_by : Bool → I → M → J → Service C (rooted.RootedNode N)
+    seen_by disabled i m j = service s disabled (λ d. rooted_concrete (root q) (concrete q i d)) (λ d. rooted_answer (root q) s (answer q i d)) (sees top)
+        (option_map (seen_steps sees) (held_steps m j))
+
+    lists-seen : (w : Walking) (disabled : Bool) (i : I) (m : M) (j : J) (y : Outcome) (c : C) (x : Response) →
+        ListsBy (held_service s disabled i m j) w y c x → ListsBy (seen_by disabled i m j) w y c x
+    lists-seen w disabled i m j y c (refuses r) l = tt
+    lists-seen Grouped disabled i m j y c (responds v es) l =
+        firsts-seen s sees (held_concrete i) (held_answer i) (λ d. rooted_concrete (root q) (concrete q i d))
+        (λ d. rooted_answer (root q) s (answer q i d)) (types i) (replies i) disabled top (held_steps m j) (λ z. z ≡ y) c (responds v es) l
+    lists-seen Joined disabled i m j y c (responds v es) l = tt
+    lists-seen w disabled i m j y c out_of_memory l = tt
+
+    pub outcome-seen : (w : Walking) (disabled : Bool) (i : I) (m : M) (j : J) (y : Outcome) (c : C) (x : Response) (after : C) →
+        IsWalkedOutcome (held_service s disabled i m j) w y c x after → IsWalkedOutcome (seen_service s disabled i m j) w y c x after
     unfolding rooted_service
-    outcome-seen disabled i m j y c x after o =
+    outcome-seen w disabled i m j y c x after o =
         let seen = (seen_outcomes s disabled sees (held_concrete i) (held_answer i) (λ d. rooted_concrete (root q) (concrete q i d))
-        (λ d. rooted_answer (root q) s (answer q i d)) (types i) (replies i) top
-        (option_map (λ (T : Name). rooted_steps step torn m j) s.mutation) whole).1 y c x after o in
-        subst (λ (V : Service C (rooted.RootedNode N)). IsOutcomeOf V whole y c x after)
+        (λ d. rooted_answer (root q) s (answer q i d)) (types i) (replies i) top (held_steps m j) whole).1 y c x after o.0 in
+        subst (λ (V : Service C (rooted.RootedNode N)). IsWalkedOutcome V w y c x after)
         (ap₂ (λ (t : rooted.RootedNode N) (z : Option (Steps C (rooted.RootedNode N))). service s disabled
         (λ d. rooted_concrete (root q) (concrete q i d)) (λ d. rooted_answer (root q) s (answer q i d)) t z)
-        is_root (steps-seen sees users step torn m j s.mutation)) seen
+        is_root (steps-seen sees users step torn m j s.mutation)) (seen, o.1, lists-seen w disabled i m j y c x o.2)
 
     -- the same where the parts of the root come by other names
-    pub outcome-moved : (disabled : Bool) (i : I) (m : M) (j : J) (x : Schema) (b : Bool) (h : I) (n : M) (k : J) → x ≡ s → b ≡ disabled → h ≡ i → n ≡ m →
+    pub outcome-moved : (w : Walking) (disabled : Bool) (i : I) (m : M) (j : J) (x : Schema) (b : Bool) (h : I) (n : M) (k : J) → x ≡ s → b ≡ disabled →
+        h ≡ i → n ≡ m →
         k ≡ j →
-        (y : Schema → Outcome) (c : C) (z : Response) (after : C) → IsOutcomeOf (held_service x b h n k) whole (y x) c z after →
-        IsOutcomeOf (seen_service s disabled i m j) whole (y s) c z after
-    outcome-moved disabled i m j x b h n k ex eb eh en ek y c z after o =
-        outcome-seen disabled i m j (y s) c z after
-        (subst (λ t. IsOutcomeOf (held_service s disabled i m t) whole (y s) c z after) ek
-        (subst (λ t. IsOutcomeOf (held_service s disabled i t k) whole (y s) c z after) en
-        (subst (λ t. IsOutcomeOf (held_service s disabled t n k) whole (y s) c z after) eh
-        (subst (λ t. IsOutcomeOf (held_service s t h n k) whole (y s) c z after) eb
-        (subst (λ t. IsOutcomeOf (held_service t b h n k) whole (y t) c z after) ex o)))))
+        (y : Schema → Outcome) (c : C) (z : Response) (after : C) → IsWalkedOutcome (held_service x b h n k) w (y x) c z after →
+        IsWalkedOutcome (seen_service s disabled i m j) w (y s) c z after
+    outcome-moved w disabled i m j x b h n k ex eb eh en ek y c z after o =
+        outcome-seen w disabled i m j (y s) c z after
+        (subst (λ t. IsWalkedOutcome (held_service s disabled i m t) w (y s) c z after) ek
+        (subst (λ t. IsWalkedOutcome (held_service s disabled i t k) w (y s) c z after) en
+        (subst (λ t. IsWalkedOutcome (held_service s disabled t n k) w (y s) c z after) eh
+        (subst (λ t. IsWalkedOutcome (held_service s t h n k) w (y s) c z after) eb
+        (subst (λ t. IsWalkedOutcome (held_service t b h n k) w (y t) c z after) ex o)))))

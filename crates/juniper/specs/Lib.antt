@@ -1,6 +1,9 @@
 pub mod Answering
 pub mod Choices
+pub mod Ends
 pub mod Formats
+pub mod Headline
+pub mod Promised
 pub mod Questions
 pub mod RequestErrors
 pub mod RootFields

@@ -1,14 +1,25 @@
 -- What is known of each way to walk a request (6.4.4, 7.1.2).
-use Rattle.std.specs.Prelude.{List}
+use Rattle.std.specs.Prelude.{◌≡◌, false, List, [], map}
 use Rattle.std.specs.Borrow.{Bor}
-use Rattle.graphql_spec.specs.Errors.{Listed}
-use Rattle.graphql_spec.specs.ExactAnswers.{PathsDiffer}
-use Rattle.graphql_spec.specs.GroupLaws.{all_starts, first_start}
-use Rattle.graphql_spec.specs.Outcomes.{Response, refuses, responds, out_of_memory}
+use Rattle.graphql_spec.specs.Errors.{Place, Listed}
+use Rattle.graphql_spec.specs.ExactAnswers.{whole, PathsDiffer, TellsExactly}
+use Rattle.graphql_spec.specs.Execution.{data_of}
+use Rattle.graphql_spec.specs.Failures.{Failure, failures_of}
+use Rattle.graphql_spec.specs.GroupLaws.{all_starts, first_start, for_picked}
+use Rattle.graphql_spec.specs.Mutation.{Mutation, mutation_nulls, mutation_run}
+use Rattle.graphql_spec.specs.Nulls.{null_or, nulls_of}
+use Rattle.graphql_spec.specs.Outcomes.{Response, Service, refuses, responds, out_of_memory, IsOutcomeOf}
 use Rattle.graphql_spec.specs.Positions.{Position}
+use Rattle.graphql_spec.specs.Requests.{Outcome}
+use Rattle.graphql_spec.specs.Resolvers.{World}
+use Rattle.graphql_spec.specs.Selections.{Forest}
+use Rattle.graphql_spec.specs.Shown.{Name}
+use Rattle.graphql_spec.specs.Types.{named}
+use Rattle.graphql_spec.specs.Values.{Value}
 use Rattle.juniper_collect.specs.declared.collecting.Collector.{Collector}
 use Rattle.juniper_collect.specs.declared.fragments.FragmentMap.{FragmentMap}
 use Rattle.juniper_lookahead.specs.Expansion.{VariableMap}
+use Rattle.juniper.specs.Promised.{ListsFirsts}
 use Rattle.juniper.specs.declared.walking.Walking.{Walking}
 use Rattle.juniper.specs.declared.walking.Walking.TheVariants.{Grouped, Joined}
 
@@ -33,3 +44,32 @@ abbrev pub Lists : Walking → Response → Type 0
 Lists w (refuses r) = Unit {0}
 Lists w (responds value es) = ListsSo w es
 Lists w out_of_memory = Unit {0}
+
+-- whether each failure is told for the first of its field's occurrences alone, and each null that stands explained so (7.1.2)
+abbrev pub TellsBy : Walking → List Listed → List Failure → List Place → Type 0
+TellsBy Grouped es fs stands = TellsExactly es (map (for_picked first_start) fs) stands
+TellsBy Joined es fs stands = Unit {0}
+
+-- the same of the selections s on the root m of type T, and of those of a mutation's run (6.2)
+abbrev pub TellsQuery : Walking → {N : Type 0} → World N → Name → N → Forest → List Listed → Type 0
+TellsQuery w W T m s es =
+    TellsBy w es (failures_of W [] [] T m s) (null_or [] (named false []) (data_of W T m s) (nulls_of W [] T m s))
+
+abbrev pub TellsRun : Walking → {C N : Type 0} → Mutation C N → Name → Forest → C → List Listed → Type 0
+TellsRun w M T s c es = TellsBy w es (mutation_run M T s c).failures (mutation_nulls M T s c)
+
+module _ {C N : Type 0} (S : Service C N) where
+  -- the same of a request that is known to become so
+  abbrev pub FirstsBy : Walking → Outcome → C → Value → List Listed → Type 0
+  FirstsBy Grouped x c value es = ListsFirsts S (λ y. y ≡ x) c (responds value es)
+  FirstsBy Joined x c value es = Unit {0}
+
+  -- the same of what is answered
+  abbrev pub ListsBy : Walking → Outcome → C → Response → Type 0
+  ListsBy w x c (refuses r) = Unit {0}
+  ListsBy w x c (responds value es) = FirstsBy w x c value es
+  ListsBy w x c out_of_memory = Unit {0}
+
+  -- what a walk answers of a request that is known so (6.1)
+  abbrev pub IsWalkedOutcome : Walking → Outcome → C → Response → C → Type 0
+  IsWalkedOutcome w x c r after = IsOutcomeOf S whole x c r after × Lists w r × ListsBy w x c r

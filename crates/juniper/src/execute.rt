@@ -2,9 +2,9 @@
 
 ghost use Rattle.std.specs.Prelude.{◌≡◌, IfOk, MatchResult, Some, [], map};
 ghost use Rattle.graphql_spec.specs.Documents as documents;
-ghost use Rattle.graphql_spec.specs.ExactAnswers.{ListsOnce, whole};
+ghost use Rattle.graphql_spec.specs.ExactAnswers.{whole};
 ghost use Rattle.graphql_spec.specs.Laws.{In};
-ghost use Rattle.graphql_spec.specs.Outcomes.{IsOutcomeOf, responds};
+ghost use Rattle.graphql_spec.specs.Outcomes.{responds};
 ghost use Rattle.graphql_spec.specs.Requests.{selected};
 ghost use Rattle.graphql_spec.specs.Rules.{rule_errors};
 ghost use Rattle.graphql_spec.specs.Walk.{IsAnswerFor, IsMutationAnswerFor};
@@ -14,13 +14,14 @@ ghost use Rattle.juniper_syntax.specs.ValueView.{view_value};
 ghost use Rattle.juniper_errors.specs.ErrorView.{view_listed};
 ghost use Rattle.juniper_schema.specs.SchemaView.{view_schema};
 ghost use Rattle.juniper.specs.Answering.{AnswersAs, AreCoercible, outcome_of};
+ghost use Rattle.juniper.specs.Promised.{IsFullOutcomeOf};
 ghost use Rattle.juniper.specs.RootView.{service_of};
 ghost use Rattle.juniper.specs.ServedView as serving;
 ghost use Rattle.juniper.specs.ServedView.{mutation_root};
 ghost use Rattle.juniper_intro.specs.RootView.{is_disabled, schema_of};
 ghost use Rattle.juniper.specs.Services.{world_in};
 ghost use Rattle.juniper.specs.Stepping.{IsLeftOf};
-ghost use Rattle.juniper.specs.Walkings.{Lists};
+ghost use Rattle.juniper.specs.Walkings.{IsWalkedOutcome, Lists, TellsQuery, TellsRun};
 
 use crate::error::GraphQLError;
 use crate::mutation::run_groups;
@@ -44,8 +45,8 @@ use std::alloc::{AllocError, Global};
 
 /// Executes an operation of a valid document with given values of its variables, which fit and hold no variables (6.1). A
 /// query is answered with the data of the grouped execution on the query type and the root's node, and with the errors of
-/// fields that fail, sorted by place, path and message; there are none exactly where nothing fails. The context stays as it
-/// was. A mutation steps each of its root groups once, in order, in the context, and is answered with the same of these
+/// fields that fail, each at the first of its field's occurrences, sorted by place, path and message; there are none exactly where nothing
+/// fails. The context stays as it was. A mutation steps each of its root groups once, in order, in the context, and is answered with the same of these
 /// groups, each completed under the context that its step left; a null at a non-null place is the last (6.2.2).
 ///
 /// A subscription gives [`GraphQLError::IsSubscription`], a mutation where the schema has no mutation type
@@ -71,9 +72,9 @@ pub fn execute_validated_query<
     requires coercible { AreCoercible (view_schema S.shown (schema_of root_node.now)) (view_operation S.shown operation.now)
         (view_variables S.shown variables.now) }
     ensures { AnswersAs S.shown
-        (λ r. IsOutcomeOf (service_of Q.concrete Q.answer Q.root M.step M.torn S.shown root_node.now) whole
+        (λ r. IsFullOutcomeOf (service_of Q.concrete Q.answer Q.root M.step M.torn S.shown root_node.now)
         (outcome_of (view_schema S.shown (schema_of root_node.now)) (view_document S.shown document.now) (view_operation S.shown operation.now)
-        (view_variables S.shown variables.now)) context.old r context.new × ListsOnce r) result }
+        (view_variables S.shown variables.now)) context.old r context.new) result }
 {
     execute_walked(
         alloc,
@@ -108,9 +109,9 @@ pub(crate) fn execute_walked<
     requires coercible { AreCoercible (view_schema S.shown (schema_of root_node.now)) (view_operation S.shown operation.now)
         (view_variables S.shown variables.now) }
     ensures { AnswersAs S.shown
-        (λ r. IsOutcomeOf (service_of Q.concrete Q.answer Q.root M.step M.torn S.shown root_node.now) whole
+        (λ r. IsWalkedOutcome (service_of Q.concrete Q.answer Q.root M.step M.torn S.shown root_node.now) walking
         (outcome_of (view_schema S.shown (schema_of root_node.now)) (view_document S.shown document.now) (view_operation S.shown operation.now)
-        (view_variables S.shown variables.now)) context.old r context.new × Lists walking r) result }
+        (view_variables S.shown variables.now)) context.old r context.new) result }
 {
     root_replies(root_node);
     let undeclared = undeclared_type(alloc);
@@ -149,9 +150,9 @@ fn execute_operation<
     requires coercible { AreCoercible (view_schema S.shown (serving.schema_of served.now)) (view_operation S.shown operation.now)
         (view_variables S.shown variables.now) }
     ensures { AnswersAs S.shown
-        (λ r. IsOutcomeOf (serving.service_of Q.concrete Q.answer Q.root M.step M.torn S.shown served.now) whole
+        (λ r. IsWalkedOutcome (serving.service_of Q.concrete Q.answer Q.root M.step M.torn S.shown served.now) served.now.walking
         (outcome_of (view_schema S.shown (serving.schema_of served.now)) (view_document S.shown document.now) (view_operation S.shown operation.now)
-        (view_variables S.shown variables.now)) context.old r context.new × Lists served.now.walking r) result }
+        (view_variables S.shown variables.now)) context.old r context.new) result }
 {
     match operation.item.operation_type {
         OperationType::Subscription => Err(GraphQLError::IsSubscription),
@@ -201,7 +202,13 @@ fn execute_query<
         (view_variables S.shown variables.now)) (view_schema S.shown (serving.schema_of served.now)).query (Q.root (serving.resolver_of served.now))
         (selected (view_document S.shown document.now) (view_operation S.shown operation.now) (view_variables S.shown variables.now))
         (view_value S.shown p.0) (map (view_listed S.shown) p.1.items)
-        × Lists served.now.walking (responds (view_value S.shown p.0) (map (view_listed S.shown) p.1.items))) }
+        × Lists served.now.walking (responds (view_value S.shown p.0) (map (view_listed S.shown) p.1.items))
+        × TellsQuery served.now.walking
+        (world_in Q.concrete Q.answer (serving.resolver_of served.now) (serving.info_of served.now) context.now
+        (view_schema S.shown (serving.schema_of served.now))
+        (view_variables S.shown variables.now)) (view_schema S.shown (serving.schema_of served.now)).query (Q.root (serving.resolver_of served.now))
+        (selected (view_document S.shown document.now) (view_operation S.shown operation.now) (view_variables S.shown variables.now))
+        (map (view_listed S.shown) p.1.items)) }
 {
     let fragments = fragments_of(alloc, document.as_slice())?;
     let resolver = WithInfo {
@@ -255,7 +262,10 @@ fn execute_mutation<
         concrete.now whole (selected (view_document S.shown document.now) (view_operation S.shown operation.now) (view_variables S.shown variables.now))
         context.old
         (view_value S.shown p.0) (map (view_listed S.shown) p.1.items) context.new
-        × Lists served.now.walking (responds (view_value S.shown p.0) (map (view_listed S.shown) p.1.items)))
+        × Lists served.now.walking (responds (view_value S.shown p.0) (map (view_listed S.shown) p.1.items))
+        × TellsRun served.now.walking (mutation_root Q.concrete Q.answer M.step M.torn S.shown served.now (view_variables S.shown variables.now))
+        concrete.now (selected (view_document S.shown document.now) (view_operation S.shown operation.now) (view_variables S.shown variables.now))
+        context.old (map (view_listed S.shown) p.1.items))
         (λ _. IsLeftOf (mutation_root Q.concrete Q.answer M.step M.torn S.shown served.now (view_variables S.shown variables.now)) concrete.now
         (selected (view_document S.shown document.now) (view_operation S.shown operation.now) (view_variables S.shown variables.now)) context.old context.new) }
 {

@@ -1,11 +1,11 @@
 //! Introspection: asking a schema about itself (section 4 of the Specification).
 
 ghost use Rattle.std.specs.Prelude.{◌≡◌, None};
-ghost use Rattle.graphql_spec.specs.ExactAnswers.{IsExactOutcome};
 ghost use Rattle.graphql_spec.specs.Shown.{Name};
 ghost use Rattle.juniper_syntax.specs.InputView.{view_variables};
 ghost use Rattle.juniper.specs.Answering.{AnswersAs};
 ghost use Rattle.juniper.specs.Formats.{asking, text_of};
+ghost use Rattle.juniper.specs.Promised.{IsFullOutcome};
 ghost use Rattle.juniper.specs.RootView.{service_of};
 
 use crate::error::GraphQLError;
@@ -158,7 +158,7 @@ pub fn introspect<
     format: IntrospectionFormat,
 ) -> Result<(Value<S>, Vec<ExecutionError<S>>), GraphQLError>
     ensures { AnswersAs S.shown
-        (λ r. IsExactOutcome (service_of Q.concrete Q.answer Q.root M.step M.torn S.shown root_node.now) (asking format) context.old r context.new)
+        (λ r. IsFullOutcome (service_of Q.concrete Q.answer Q.root M.step M.torn S.shown root_node.now) (asking format) context.old r context.new)
         result }
 {
     let variables = no_variables(alloc);

@@ -1,9 +1,28 @@
-//! Laws of request errors. Each function does nothing; its contract is the law.
+//! Laws of requests and of request errors. Each function does nothing; its contract is the law.
 
 ghost use Rattle.std.specs.Prelude.{◌≡◌, true};
+ghost use Rattle.graphql_spec.specs.Outcomes.{Request, Response, Service};
+ghost use Rattle.juniper.specs.Ends.{RequestsEnd, TextsAreRead};
+ghost use Rattle.juniper.specs.Headline.{Headline};
+ghost use Rattle.juniper.specs.Promised.{IsFullOutcome};
 ghost use Rattle.juniper.specs.RequestErrors.{view_request_error};
 
 use crate::error::GraphQLError;
+
+/// What [`crate::execute_sync`] promises, part by part: a refusal is that of the first step that fails; the data is that of the
+/// Specification's execution; the errors are sorted, each belongs to a failure, at its exact place and at the first of its field's
+/// occurrences, no two are of one place, and there are none exactly where nothing fails; each null that stands for a failure is explained;
+/// a query leaves the context, and a mutation that after its root groups that ran (sections 6.1, 6.2 and 7.1).
+pub fn headline<C, N>()
+    ensures { (S : Service C N) (q : Request) (c : C) (r : Response) (after : C) → IsFullOutcome S q c r after → Headline S q c r after }
+{}
+
+/// Each text spells one document, or none (section 2); so each request has an outcome, whatever its text, and one that is all that
+/// [`crate::execute_sync`] promises, where mutations have steps (section 6.1).
+pub fn requests_end<C, N>()
+    ensures texts { TextsAreRead }
+    ensures outcomes { (S : Service C N) → RequestsEnd S }
+{}
 
 /// `==` says that both are of one kind, and that what is inside is equal: an error of the parser with its place, errors of
 /// rules in their order, a variable's name.

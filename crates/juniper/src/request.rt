@@ -1,7 +1,6 @@
 //! Requests: from a query text to data and errors (section 6.1 of the Specification).
 
 ghost use Rattle.std.specs.Prelude.{◌≡◌, MatchResult, None, Some, [], option_map};
-ghost use Rattle.graphql_spec.specs.ExactAnswers.{IsExactOutcome};
 ghost use Rattle.graphql_spec.specs.Outcomes.{Reads};
 ghost use Rattle.graphql_spec.specs.Requests as requests;
 ghost use Rattle.graphql_spec.specs.Rules.{rule_errors};
@@ -9,6 +8,7 @@ ghost use Rattle.juniper_syntax.specs.DocumentView.{view_document, view_operatio
 ghost use Rattle.juniper_syntax.specs.InputView.{view_variables};
 ghost use Rattle.juniper_schema.specs.SchemaView.{view_schema};
 ghost use Rattle.juniper.specs.Answering.{AnswersAs, AreCoercible, AreRefused, IsInvalid, IsUnchosen, StandsFor, request_of};
+ghost use Rattle.juniper.specs.Promised.{IsFullOutcome};
 ghost use Rattle.juniper.specs.RequestErrors.{view_request_error};
 ghost use Rattle.juniper.specs.RootView.{service_of};
 
@@ -108,11 +108,11 @@ pub fn check_variables<S: ScalarValue>(
 /// Executes a request: reads the text, validates the document, chooses the operation, tests the values of its variables and
 /// executes it (6.1). The first step that fails gives the error, and the context is as it was.
 ///
-/// Otherwise the answer is the data of the grouped execution, and the errors of fields that fail, sorted by place, path and
-/// message; there are none exactly where nothing fails. A query is executed on the query type and the root's node, and leaves
-/// the context as it was. A mutation steps each of its root groups once, in order, in the context, and completes what it
-/// answers under the context that the step left; the first null at a non-null place is the last group (6.2.2). The context is
-/// then that after the last group that ran.
+/// Otherwise the answer is the data of the grouped execution, and the errors of fields that fail, each at the first of its
+/// field's occurrences, sorted by place, path and message; there are none exactly where nothing fails. A query is executed on
+/// the query type and the root's node, and leaves the context as it was. A mutation steps each of its root groups once, in
+/// order, in the context, and completes what it answers under the context that the step left; the first null at a non-null
+/// place is the last group (6.2.2). The context is then that after the last group that ran.
 ///
 /// [`GraphQLError::OutOfMemory`] may stand in place of any step: then a mutation's context is that after some of its groups,
 /// or torn from it by the step of the next; otherwise it is as it was.
@@ -130,7 +130,7 @@ pub fn execute_sync<
     context: &mut Q::Context,
 ) -> Result<(Value<S>, Vec<ExecutionError<S>>), GraphQLError>
     ensures { AnswersAs S.shown
-        (λ r. IsExactOutcome (service_of Q.concrete Q.answer Q.root M.step M.torn S.shown root_node.now)
+        (λ r. IsFullOutcome (service_of Q.concrete Q.answer Q.root M.step M.torn S.shown root_node.now)
         (request_of S.shown document_source.now operation_name.entry variables.now) context.old r context.new) result }
 {
     let document = match read(alloc, document_source) {

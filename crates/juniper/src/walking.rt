@@ -25,7 +25,7 @@ ghost use Rattle.juniper_walk.specs.Completing.{IsTold};
 ghost use Rattle.juniper_walk.specs.Walking.{IsReadyWalk, SelectionsAgree};
 ghost use Rattle.juniper.specs.Questions.{IsQuestion};
 ghost use Rattle.juniper.specs.Services.{world_with};
-ghost use Rattle.juniper.specs.Walkings.{Lists, collector_of, starts_by};
+ghost use Rattle.juniper.specs.Walkings.{Lists, TellsQuery, collector_of, starts_by};
 
 use crate::node_resolver::NodeResolver;
 use crate::question::Question;
@@ -66,6 +66,8 @@ impl Walking {
             (expansion S.shown walk.now.collector (view_selections S.shown selections.now))
             (view_value S.shown r.value) (map (view_listed S.shown) r.errors.items)) }
         ensures lists { IfOk result (λ r. Lists self (responds (view_value S.shown r.value) (map (view_listed S.shown) r.errors.items))) }
+        ensures firsts { IfOk result (λ r. TellsQuery self (R.world walk.now.collector.possible) concrete.now root.now
+            (expansion S.shown walk.now.collector (view_selections S.shown selections.now)) (map (view_listed S.shown) r.errors.items)) }
     {
         match self {
             Walking::Grouped => juniper_plan::answer(walk, concrete, root, start, selections),
@@ -127,6 +129,10 @@ impl<'c, 's, Q: NodeResolver<S>, S: ScalarValue> Service<'c, 's, Q, S> {
             (expansion S.shown (collector_of fragments.entry self.entry.variables self.entry) (view_selections S.shown selections.now))
             (view_value S.shown r.value) (map (view_listed S.shown) r.errors.items)) }
         ensures lists { IfOk result (λ r. Lists walking (responds (view_value S.shown r.value) (map (view_listed S.shown) r.errors.items))) }
+        ensures firsts { IfOk result (λ r. TellsQuery walking (world_with Q.concrete Q.answer self.entry.resolver.now self.entry.context.now
+            (view_schema S.shown self.entry.schema.now) (view_variables S.shown self.entry.variables.now)) concrete.now root.now
+            (expansion S.shown (collector_of fragments.entry self.entry.variables self.entry) (view_selections S.shown selections.now))
+            (map (view_listed S.shown) r.errors.items)) }
     {
         let walk = Walk {
             alloc,

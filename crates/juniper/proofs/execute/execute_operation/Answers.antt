@@ -5,7 +5,7 @@ use Rattle.juniper_syntax.specs.DocumentView.{view_document, view_kind, view_ope
 use Rattle.juniper_syntax.specs.InputView.{view_variables}
 use Rattle.juniper_schema.specs.SchemaView.{view_schema}
 use Rattle.juniper.specs.Services.{rooted_steps, service_in}
-use Rattle.juniper.proofs.Composing.{subscription-ends, mutation-answers, mutation-ends, mutation-left, query-ends}
+use Rattle.juniper.proofs.Composing.{subscription-ends, mutation-answers, mutation-ends, mutation-left, mutation-lists, query-ends, query-lists}
 use Rattle.juniper.proofs.execute.execute_operation.Goals as goal
 
 pub returns-in-Subscription : goal.returns-in-Subscription
@@ -21,6 +21,7 @@ returns-in-Subscription g c =
       (
         subscription-ends S s (view_document shown c.args.document.now) (view_operation shown c.args.operation.now)
             (view_variables shown c.args.variables.now) c.args.context.now (ap view_kind c.in-Subscription.is),
+        tt,
         tt,
       ),
     )
@@ -42,6 +43,7 @@ returns-in_default g c =
         mutation-ends S s d o given c.args.context.now (ap view_kind c.in-Mutation.is)
             (sym c.mutation_name.ensures ∙ ap (option_map (λ n. n.now)) c.in_default.is),
         tt,
+        tt,
       ),
     )
 
@@ -62,6 +64,7 @@ returns-in-Err g c =
           (ap (option_map (λ (n : Name). m)) is, is) _ c.in_ok-values-in-Mutation.ensures
           c.execute_mutation.new.context c.in-Err.ensures,
       tt,
+      tt,
     )
 
 pub returns-in-Mutation : goal.returns-in-Mutation
@@ -81,6 +84,9 @@ returns-in-Mutation g c =
           (ap (option_map (λ (n : Name). m)) is, is) _ c.in_ok-values-in-Mutation.ensures
           c.execute_mutation.new.context _ _ c.in-Ok.ensures.0,
       c.in-Ok.ensures.1,
+      mutation-lists S s d o given c.args.context.now (ap view_kind c.in-Mutation.is) T is m
+          (ap (option_map (λ (n : Name). m)) is, is) _ c.in_ok-values-in-Mutation.ensures
+          c.execute_mutation.new.context root.walking _ _ c.in-Ok.ensures.2,
     )
 
 pub returns : goal.returns
@@ -95,4 +101,7 @@ returns g c =
           (view_variables shown c.args.variables.now) c.args.context.now
           (ap view_kind c.in-Query.is) _ c.in_ok-values-in-Query.ensures _ _ c.in_ok-answered-in-Query.ensures.0,
       c.in_ok-answered-in-Query.ensures.1,
+      query-lists S s (view_document shown c.args.document.now) (view_operation shown c.args.operation.now)
+          (view_variables shown c.args.variables.now) c.args.context.now
+          (ap view_kind c.in-Query.is) _ c.in_ok-values-in-Query.ensures root.walking _ _ c.in_ok-answered-in-Query.ensures.2,
     )

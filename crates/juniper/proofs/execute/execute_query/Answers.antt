@@ -8,7 +8,7 @@ use Rattle.juniper_syntax.specs.InputView.{view_variables}
 use Rattle.juniper_schema.specs.SchemaView.{view_schema}
 use Rattle.juniper_collect.specs.Collected.{expansion}
 use Rattle.juniper.specs.Services.{world_in}
-use Rattle.juniper.proofs.Executing.{answer-moves, no-cycle, query-agrees}
+use Rattle.juniper.proofs.Executing.{answer-moves, no-cycle, query-agrees, tells-move}
 use Rattle.juniper.proofs.execute.execute_query.Goals as goal
 
 pub invariant_of-service : goal.invariant_of-service
@@ -50,10 +50,10 @@ returns g c =
     let d = view_document shown c.args.document.now in
     let o = view_operation shown c.args.operation.now in
     let W = world_in g.Q.GraphQLValue.concrete g.Q.GraphQLValue.answer root.query.now root.query_info.now c.args.context.now s vars in
-    let is = c.in_ok-fragments.ensures.is ∙ ap (λ ds. fragments (map (view_definition shown) ds)) c.as_slice.ensures.value in (
-      answer-moves W _ _ _ _ _ _ _ _ c.query_name.ensures c.root_node.ensures
-          (ap (λ fs. expand (passes vars) fs (view_selections shown c.as_slice-2.result.now)) is
-          ∙ ap (λ ss. expand (passes vars) (fragments d) (view_selections shown ss)) c.as_slice-2.ensures.value)
-          c.in_ok-walked.ensures.answers,
+    let is = c.in_ok-fragments.ensures.is ∙ ap (λ ds. fragments (map (view_definition shown) ds)) c.as_slice.ensures.value in
+    let same = ap (λ fs. expand (passes vars) fs (view_selections shown c.as_slice-2.result.now)) is
+    ∙ ap (λ ss. expand (passes vars) (fragments d) (view_selections shown ss)) c.as_slice-2.ensures.value in (
+      answer-moves W _ _ _ _ _ _ _ _ c.query_name.ensures c.root_node.ensures same c.in_ok-walked.ensures.answers,
       c.in_ok-walked.ensures.lists,
+      tells-move root.walking W _ _ _ _ _ _ _ c.query_name.ensures c.root_node.ensures same c.in_ok-walked.ensures.firsts,
     )

@@ -6,8 +6,7 @@ use Rattle.juniper_syntax.specs.DocumentView.{view_document, view_operation}
 use Rattle.juniper_syntax.specs.InputView.{view_variables}
 use Rattle.juniper.specs.Answering.{outcome_of}
 use Rattle.juniper.specs.Services.{is_undeclared}
-use Rattle.juniper.specs.Walkings.{Lists}
-use Rattle.juniper.proofs.Composing.{answers-beside}
+use Rattle.juniper.proofs.Composing.{answers-then}
 use Rattle.juniper.proofs.RootOutcomes.{outcome-moved}
 use Rattle.juniper.proofs.execute.execute_walked.Goals as goal
 
@@ -26,8 +25,8 @@ returns g c =
     let o = view_operation shown c.args.operation.now in
     let given = view_variables shown c.args.variables.now in
     let law = c.root_replies.ensures in
-    answers-beside shown _ (Lists c.args.walking) c.execute_operation.result c.execute_operation.ensures _
+    answers-then shown _ c.execute_operation.result c.execute_operation.ensures _
     (λ r p. outcome-moved g.Q.GraphQLValue.concrete g.Q.GraphQLValue.answer g.Q.GraphQLValue.root g.M.GraphQLMutationValue.step g.M.GraphQLMutationValue.torn
-    _ _ _ (view_node_of shown root) (resolver_of root) _ law.types law.replies law.top law.users _ _ _ _ _ _ _ _ _
+    _ _ _ (view_node_of shown root) (resolver_of root) _ law.types law.replies law.top law.users c.args.walking _ _ _ _ _ _ _ _ _
     (ap (view_schema shown) c.schema.ensures) c.is_introspection_disabled.ensures c.query_info.ensures c.mutation.ensures c.mutation_info.ensures
     (λ x. outcome_of x d o given) c.args.context.now r c.execute_operation.new.context p)

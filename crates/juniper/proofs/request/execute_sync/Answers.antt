@@ -1,7 +1,6 @@
 use Rattle.std.proofs.Common.{◌≡◌, [], option_map, map, refl, subst, ap}
-use Rattle.graphql_spec.specs.ExactAnswers.{IsExactOutcome, ListsOnce, whole}
 use Rattle.graphql_spec.specs.Introspection.{rooted_service}
-use Rattle.graphql_spec.specs.Outcomes.{Request, IsOutcome, IsOutcomeOf, IsReadAsValid, responds}
+use Rattle.graphql_spec.specs.Outcomes.{Request, IsReadAsValid, responds}
 use Rattle.graphql_spec.specs.Requests.{choose}
 use Rattle.graphql_spec.specs.Rules.{rule_errors}
 use Rattle.graphql_spec.proofs.ValidRuns.{choice-in}
@@ -12,9 +11,10 @@ use Rattle.juniper_errors.specs.ErrorView.{view_listed}
 use Rattle.juniper_intro.specs.RootView.{schema_of}
 use Rattle.juniper_schema.specs.SchemaView.{view_schema}
 use Rattle.juniper.specs.Answering.{AreCoercible, AreRefused, IsInvalid, StandsFor, outcome_of}
+use Rattle.juniper.specs.Promised.{IsFullOutcome, IsFullOutcomeOf}
 use Rattle.juniper.specs.RequestErrors.{view_request_error}
 use Rattle.juniper.specs.RootView.{service_of}
-use Rattle.juniper.proofs.Composing.{at-parse, at-validate, at-choose, at-coerce, at-execute, responds-so, refused-once}
+use Rattle.juniper.proofs.Composing.{at-parse, at-validate, at-choose, at-coerce, full-execute, responds-so, refused-full}
 use Rattle.juniper.proofs.request.execute_sync.Goals as goal
 
 pub returns-in-Err : goal.returns-in-Err
@@ -29,7 +29,7 @@ returns-in-Err g c =
       operation = option_map (λ n. n.now) c.args.operation_name;
       variables = view_variables shown c.args.variables.now;
     } in
-    refused-once (λ r. IsOutcome S whole q c.args.context.now r c.args.context.now) (view_request_error c.in-Err.error)
+    refused-full S q c.args.context.now (view_request_error c.in-Err.error)
     (at-parse S q c.args.context.now (view_request_error c.in-Err.error) c.in-Err.ensures)
 
 pub returns-in-Err-check_document : goal.returns-in-Err-check_document
@@ -50,7 +50,7 @@ returns-in-Err-check_document g c =
     let d = view_document shown c.in-Ok.document in
     let read = c.in-Ok.ensures in
     let e = view_request_error c.in-Err-check_document.error in
-    refused-once (λ r. IsOutcome S whole q c.args.context.now r c.args.context.now) e
+    refused-full S q c.args.context.now e
     (at-validate S q c.args.context.now d read e (subst (λ b. StandsFor (IsInvalid s b d) e) off
     (subst (λ x. StandsFor (IsInvalid x c.is_introspection_disabled.result d) e) same c.in-Err-check_document.ensures)))
 
@@ -76,7 +76,7 @@ returns-in-Err-get_operation g c =
       subst (λ b. rule_errors s b d ≡ []) off
           (subst (λ x. rule_errors x c.is_introspection_disabled.result d ≡ []) same c.in-Ok-check_document.ensures),
     ) in
-    refused-once (λ r. IsOutcome S whole q c.args.context.now r c.args.context.now) (view_request_error c.in-Err-get_operation.error)
+    refused-full S q c.args.context.now (view_request_error c.in-Err-get_operation.error)
     (at-choose S q c.args.context.now d read valid (choose d q.operation) refl (view_request_error c.in-Err-get_operation.error) c.in-Err-get_operation.ensures)
 
 pub returns-in-Err-check_variables : goal.returns-in-Err-check_variables
@@ -104,7 +104,7 @@ returns-in-Err-check_variables g c =
     let o = view_operation shown c.in-Ok-get_operation.operation.now in
     let choice = c.in-Ok-get_operation.ensures in
     let e = view_request_error c.in-Err-check_variables.error in
-    refused-once (λ r. IsOutcome S whole q c.args.context.now r c.args.context.now) e
+    refused-full S q c.args.context.now e
     (at-coerce S q c.args.context.now d read valid o choice e (subst (λ x. StandsFor (AreRefused x o q.variables) e) same c.in-Err-check_variables.ensures))
 
 pub execute_validated_query-requires-clause-valid : goal.execute_validated_query-requires-clause-valid
@@ -152,9 +152,8 @@ returns-in-Err-execute_validated_query g c =
     let choice = c.in-Ok-get_operation.ensures in
     let fits : AreCoercible s o q.variables = subst (λ x. AreCoercible x o q.variables) same c.in-Ok-check_variables.ensures in
     let after = c.execute_validated_query.new.context in
-    responds-so (λ r. IsOutcomeOf S whole (outcome_of s d o q.variables) c.args.context.now r after × ListsOnce r)
-    (λ r. IsExactOutcome S q c.args.context.now r after)
-    (λ r p. (at-execute S q c.args.context.now d read valid o choice fits r after p.0, p.1))
+    responds-so (λ r. IsFullOutcomeOf S (outcome_of s d o q.variables) c.args.context.now r after) (λ r. IsFullOutcome S q c.args.context.now r after)
+    (λ r p. full-execute S q c.args.context.now d read valid o choice fits r after p)
     (view_request_error c.in-Err-execute_validated_query.error) c.in-Err-execute_validated_query.ensures
 
 pub returns : goal.returns
@@ -182,8 +181,6 @@ returns g c =
     let o = view_operation shown c.in-Ok-get_operation.operation.now in
     let choice = c.in-Ok-get_operation.ensures in
     let fits : AreCoercible s o q.variables = subst (λ x. AreCoercible x o q.variables) same c.in-Ok-check_variables.ensures in
-    let answered = c.in-Ok-execute_validated_query.answered in (
-      at-execute S q c.args.context.now d read valid o choice fits (responds (view_value shown answered.0) (map (view_listed shown) answered.1.items))
-          c.execute_validated_query.new.context c.in-Ok-execute_validated_query.ensures.0,
-      c.in-Ok-execute_validated_query.ensures.1,
-    )
+    let answered = c.in-Ok-execute_validated_query.answered in
+    full-execute S q c.args.context.now d read valid o choice fits (responds (view_value shown answered.0) (map (view_listed shown) answered.1.items))
+    c.execute_validated_query.new.context c.in-Ok-execute_validated_query.ensures

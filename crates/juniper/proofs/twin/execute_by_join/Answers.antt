@@ -6,9 +6,9 @@ use Rattle.juniper_syntax.specs.DocumentView.{view_document, view_operation}
 use Rattle.juniper_syntax.specs.InputView.{view_variables}
 use Rattle.juniper.specs.Answering.{outcome_of}
 use Rattle.juniper.specs.RootView.{service_of}
-use Rattle.juniper.specs.Walkings.{Lists}
+use Rattle.juniper.specs.Walkings.{IsWalkedOutcome}
 use Rattle.juniper.specs.declared.walking.Walking.TheVariants.{Joined}
-use Rattle.juniper.proofs.Composing.{answers-alone}
+use Rattle.juniper.proofs.Composing.{answers-so}
 use Rattle.juniper.proofs.twin.execute_by_join.Goals as goal
 
 pub returns : goal.returns
@@ -19,5 +19,6 @@ returns g c =
     root in
     let x = outcome_of (view_schema shown (schema_of root)) (view_document shown c.args.document.now) (view_operation shown c.args.operation.now)
     (view_variables shown c.args.variables.now) in
-    answers-alone shown (λ r. IsOutcomeOf S whole x c.args.context.now r c.execute_walked.new.context) (Lists Joined) c.execute_walked.result
-    c.execute_walked.ensures
+    let after = c.execute_walked.new.context in
+    answers-so shown (λ r. IsWalkedOutcome S Joined x c.args.context.now r after) (λ r. IsOutcomeOf S whole x c.args.context.now r after)
+    (λ r p. p.0) c.execute_walked.result c.execute_walked.ensures
