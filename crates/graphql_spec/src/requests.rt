@@ -3,6 +3,7 @@
 ghost use Rattle.graphql_spec.specs.Covering.{KeysAreChildren, OccurrencesAreChildren, ResponseIsCovered};
 ghost use Rattle.graphql_spec.specs.Covering.{TypedIsCovered};
 ghost use Rattle.graphql_spec.specs.ExactAnswers.{ExactTells, OutcomeTells};
+ghost use Rattle.graphql_spec.specs.OneErrorList.{ErrorsAreOne, ExactErrorsAreOne, FirstErrorsAreOne, ResponsesAreOne};
 ghost use Rattle.graphql_spec.specs.OutcomeExists.{OutcomeExists};
 ghost use Rattle.graphql_spec.specs.OutcomeLaws.{ErrorsWhereFailures, NullHasError, OutcomeIsOne, QueryLeaves};
 ghost use Rattle.graphql_spec.specs.OutcomeLaws.{RefusalLeaves};
@@ -50,4 +51,13 @@ pub fn children_cover<C, N>()
 pub fn tells_exactly<C, N>()
     ensures answers { ExactTells }
     ensures outcomes { (S : Service C N) → OutcomeTells S }
+{}
+
+/// The list of errors is one, where each failure rises to a null that stands, no other one rises there, and its field has one occurrence or
+/// is told at the first: then calls with one request, in one context, are answered alike, want of memory aside (section 7.1.2).
+pub fn errors_are_one<C, N>()
+    ensures lists { ErrorsAreOne }
+    ensures firsts { FirstErrorsAreOne }
+    ensures answers { ExactErrorsAreOne }
+    ensures responses { (S : Service C N) → ResponsesAreOne S }
 {}

@@ -4,6 +4,7 @@
 ghost use Rattle.graphql_spec.specs.Errors.{Place};
 ghost use Rattle.graphql_spec.specs.ExactAnswers.{FirstsStand, FirstsTellOnce, OrderTellsOnce, PartsTellOnce};
 ghost use Rattle.graphql_spec.specs.ExactAnswers.{RunPlacesDiffer, RunsExactAnswer, ThinnedTellsOnce, WalksExactAnswer};
+ghost use Rattle.graphql_spec.specs.FirstOccurrences.{FirstsAnswer, FirstsAnswerRuns, FirstsTell};
 ghost use Rattle.graphql_spec.specs.GroupLaws.{AllCompleted, FirstCompleted, KeysMerge, LostCompleted, OnceCompleted};
 ghost use Rattle.graphql_spec.specs.GroupLaws.{OneMoreCompleted, RunGroupsMerge};
 ghost use Rattle.graphql_spec.specs.GroupWalks.{AllKeysWalked, NoKeyWalked, OneMoreKey};
@@ -63,4 +64,12 @@ pub fn tells_once<C, N>()
     ensures order { OrderTellsOnce }
     ensures parts { PartsTellOnce }
     ensures thinned { ThinnedTellsOnce }
+{}
+
+/// What is listed for the first of a field's occurrences alone is an answer to the failures that are told so: each error has the place
+/// of the first of its field's occurrences (section 7.1.2).
+pub fn tells_firsts<C, N>()
+    ensures tell { FirstsTell }
+    ensures answers { (W : World N) → FirstsAnswer W }
+    ensures runs { (M : Mutation C N) (T : Name) → FirstsAnswerRuns M T }
 {}
