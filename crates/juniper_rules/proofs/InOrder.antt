@@ -1,5 +1,6 @@
 -- Values in the order of their names: those that are left, and then the ones that were put in, are all.
-use Rattle.std.proofs.Common.{◌≡◌, ℕ, Bool, true, false, cond, List, [], ◌∷◌, Option, Some, None, option_map, Bor, String, string_bytes, refl, sym, ap, subst, ◌∙◌}
+use Rattle.std.proofs.Common.{◌≡◌, ℕ, Bool, true, false, cond, List, [], ◌∷◌, Option, Some, None, option_map, Bor, String, string_bytes}
+use Rattle.std.proofs.Common.{refl, sym, ap, subst, ◌∙◌}
 use Rattle.std.specs.BTreeMap.{BTreeMap}
 use Rattle.std.specs.BTreeMap as tree
 use Rattle.std.specs.Bool.{Decides}
@@ -57,7 +58,8 @@ module _ {X Y : Type 0} where
   past-head : (n : Name) (key : String Y) (v : X) (rest : List (String Y × X)) → IsDistinct string_eq (keys_of ((key, v) ∷ rest)) →
       bytes_eq n (string_bytes key) ≡ true → lookup (λ k. bytes_eq n (string_bytes k)) rest ≡ None
   past-head n key v rest distinct same =
-      subst (λ j. lookup (λ k. bytes_eq j (string_bytes k)) rest ≡ None) (sym (decided (bytes_eq n (string_bytes key)) (bytes_eq-Decides n (string_bytes key)) same))
+      subst (λ j. lookup (λ k. bytes_eq j (string_bytes k)) rest ≡ None)
+      (sym (decided (bytes_eq n (string_bytes key)) (bytes_eq-Decides n (string_bytes key)) same))
       (lookup-none (string_eq key) rest (none_past_head string_eq_equiv key (key, v) rest distinct (string_eq_equiv.refl key)))
 
 module _ {X Y : Type 0} (es : List (String Y × X)) where
