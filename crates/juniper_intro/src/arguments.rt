@@ -16,7 +16,7 @@ pub(crate) fn includes_deprecated<S: ScalarValue>(arguments: &Arguments<'_, S>) 
     ensures { result ≡ includes_deprecated (view_arguments S.shown arguments.now) }
 {
     match arguments.get_input_value("includeDeprecated") {
-        Some(value) => is_yes(value),
+        Some(value) => is_yes(&value.item),
         None => false,
     }
 }
@@ -49,7 +49,7 @@ pub(crate) fn given_name<'v, S: ScalarValue>(arguments: &'v Arguments<'_, S>) ->
     ensures { option_map (λ n. n.now) result ≡ given_text (find (codes "name") (view_arguments S.shown arguments.now)) }
 {
     match arguments.get_input_value("name") {
-        Some(value) => text_of(value),
+        Some(value) => text_of(&value.item),
         None => None,
     }
 }

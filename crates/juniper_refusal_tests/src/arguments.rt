@@ -27,7 +27,11 @@ where
         let held_back = room.hold_back(alloc);
         let outcome = self.arguments.get::<T>(alloc, "n");
         drop(held_back);
-        if self.arguments.get_input_value("n") == Some(self.copy) {
+        let is_kept = match self.arguments.get_input_value("n") {
+            Some(kept) => kept.item == *self.copy,
+            None => false,
+        };
+        if is_kept {
             ending(alloc, told(outcome), self.expected)
         } else {
             Turn::Wrong

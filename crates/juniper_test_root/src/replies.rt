@@ -13,7 +13,7 @@ ghost use Rattle.juniper_test_root.specs.Scripts.{argument_reply, constant_tree,
 use crate::script::{Answer, Node, Tree};
 use juniper_errors::{FieldError, ResolveError};
 use juniper_resolvable::Resolved;
-use juniper_syntax::{InputValue, ScalarValue, Value};
+use juniper_syntax::{InputValue, ScalarValue, Span, Spanning, Value};
 use juniper_values::Arguments;
 use std::alloc::{AllocError, Global};
 
@@ -75,13 +75,13 @@ fn resolved_text<S: ScalarValue>(alloc: Global, text: &str) -> Result<Resolved<N
 /// The value of an argument, where there is one, as a resolver answers it; else null.
 fn resolved_argument<S: ScalarValue>(
     alloc: Global,
-    value: Option<&InputValue<S>>,
+    value: Option<&Spanning<InputValue<S>, Span>>,
 ) -> Result<Resolved<Node, S>, ResolveError<S>>
-    ensures { Answers S.shown result (argument_reply (option_map (λ v. meaning (view_input S.shown v.now)) value.entry)) }
+    ensures { Answers S.shown result (argument_reply (option_map (λ v. meaning (view_input S.shown v.now.item)) value.entry)) }
 {
     match value {
         None => Ok(Resolved::Null),
-        Some(value) => Ok(resolved_constant(alloc, value)?),
+        Some(value) => Ok(resolved_constant(alloc, &value.item)?),
     }
 }
 

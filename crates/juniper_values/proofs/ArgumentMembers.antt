@@ -3,6 +3,7 @@ use Rattle.std.proofs.Common.{◌≡◌, ℕ, Bool, true, false, cond, map, List
 use Rattle.std.proofs.Common.{subst}
 use Rattle.std.specs.Borrow.{Bor}
 use Rattle.std.specs.Map.{lookup}
+use Rattle.std.specs.Option.{option_copied}
 use Rattle.std.proofs.lemmas.List.{map-append}
 use Rattle.indexmap.specs.IndexMap.{IndexMap, get_by, insert_entry}
 use Rattle.indexmap.proofs.CallerLemmas.{insert_entry-new}
@@ -33,6 +34,11 @@ module _ {S : Type 0} (shown : S → Shown) where
   found q [] = refl
   found q (e ∷ es) = find-put q e.0.now (meant e.1) (members_of shown es)
       ∙ (ap (cond (bytes_eq q e.0.now) (Some (meant e.1))) (found q es) ∙ found_step (bytes_eq q e.0.now) e.1 (lookup (λ k. bytes_eq q k.now) es))
+
+  -- a value that is lent is the one that the map has
+  pub lent_found : (o : Option (Bor (Placed S))) → option_map (λ v. meaning (view_input shown v.now.item)) o ≡ option_map meant (option_copied o)
+  lent_found None = refl
+  lent_found (Some x) = refl
 
   some_mapped : (o : Option (Placed S)) → is_some (option_map meant o) ≡ is_some o
   some_mapped None = refl

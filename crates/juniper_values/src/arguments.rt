@@ -35,14 +35,11 @@ impl<'a, S: ScalarValue> Arguments<'a, S> {
         Ok(Arguments { items })
     }
 
-    /// The value of the argument of that name, if there is one.
-    pub fn get_input_value(&self, name: &str) -> Option<&InputValue<S>>
-        ensures { option_map (λ v. meaning (view_input S.shown v.now)) result ≡ find name.now (view_arguments S.shown self.now) }
+    /// The value of the argument of that name with its place, if there is one; the place of a default is the document's start.
+    pub fn get_input_value(&self, name: &str) -> Option<&Spanning<InputValue<S>, Span>>
+        ensures { option_map (λ v. meaning (view_input S.shown v.now.item)) result ≡ find name.now (view_arguments S.shown self.now) }
     {
-        match self.items.get(name) {
-            Some(value) => Some(&value.item),
-            None => None,
-        }
+        self.items.get(name)
     }
 
     /// The argument of that name as a `T`; `Ok(None)` exactly where no argument and no default of that name is there. An
@@ -59,7 +56,7 @@ impl<'a, S: ScalarValue> Arguments<'a, S> {
         let Some(value) = self.get_input_value(name) else {
             return Ok(None);
         };
-        match T::from_input_value(alloc, value)? {
+        match T::from_input_value(alloc, &value.item)? {
             Ok(found) => Ok(Some(found)),
             Err(error) => Err(ResolveError::Field(error.into_field_error(alloc)?)),
         }

@@ -23,7 +23,7 @@ pub fn argument<T: InputType<S>, S: ScalarValue>(
     ensures { ReadsAs (option_map T.seen) S.shown result (argument T.read (find name.now (view_arguments S.shown arguments.now))) }
 {
     match arguments.get_input_value(name) {
-        Some(value) => <Option<T> as InputType<S>>::read_input(alloc, value),
+        Some(value) => <Option<T> as InputType<S>>::read_input(alloc, &value.item),
         None => Ok(None),
     }
 }
@@ -38,7 +38,7 @@ pub fn given<T: InputType<S>, S: ScalarValue>(
     ensures { ReadsAs T.seen S.shown result (given T.read (find name.now (view_arguments S.shown arguments.now))) }
 {
     match arguments.get_input_value(name) {
-        Some(value) => T::read_input(alloc, value),
+        Some(value) => T::read_input(alloc, &value.item),
         None => T::read_input(alloc, &InputValue::Null),
     }
 }
