@@ -3,6 +3,7 @@ pub mod Depths
 pub mod Standing
 pub mod Alone
 pub mod Few
+pub mod Unmet
 pub mod Gathering
 pub mod Enclosed
 pub mod Elsewhere

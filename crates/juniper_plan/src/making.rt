@@ -1,8 +1,8 @@
 //! Groups are made: those of a request's root, and those below a group for the nodes of one object type (CollectFields and
 //! MergeSelectionSets, sections 6.3.2 and 6.4.3 of the Specification).
 
-ghost use Rattle.std.specs.Prelude.{◌≡◌, ◌<◌, [], ◌++◌, cond, IfOk, OnOk, map, true};
-ghost use Rattle.std.specs.List.{IsDistinct, list_any};
+ghost use Rattle.std.specs.Prelude.{◌≡◌, ◌<◌, ◌≤◌, [], ◌++◌, cond, IfOk, OnOk, length, map, take, true};
+ghost use Rattle.std.specs.List.{IsDistinct, filter, list_any};
 ghost use Rattle.std.specs.Str.{bytes_eq};
 ghost use Rattle.graphql_spec.specs.Documents.{response_key};
 ghost use Rattle.graphql_spec.specs.Shown.{Name};
@@ -94,6 +94,8 @@ pub(crate) fn add_groups<'d, 'a, S: ScalarValue, R: Resolver<S>>(
     let first = GroupNo(plan.groups.len());
     if keys_differ(alloc, fields)? {
         add_each(alloc, collector, plan, concrete, fields)?;
+    } else if fields.len() <= FEW {
+        add_few(alloc, collector, plan, concrete, fields)?;
     } else {
         add_grouped(alloc, collector, plan, concrete, fields)?;
     }
@@ -176,6 +178,63 @@ fn add_each<'d, 'a, S: ScalarValue, R: Resolver<S>>(
         plan.add_field(alloc, response_key(field), field, question)?;
     }
     Ok(())
+}
+
+/// Adds the groups of a few fields, each compared with the others.
+fn add_few<'d, 'a, S: ScalarValue, R: Resolver<S>>(
+    alloc: Global,
+    collector: &Collector<'_, 'd, 'a, S, R>,
+    plan: &mut Plan<'d, 'a, S, R::Question>,
+    concrete: &str,
+    fields: &[Occurrence<'d, 'a, S>],
+) -> Result<(), AllocError>
+    requires { IsStanding S.shown collector.now (R.asks collector.now.possible) (R.possible collector.now.possible) plan.old }
+    ensures { OnOk result (AreAdded S.shown collector.now (R.asks collector.now.possible) (R.possible collector.now.possible) concrete.now
+        (view_all S.shown collector.now fields.now) plan.old plan.new) }
+{
+    for place in 0..fields.len() {
+        let key = response_key(fields[place].field);
+        let members = new_members(alloc, fields, place, key)?;
+        add_members(alloc, collector, plan, concrete, key, members)?;
+    }
+    Ok(())
+}
+
+/// The fields of a response key, where none of the first so many has it; else none.
+fn new_members<'d, 'a, S: ScalarValue>(
+    alloc: Global,
+    fields: &[Occurrence<'d, 'a, S>],
+    place: usize,
+    key: &str,
+) -> Result<Collected<'d, 'a, S>, AllocError>
+    requires { place ≤ length fields.now }
+    ensures { IfOk result (λ r. r.items
+        ≡ cond (list_any (bytes_eq key.now) (map (λ o. response_key (head_of S.shown o.field.now)) (take place fields.now))) []
+        (filter (λ o. bytes_eq key.now (response_key (head_of S.shown o.field.now))) fields.now)) }
+{
+    if has_key(&fields[..place], key) {
+        Ok(Vec::new(alloc))
+    } else {
+        fields_of(alloc, fields, key)
+    }
+}
+
+/// The fields of a response key.
+fn fields_of<'d, 'a, S: ScalarValue>(
+    alloc: Global,
+    fields: &[Occurrence<'d, 'a, S>],
+    key: &str,
+) -> Result<Collected<'d, 'a, S>, AllocError>
+    ensures { IfOk result (λ r. r.items ≡ filter (λ o. bytes_eq key.now (response_key (head_of S.shown o.field.now))) fields.now) }
+{
+    let mut members = Vec::new(alloc);
+    for occurrence in fields {
+        let field = occurrence.field;
+        if key == response_key(field) {
+            members.push(Occurrence { field })?;
+        }
+    }
+    Ok(members)
 }
 
 /// Adds the groups of any fields, put together by their response keys.
