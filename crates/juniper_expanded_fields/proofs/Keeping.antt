@@ -5,12 +5,15 @@ use Rattle.std.specs.BTreeMap.{BTreeMap, get_by}
 use Rattle.std.specs.Cmp.Lexicographic.{slice_cmp}
 use Rattle.std.specs.Ordering.{is_eq, nat_cmp}
 use Rattle.std.specs.Str.{bytes_eq}
+use Rattle.std.proofs.lemmas.Bool.{cases_Bool}
 use Rattle.std.proofs.lemmas.Map.Text.{is_eq-slice_cmp}
-use Rattle.std.proofs.Common.{refl, sym, ap, ◌∙◌}
+use Rattle.std.proofs.Common.{refl, inl, inr, sym, ap, ◌∙◌}
 use Rattle.graphql_spec.specs.Shown.{Name}
 use Rattle.graphql_spec.specs.Documents.{Fragment}
 use Rattle.graphql_spec.specs.Fragments.{fragment_of}
 use Rattle.juniper_expanded_fields.specs.Kept.{kept_at, kept_or, weight_at}
+use Rattle.juniper_expanded_fields.specs.Measures.{Measure, number}
+use Rattle.juniper_expanded_fields.specs.declared.counts.Counts.{Counts}
 
 module _ (most : ℕ) (fs : List Fragment) (kept : Name → Option ℕ) (k : Name) where
   pub weight-kept : (n : ℕ) → Some n ≡ kept k → n ≡ weight_at most fs kept k
@@ -32,16 +35,17 @@ module _ (most : ℕ) (fs : List Fragment) (kept : Name → Option ℕ) (k : Nam
       ap (λ p. kept_or most p None) e ∙ ap (kept_or most (fragment_of fs k)) none
 
 -- an empty map keeps nothing
-pub kept-none : (m : BTreeMap (Bor (List ℕ)) ℕ) → m.entries ≡ [] → (k : Name) → kept_at m k ≡ None
+pub kept-none : (m : Measure) (kept : BTreeMap (Bor (List ℕ)) Counts) → kept.entries ≡ [] → (k : Name) → kept_at m kept k ≡ None
 unfolding kept_at
-kept-none m none k = rw none refl
+kept-none m kept none k = rw none refl
 
 -- one more number
-pub kept-next : (m n : BTreeMap (Bor (List ℕ)) ℕ) (name : Name) (value : ℕ) →
-    ((q : Bor (List ℕ)) → get_by (λ x. slice_cmp nat_cmp q.now x.now) n
-    ≡ cond (is_eq (slice_cmp nat_cmp name q.now)) (Some value) (get_by (λ x. slice_cmp nat_cmp q.now x.now) m)) →
-    (k : Name) → kept_at n k ≡ cond (bytes_eq name k) (Some value) (kept_at m k)
+pub kept-next : (m : Measure) (kept now : BTreeMap (Bor (List ℕ)) Counts) (name : Name) (value : Counts) →
+    ((q : Bor (List ℕ)) → get_by (λ x. slice_cmp nat_cmp q.now x.now) now
+    ≡ cond (is_eq (slice_cmp nat_cmp name q.now)) (Some value) (get_by (λ x. slice_cmp nat_cmp q.now x.now) kept)) →
+    (k : Name) → kept_at m now k ≡ cond (bytes_eq name k) (Some (number m value)) (kept_at m kept k)
 unfolding kept_at
-kept-next m n name value updates k =
-    updates (record { ref_ptr = (0, 0); now = k })
-    ∙ ap (λ b. cond b (Some value) (get_by (λ x. slice_cmp nat_cmp k x.now) m)) (is_eq-slice_cmp name k)
+kept-next m kept now name value updates k =
+    ap (option_map (number m)) (updates (record { ref_ptr = (0, 0); now = k })
+    ∙ ap (λ b. cond b (Some value) (get_by (λ x. slice_cmp nat_cmp k x.now) kept)) (is_eq-slice_cmp name k))
+    ∙ elim (cases_Bool (bytes_eq name k)) [ inl e ↦ rw e refl | inr e ↦ rw e refl ]

@@ -1,5 +1,7 @@
 mod Adding
 mod Bounding
 mod Chains
-mod Turns
 mod Keeping
+mod Measuring
+mod Operations
+mod Turns

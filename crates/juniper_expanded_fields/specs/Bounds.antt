@@ -1,10 +1,11 @@
--- What the number of fields says of an execution (6.3), and of spreads without an end (5.5.2.2).
+-- What the numbers of fields and levels say of an execution (6.3), and of spreads without an end (5.5.2.2).
 use Rattle.std.specs.Prelude.{ℕ, suc, ◌+◌, ◌<◌, ◌≤◌, min, Bool, true, List, [], ◌∷◌, cond, length, sum_by, ◌≡◌}
 use Rattle.graphql_spec.specs.Shown.{Name}
 use Rattle.graphql_spec.specs.Documents.{Directive, Fragment, Selections, response_key}
 use Rattle.graphql_spec.specs.Fragments.{HasNoCycle, deep, expand}
 use Rattle.graphql_spec.specs.Selections.{Forest, Occurrence, all_below, applies, depth, end, field, occurrences, under}
 use Rattle.juniper_expanded_fields.specs.ExpandedFields.{expanded_fields, fields_in}
+use Rattle.juniper_expanded_fields.specs.ExpandedLevels.{expanded_levels, nested}
 
 -- a place in the data, without positions in lists: the response keys that lead there, the last first
 abbrev pub Way : Type 0
@@ -43,6 +44,17 @@ BoundsDepth = (most : ℕ) (fragments : List Fragment) (s : Selections) → expa
 abbrev pub CountsFields : Type 0
 CountsFields = (most : ℕ) (fragments : List Fragment) → HasNoCycle fragments → (s : Selections) →
     expanded_fields most fragments s ≡ min most (fields_in (expand (λ d. true) fragments s))
+
+-- no values of variables make selections nest deeper, where the number is below the greatest one; no more fields of them stand inside
+-- one another
+abbrev pub BoundsLevels : Type 0
+BoundsLevels = (most : ℕ) (fragments : List Fragment) (s : Selections) → expanded_levels most fragments s < most → (test : Directive → Bool) →
+    (nested (expand test fragments s) ≤ expanded_levels most fragments s) × (depth (expand test fragments s) ≤ expanded_levels most fragments s)
+
+-- where no fragment reaches itself it is the number of levels, or the greatest one where that is less
+abbrev pub CountsLevels : Type 0
+CountsLevels = (most : ℕ) (fragments : List Fragment) → HasNoCycle fragments → (s : Selections) →
+    expanded_levels most fragments s ≡ min most (nested (expand (λ d. true) fragments s))
 
 -- a chain of spreads that is longer than the list of fragments can be as long as one likes
 abbrev pub LongIsEndless : Type 0

@@ -1,3 +1,5 @@
 pub mod ExpandedFields
+pub mod ExpandedLevels
 pub mod Bounds
+pub mod Measures
 pub mod Kept

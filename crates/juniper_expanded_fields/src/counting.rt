@@ -1,6 +1,6 @@
-//! The number of an operation's fields: each fragment is counted once, behind those that it spreads.
+//! What operations ask for: each fragment is counted once, behind those that it spreads.
 
-ghost use Rattle.std.specs.Prelude.{◌≡◌, ◌+◌, ◌-◌, ◌^◌, IfOk, None, OnOk, Some, cond, map, min};
+ghost use Rattle.std.specs.Prelude.{◌≡◌, ◌-◌, ◌^◌, IfOk, None, OnOk, Some, cond, map, min};
 ghost use Rattle.std.specs.Str.{bytes_eq};
 ghost use Rattle.graphql_spec.specs.Shown.{Name};
 ghost use Rattle.graphql_spec.specs.Documents as documents;
@@ -9,15 +9,35 @@ ghost use Rattle.juniper_syntax.specs.DocumentView.{put_selection, view_definiti
 ghost use Rattle.juniper_spreads.specs.Order.{IsInOrder};
 ghost use Rattle.juniper_spreads.specs.SpreadsView.{AreFragmentsOf};
 ghost use Rattle.juniper_expanded_fields.specs.ExpandedFields.{expanded_fields as expanded};
-ghost use Rattle.juniper_expanded_fields.specs.Kept.{fields_by, kept_at, weight_at, whole_at};
+ghost use Rattle.juniper_expanded_fields.specs.ExpandedLevels.{expanded_levels as levels};
+ghost use Rattle.juniper_expanded_fields.specs.Kept.{kept_at, number_by, weight_at, whole_at};
+ghost use Rattle.juniper_expanded_fields.specs.Measures.{Measure, expanded_number, join, number, put_in};
 
+use crate::counts::Counts;
 use juniper_spreads::{FragmentsByName, fragments_by_name};
 use juniper_syntax::{Definition, Fragment, Operation, ScalarValue, Selection, Span, Spanning};
 use std::alloc::{AllocError, Global};
 use std::collections::BTreeMap;
 
-/// How many fields fragments hold, by their names.
-type Kept<'a> = BTreeMap<&'a str, u64>;
+/// What fragments count where they are put in, by their names.
+type Kept<'a> = BTreeMap<&'a str, Counts>;
+
+/// The counts of each operation of a document, in the document's order: the numbers that [`expanded_fields`] and [`expanded_levels`] answer
+/// for it. The time grows with the size of the document, whatever it answers. An error where memory is refused.
+pub fn expanded_counts<'d, 'a, S: ScalarValue>(
+    alloc: Global,
+    document: &'d [Definition<'a, S>],
+) -> Result<Vec<Counts>, AllocError>
+    ensures fields { IfOk result (λ r. let d = map (view_definition S.shown) document.now in
+        map (λ c. c.fields) r.items ≡ map (λ o. expanded (2 ^ 64 - 1) (documents.fragments d) o.selections) (documents.operations d)) }
+    ensures levels { IfOk result (λ r. let d = map (view_definition S.shown) document.now in
+        map (λ c. c.levels) r.items ≡ map (λ o. levels (2 ^ 64 - 1) (documents.fragments d) o.selections) (documents.operations d)) }
+{
+    let fragments = fragments_by_name(alloc, document)?;
+    let kept = count_fragments(alloc, &fragments)?;
+    let counts = count_operations(alloc, document, &fragments, &kept)?;
+    Ok(counts)
+}
 
 /// How many fields an operation of a document selects, with each spread replaced by what its fragment holds, and counted each time:
 /// those below other fields too, whatever directives and type conditions say. [`u64::MAX`] where there are more, or no end of them,
@@ -31,9 +51,61 @@ pub fn expanded_fields<'d, 'a, S: ScalarValue>(
     ensures { IfOk result (λ n. n ≡ expanded (2 ^ 64 - 1) (documents.fragments (map (view_definition S.shown) document.now))
         (view_operation S.shown operation.now).selections) }
 {
+    let counts = count_operation(alloc, document, operation)?;
+    Ok(counts.fields)
+}
+
+/// How many fields, spreads and inline fragments of an operation of a document stand inside one another, with each spread replaced by
+/// what its fragment holds, whatever directives and type conditions say. [`u64::MAX`] where there are more, or no end of them, as a
+/// fragment that is reached spreads itself. A spread of an unknown fragment counts nothing; of fragments of one name the first
+/// counts. The time grows with the size of the document, whatever it answers. An error where memory is refused.
+pub fn expanded_levels<'d, 'a, S: ScalarValue>(
+    alloc: Global,
+    document: &'d [Definition<'a, S>],
+    operation: &Spanning<Operation<'a, S>, Span>,
+) -> Result<u64, AllocError>
+    ensures { IfOk result (λ n. n ≡ levels (2 ^ 64 - 1) (documents.fragments (map (view_definition S.shown) document.now))
+        (view_operation S.shown operation.now).selections) }
+{
+    let counts = count_operation(alloc, document, operation)?;
+    Ok(counts.levels)
+}
+
+/// Counts an operation of a document.
+fn count_operation<'d, 'a, S: ScalarValue>(
+    alloc: Global,
+    document: &'d [Definition<'a, S>],
+    operation: &Spanning<Operation<'a, S>, Span>,
+) -> Result<Counts, AllocError>
+    ensures { IfOk result (λ r. (m : Measure) → number m r ≡ expanded_number m (2 ^ 64 - 1)
+        (documents.fragments (map (view_definition S.shown) document.now)) (view_operation S.shown operation.now).selections) }
+{
     let fragments = fragments_by_name(alloc, document)?;
     let kept = count_fragments(alloc, &fragments)?;
-    Ok(fields_of(operation.item.selection_set.as_slice(), &fragments, &kept))
+    Ok(counts_of(operation.item.selection_set.as_slice(), &fragments, &kept))
+}
+
+/// Counts the operations, in the document's order, by what is kept of the fragments.
+fn count_operations<'d, 'a, S: ScalarValue>(
+    alloc: Global,
+    document: &[Definition<'a, S>],
+    fragments: &FragmentsByName<'d, 'a, S>,
+    kept: &Kept<'a>,
+) -> Result<Vec<Counts>, AllocError>
+    ensures { IfOk result (λ r. (m : Measure) (d : Document) → AreFragmentsOf S.shown fragments.now d → map (number m) r.items
+        ≡ map (λ o. min (2 ^ 64 - 1) (number_by m (weight_at (2 ^ 64 - 1) (documents.fragments d) (kept_at m kept.now)) o.selections))
+        (documents.operations (map (view_definition S.shown) document.now))) }
+{
+    let mut counts = Vec::new(alloc);
+    for definition in document {
+        match definition {
+            Definition::Operation(operation) => {
+                counts.push(counts_of(operation.item.selection_set.as_slice(), fragments, kept))?;
+            }
+            Definition::Fragment(_) => {}
+        }
+    }
+    Ok(counts)
 }
 
 /// Counts the fragments, all but those that lead to a cycle.
@@ -41,8 +113,8 @@ fn count_fragments<'d, 'a, S: ScalarValue>(
     alloc: Global,
     fragments: &FragmentsByName<'d, 'a, S>,
 ) -> Result<Kept<'a>, AllocError>
-    ensures { IfOk result (λ r. (d : Document) → AreFragmentsOf S.shown fragments.now d → (k : Name) →
-        weight_at (2 ^ 64 - 1) (documents.fragments d) (kept_at r) k ≡ whole_at (2 ^ 64 - 1) (documents.fragments d) k) }
+    ensures { IfOk result (λ r. (m : Measure) (d : Document) → AreFragmentsOf S.shown fragments.now d → (k : Name) →
+        weight_at (2 ^ 64 - 1) (documents.fragments d) (kept_at m r) k ≡ whole_at m (2 ^ 64 - 1) (documents.fragments d) k) }
 {
     let order = fragments.in_order(alloc)?;
     let mut kept = BTreeMap::new(alloc);
@@ -56,9 +128,9 @@ fn count_in_order<'d, 'a, S: ScalarValue>(
     fragments: &FragmentsByName<'d, 'a, S>,
     kept: &mut Kept<'a>,
 ) -> Result<(), AllocError>
-    ensures { OnOk result ((d : Document) → AreFragmentsOf S.shown fragments.now d →
-        IsInOrder (documents.fragments d) (map (λ f. view_fragment S.shown f.now) order.now.items) → ((k : Name) → kept_at kept.old k ≡ None) →
-        (k : Name) → weight_at (2 ^ 64 - 1) (documents.fragments d) (kept_at kept.new) k ≡ whole_at (2 ^ 64 - 1) (documents.fragments d) k) }
+    ensures { OnOk result ((m : Measure) (d : Document) → AreFragmentsOf S.shown fragments.now d →
+        IsInOrder (documents.fragments d) (map (λ f. view_fragment S.shown f.now) order.now.items) → ((k : Name) → kept_at m kept.old k ≡ None) →
+        (k : Name) → weight_at (2 ^ 64 - 1) (documents.fragments d) (kept_at m kept.new) k ≡ whole_at m (2 ^ 64 - 1) (documents.fragments d) k) }
 {
     for index in 0..order.len() {
         let fragment = order[index];
@@ -67,75 +139,77 @@ fn count_in_order<'d, 'a, S: ScalarValue>(
     Ok(())
 }
 
-/// Counts a fragment by the numbers that are kept.
+/// Counts a fragment by what is kept.
 fn count_fragment<'d, 'a, S: ScalarValue>(
     fragment: &'d Spanning<Fragment<'a, S>, Span>,
     fragments: &FragmentsByName<'d, 'a, S>,
     kept: &mut Kept<'a>,
 ) -> Result<(), AllocError>
-    ensures { OnOk result ((d : Document) → AreFragmentsOf S.shown fragments.now d → (k : Name) → kept_at kept.new k
+    ensures { OnOk result ((m : Measure) (d : Document) → AreFragmentsOf S.shown fragments.now d → (k : Name) → kept_at m kept.new k
         ≡ cond (bytes_eq (view_fragment S.shown fragment.now).name.item k)
-        (Some (min (2 ^ 64 - 1) (fields_by (weight_at (2 ^ 64 - 1) (documents.fragments d) (kept_at kept.old))
-        (view_fragment S.shown fragment.now).selections)))
-        (kept_at kept.old k)) }
+        (Some (min (2 ^ 64 - 1) (put_in m (number_by m (weight_at (2 ^ 64 - 1) (documents.fragments d) (kept_at m kept.old))
+        (view_fragment S.shown fragment.now).selections))))
+        (kept_at m kept.old k)) }
 {
-    let fields = fields_of(fragment.item.selection_set.as_slice(), fragments, kept);
-    kept.insert(fragment.item.name.item, fields)?;
+    let held = counts_of(fragment.item.selection_set.as_slice(), fragments, kept);
+    kept.insert(fragment.item.name.item, held.of_fragment())?;
     Ok(())
 }
 
-/// How many fields selections hold.
+/// Counts selections.
 #[cycle(counting)]
-fn fields_of<'d, 'a, S: ScalarValue>(
+fn counts_of<'d, 'a, S: ScalarValue>(
     selections: &[Selection<'a, S>],
     fragments: &FragmentsByName<'d, 'a, S>,
     kept: &Kept<'a>,
-) -> u64
-    ensures { (d : Document) → AreFragmentsOf S.shown fragments.now d →
-        result ≡ min (2 ^ 64 - 1) (fields_by (weight_at (2 ^ 64 - 1) (documents.fragments d) (kept_at kept.now)) (view_selections S.shown selections.now)) }
+) -> Counts
+    ensures { (m : Measure) (d : Document) → AreFragmentsOf S.shown fragments.now d → number m result
+        ≡ min (2 ^ 64 - 1) (number_by m (weight_at (2 ^ 64 - 1) (documents.fragments d) (kept_at m kept.now)) (view_selections S.shown selections.now)) }
 {
-    let mut fields = 0u64;
+    let mut counts = Counts::none();
     for selection in selections {
-        fields = fields.saturating_add(fields_at(selection, fragments, kept));
+        counts = counts.join(counts_at(selection, fragments, kept));
     }
-    fields
+    counts
 }
 
-/// How many fields a selection holds.
+/// Counts a selection.
 #[cycle(counting)]
-fn fields_at<'d, 'a, S: ScalarValue>(
+fn counts_at<'d, 'a, S: ScalarValue>(
     selection: &Selection<'a, S>,
     fragments: &FragmentsByName<'d, 'a, S>,
     kept: &Kept<'a>,
-) -> u64
-    ensures { (d : Document) → AreFragmentsOf S.shown fragments.now d → (rest : Selections) →
-        min (2 ^ 64 - 1) (result + fields_by (weight_at (2 ^ 64 - 1) (documents.fragments d) (kept_at kept.now)) rest)
-        ≡ min (2 ^ 64 - 1) (fields_by (weight_at (2 ^ 64 - 1) (documents.fragments d) (kept_at kept.now)) (put_selection S.shown selection.now rest)) }
+) -> Counts
+    ensures { (m : Measure) (d : Document) → AreFragmentsOf S.shown fragments.now d → (rest : Selections) →
+        min (2 ^ 64 - 1) (join m (number m result) (number_by m (weight_at (2 ^ 64 - 1) (documents.fragments d) (kept_at m kept.now)) rest))
+        ≡ min (2 ^ 64 - 1) (number_by m (weight_at (2 ^ 64 - 1) (documents.fragments d) (kept_at m kept.now)) (put_selection S.shown selection.now rest)) }
 {
     match selection {
         Selection::Field(field) => match &field.item.selection_set {
-            Some(below) => fields_of(below, fragments, kept).saturating_add(1),
-            None => 1,
+            Some(below) => counts_of(below, fragments, kept).of_field(),
+            None => Counts::none().of_field(),
         },
-        Selection::FragmentSpread(spread) => fields_behind(spread.item.name.item, fragments, kept),
-        Selection::InlineFragment(inline) => fields_of(&inline.item.selection_set, fragments, kept),
+        Selection::FragmentSpread(spread) => counts_behind(spread.item.name.item, fragments, kept),
+        Selection::InlineFragment(inline) => {
+            counts_of(&inline.item.selection_set, fragments, kept).of_fragment()
+        }
     }
 }
 
-/// How many fields the fragment of a name holds: the number that is kept; one that is not counted leads to a cycle.
-fn fields_behind<'d, 'a, S: ScalarValue>(
+/// What the fragment of a name counts where it is put in: what is kept; one that is not counted leads to a cycle.
+fn counts_behind<'d, 'a, S: ScalarValue>(
     name: &str,
     fragments: &FragmentsByName<'d, 'a, S>,
     kept: &Kept<'a>,
-) -> u64
-    ensures { (d : Document) → AreFragmentsOf S.shown fragments.now d →
-        result ≡ weight_at (2 ^ 64 - 1) (documents.fragments d) (kept_at kept.now) name.now }
+) -> Counts
+    ensures { (m : Measure) (d : Document) → AreFragmentsOf S.shown fragments.now d →
+        number m result ≡ weight_at (2 ^ 64 - 1) (documents.fragments d) (kept_at m kept.now) name.now }
 {
     match kept.get(name) {
-        Some(fields) => *fields,
+        Some(counts) => *counts,
         None => match fragments.fragment(name) {
-            Some(_) => u64::MAX,
-            None => 0,
+            Some(_) => Counts::endless(),
+            None => Counts::none(),
         },
     }
 }

@@ -5,10 +5,11 @@ use Rattle.juniper_syntax.specs.DocumentView.{view_fragment}
 use Rattle.juniper_spreads.specs.Order.{IsInOrder}
 use Rattle.juniper_spreads.specs.SpreadsView.{AreFragmentsOf}
 use Rattle.juniper_expanded_fields.specs.Kept.{kept_at}
+use Rattle.juniper_expanded_fields.specs.Measures.{Measure}
 use Rattle.juniper_expanded_fields.proofs.Turns.{IsCountedTo}
 use Rattle.juniper_expanded_fields.proofs.counting.count_in_order.Given as goal
 
 abbrev pub invariant-loop-index : goal.invariant-loop-index
-invariant-loop-index g l = (d : Document) → AreFragmentsOf g.S.ScalarValue.shown l.fragments d →
-    IsInOrder (fragments d) (map (λ f. view_fragment g.S.ScalarValue.shown f.now) l.order.items) → ((k : Name) → kept_at l.initial.kept k ≡ None) →
-    IsCountedTo (2 ^ 64 - 1) (fragments d) (λ f. view_fragment g.S.ScalarValue.shown f.now) l.order.items (kept_at l.kept) l.index
+invariant-loop-index g l = (m : Measure) (d : Document) → AreFragmentsOf g.S.ScalarValue.shown l.fragments d →
+    IsInOrder (fragments d) (map (λ f. view_fragment g.S.ScalarValue.shown f.now) l.order.items) → ((k : Name) → kept_at m l.initial.kept k ≡ None) →
+    IsCountedTo m (2 ^ 64 - 1) (fragments d) (λ f. view_fragment g.S.ScalarValue.shown f.now) l.order.items (kept_at m l.kept) l.index
