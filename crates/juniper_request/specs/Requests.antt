@@ -1,5 +1,5 @@
 -- What the JSON of a request asks ("GraphQL over HTTP", request parameters).
-use Rattle.std.specs.Prelude.{◌≡◌, ℕ, List, [], ◌∷◌, map, Option, Some, None, option_map, codes, Result, Ok, Err, IsUtf8}
+use Rattle.std.specs.Prelude.{◌≡◌, ℕ, List, [], ◌∷◌, ◌++◌, map, decimal, Option, Some, None, option_map, codes, Result, Ok, Err, IsUtf8}
 use Rattle.serde_json.specs.Data.{Data, null, boolean, number, string, array, object, Items, no_items, item, Members}
 use Rattle.serde_json.specs.Find.{get_member}
 use Rattle.serde_json.specs.Read.{read}
@@ -92,6 +92,10 @@ message Query = codes "query must be a string"
 message OperationName = codes "operationName must be a string or null"
 message Variables = codes "variables must be an object or null"
 message Extensions = codes "extensions must be an object or null"
+
+-- the text of a place where bytes are no JSON
+abbrev pub place_text : NotJson → List ℕ
+place_text e = codes "not JSON, at line " ++ decimal e.line ++ codes " column " ++ decimal e.column
 
 -- ## Bodies
 

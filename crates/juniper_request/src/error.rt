@@ -1,7 +1,7 @@
 //! Why bytes or JSON ask nothing.
 
-ghost use Rattle.std.specs.Prelude.{◌≡◌};
-ghost use Rattle.juniper_request.specs.Requests.{message};
+ghost use Rattle.std.specs.Prelude.{◌≡◌, Some};
+ghost use Rattle.juniper_request.specs.Requests.{message, place_text};
 
 use std::fmt;
 
@@ -15,6 +15,8 @@ pub struct NotJson {
 }
 
 impl fmt::Display for NotJson {
+    ghost output = { λ e. Some (place_text e) };
+
     fn fmt<W: fmt::Write>(&self, f: &mut fmt::Formatter<W>) -> fmt::Result {
         let NotJson { line, column } = *self;
         write!(f, "not JSON, at line {line} column {column}")
@@ -54,6 +56,8 @@ impl RequestError {
 }
 
 impl fmt::Display for RequestError {
+    ghost output = { λ e. Some (message e) };
+
     fn fmt<W: fmt::Write>(&self, f: &mut fmt::Formatter<W>) -> fmt::Result {
         f.write_str(self.message())
     }

@@ -1,0 +1,25 @@
+use Rattle.std.proofs.Common.{refl, sym}
+use Rattle.juniper_http.proofs.Fields.{on_ok}
+use Rattle.juniper_http.proofs.service.GraphQLService.serve.Goals as goal
+
+pub returns-in-Page-clause-ok : goal.returns-in-Page-clause-ok
+returns-in-Page-clause-ok g c =
+    on_ok c.show_page.result
+    (λ page. (c.args.self.now.endpoint, refl, (c.in_ok-plan_of.field-0, c.in_ok-plan_of.ensures, rw c.in-Page.is (refl, page))))
+    c.show_page.ensures
+
+pub returns-in-Refuse-clause-ok : goal.returns-in-Refuse-clause-ok
+returns-in-Refuse-clause-ok g c =
+    on_ok c.refuse.result
+    (λ refused. (c.args.self.now.endpoint, refl, (c.in_ok-plan_of.field-0, c.in_ok-plan_of.ensures, rw c.in-Refuse.is (refl, refused))))
+    c.refuse.ensures
+
+pub returns-in-Ask-clause-ok : goal.returns-in-Ask-clause-ok
+returns-in-Ask-clause-ok g c =
+    (c.put.new.self.endpoint, c.put.ensures.rest, (c.in_ok-plan_of.field-0, c.in_ok-plan_of.ensures, rw c.in-Ask.is (rw (sym c.request.ensures) c.put.ensures.said)))
+
+pub returns-in-Post-clause-ok : goal.returns-in-Post-clause-ok
+returns-in-Post-clause-ok g c =
+    on_ok c.put_body.result
+    (λ put. (c.put_body.new.self.endpoint, c.put_body.ensures.rest, (c.in_ok-plan_of.field-0, c.in_ok-plan_of.ensures, rw c.in-Post.is put)))
+    c.put_body.ensures.ok

@@ -1,0 +1,10 @@
+pub mod Accept
+pub mod Batches
+pub mod Decisions
+pub mod Media
+pub mod Outcomes
+pub mod Parts
+pub mod Plans
+pub mod Refusals
+pub mod Responses
+pub mod Served

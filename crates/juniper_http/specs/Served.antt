@@ -1,0 +1,53 @@
+-- What a request is served.
+use Rattle.std.specs.Prelude.{◌≡◌, ℕ, Bool, true, false, List, [], ◌∷◌, codes, string_bytes, Result, Ok, Err}
+use Rattle.http.specs.declared.request.Request.{Request}
+use Rattle.http_server.specs.declared.response.Response.{Response}
+use Rattle.juniper_request.specs.Requests.{Asked, Body, single, batch, request_in, view_body}
+use Rattle.juniper_request.specs.declared.error.RequestError.{RequestError}
+use Rattle.juniper_http.specs.Batches.{IsBatchReply}
+use Rattle.juniper_http.specs.Parts.{asked_by}
+use Rattle.juniper_http.specs.Plans.{IsPlan}
+use Rattle.juniper_http.specs.Responses.{Header, IsPage, IsRefusal, Says}
+use Rattle.juniper_http.specs.declared.endpoint.Reply.{Reply}
+use Rattle.juniper_http.specs.declared.media.MediaType.{MediaType}
+use Rattle.juniper_http.specs.declared.plan.Plan.{Plan}
+use Rattle.juniper_http.specs.declared.plan.Plan.TheVariants.{Page, Refuse, Ask, Post}
+use Rattle.juniper_http.specs.declared.refusal.Refusal.TheVariants.{NotARequest}
+use Rattle.juniper_http.specs.declared.service.GraphQLService.{GraphQLService}
+
+-- the field of a response that is the last of its connection
+abbrev pub closing : Bool → List Header
+closing true = (codes "connection", codes "close") ∷ []
+closing false = []
+
+module _ {S : Type 0} where
+  -- one request, which may write, is put between the two states, and the response says the reply
+  abbrev pub Puts : (S → Asked → Bool → Reply → S → Type 0) → List Header → MediaType → Asked → Bool → S → Response → S → Type 0
+  Puts replies before media asked may_write s r t =
+      (reply : Reply) × replies s asked may_write reply t × Says before media reply.outcome (string_bytes reply.line) r
+
+  -- the request that JSON is, which may write, is put; or it is none, and the response says why
+  abbrev pub PutsOne : (S → Asked → Bool → Reply → S → Type 0) → List Header → MediaType → Result Asked RequestError → S → Response → S → Type 0
+  PutsOne replies before media (Ok asked) s r t = Puts replies before media asked true s r t
+  PutsOne replies before media (Err e) s r t = (t ≡ s) × IsRefusal before (NotARequest e) r
+
+  -- the requests of a POST are put
+  abbrev pub PutsBody : (S → Asked → Bool → Reply → S → Type 0) → List Header → MediaType → Body → S → Response → S → Type 0
+  PutsBody replies before media (single d) s r t = PutsOne replies before media (request_in d) s r t
+  PutsBody replies before media (batch ds) s r t =
+      (reply : Reply) × IsBatchReply replies ds s reply t × Says before media reply.outcome (string_bytes reply.line) r
+
+  -- what is done for a plan, between two states of the endpoint
+  abbrev pub Follows : (S → Asked → Bool → Reply → S → Type 0) → List Header → Plan → S → Response → S → Type 0
+  Follows replies before Page s r t = (t ≡ s) × IsPage before r
+  Follows replies before (Refuse why) s r t = (t ≡ s) × IsRefusal before why r
+  Follows replies before (Ask media parts may_write) s r t = Puts replies before media (asked_by parts) may_write s r t
+  Follows replies before (Post media requests) s r t = PutsBody replies before media (view_body requests) s r t
+
+  -- A request is answered, behind these fields: by the plan for it, which is followed. Of the service nothing changes but the endpoint.
+  abbrev pub ServesBehind : (S → Asked → Bool → Reply → S → Type 0) → List Header → GraphQLService S → Request (List ℕ) → Response → GraphQLService S → Type 0
+  ServesBehind replies before s request r t =
+      (new : S) × (t ≡ record s { endpoint = new }) × ((p : Plan) × IsPlan s.limits request p × Follows replies before p s.endpoint r new)
+
+  abbrev pub Serves : (S → Asked → Bool → Reply → S → Type 0) → GraphQLService S → Request (List ℕ) → Response → GraphQLService S → Type 0
+  Serves replies s request r t = ServesBehind replies (closing s.closes) s request r t

@@ -1,0 +1,31 @@
+//! GraphQL over HTTP: from a parsed HTTP request to a response, over any endpoint that answers requests.
+//!
+//! [`GraphQLService`] is a `Service` of `http_server`: bytes, framing, keep-alive, `content-length` and `HEAD` are that crate's.
+#![tactic(auto)]
+
+mod accept;
+mod batch;
+mod decision;
+mod endpoint;
+mod media;
+mod outcome;
+mod page;
+mod parameters;
+mod parts;
+mod plan;
+mod refusal;
+mod respond;
+mod service;
+#[cfg(test)]
+mod tests;
+
+pub use accept::{Range, choose, ranges, wants_page, weight_of};
+pub use decision::{Body, Facts, Step, Verb, decide};
+pub use endpoint::{Endpoint, Reply};
+pub use media::MediaType;
+pub use outcome::{Outcome, status_of};
+pub use page::PAGE;
+pub use parts::RequestParts;
+pub use plan::{Limits, Plan, plan_of};
+pub use refusal::Refusal;
+pub use service::GraphQLService;

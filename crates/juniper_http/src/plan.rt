@@ -1,0 +1,203 @@
+//! What a request asks for.
+
+ghost use Rattle.std.specs.Prelude.{◌≡◌, IfOk, codes};
+ghost use Rattle.http.specs.Request.{body_of, head_of};
+ghost use Rattle.juniper_request.specs.Requests.{view_body};
+ghost use Rattle.juniper_http.specs.Decisions.{verb_of};
+ghost use Rattle.juniper_http.specs.declared.decision.Verb.TheVariants as verbs;
+ghost use Rattle.juniper_http.specs.Plans.{IsBodyPlan, IsPlan, IsPlanFor, IsQueryPlan, batch_len};
+
+use crate::accept::{choose, ranges, wants_page};
+use crate::decision::{Body, Facts, Step, Verb, decide};
+use crate::media::MediaType;
+use crate::parameters::{parameters_in, parts_in};
+use crate::parts::RequestParts;
+use crate::refusal::Refusal;
+use bytes::Bytes;
+use http::{Request, header};
+use juniper_request::{GraphQLBatchRequest, RequestError, read_request};
+use std::alloc::{AllocError, Global};
+
+/// The limits of requests.
+#[derive(Clone, Copy, Debug)]
+pub struct Limits {
+    /// A longer body is refused.
+    pub max_body_len: usize,
+    /// A batch of more requests is refused.
+    pub max_batch_len: usize,
+}
+
+/// What is to be done for a request.
+#[derive(Drop)]
+pub enum Plan {
+    /// The page is shown.
+    Page,
+    /// The request is refused.
+    Refuse(Refusal),
+    /// One request, which may write where it came by `POST`.
+    Ask(MediaType, RequestParts, bool),
+    /// The requests of a `POST`.
+    Post(MediaType, GraphQLBatchRequest),
+}
+
+/// What is to be done for a request; an error where memory is refused.
+pub fn plan_of(alloc: Global, request: &Request<Bytes>, limits: &Limits) -> Result<Plan, AllocError>
+    ensures { IfOk result (IsPlan limits.now request.now) }
+{
+    let accept = accepted(alloc, request)?;
+    let ranges = ranges(alloc, accept.as_str())?;
+    let facts = Facts {
+        verb: verb(request.method().as_str()),
+        is_known_path: is_known(request.uri().path()),
+        has_query: request.uri().query().is_some(),
+        has_accept: !accept.is_empty(),
+        media: choose(ranges.as_slice()),
+        wants_page: wants_page(ranges.as_slice()),
+        body: type_of(request),
+        fits: request.body().len() <= limits.max_body_len,
+    };
+    match decide(&facts) {
+        Step::ShowPage => Ok(Plan::Page),
+        Step::Refuse(refusal) => Ok(Plan::Refuse(refusal)),
+        Step::ReadQuery(media) => match request.uri().query() {
+            Some(query) => read_query(alloc, query, media),
+            None => Ok(Plan::Refuse(Refusal::NotARequest(RequestError::Query))),
+        },
+        Step::ReadJson(media) => read_json(alloc, request, limits, media),
+        Step::ReadDocument(media) => read_document(alloc, request, media),
+    }
+}
+
+/// The verb of a method.
+fn verb(method: &str) -> Verb
+    ensures table { result ≡ verb_of method.now }
+    ensures posts { result ≡ verbs.Posts → method.now ≡ codes "POST" }
+{
+    match method {
+        "GET" | "HEAD" => Verb::Reads,
+        "POST" => Verb::Posts,
+        _ => Verb::Other,
+    }
+}
+
+/// Whether something is served at a path.
+fn is_known(path: &str) -> bool {
+    path == "/" || path == "/graphql"
+}
+
+/// The `Accept` of a request in lower case, its values joined by commas; empty where there is none.
+fn accepted(alloc: Global, request: &Request<Bytes>) -> Result<String, AllocError> {
+    let mut text = String::new(alloc);
+    for value in request.headers().get_all(header::ACCEPT) {
+        if let Ok(value) = value.to_str() {
+            if !text.is_empty() {
+                text.push(',')?;
+            }
+            for c in value.chars() {
+                text.push(c.to_ascii_lowercase())?;
+            }
+        }
+    }
+    Ok(text)
+}
+
+/// What a `content-type` says of a body: JSON, or the text of a document, in UTF-8.
+fn body_type(text: &str) -> Body {
+    let (name, parameters) = match text.split_once(';') {
+        Some((name, parameters)) => (name, parameters),
+        None => (text, ""),
+    };
+    for parameter in parameters.split(';') {
+        if let Some((name, value)) = parameter.split_once('=')
+            && name.trim().eq_ignore_ascii_case("charset")
+            && !value.trim().trim_matches('"').eq_ignore_ascii_case("utf-8")
+        {
+            return Body::Other;
+        }
+    }
+    let name = name.trim();
+    if name.eq_ignore_ascii_case("application/json") {
+        Body::Json
+    } else if name.eq_ignore_ascii_case("application/graphql") {
+        Body::Document
+    } else {
+        Body::Other
+    }
+}
+
+/// What a request's `content-type` says of its body.
+fn type_of(request: &Request<Bytes>) -> Body {
+    let headers = request.headers();
+    let Some(value) = headers.get(header::CONTENT_TYPE) else {
+        return Body::Other;
+    };
+    match value.to_str() {
+        Ok(text) => body_type(text),
+        Err(_) => Body::Other,
+    }
+}
+
+/// What is to be done for a body of JSON.
+fn read_json(
+    alloc: Global,
+    request: &Request<Bytes>,
+    limits: &Limits,
+    media: MediaType,
+) -> Result<Plan, AllocError>
+    requires { (head_of request.now).method ≡ codes "POST" }
+    ensures { IfOk result (IsPlanFor (head_of request.now).method (body_of request.now)) }
+{
+    match read_request(alloc, request.body().as_slice())? {
+        Ok(requests) => Ok(plan_body(requests, limits, media)),
+        Err(fault) => Ok(Plan::Refuse(Refusal::NotJson(fault))),
+    }
+}
+
+/// What is to be done for these requests.
+fn plan_body(requests: GraphQLBatchRequest, limits: &Limits, media: MediaType) -> Plan
+    ensures { IsBodyPlan limits.now media requests result }
+{
+    match batch_len(&requests) {
+        Some(0) => Plan::Refuse(Refusal::EmptyBatch),
+        Some(len) if len > limits.max_batch_len => Plan::Refuse(Refusal::LongBatch),
+        _ => Plan::Post(media, requests),
+    }
+}
+
+/// How many requests a batch has; `None` for one request.
+fn batch_len(requests: &GraphQLBatchRequest) -> Option<usize>
+    ensures { result ≡ batch_len (view_body requests.now) }
+{
+    match requests {
+        GraphQLBatchRequest::Single(_) => None,
+        GraphQLBatchRequest::Batch(members) => Some(members.len()),
+    }
+}
+
+/// What is to be done for a body that is the text of a document.
+fn read_document(
+    alloc: Global,
+    request: &Request<Bytes>,
+    media: MediaType,
+) -> Result<Plan, AllocError>
+    requires { (head_of request.now).method ≡ codes "POST" }
+    ensures { IfOk result (IsPlanFor (head_of request.now).method (body_of request.now)) }
+{
+    match std::str::from_utf8(request.body().as_slice()) {
+        Ok(text) => {
+            let query = String::from_str(alloc, text)?;
+            Ok(Plan::Ask(media, RequestParts::of_document(query), true))
+        }
+        Err(_) => Ok(Plan::Refuse(Refusal::MediaType)),
+    }
+}
+
+/// What is to be done for a `GET` with this query.
+fn read_query(alloc: Global, query: &str, media: MediaType) -> Result<Plan, AllocError>
+    ensures { IfOk result (λ p. IsQueryPlan p) }
+{
+    match parts_in(alloc, parameters_in(alloc, query)?)? {
+        Ok(parts) => Ok(Plan::Ask(media, parts, false)),
+        Err(refusal) => Ok(Plan::Refuse(refusal)),
+    }
+}
