@@ -2,3 +2,4 @@ mod Ints
 mod Made
 mod Put
 mod Refused
+mod Taken

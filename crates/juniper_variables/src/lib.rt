@@ -2,7 +2,11 @@
 #![tactic(auto)]
 
 mod convert;
+mod given;
 mod numbers;
 mod read;
+#[cfg(test)]
+mod tests;
 
+pub use given::{GivenVariables, RefusedVariable, given_variables};
 pub use read::{VariablesError, read_variables};

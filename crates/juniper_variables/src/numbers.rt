@@ -48,7 +48,7 @@ fn is_wanted(wanted: Wanted, number: &Number) -> bool
 /// Whether each number in the value is what it should be.
 #[cycle(all_numbers)]
 #[tactic(auto, unfolding(crate::specs::Given::all_numbers))]
-fn all_numbers(wanted: Wanted, value: &Value) -> bool
+pub fn all_numbers(wanted: Wanted, value: &Value) -> bool
     ensures { result ≡ all_numbers (is_wanted wanted) (view value.now) }
 {
     match value {

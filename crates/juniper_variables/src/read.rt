@@ -84,7 +84,7 @@ fn values(alloc: Global, members: &Members) -> Result<Variables<DefaultScalarVal
 }
 
 /// Puts the value at the name, in place of what stood there.
-fn put(
+pub fn put(
     alloc: Global,
     made: &mut Variables<DefaultScalarValue>,
     name: &str,
