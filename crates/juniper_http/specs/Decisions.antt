@@ -17,6 +17,10 @@ use Rattle.juniper_http.specs.declared.refusal.Refusal.TheVariants as why
 abbrev pub verb_of : List ℕ → Verb
 verb_of m = if (bytes_eq m (codes "GET") || bytes_eq m (codes "HEAD")) then verb.Reads else (if bytes_eq m (codes "POST") then verb.Posts else verb.Other)
 
+-- the paths at which something is served
+abbrev pub is_known : List ℕ → Bool
+is_known path = bytes_eq path (codes "/") || bytes_eq path (codes "/graphql")
+
 -- A request that says nothing of what it takes gets GraphQL's own media type.
 abbrev pub media_of : Facts → Option MediaType
 media_of f = if f.has_accept then f.media else Some GraphqlResponse

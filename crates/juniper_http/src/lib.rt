@@ -5,6 +5,7 @@
 
 mod accept;
 mod batch;
+mod content_type;
 mod decision;
 mod endpoint;
 mod media;

@@ -3,18 +3,21 @@
 ghost use Rattle.std.specs.Prelude.{◌≡◌, IfOk, codes};
 ghost use Rattle.http.specs.Request.{body_of, head_of};
 ghost use Rattle.juniper_request.specs.Requests.{view_body};
-ghost use Rattle.juniper_http.specs.Decisions.{verb_of};
+ghost use Rattle.http_header.specs.HeaderMap.{get};
+ghost use Rattle.juniper_http.specs.ContentTypes.{IsFieldType};
+ghost use Rattle.juniper_http.specs.Decisions.{is_known, verb_of};
 ghost use Rattle.juniper_http.specs.declared.decision.Verb.TheVariants as verbs;
-ghost use Rattle.juniper_http.specs.Plans.{IsBodyPlan, IsPlan, IsPlanFor, IsQueryPlan, batch_len};
+ghost use Rattle.juniper_http.specs.Plans.{AreFacts, IsBodyPlan, IsDocumentPlan, IsJsonPlan, IsPlan, IsPlanFor, IsQueryPlan, batch_len};
 
 use crate::accept::{choose, ranges, wants_page};
+use crate::content_type::body_type;
 use crate::decision::{Body, Facts, Step, Verb, decide};
 use crate::media::MediaType;
 use crate::parameters::{parameters_in, parts_in};
 use crate::parts::RequestParts;
 use crate::refusal::Refusal;
 use bytes::Bytes;
-use http::{Request, header};
+use http::{HeaderValue, Request, header};
 use juniper_request::{GraphQLBatchRequest, RequestError, read_request};
 use std::alloc::{AllocError, Global};
 
@@ -44,18 +47,7 @@ pub enum Plan {
 pub fn plan_of(alloc: Global, request: &Request<Bytes>, limits: &Limits) -> Result<Plan, AllocError>
     ensures { IfOk result (IsPlan limits.now request.now) }
 {
-    let accept = accepted(alloc, request)?;
-    let ranges = ranges(alloc, accept.as_str())?;
-    let facts = Facts {
-        verb: verb(request.method().as_str()),
-        is_known_path: is_known(request.uri().path()),
-        has_query: request.uri().query().is_some(),
-        has_accept: !accept.is_empty(),
-        media: choose(ranges.as_slice()),
-        wants_page: wants_page(ranges.as_slice()),
-        body: type_of(request),
-        fits: request.body().len() <= limits.max_body_len,
-    };
+    let facts = facts_of(alloc, request, limits)?;
     match decide(&facts) {
         Step::ShowPage => Ok(Plan::Page),
         Step::Refuse(refusal) => Ok(Plan::Refuse(refusal)),
@@ -66,6 +58,24 @@ pub fn plan_of(alloc: Global, request: &Request<Bytes>, limits: &Limits) -> Resu
         Step::ReadJson(media) => read_json(alloc, request, limits, media),
         Step::ReadDocument(media) => read_document(alloc, request, media),
     }
+}
+
+/// What is known of a request's head.
+fn facts_of(alloc: Global, request: &Request<Bytes>, limits: &Limits) -> Result<Facts, AllocError>
+    ensures { IfOk result (AreFacts limits.now request.now) }
+{
+    let accept = accepted(alloc, request)?;
+    let ranges = ranges(alloc, accept.as_str())?;
+    Ok(Facts {
+        verb: verb(request.method().as_str()),
+        is_known_path: is_known(request.uri().path()),
+        has_query: request.uri().query().is_some(),
+        has_accept: request.headers().contains_key(header::ACCEPT) && !accept.is_empty(),
+        media: choose(ranges.as_slice()),
+        wants_page: wants_page(ranges.as_slice()),
+        body: type_of(alloc, request)?,
+        fits: request.body().len() <= limits.max_body_len,
+    })
 }
 
 /// The verb of a method.
@@ -81,7 +91,9 @@ fn verb(method: &str) -> Verb
 }
 
 /// Whether something is served at a path.
-fn is_known(path: &str) -> bool {
+fn is_known(path: &str) -> bool
+    ensures { result ≡ is_known path.now }
+{
     path == "/" || path == "/graphql"
 }
 
@@ -101,39 +113,23 @@ fn accepted(alloc: Global, request: &Request<Bytes>) -> Result<String, AllocErro
     Ok(text)
 }
 
-/// What a `content-type` says of a body: JSON, or the text of a document, in UTF-8.
-fn body_type(text: &str) -> Body {
-    let (name, parameters) = match text.split_once(';') {
-        Some((name, parameters)) => (name, parameters),
-        None => (text, ""),
-    };
-    for parameter in parameters.split(';') {
-        if let Some((name, value)) = parameter.split_once('=')
-            && name.trim().eq_ignore_ascii_case("charset")
-            && !value.trim().trim_matches('"').eq_ignore_ascii_case("utf-8")
-        {
-            return Body::Other;
-        }
-    }
-    let name = name.trim();
-    if name.eq_ignore_ascii_case("application/json") {
-        Body::Json
-    } else if name.eq_ignore_ascii_case("application/graphql") {
-        Body::Document
-    } else {
-        Body::Other
+/// What a request's `content-type` says of its body.
+fn type_of(alloc: Global, request: &Request<Bytes>) -> Result<Body, AllocError>
+    ensures { IfOk result (IsFieldType (get (head_of request.now).headers (codes "content-type"))) }
+{
+    match request.headers().get(header::CONTENT_TYPE) {
+        Some(value) => value_type(alloc, value),
+        None => Ok(Body::Other),
     }
 }
 
-/// What a request's `content-type` says of its body.
-fn type_of(request: &Request<Bytes>) -> Body {
-    let headers = request.headers();
-    let Some(value) = headers.get(header::CONTENT_TYPE) else {
-        return Body::Other;
-    };
+/// The same of the field's value.
+fn value_type(alloc: Global, value: &HeaderValue) -> Result<Body, AllocError>
+    ensures { IfOk result (IsFieldType (Some value.now)) }
+{
     match value.to_str() {
-        Ok(text) => body_type(text),
-        Err(_) => Body::Other,
+        Ok(text) => body_type(alloc, text),
+        Err(_) => Ok(Body::Other),
     }
 }
 
@@ -145,7 +141,8 @@ fn read_json(
     media: MediaType,
 ) -> Result<Plan, AllocError>
     requires { (head_of request.now).method ≡ codes "POST" }
-    ensures { IfOk result (IsPlanFor (head_of request.now).method (body_of request.now)) }
+    ensures posted { IfOk result (IsPlanFor (head_of request.now).method (body_of request.now)) }
+    ensures plan { IfOk result (IsJsonPlan limits.now media (body_of request.now)) }
 {
     match read_request(alloc, request.body().as_slice())? {
         Ok(requests) => Ok(plan_body(requests, limits, media)),
@@ -181,7 +178,8 @@ fn read_document(
     media: MediaType,
 ) -> Result<Plan, AllocError>
     requires { (head_of request.now).method ≡ codes "POST" }
-    ensures { IfOk result (IsPlanFor (head_of request.now).method (body_of request.now)) }
+    ensures posted { IfOk result (IsPlanFor (head_of request.now).method (body_of request.now)) }
+    ensures plan { IfOk result (IsDocumentPlan media (body_of request.now)) }
 {
     match std::str::from_utf8(request.body().as_slice()) {
         Ok(text) => {
@@ -194,7 +192,7 @@ fn read_document(
 
 /// What is to be done for a `GET` with this query.
 fn read_query(alloc: Global, query: &str, media: MediaType) -> Result<Plan, AllocError>
-    ensures { IfOk result (λ p. IsQueryPlan p) }
+    ensures { IfOk result (IsQueryPlan media) }
 {
     match parts_in(alloc, parameters_in(alloc, query)?)? {
         Ok(parts) => Ok(Plan::Ask(media, parts, false)),
