@@ -1,5 +1,6 @@
 -- The values of variables, one taken after another.
-use Rattle.std.proofs.Common.{◌≡◌, true, cond, List, [], ◌∷◌, ◌++◌, Option, Some, None, option_and_then, bytes_eq, string_bytes, string_cmp, nat_cmp, Less, Greater}
+use Rattle.std.proofs.Common.{◌≡◌, true, cond, List, [], ◌∷◌, ◌++◌, Option, Some, None, option_and_then, bytes_eq}
+use Rattle.std.proofs.Common.{string_bytes, string_cmp, nat_cmp, Less, Greater}
 use Rattle.std.proofs.Common.{refl, sym, ap, subst, ◌∙◌, inl, inr}
 use Rattle.std.proofs.lemmas.Bool.{cases_Bool, both_ways}
 use Rattle.std.proofs.lemmas.Cmp.{nat_list_cmp_total}
@@ -18,7 +19,8 @@ use Rattle.serde_json.specs.Data.{Data, Members, put}
 use Rattle.serde_json.specs.Find.{get_member}
 use Rattle.serde_json.specs.View.{view, members_view}
 
-below : (first : Entry) (es : List Entry) (e : Entry) (more : List Entry) → AllByRecursion (λ y. string_cmp first.0 y ≡ Less) (keys_of (es ++ e ∷ more)) → string_cmp first.0 e.0 ≡ Less
+below : (first : Entry) (es : List Entry) (e : Entry) (more : List Entry)
+    → AllByRecursion (λ y. string_cmp first.0 y ≡ Less) (keys_of (es ++ e ∷ more)) → string_cmp first.0 e.0 ≡ Less
 below first [] e more h = h.0
 below first (x ∷ es) e more h = below first es e more h.1
 

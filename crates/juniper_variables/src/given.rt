@@ -78,7 +78,8 @@ fn take(
     name: &str,
     value: &Value,
 ) -> Result<(), AllocError>
-    ensures { OnOk result (IsTakenAt name.now (view value.now) (refusal_of (view value.now)) (view_variables default_shown made.old) (view_variables default_shown made.new)) }
+    ensures { OnOk result (IsTakenAt name.now (view value.now) (refusal_of (view value.now))
+        (view_variables default_shown made.old) (view_variables default_shown made.new)) }
 {
     match refusal_of(value) {
         None => put(alloc, made, name, value),
