@@ -1,5 +1,6 @@
 -- The members of a batch, one after another.
-use Rattle.std.proofs.Common.{◌≡◌, ℕ, suc, zero, ◌<◌, ◌≤◌, ◌⊎◌, List, [], ◌∷◌, ◌++◌, length, map, take, get_or, Bool, codes, string_bytes, String, Global, Result, Ok, Err, IfOk, IfErr, IsOkAnd, append_assoc, refl, sym, ap, inl, inr, arith}
+use Rattle.std.proofs.Common.{◌≡◌, ℕ, suc, zero, ◌<◌, ◌≤◌, ◌⊎◌, List, [], ◌∷◌, ◌++◌, length, map, take, get_or, Bool, codes, string_bytes}
+use Rattle.std.proofs.Common.{String, Global, Result, Ok, Err, IfOk, IfErr, IsOkAnd, append_assoc, refl, sym, ap, inl, inr, arith}
 use Rattle.std.specs.List.{join_with_byte}
 use Rattle.std.specs.declared.alloc.AllocError.{AllocError}
 use Rattle.serde_json.specs.Data.{Data}
@@ -18,12 +19,14 @@ put_next replies (e ∷ ds) d s m t texts text h p =
     (h.0, h.1 ++ text ∷ [], h.2, rw h.3 refl, h.4, put_next replies ds d h.2 m t h.1 text h.5 p)
 
 -- the members so far, with the next
-taken : (items : List Value) (i : ℕ) (x : Value) → i < length items → x ≡ get_or items i x → map view (take (suc i) items) ≡ map view (take i items) ++ view x ∷ []
+taken : (items : List Value) (i : ℕ) (x : Value) → i < length items → x ≡ get_or items i x
+    → map view (take (suc i) items) ≡ map view (take i items) ++ view x ∷ []
 taken [] i x l e = absurd (omega arith)
 taken (v ∷ vs) zero x l e = rw e refl
 taken (v ∷ vs) (suc i) x l e = ap (λ rest. view v ∷ rest) (taken vs i x (omega arith) e)
 
-pub taken_to : (items : List Value) (i j : ℕ) (x : Value) → j ≡ suc i → i < length items → x ≡ get_or items i x → map view (take j items) ≡ map view (take i items) ++ view x ∷ []
+pub taken_to : (items : List Value) (i j : ℕ) (x : Value) → j ≡ suc i → i < length items → x ≡ get_or items i x
+    → map view (take j items) ≡ map view (take i items) ++ view x ∷ []
 taken_to items i j x n l e = rw n (taken items i x l e)
 
 -- all of them
@@ -42,7 +45,8 @@ pub join_next : (texts : List (List ℕ)) (text : List ℕ) → join_with_byte 4
 join_next [] text = refl
 join_next (x ∷ []) text = sym (append_assoc x (codes ",") text)
 join_next (x ∷ y ∷ xs) text =
-    rw (join_next (y ∷ xs) text) (rw (append_assoc x (44 ∷ join_with_byte 44 (y ∷ xs)) (codes ",")) (sym (append_assoc x ((44 ∷ join_with_byte 44 (y ∷ xs)) ++ codes ",") text)))
+    rw (join_next (y ∷ xs) text) (rw (append_assoc x (44 ∷ join_with_byte 44 (y ∷ xs)) (codes ","))
+    (sym (append_assoc x ((44 ∷ join_with_byte 44 (y ∷ xs)) ++ codes ",") text)))
 
 pub comma_next : (texts : List (List ℕ)) (text : List ℕ) → codes "," ≡ before_next (texts ++ text ∷ [])
 comma_next [] text = refl

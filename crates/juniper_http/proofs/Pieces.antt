@@ -27,5 +27,6 @@ and_true : (b : Bool) → b ≡ b && true
 and_true true = refl
 and_true false = refl
 
-pub one_passes : (test : List ℕ → Bool) (q : ℕ → Bool) (xs : List ℕ) (b : Bool) → position_or_len q xs ≡ length xs → b ≡ test xs → b ≡ list_all test (slice_split q xs)
+pub one_passes : (test : List ℕ → Bool) (q : ℕ → Bool) (xs : List ℕ) (b : Bool) → position_or_len q xs ≡ length xs → b ≡ test xs
+    → b ≡ list_all test (slice_split q xs)
 one_passes test q xs b e is = rw (one_piece q xs e) (rw is (and_true (test xs)))

@@ -122,7 +122,8 @@ impl<E: Endpoint> GraphQLService<E> {
         response: &mut Response,
     ) -> Result<(), AllocError>
         requires { response.old.body.items ≡ [] }
-        ensures ok { OnOk result (PutsOne E.replies (fields_of response.old) media (request_in (view json.now)) self.old.endpoint response.new self.new.endpoint) }
+        ensures ok { OnOk result
+            (PutsOne E.replies (fields_of response.old) media (request_in (view json.now)) self.old.endpoint response.new self.new.endpoint) }
         ensures rest { self.new ≡ record self.old { endpoint = self.new.endpoint } }
         ensures err { OnErr result (self.new ≡ self.old) }
     {

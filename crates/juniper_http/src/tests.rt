@@ -193,12 +193,11 @@ fn requests_are_answered(rt: HostRuntime) -> Result<(), Fail> {
         assert_eq!(rt; status, row.status, "at {line}");
         let media = format!(in rt.alloc(); "content-type: {};", row.media)?;
         assert!(rt; head.contains(media.as_str()), "at {line}: {head}");
-        let wanted = if row.answer == "page" {
-            PAGE
+        if row.answer == "page" {
+            assert_eq!(rt; body, PAGE, "at {line}");
         } else {
-            given(row.answer)
-        };
-        assert_eq!(rt; body, wanted, "at {line}");
+            assert_eq!(rt; body, given(row.answer), "at {line}");
+        }
     }
     Ok(())
 }

@@ -17,7 +17,8 @@ loop-member-preserved g c =
       (
         done.0 ++ put.0 ∷ [],
         rw (taken_to items l.member-index (l.member-index + 1) c.member-item.result (omega arith) c.loop-member-test.true c.member-item.is)
-            (put_next g.E.Endpoint.replies _ (view c.member-item.result) c.args.endpoint.now l.endpoint c.put_member-text.new.endpoint done.0 put.0 done.1 put.1),
+            (put_next g.E.Endpoint.replies _ (view c.member-item.result) c.args.endpoint.now l.endpoint
+            c.put_member-text.new.endpoint done.0 put.0 done.1 put.1),
         text_next l.text c.joined.result c.put_member-text.result done.0 l.separator.now put.0 done.2 done.3 c.joined.ensures put.2,
         comma_next done.0 put.0,
       ),

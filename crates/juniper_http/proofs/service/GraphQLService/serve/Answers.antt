@@ -15,8 +15,15 @@ returns-in-Refuse-clause-ok g c =
     c.refuse.ensures
 
 pub returns-in-Ask-clause-ok : goal.returns-in-Ask-clause-ok
-returns-in-Ask-clause-ok g c =
-    (c.put.new.self.endpoint, c.put.ensures.rest, (c.in_ok-plan_of.field-0, c.in_ok-plan_of.ensures, rw c.in-Ask.is (rw (sym c.request.ensures) c.put.ensures.said)))
+returns-in-Ask-clause-ok g c = (
+  c.put.new.self.endpoint,
+  c.put.ensures.rest,
+  (
+    c.in_ok-plan_of.field-0,
+    c.in_ok-plan_of.ensures,
+    rw c.in-Ask.is (rw (sym c.request.ensures) c.put.ensures.said),
+  ),
+)
 
 pub returns-in-Post-clause-ok : goal.returns-in-Post-clause-ok
 returns-in-Post-clause-ok g c =
