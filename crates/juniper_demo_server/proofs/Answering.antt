@@ -5,7 +5,6 @@ use Rattle.graphql_spec.specs.Shown.{Text, Name}
 use Rattle.graphql_spec.specs.ExactAnswers.{IsExactOutcome}
 use Rattle.graphql_spec.specs.Inputs.{Variables}
 use Rattle.graphql_spec.specs.Schema.{Schema}
-use Rattle.graphql_spec.specs.Executable.{IsSameSchema}
 use Rattle.graphql_spec.specs.Introspection.{RootedNode, rooted_service}
 use Rattle.graphql_spec.specs.Outcomes as outcome
 use Rattle.graphql_spec.specs.Outcomes.{Becomes, Request, Response, Service, Steps, refuses, responds}
@@ -22,7 +21,7 @@ use Rattle.juniper_syntax.specs.declared.scalar.DefaultScalarValue.{DefaultScala
 use Rattle.juniper_syntax.specs.declared.value.Value.{Value}
 use Rattle.juniper_demo_server.specs.Answers.{IsAnswerWith, MayLeave, ShowsData, ShowsRefusal, demo_steps}
 use Rattle.juniper_demo_server.specs.Demo.{concrete_type, reply}
-use Rattle.juniper_demo_server.specs.DemoSchema.{demo_schema}
+use Rattle.juniper_demo_server.specs.DemoSchema.{IsDemoSchema}
 use Rattle.juniper_demo_server.specs.declared.demo.DemoContext.{DemoContext}
 use Rattle.juniper_demo_server.specs.declared.demo.DemoNode.{DemoNode}
 use Rattle.juniper_demo_server.specs.declared.demo.DemoNode.TheVariants.{Query}
@@ -75,7 +74,7 @@ module _ (t : Text) (c after : DemoContext) where
   abbrev asked : Option Name → Variables → Request
   asked n vars = record { text = t; operation = n; variables = vars }
 
-  shown : (n : Option Name) (vars : Variables) (s : Schema) → IsSameSchema demo_schema s → (o : Outcome) (a : Answer) →
+  shown : (n : Option Name) (vars : Variables) (s : Schema) → IsDemoSchema s → (o : Outcome) (a : Answer) →
       Comes Query (Some demo_steps) false s (asked n vars) c after o
       → IsShown o a → IsAnswerWith t n vars c a after
   shown n vars s same (Ok p) a comes shows = (s, same, inl (_, _, comes, shows))
@@ -93,7 +92,7 @@ module _ (t : Text) (c after : DemoContext) where
 
   pub request_answered : (n l : Option Name) (vars : Variables) (m : DemoNode) (x : Option (Steps DemoContext DemoNode)) (b : Bool) (s : Schema) (o : Outcome)
       (a : Answer) → l ≡ n → m ≡ Query
-      → x ≡ Some demo_steps → b ≡ false → IsSameSchema demo_schema s → ComesFull m x b s (asked l vars) c after o → IsShown o a →
+      → x ≡ Some demo_steps → b ≡ false → IsDemoSchema s → ComesFull m x b s (asked l vars) c after o → IsShown o a →
       IsAnswerWith t n vars c a after
   request_answered n l vars m x b s o a is_name is_root steps enabled same comes shows =
       shown n vars s same o a (of_demo n l vars m x b s o is_name is_root steps enabled (comes-exact m x b s (asked l vars) c after o comes)) shows
@@ -110,7 +109,7 @@ module _ (t : Text) (c after : DemoContext) where
   responded P no_mutation_type (r, is, p) = (refuses r, p)
   responded P (variable_not_constant n) (r, is, p) = (refuses r, p)
 
-  left : (n : Option Name) (vars : Variables) (s : Schema) → IsSameSchema demo_schema s → (o : Outcome) →
+  left : (n : Option Name) (vars : Variables) (s : Schema) → IsDemoSchema s → (o : Outcome) →
       Comes Query (Some demo_steps) false s (asked n vars) c after o
       → MayLeave t n vars c after
   left n vars s same (Ok p) comes = inr (s, same, (responds (view_value default_shown p.0) (map (view_listed default_shown) p.1.items), comes))
@@ -120,6 +119,6 @@ module _ (t : Text) (c after : DemoContext) where
   -- and where it cannot be shown, the context is that after an outcome
   pub request_left : (n l : Option Name) (vars : Variables) (m : DemoNode) (x : Option (Steps DemoContext DemoNode)) (b : Bool) (s : Schema) (o : Outcome) →
       l ≡ n → m ≡ Query
-      → x ≡ Some demo_steps → b ≡ false → IsSameSchema demo_schema s → ComesFull m x b s (asked l vars) c after o → MayLeave t n vars c after
+      → x ≡ Some demo_steps → b ≡ false → IsDemoSchema s → ComesFull m x b s (asked l vars) c after o → MayLeave t n vars c after
   request_left n l vars m x b s o is_name is_root steps enabled same comes =
       left n vars s same o (of_demo n l vars m x b s o is_name is_root steps enabled (comes-exact m x b s (asked l vars) c after o comes))

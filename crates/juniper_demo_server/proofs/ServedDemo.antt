@@ -15,7 +15,7 @@ use Rattle.graphql_spec.specs.Executable.{implements_field, values_of, input_fie
 use Rattle.graphql_spec.specs.Executable.{no_declarations, is_typename_field, input_is_free, field_is_free, is_own_name, entry_is_named, entries_are_named}
 use Rattle.graphql_spec.specs.Executable.{mutation_is_apart, roots_are_objects, ends_in_output, ends_in_input, field_is_known, types_are_known}
 use Rattle.graphql_spec.specs.Executable.{input_names_differ, is_value_name, entry_names_differ, all_names_differ, implements, interfaces_are_met}
-use Rattle.graphql_spec.specs.Executable.{default_is_right, defaults_fit, accepts_just, scalar_if_there, built_ins_are_right, is_executable, IsSameSchema}
+use Rattle.graphql_spec.specs.Executable.{default_is_right, defaults_fit, accepts_just, scalar_if_there, built_ins_are_right, is_executable}
 use Rattle.graphql_spec.proofs.Lists.{same_true}
 use Rattle.juniper_meta.specs.MetaView.{is_placeholder}
 use Rattle.juniper_intro.specs.Roots.{IsSchemaOf, Makes}
@@ -25,7 +25,7 @@ use Rattle.juniper_declared.specs.Data.{Declarations, collide, nowhere, with_all
 use Rattle.juniper_registry.specs.Entries.{Table}
 use Rattle.juniper_schema.specs.SchemaView.{with_built_ins}
 use Rattle.juniper_words.specs.Served.{Serves}
-use Rattle.juniper_demo_server.specs.DemoSchema.{demo_schema}
+use Rattle.juniper_demo_server.specs.DemoSchema.{IsDemoSchema, demo_schema}
 use Rattle.juniper_demo_server.specs.DemoTypes.{demo_declarations}
 use Rattle.juniper_demo_server.proofs.RegisteredTypes.{apart, demo_types, gathered_at}
 
@@ -69,12 +69,14 @@ name_or_empty None = []
 name_or_empty (Some n) = n
 
 -- a schema that is made of the demo's types is the demo's
-made_is_same : (types : Table) (s : Schema) → IsDemo types → IsSchemaOf types (Some (codes "Query")) (Some (codes "Mutation")) s →
-    IsSameSchema demo_schema s
-made_is_same types s at made = record {
-  entries = λ n. sym (made.held n ∙ (ap (with_built_ins n) (at n) ∙ completed n));
-  query = ap name_or_empty made.query_is;
-  mutation = ap (option_and_then (λ m. m)) made.mutation_is;
+made_is_demo : (types : Table) (s : Schema) → IsDemo types → IsSchemaOf types (Some (codes "Query")) (Some (codes "Mutation")) s → IsDemoSchema s
+made_is_demo types s at made = record {
+  same = record {
+    entries = λ n. sym (made.held n ∙ (ap (with_built_ins n) (at n) ∙ completed n));
+    query = ap name_or_empty made.query_is;
+    mutation = ap (option_and_then (λ m. m)) made.mutation_is;
+  };
+  distinct = made.distinct;
 }
 
 -- the demo's schema is one that is made so
@@ -94,9 +96,9 @@ demo_at ds is n = ap (λ (from : Declarations). with_all from nowhere n) is ∙ 
 
 module _ {A : Type 0} (schema : A → Schema) (ds : Declarations) (is : ds ≡ demo_declarations) where
   -- a root over them has the demo's schema
-  pub served_is_same : (r : Result A RootError) → Serves schema ds (codes "Mutation") r → IfOk r (λ root. IsSameSchema demo_schema (schema root))
-  served_is_same (Ok root) made = made_is_same (with_all ds nowhere) (schema root) (demo_at ds is) made.1.0
-  served_is_same (Err e) refused = tt
+  pub served_is_demo : (r : Result A RootError) → Serves schema ds (codes "Mutation") r → IfOk r (λ root. IsDemoSchema (schema root))
+  served_is_demo (Ok root) made = made_is_demo (with_all ds nowhere) (schema root) (demo_at ds is) made.1.0
+  served_is_demo (Err e) refused = tt
 
   -- and is refused for want of memory alone
   pub unserved_for_memory : (r : Result A RootError) → Serves schema ds (codes "Mutation") r → IfErr r (λ e. e ≡ Memory)

@@ -6,7 +6,6 @@ use Rattle.graphql_spec.specs.Inputs.{Variables}
 use Rattle.graphql_spec.specs.Errors.{Listed}
 use Rattle.graphql_spec.specs.ExactAnswers.{IsExactOutcome}
 use Rattle.graphql_spec.specs.Schema.{Schema}
-use Rattle.graphql_spec.specs.Executable.{IsSameSchema}
 use Rattle.graphql_spec.specs.Introspection.{RootedNode, rooted_service}
 use Rattle.graphql_spec.specs.Outcomes.{Request, Response, Service, Steps, responds}
 use Rattle.juniper.specs.Answering.{Responds}
@@ -16,7 +15,7 @@ use Rattle.juniper_variables.specs.Given.{variables_by}
 use Rattle.juniper_variables.specs.declared.read.VariablesError.{VariablesError}
 use Rattle.juniper_variables.specs.declared.read.VariablesError.TheVariants.{NotAnObject, Float, OutOfRange}
 use Rattle.juniper_demo_server.specs.Demo.{concrete_type, reply, step, torn}
-use Rattle.juniper_demo_server.specs.DemoSchema.{demo_schema}
+use Rattle.juniper_demo_server.specs.DemoSchema.{IsDemoSchema}
 use Rattle.juniper_demo_server.specs.declared.demo.DemoContext.{DemoContext}
 use Rattle.juniper_demo_server.specs.declared.demo.DemoNode.{DemoNode}
 use Rattle.juniper_demo_server.specs.declared.demo.DemoNode.TheVariants.{Query}
@@ -78,13 +77,13 @@ IsAnswerOn s q c a after =
     ((v : Value) × (es : List Listed) × IsExactOutcome (demo_service s) q c (responds v es) after × ShowsData v es a)
     ⊎ ((e : RequestError) × Responds (λ r. IsExactOutcome (demo_service s) q c r after) e × ShowsRefusal e a)
 
--- the same on the demo's schema, in whatever order it has its types
+-- the same on a schema with the demo's types, each once and in whatever order
 abbrev pub IsAnswerWith : Text → Option Name → Variables → DemoContext → Answer → DemoContext → Type 0
-IsAnswerWith t n vars c a after = (s : Schema) × IsSameSchema demo_schema s × IsAnswerOn s (record { text = t; operation = n; variables = vars }) c a after
+IsAnswerWith t n vars c a after = (s : Schema) × IsDemoSchema s × IsAnswerOn s (record { text = t; operation = n; variables = vars }) c a after
 
 -- a context that the request may leave where memory is wanting: the one before, or that after an outcome of the request (6.1)
 abbrev pub MayLeave : Text → Option Name → Variables → DemoContext → DemoContext → Type 0
-MayLeave t n vars c after = (after ≡ c) ⊎ ((s : Schema) × IsSameSchema demo_schema s
+MayLeave t n vars c after = (after ≡ c) ⊎ ((s : Schema) × IsDemoSchema s
     × ((r : Response) × IsExactOutcome (demo_service s) (record { text = t; operation = n; variables = vars }) c r after))
 
 -- with the values of variables, if there are any

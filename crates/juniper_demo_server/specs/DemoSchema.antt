@@ -1,5 +1,6 @@
 -- The demo's schema (3).
-use Rattle.std.specs.Prelude.{codes, true, false, ◌∷◌, map, Some}
+use Rattle.std.specs.Prelude.{◌≡◌, codes, true, false, ◌∷◌, map, Some}
+use Rattle.graphql_spec.specs.Executable.{IsSameSchema, names_differ}
 use Rattle.graphql_spec.specs.Schema.{Schema}
 use Rattle.juniper_meta.specs.MetaView.{entry_at}
 use Rattle.juniper_schema.specs.SchemaView.{built_in}
@@ -13,3 +14,8 @@ demo_schema = record {
   query = codes "Query";
   mutation = Some (codes "Mutation");
 }
+
+-- a schema with these types, each once and in whatever order (3.3)
+pub record IsDemoSchema (s : Schema) : Type 0 where
+  pub same : IsSameSchema demo_schema s
+  pub distinct : names_differ (map (λ e. e.key) s.entries) ≡ true

@@ -12,7 +12,7 @@ returns-in-Err-show c =
     request_left c.args.text.now c.args.context.now _ (name_in c.args.name.now) (option_map (λ n. n.now) c.operation_name-name.result)
     (view_variables default_shown c.args.variables.now)
     _ _ _ (view_schema default_shown (schema_of c.in-Ok.root)) c.execute_sync-outcome.result c.operation_name-name.ensures refl
-    (ap (option_map _) (sym c.in-Ok.ensures.schema.mutation)) c.in-Ok.ensures.introspection c.in-Ok.ensures.schema c.execute_sync-outcome.ensures
+    (ap (option_map _) (sym c.in-Ok.ensures.schema.same.mutation)) c.in-Ok.ensures.introspection c.in-Ok.ensures.schema c.execute_sync-outcome.ensures
 
 pub returns : goal.returns
 returns c =
@@ -20,5 +20,5 @@ returns c =
     (view_variables default_shown c.args.variables.now)
     _ _ _ (view_schema default_shown (schema_of c.in-Ok.root)) c.execute_sync-outcome.result c.in-Ok-show.answer c.operation_name-name.ensures
     refl
-    (ap (option_map _) (sym c.in-Ok.ensures.schema.mutation)) c.in-Ok.ensures.introspection c.in-Ok.ensures.schema c.execute_sync-outcome.ensures
+    (ap (option_map _) (sym c.in-Ok.ensures.schema.same.mutation)) c.in-Ok.ensures.introspection c.in-Ok.ensures.schema c.execute_sync-outcome.ensures
     c.in-Ok-show.ensures
