@@ -1,0 +1,2 @@
+pub mod DemoLine
+pub mod ReadBack
