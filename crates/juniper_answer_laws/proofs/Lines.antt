@@ -17,8 +17,8 @@ use Rattle.juniper.specs.RequestErrors.{RequestError}
 use Rattle.juniper.proofs.Ending.{requests-end}
 use Rattle.graphql_spec.specs.OutcomeExists.{Answers}
 use Rattle.serde_json.proofs.OnLiterals.{serde_json_on_literals}
-use Rattle.juniper_response.specs.AnswerText.{answer_text, value_data, values_data, entries_data, scalar_data, items_data, step_data, location_data}
-use Rattle.juniper_response.specs.AnswerText.{extensions_data, error_data, errors_data, answer_data}
+use Rattle.juniper_json.specs.AnswerText.{answer_text, value_data, values_data, entries_data, scalar_data, items_data, step_data, location_data}
+use Rattle.juniper_json.specs.AnswerText.{extensions_data, error_data, errors_data, answer_data}
 use Rattle.juniper_demo_server.specs.Answers.{ShowsRefusal, demo_service, demo_steps, no_values}
 use Rattle.juniper_demo_server.specs.Demo.{concrete_type, reply}
 use Rattle.juniper_demo_server.specs.DemoSchema.{IsDemoSchema, demo_schema}

@@ -9,7 +9,7 @@ use Rattle.graphql_spec.specs.Outcomes.{Request, Response, refuses, responds, ou
 use Rattle.graphql_spec.specs.ExactAnswers.{IsExactOutcome}
 use Rattle.juniper.specs.Promised.{IsFullOutcome}
 use Rattle.juniper.specs.RequestErrors as error
-use Rattle.juniper_response.specs.AnswerText.{answer_text}
+use Rattle.juniper_json.specs.AnswerText.{answer_text}
 use Rattle.juniper_demo_server.specs.Answers.{IsAnswerTo, ShowsRefusal, demo_service}
 use Rattle.juniper_demo_server.specs.DemoSchema.{IsDemoSchema, demo_schema}
 use Rattle.juniper_demo_server.specs.declared.demo.DemoContext.{DemoContext}

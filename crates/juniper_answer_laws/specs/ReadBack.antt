@@ -9,7 +9,7 @@ use Rattle.json.specs.Lex.{tokens}
 use Rattle.json.specs.Json.{Json, null, boolean as truth, number, string, array, object, Items, no_items, item, Members, no_members, member, value}
 use Rattle.json.specs.Find.{as_number, as_str, get}
 use Rattle.json.specs.Tree.{depth}
-use Rattle.juniper_response.specs.AnswerText.{answer_text}
+use Rattle.juniper_json.specs.AnswerText.{answer_text}
 
 -- the text is that of this JSON value: where brackets may be open as deep as in the value, it is read as the value, and nothing is left
 abbrev pub IsJsonOf : Text → Json → Type 0

@@ -10,10 +10,10 @@ use Rattle.graphql_spec.specs.Introspection.{RootedNode, rooted_service}
 use Rattle.graphql_spec.specs.Outcomes.{Request, Response, Service, Steps, responds}
 use Rattle.juniper.specs.Answering.{Responds}
 use Rattle.juniper.specs.RequestErrors.{RequestError, request_error_text}
-use Rattle.juniper_response.specs.AnswerText.{answer_text}
-use Rattle.juniper_variables.specs.Given.{variables_by}
-use Rattle.juniper_variables.specs.declared.read.VariablesError.{VariablesError}
-use Rattle.juniper_variables.specs.declared.read.VariablesError.TheVariants.{NotAnObject, Float, OutOfRange}
+use Rattle.juniper_json.specs.AnswerText.{answer_text}
+use Rattle.juniper_json.specs.Given.{variables_by}
+use Rattle.juniper_json.specs.declared.read.VariablesError.{VariablesError}
+use Rattle.juniper_json.specs.declared.read.VariablesError.TheVariants.{NotAnObject, Float, OutOfRange}
 use Rattle.juniper_demo_server.specs.Demo.{concrete_type, reply, step, torn}
 use Rattle.juniper_demo_server.specs.DemoSchema.{IsDemoSchema}
 use Rattle.juniper_demo_server.specs.declared.demo.DemoContext.{DemoContext}

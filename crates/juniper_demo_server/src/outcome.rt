@@ -8,7 +8,7 @@ ghost use Rattle.juniper_syntax.specs.ValueView.{view_value};
 ghost use Rattle.juniper_demo_server.specs.Answers.{ShowsData, ShowsRefusal};
 
 use juniper::{DefaultScalarValue, ExecutionError, GraphQLError, Value};
-use juniper_response::answer_line;
+use juniper_json::answer_line;
 use std::alloc::{AllocError, Global};
 
 /// The data and the errors of a request, or why it has none.

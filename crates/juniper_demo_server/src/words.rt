@@ -3,7 +3,7 @@
 ghost use Rattle.std.specs.Prelude.{◌≡◌, IfOk, MatchResult, codes, map, option_map, string_bytes};
 ghost use Rattle.juniper_syntax.specs.InputView.{view_variables};
 ghost use Rattle.juniper_syntax.specs.Scalars.{default_shown};
-ghost use Rattle.juniper_variables.specs.Given.{variables_by};
+ghost use Rattle.juniper_json.specs.Given.{variables_by};
 ghost use Rattle.juniper_demo_server.specs.Answers.{IsAnswerGiven, IsAnswerTo, IsAnswerWith, IsRefusal, IsUsage, MayBeLeftBy, MayLeave, MayLeaveGiven, name_in};
 ghost use Rattle.juniper_demo_server.specs.Answers.{no_values, variables_text};
 
@@ -11,7 +11,7 @@ use crate::demo::DemoContext;
 use crate::outcome::{Answer, show};
 use crate::schema::demo_root;
 use juniper::{DefaultScalarValue, Variables, execute_sync};
-use juniper_variables::{VariablesError, read_variables};
+use juniper_json::{VariablesError, read_variables};
 use std::alloc::{AllocError, Global};
 
 /// What the program answers to its words: the text of a request to the demo, the name of an operation, where an empty one

@@ -11,7 +11,7 @@ mod types;
 use catalogue::{Book, Entry, Genre, Library};
 use juniper::words::served;
 use juniper::{DefaultScalarValue, Variables, execute_sync};
-use juniper_response::response_line;
+use juniper_json::response_line;
 use resolvers::{Mutation, Query};
 use std::alloc::{AllocError, Global};
 use std::{env, io};

@@ -11,7 +11,7 @@ use juniper::words::{
     served_query, text,
 };
 use juniper::{Arguments, DefaultScalarValue, Executor, ScalarValue, Variables, execute_sync};
-use juniper_response::response_line;
+use juniper_json::response_line;
 use std::alloc::{AllocError, Global};
 use std::io;
 

@@ -7,7 +7,7 @@ use crate::sights::{push_seen, saw_as_told};
 use crate::table::Request;
 use crate::variables::variables_of;
 use juniper::{EmptySubscription, GraphQLError, RootError, RootNode, Variables, execute_sync};
-use juniper_response::answer_line;
+use juniper_json::answer_line;
 use juniper_schema_text::{Declarations, Scalar, read_declarations};
 use std::alloc::{AllocError, Global};
 use std::fmt;

@@ -10,7 +10,7 @@ pub fn variables_of(alloc: Global, text: &str) -> Option<Variables<Scalar>> {
     if text.is_empty() {
         return Some(Variables::new(alloc));
     }
-    match juniper_variables::read_variables(alloc, text) {
+    match juniper_json::read_variables(alloc, text) {
         Ok(Ok(variables)) => Some(variables),
         Ok(Err(_)) | Err(_) => None,
     }

@@ -4,8 +4,8 @@ use juniper::{
     DefaultScalarValue, ExecutionError, FieldError, GraphQLError, Object, PathPart, RootError,
     RuleError, Value,
 };
+use juniper_json::answer_line;
 use juniper_language::{ParseError, SourcePosition, Span, Spanning};
-use juniper_response::answer_line;
 use std::alloc::{AllocError, AllocFailed, Global};
 use std::test::Fail;
 

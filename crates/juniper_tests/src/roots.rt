@@ -9,8 +9,8 @@ use juniper::{
 use juniper_demo_server::{
     CELL, CHARACTER, DROID, Demo, DemoContext, DemoNode, EPISODES, HUMAN, QUERY,
 };
+use juniper_json::answer_line;
 use juniper_language_tests::scalar::TestScalar;
-use juniper_response::answer_line;
 use std::alloc::{AllocError, Global};
 
 /// The demo's root without its mutations.

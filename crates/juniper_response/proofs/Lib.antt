@@ -1,6 +1,0 @@
-pub mod Floatless
-pub mod Members
-pub mod Refused
-pub mod Scalars
-pub mod Sending
-pub mod Sizes

@@ -1,7 +1,0 @@
--- The events that are sent are those of the answer, which has no floats, so the text is known.
-use Rattle.serde_json.proofs.FreeTexts.{text_of_value}
-use Rattle.juniper_response.proofs.Floatless.{answer_has_none}
-use Rattle.juniper_response.proofs.line.answer_line.Goals as goal
-
-pub returns-in-Ok : goal.returns-in-Ok
-returns-in-Ok g c = let h = c.in-Ok.ensures.events in text_of_value _ h.0 _ h.1 h.2 (answer_has_none _ _)

@@ -1,3 +1,0 @@
-pub mod AnswerText
-pub mod RefusalText
-pub mod Refusals

@@ -1,5 +1,0 @@
-mod Ints
-mod Made
-mod Put
-mod Refused
-mod Taken
