@@ -299,14 +299,22 @@ fn field_type(alloc: Global, root: &DemoRoot, case: &str) -> Result<String, Allo
     }
 }
 
+/// The first of these rows that tells another type; nothing where there is none.
+fn first_other<'r>(alloc: Global, root: &DemoRoot, rows: &'r str) -> Result<&'r str, AllocError> {
+    for row in rows.lines() {
+        let (case, told) = row.split_once(" => ").unwrap_or((row, ""));
+        if field_type(alloc, root, case)?.as_str() != told {
+            return Ok(row);
+        }
+    }
+    Ok("")
+}
+
 #[test]
 fn fields_are_found_by_name(rt: HostRuntime) -> Result<(), Fail> {
     let root = made_root(rt.alloc())?;
-    for row in FIELDS.lines() {
-        let case = row.split_once(" => ").map_or("", |(case, _)| case);
-        let found = field_type(rt.alloc(), &root, case)?;
-        let found = format!(in rt.alloc(); "{case} => {found}")?;
-        assert_eq!(rt; found.as_str(), row);
-    }
+    assert_eq!(rt; first_other(rt.alloc(), &root, FIELDS)?, "");
+    let wrong = "Query.id => ID";
+    assert_eq!(rt; first_other(rt.alloc(), &root, wrong)?, wrong);
     Ok(())
 }

@@ -179,13 +179,20 @@ fn extended_line(alloc: Global, case: &str) -> Result<String, AllocError> {
     answer_line(alloc, &Value::Null, &[made])
 }
 
+/// The first of these rows that tells another line than the one that is printed; nothing where there is none.
+fn first_other_line<'r>(alloc: Global, rows: &'r str) -> Result<&'r str, AllocError> {
+    for row in rows.lines() {
+        let (case, line) = row.split_once(" => ").unwrap_or((row, ""));
+        if extended_line(alloc, case)?.as_str() != line {
+            return Ok(row);
+        }
+    }
+    Ok("")
+}
+
 #[test]
 fn extensions_are_printed(rt: HostRuntime) -> Result<(), Fail> {
-    for row in EXTENDED.lines() {
-        let case = row.split_once(" => ").map_or("", |(case, _)| case);
-        let line = extended_line(rt.alloc(), case)?;
-        let found = format!(in rt.alloc(); "{case} => {line}")?;
-        assert_eq!(rt; found.as_str(), row);
-    }
+    assert_eq!(rt; first_other_line(rt.alloc(), EXTENDED)?, "");
+    assert_eq!(rt; first_other_line(rt.alloc(), "7 => {}")?, "7 => {}");
     Ok(())
 }
