@@ -256,7 +256,8 @@ module _ (m : Measure) (most : ℕ) (fs : List Fragment) where
         (subst (AreCounted kept) (sym (append-nil t.before) ∙ (ap (λ l. t.before ++ map view l) (sym (drop_all i xs past)) ∙ t.all)) t.counted) o
 
   pub to-next : {A : Type 0} (view : A → Fragment) (xs : List A) (kept now : Name → Option ℕ) (i : ℕ) (x : A) → i < length xs → x ≡ get_or xs i x →
-      ((k : Name) → now k ≡ cond (bytes_eq (view x).name.item k) (Some (min most (put_in m (number_by m (weight_at most fs kept) (view x).selections)))) (kept k)) →
+      ((k : Name) → now k ≡ cond (bytes_eq (view x).name.item k) (Some (min most (put_in m (number_by m (weight_at most fs kept) (view x).selections))))
+      (kept k)) →
       IsCountedTo view xs kept i → IsCountedTo view xs now (i + 1)
   to-next view xs kept now i x below at is t =
       let e = seen-left-is view xs i x below at in
