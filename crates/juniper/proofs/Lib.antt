@@ -10,6 +10,7 @@ mod ToldFirsts
 mod SeenFailures
 mod FullOutcomes
 pub mod Headlines
+mod Objecting
 pub mod Ending
 pub mod Asked
 pub mod RootOutcomes

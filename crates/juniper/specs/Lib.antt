@@ -3,6 +3,8 @@ pub mod Choices
 pub mod Ends
 pub mod Formats
 pub mod Headline
+pub mod Objections
+pub mod PreparedView
 pub mod Promised
 pub mod Questions
 pub mod RequestErrors

@@ -1,0 +1,29 @@
+-- How a prepared document is seen.
+use Rattle.std.specs.declared.cmp.PartialEq.{Ghosts as Equality}
+use Rattle.std.specs.declared.fmt.Debug.{Ghosts as Shows}
+use Rattle.graphql_spec.specs.Documents.{Document}
+use Rattle.graphql_spec.specs.Shown.{Shown, Text}
+use Rattle.juniper_intro.specs.declared.root.RootNode.{RootNode}
+use Rattle.juniper_registry.specs.declared.graphql_type.GraphQLReference.{Ghosts as References}
+use Rattle.juniper_registry.specs.declared.graphql_type.GraphQLType.{Ghosts as Types}
+use Rattle.juniper_syntax.specs.DocumentView.{view_document}
+use Rattle.juniper_syntax.specs.declared.scalar.ScalarValue.{Ghosts as Scalars}
+use Rattle.juniper_types.specs.declared.resolver.GraphQLValue.{Ghosts as Values}
+use Rattle.juniper.specs.declared.prepared.Prepared.{Prepared}
+
+module _ {Q M Sub S C N I J K : Type 0} {values : Values Q S C N I} {query : Types Q S I} {query_ref : References Q S I} {mutation : Types M S J}
+    {mutation_ref : References M S J} {subscription : Types Sub S K} {subscription_ref : References Sub S K}
+    {scalar : Scalars S} {equality : Equality S} {shows : Shows S} where
+  -- the root that it is valid for
+  abbrev pub root_of : Prepared Q M Sub S C N I J K values query query_ref mutation mutation_ref subscription subscription_ref scalar equality shows →
+      RootNode Q M Sub S C N I J K values query query_ref mutation mutation_ref subscription subscription_ref scalar equality shows
+  root_of p = p.root.now
+
+  -- its text
+  abbrev pub source_of : Prepared Q M Sub S C N I J K values query query_ref mutation mutation_ref subscription subscription_ref scalar equality shows → Text
+  source_of p = p.text.now
+
+  -- its document
+  abbrev pub document_of : (S → Shown) →
+      Prepared Q M Sub S C N I J K values query query_ref mutation mutation_ref subscription subscription_ref scalar equality shows → Document
+  document_of shown p = view_document shown p.document

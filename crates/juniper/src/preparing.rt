@@ -1,0 +1,156 @@
+//! Documents are read and validated once, and executed often (section 6.1 of the Specification).
+
+ghost use Rattle.std.specs.Prelude.{◌≡◌, Bool, MatchResult, Some, nat_lt};
+ghost use Rattle.std.specs.List.{list_any};
+ghost use Rattle.graphql_spec.specs.Outcomes.{Reads};
+ghost use Rattle.graphql_spec.specs.Schema.{Schema};
+ghost use Rattle.juniper_syntax.specs.DocumentView.{view_document};
+ghost use Rattle.juniper_schema.specs.SchemaView.{view_schema};
+ghost use Rattle.juniper_intro.specs.RootView.{is_disabled, schema_of};
+ghost use Rattle.juniper.specs.Answering.{AnswersAs, request_of};
+ghost use Rattle.juniper.specs.Objections.{IsAccepted, IsWithin, Objects};
+ghost use Rattle.juniper.specs.PreparedView.{document_of, root_of, source_of};
+ghost use Rattle.juniper.specs.Promised.{IsFullOutcome};
+ghost use Rattle.juniper.specs.RootView.{service_of};
+
+use crate::error::GraphQLError;
+use crate::execute::execute_validated_query;
+use crate::prepared::{Bounds, Objection, Prepared};
+use crate::request::{check_variables, get_operation};
+use juniper_expanded_fields::{Counts, expanded_counts};
+use juniper_intro::RootNode;
+use juniper_language::{Document, ScalarValue, Value, Variables, parse_document_source};
+use juniper_rules::validate;
+use juniper_types::{GraphQLMutationValue, GraphQLType, GraphQLValue};
+use juniper_values::ExecutionError;
+use std::alloc::Global;
+
+/// Reads a text within bounds.
+fn read_within<'a, S: ScalarValue>(
+    alloc: Global,
+    text: &'a str,
+    bounds: &Bounds,
+) -> Result<Document<'a, S>, Objection>
+    ensures { MatchResult result
+        (λ d. IsWithin bounds.now text.now (view_document S.shown d))
+        (λ e. (s : Schema) (disabled : Bool) → Objects bounds.now text.now s disabled e) }
+{
+    if text.len() > bounds.bytes {
+        return Err(Objection::TooLong);
+    }
+    let document: Document<'a, S> = match parse_document_source(alloc, text) {
+        Err(error) => return Err(Objection::Refused(GraphQLError::from(error))),
+        Ok(document) => document,
+    };
+    let counts = match expanded_counts(alloc, document.as_slice()) {
+        Err(_) => return Err(Objection::Refused(GraphQLError::OutOfMemory)),
+        Ok(counts) => counts,
+    };
+    if has_more_fields(counts.as_slice(), bounds.fields) {
+        return Err(Objection::TooManyFields);
+    }
+    if has_more_levels(counts.as_slice(), bounds.levels) {
+        return Err(Objection::TooDeep);
+    }
+    Ok(document)
+}
+
+/// Whether an operation has more fields.
+fn has_more_fields(counts: &[Counts], most: u64) -> bool
+    ensures { result ≡ list_any (λ c. nat_lt most c.fields) counts.now }
+{
+    counts.iter().any(|count| count.fields > most)
+}
+
+/// Whether an operation has more levels.
+fn has_more_levels(counts: &[Counts], most: u64) -> bool
+    ensures { result ≡ list_any (λ c. nat_lt most c.levels) counts.now }
+{
+    counts.iter().any(|count| count.levels > most)
+}
+
+/// Prepares a text for the requests that execute its operations on a root: reads it and validates it, within bounds. What is against it
+/// is told by an [`Objection`], of these the first:
+///
+/// - [`Objection::TooLong`] exactly where it has more bytes than the bounds;
+/// - [`Objection::Refused`] where it is no document (2), with the error that [`crate::request::execute_sync`] answers;
+/// - [`Objection::TooManyFields`] where an operation has more fields than the bounds, whichever a request may name;
+/// - [`Objection::TooDeep`] where one has more levels;
+/// - [`Objection::Refused`] where the document breaks rules (5), with the errors that [`crate::request::execute_sync`] answers.
+///
+/// [`GraphQLError::OutOfMemory`] may stand in place of each but the first.
+pub fn prepare<'r, 'a, Q: GraphQLValue<S>, M: GraphQLType<S>, Sub: GraphQLType<S>, S: ScalarValue>(
+    alloc: Global,
+    root: &'r RootNode<Q, M, Sub, S>,
+    text: &'a str,
+    bounds: &Bounds,
+) -> Result<Prepared<'r, 'a, Q, M, Sub, S>, Objection>
+    ensures { MatchResult result
+        (λ p. (root_of p ≡ root.now) × (source_of p ≡ text.now)
+        × IsAccepted bounds.now text.now (view_schema S.shown (schema_of root.now)) (is_disabled root.now) (document_of S.shown p))
+        (λ e. Objects bounds.now text.now (view_schema S.shown (schema_of root.now)) (is_disabled root.now) e) }
+{
+    let document = match read_within(alloc, text, bounds) {
+        Err(objection) => return Err(objection),
+        Ok(document) => document,
+    };
+    match validate(
+        alloc,
+        &document,
+        root.schema(),
+        root.is_introspection_disabled(),
+    ) {
+        Err(_) => Err(Objection::Refused(GraphQLError::OutOfMemory)),
+        Ok(errors) => {
+            if errors.is_empty() {
+                Ok(Prepared {
+                    root,
+                    text,
+                    document,
+                })
+            } else {
+                Err(Objection::Refused(GraphQLError::from(errors)))
+            }
+        }
+    }
+}
+
+/// Executes an operation of a prepared document, with these values of its variables: answers what [`crate::request::execute_sync`]
+/// answers to its text on its root, without reading or validating anew, and leaves the context as that does.
+pub fn execute_prepared<
+    Q: GraphQLValue<S>,
+    M: GraphQLMutationValue<S, Context = Q::Context, Node = Q::Node>,
+    Sub: GraphQLType<S>,
+    S: ScalarValue,
+>(
+    alloc: Global,
+    prepared: &Prepared<'_, '_, Q, M, Sub, S>,
+    operation_name: Option<&str>,
+    variables: &Variables<S>,
+    context: &mut Q::Context,
+) -> Result<(Value<S>, Vec<ExecutionError<S>>), GraphQLError>
+    ensures { Reads (source_of prepared.now) (Some (document_of S.shown prepared.now)) → AnswersAs S.shown
+        (λ r. IsFullOutcome (service_of Q.concrete Q.answer Q.root M.step M.torn S.shown (root_of prepared.now))
+        (request_of S.shown (source_of prepared.now) operation_name.entry variables.now) context.old r context.new) result }
+{
+    let root = prepared.root;
+    let operation = match get_operation(&prepared.document, operation_name) {
+        Err(error) => return Err(error),
+        Ok(operation) => operation,
+    };
+    match check_variables(alloc, operation, variables, root.schema()) {
+        Err(error) => return Err(error),
+        Ok(_) => {}
+    }
+    match execute_validated_query(
+        alloc,
+        &prepared.document,
+        operation,
+        root,
+        variables,
+        context,
+    ) {
+        Err(error) => Err(error),
+        Ok(answered) => Ok(answered),
+    }
+}
