@@ -31,7 +31,8 @@ invariant_of-result-clause-valid g c =
     subst (λ b. map view_rule_error es ≡ rule_errors s b d) c.is_introspection_disabled.ensures
     (subst (λ x. map view_rule_error es ≡ rule_errors x c.is_introspection_disabled.result d) (ap (view_schema shown) c.schema.ensures)
     c.in-Ok-validate.ensures) in
-    none-found es c.is_empty.result (c.is_empty.ensures ∙ ap (λ n. n == 0) c.in-Ok-validate.errors.ok.0) (rule_errors s (is_disabled c.args.root.now) d) seen c.if-is_empty.true
+    none-found es c.is_empty.result (c.is_empty.ensures ∙ ap (λ n. n == 0) c.in-Ok-validate.errors.ok.0)
+    (rule_errors s (is_disabled c.args.root.now) d) seen c.if-is_empty.true
 
 pub returns-then-is_empty : goal.returns-then-is_empty
 returns-then-is_empty g c =
@@ -47,7 +48,8 @@ returns-then-is_empty g c =
       refl,
       (
         c.in-Ok.ensures,
-        none-found es c.is_empty.result (c.is_empty.ensures ∙ ap (λ n. n == 0) c.in-Ok-validate.errors.ok.0) (rule_errors s (is_disabled c.args.root.now) d) seen c.if-is_empty.true,
+        none-found es c.is_empty.result (c.is_empty.ensures ∙ ap (λ n. n == 0) c.in-Ok-validate.errors.ok.0)
+            (rule_errors s (is_disabled c.args.root.now) d) seen c.if-is_empty.true,
       ),
     )
 
