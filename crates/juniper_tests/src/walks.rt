@@ -2,7 +2,6 @@
 //! same paths.
 
 use crate::ahead::AHEAD;
-use crate::demo::CLIENTS;
 use crate::flat::{FIELDS, OPERATIONS, REFUSED};
 use crate::hostile::HOSTILE;
 use crate::introspection::SCHEMAS;
@@ -11,9 +10,9 @@ use crate::nulls::{LISTS, OBJECTS as RISING};
 use crate::objects::OBJECTS;
 use crate::shapes::SHAPES;
 use crate::variables::{ARGUMENTS, VARIABLES};
-use juniper::{DefaultScalarValue, Variables, execute_sync};
+use juniper::{Variables, execute_sync};
 use juniper_demo_server::{DemoContext, DemoRoot, demo_root};
-use juniper_test_root::{Tally, Walk, difference, execute_by_steps, variables_of};
+use juniper_test_root::{Tally, difference, execute_sync_by_join};
 use std::alloc::{AllocError, Global};
 use std::test::Fail;
 
@@ -59,8 +58,9 @@ fn both_walks_answer_alike(rt: HostRuntime) -> Result<(), Fail> {
     Ok(())
 }
 
-/// Requests to the demo, a line each: a text, and behind ` | ` each the name of an operation and the values of variables.
-const DEMO: &str = r#"{ hero { id } hero { name } }
+/// Requests to the demo, a line each.
+const DEMO: &str = "\
+{ hero { id } hero { name } }
 { hero { id } hero { secret } }
 { mustHero { id } mustHero { secret } }
 { grid { a } grid { b } }
@@ -73,7 +73,7 @@ subscription { x }
 { ...F ...F } fragment F on Query { hero { id } }
 { ...F } fragment F on Query { ...F }
 { hero { name @skip(if: true) } }
-{ __type(name: "Nope") { name } __typename }
+{ __type(name: \"Nope\") { name } __typename }
 {
 { id again: id name @skip(if: true) fail id }
 query Q($n: Int = 5) { number(plus: $n) }
@@ -91,52 +91,24 @@ query Q($n: Int!) { number(plus: $n) }
 { number a: number(plus: -1) b: number(plus: 2147483647) }
 mutation { a: add(n: 2147483647) { total } b: add(n: 1) { total } }
 mutation { __typename add(n: 2) { count } }
-{ __schema { types { name } } __schema { types { kind } mutationType { name } } }
-{ __type(name: "Query") { fields { name args { name defaultValue } } fields { type { kind name } } } a: __type(name: "Droid") { interfaces { name } } }
-query A { id } query B { hero { id } hero { name } } | B
-query A { id } query B { id } | C
-query A { id } mutation B { a: add(n: 3) { total } a: add(n: 3) { count } } | B
-query Q($n: Int = 5) { number(plus: $n) a: number(plus: $n) } |  | {"n":null}
-query Q($n: Int = 5) { number(plus: $n) number(plus: $n) } | Q | {"n":1}
-query Q($n: Int!) { number(plus: $n) } | Q | {"n":"x"}
-query Q($c: Boolean!) { id @include(if: $c) hero { id } hero @include(if: $c) { secret } } |  | {"c":true}
-query Q($c: Boolean!) { id @include(if: $c) hero { id } hero @include(if: $c) { secret } } |  | {"c":false}
-query Q($e: Episode) { hero(episode: $e) { id } hero(episode: $e) { friends { secret } } } |  | {"e":"EMPIRE"}
-mutation M($n: Int = 3) { add(n: $n) { total } b: add(n: $n) { count } } |  | {"n":null}
-mutation M($n: Int!) { add(n: $n) { total } fail } | M | {"n":4}"#;
+{ __schema { types { name } } __schema { types { kind } mutationType { name } } }";
 
 /// The first request that both answer otherwise, and in what; nothing where there is none.
 fn first_difference(alloc: Global, root: &DemoRoot) -> Result<String, AllocError> {
-    for row in DEMO.lines() {
-        let (text, rest) = row.split_once(" | ").unwrap_or((row, ""));
-        let (name, given) = rest.split_once(" | ").unwrap_or((rest, ""));
-        let Some(variables) = variables_of(alloc, given) else {
-            return format!(in alloc; "{row}: variables");
-        };
-        if let Some(what) = difference_of(alloc, root, text, name, &variables)? {
-            return format!(in alloc; "{row}: {what}");
+    let variables = Variables::new(alloc);
+    for text in DEMO.lines() {
+        let mut context = DemoContext::new();
+        let planned = execute_sync(alloc, text, None, root, &variables, &mut context);
+        let mut other = DemoContext::new();
+        let joined = execute_sync_by_join(alloc, text, None, root, &variables, &mut other);
+        if context != other {
+            return format!(in alloc; "{text}: context");
+        }
+        if let Some(what) = difference(alloc, &planned, &joined)? {
+            return format!(in alloc; "{text}: {what}");
         }
     }
     Ok(String::new(alloc))
-}
-
-/// In what both walks answer a request otherwise; `None` where they do not. An empty name is none.
-fn difference_of(
-    alloc: Global,
-    root: &DemoRoot,
-    text: &str,
-    name: &str,
-    variables: &Variables<DefaultScalarValue>,
-) -> Result<Option<&'static str>, AllocError> {
-    let name = if name.is_empty() { None } else { Some(name) };
-    let mut context = DemoContext::new();
-    let planned = execute_sync(alloc, text, name, root, variables, &mut context);
-    let mut other = DemoContext::new();
-    let joined = execute_by_steps(alloc, Walk::Joined, text, name, root, variables, &mut other);
-    if context != other {
-        return Ok(Some("context"));
-    }
-    difference(alloc, &planned, &joined)
 }
 
 #[test]
@@ -146,10 +118,5 @@ fn both_walks_answer_alike_on_the_demo(rt: HostRuntime) -> Result<(), Fail> {
         Err(_) => return Err(Fail::from(AllocError)),
     };
     assert_eq!(rt; first_difference(rt.alloc(), &root)?.as_str(), "");
-    let variables = Variables::new(rt.alloc());
-    assert_eq!(rt;
-        difference_of(rt.alloc(), &root, CLIENTS, "", &variables)?,
-        None
-    );
     Ok(())
 }
