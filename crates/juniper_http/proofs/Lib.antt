@@ -1,3 +1,4 @@
 mod Fields
 mod InTurn
+mod Pairs
 mod Pieces

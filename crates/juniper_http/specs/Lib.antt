@@ -4,6 +4,7 @@ pub mod ContentTypes
 pub mod Decisions
 pub mod Media
 pub mod Outcomes
+pub mod Parameters
 pub mod Parts
 pub mod Plans
 pub mod Refusals

@@ -1,5 +1,5 @@
 -- What may be planned for a request.
-use Rattle.std.specs.Prelude.{◌≡◌, ℕ, ◌==◌, nat_le, nat_lt, if◌then◌else◌, List, length, false, is_some, Option, Some, None, Result, Ok, Err, codes, IsTrue, IsUtf8}
+use Rattle.std.specs.Prelude.{◌≡◌, ℕ, ◌==◌, nat_le, nat_lt, if◌then◌else◌, List, length, Bool, true, false, is_some, Option, Some, None, Result, Ok, Err, codes, IsTrue, IsUtf8}
 use Rattle.http.specs.declared.request.Request.{Request}
 use Rattle.http.specs.Request.{head_of, body_of}
 use Rattle.http_header.specs.HeaderMap.{ContainsKey, get}
@@ -8,9 +8,11 @@ use Rattle.serde_json.specs.Data.{Data}
 use Rattle.serde_json.specs.Read.{read}
 use Rattle.juniper_request.specs.Requests.{Asked, Body, IsRead, single, batch, body_in, view_body}
 use Rattle.juniper_request.specs.declared.error.NotJson.{NotJson as Fault}
+use Rattle.juniper_request.specs.declared.error.RequestError.TheVariants.{Query}
 use Rattle.juniper_request.specs.declared.read.GraphQLBatchRequest.{GraphQLBatchRequest}
 use Rattle.juniper_http.specs.ContentTypes.{IsFieldType}
 use Rattle.juniper_http.specs.Decisions.{is_known, step_of, verb_of}
+use Rattle.juniper_http.specs.Parameters.{given_in, IsAskedBy}
 use Rattle.juniper_http.specs.Parts.{asked_by, asked_of}
 use Rattle.juniper_http.specs.declared.decision.Facts.{Facts}
 use Rattle.juniper_http.specs.declared.decision.Step.{Step}
@@ -20,7 +22,8 @@ use Rattle.juniper_http.specs.declared.media.MediaType.{MediaType}
 use Rattle.juniper_http.specs.declared.plan.Limits.{Limits}
 use Rattle.juniper_http.specs.declared.plan.Plan.{Plan}
 use Rattle.juniper_http.specs.declared.plan.Plan.TheVariants.{Page, Refuse, Ask, Post}
-use Rattle.juniper_http.specs.declared.refusal.Refusal.TheVariants.{EmptyBatch, LongBatch, MediaType as OtherType, NotJson}
+use Rattle.juniper_http.specs.declared.refusal.Refusal.{Refusal}
+use Rattle.juniper_http.specs.declared.refusal.Refusal.TheVariants.{EmptyBatch, LongBatch, MediaType as OtherType, NotARequest, NotJson}
 
 -- What may be planned for a request of this method and this body: only a POST may write, and its JSON is that of the body.
 abbrev pub IsPlanFor : List ℕ → List ℕ → Plan → Type 0
@@ -44,12 +47,22 @@ body_plan limits media requests (Some n) =
 abbrev pub IsBodyPlan : Limits → MediaType → GraphQLBatchRequest → Plan → Type 0
 IsBodyPlan limits media requests p = p ≡ body_plan limits media requests (batch_len (view_body requests))
 
--- what may be planned for a query: it is asked as this media type and writes nothing, or it is refused
-abbrev pub IsQueryPlan : MediaType → Plan → Type 0
-IsQueryPlan media Page = ⊥
-IsQueryPlan media (Refuse why) = Unit {0}
-IsQueryPlan media (Ask m parts may_write) = (m ≡ media) × (may_write ≡ false)
-IsQueryPlan media (Post m requests) = ⊥
+-- the plan puts this request as this media type, and it may write or not
+abbrev pub Asks : MediaType → Asked → Bool → Plan → Type 0
+Asks media asked writes Page = ⊥
+Asks media asked writes (Refuse why) = ⊥
+Asks media asked writes (Ask m parts may_write) = (m ≡ media) × (asked_by parts ≡ asked) × (may_write ≡ writes)
+Asks media asked writes (Post m requests) = ⊥
+
+-- the plan for what parameters ask, which may not write
+abbrev pub IsAskedPlan : MediaType → Result Asked Refusal → Plan → Type 0
+IsAskedPlan media (Ok asked) p = Asks media asked false p
+IsAskedPlan media (Err why) p = p ≡ Refuse why
+
+-- what is planned for a GET with this query
+abbrev pub IsQueryPlan : MediaType → Option (List ℕ) → Plan → Type 0
+IsQueryPlan media None p = p ≡ Refuse (NotARequest Query)
+IsQueryPlan media (Some query) p = (asked : Result Asked Refusal) × IsAskedBy (given_in query) asked × IsAskedPlan media asked p
 
 -- what is planned for a body of JSON
 abbrev pub IsReadPlan : Limits → MediaType → Result GraphQLBatchRequest Fault → Plan → Type 0
@@ -59,16 +72,9 @@ IsReadPlan limits media (Err fault) p = p ≡ Refuse (NotJson fault)
 abbrev pub IsJsonPlan : Limits → MediaType → List ℕ → Plan → Type 0
 IsJsonPlan limits media body p = (read : Result GraphQLBatchRequest Fault) × IsRead body read × IsReadPlan limits media read p
 
--- the plan puts this request, which may write
-abbrev pub Asks : MediaType → Asked → Plan → Type 0
-Asks media asked Page = ⊥
-Asks media asked (Refuse why) = ⊥
-Asks media asked (Ask m parts may_write) = (m ≡ media) × (asked_by parts ≡ asked) × IsTrue may_write
-Asks media asked (Post m requests) = ⊥
-
 -- what is planned for a body that is the text of a document
 abbrev pub IsDocumentPlan : MediaType → List ℕ → Plan → Type 0
-IsDocumentPlan media body p = (IsUtf8 body → Asks media (asked_of body) p) × (¬ (IsUtf8 body) → p ≡ Refuse OtherType)
+IsDocumentPlan media body p = (IsUtf8 body → Asks media (asked_of body) true p) × (¬ (IsUtf8 body) → p ≡ Refuse OtherType)
 
 -- What is known of a request's head. How `Accept` is read is left open, but for one that is missing.
 pub record AreFacts (limits : Limits) (r : Request (List ℕ)) (f : Facts) : Type 0 where
@@ -80,15 +86,15 @@ pub record AreFacts (limits : Limits) (r : Request (List ℕ)) (f : Facts) : Typ
   pub fits : f.fits ≡ nat_le (length (body_of r)) limits.max_body_len
 
 -- what is planned for what is to be done
-abbrev pub IsStepPlan : Limits → List ℕ → Step → Plan → Type 0
-IsStepPlan limits body ShowPage p = p ≡ Page
-IsStepPlan limits body (step.Refuse why) p = p ≡ Refuse why
-IsStepPlan limits body (ReadQuery media) p = IsQueryPlan media p
-IsStepPlan limits body (ReadJson media) p = IsJsonPlan limits media body p
-IsStepPlan limits body (ReadDocument media) p = IsDocumentPlan media body p
+abbrev pub IsStepPlan : Limits → Request (List ℕ) → Step → Plan → Type 0
+IsStepPlan limits r ShowPage p = p ≡ Page
+IsStepPlan limits r (step.Refuse why) p = p ≡ Refuse why
+IsStepPlan limits r (ReadQuery media) p = IsQueryPlan media (uri_query (head_of r).uri) p
+IsStepPlan limits r (ReadJson media) p = IsJsonPlan limits media (body_of r) p
+IsStepPlan limits r (ReadDocument media) p = IsDocumentPlan media (body_of r) p
 
 -- the plan for a request, by what is known of its head
 abbrev pub IsPlan : Limits → Request (List ℕ) → Plan → Type 0
 IsPlan limits request p =
     IsPlanFor (head_of request).method (body_of request) p
-    × ((f : Facts) × AreFacts limits request f × IsStepPlan limits (body_of request) (step_of f) p)
+    × ((f : Facts) × AreFacts limits request f × IsStepPlan limits request (step_of f) p)

@@ -1,5 +1,12 @@
 //! The parameters of a `GET`.
 
+ghost use Rattle.std.specs.Prelude.{◌≡◌, IfOk, option_map, string_bytes};
+ghost use Rattle.std.specs.Result.{result_map_both};
+ghost use Rattle.serde_json.specs.View.{members_view, view};
+ghost use Rattle.juniper_request.specs.Requests.{maybe_members_in};
+ghost use Rattle.juniper_http.specs.Parameters.{AreMembers, IsAskedBy, given_in, members_or, view_parameters, with_value};
+ghost use Rattle.juniper_http.specs.Parts.{asked_by};
+
 use crate::parts::RequestParts;
 use crate::refusal::Refusal;
 use juniper_request::{Members, NotJson, RequestError};
@@ -20,7 +27,9 @@ pub struct Parameters {
 }
 
 /// The parameters that a query gives; others are passed over.
-pub fn parameters_in(alloc: Global, query: &str) -> Result<Parameters, AllocError> {
+pub fn parameters_in(alloc: Global, query: &str) -> Result<Parameters, AllocError>
+    ensures { IfOk result (λ found. view_parameters found ≡ given_in query.now) }
+{
     let mut found = Parameters {
         query: None,
         operation_name: None,
@@ -36,7 +45,9 @@ pub fn parameters_in(alloc: Global, query: &str) -> Result<Parameters, AllocErro
 
 impl Parameters {
     /// The parameters, with this value at the name.
-    fn with(self, name: &str, value: String) -> Parameters {
+    fn with(self, name: &str, value: String) -> Parameters
+        ensures { view_parameters result ≡ with_value name.now (string_bytes value) (view_parameters self) }
+    {
         match name {
             "query" => Parameters {
                 query: Some(value),
@@ -63,7 +74,9 @@ impl Parameters {
 pub fn parts_in(
     alloc: Global,
     parameters: Parameters,
-) -> Result<Result<RequestParts, Refusal>, AllocError> {
+) -> Result<Result<RequestParts, Refusal>, AllocError>
+    ensures { IfOk result (λ r. IsAskedBy (view_parameters parameters) (result_map_both asked_by (λ why. why) r)) }
+{
     let Parameters {
         query,
         operation_name,
@@ -93,7 +106,9 @@ fn members_in(
     alloc: Global,
     text: Option<String>,
     error: RequestError,
-) -> Result<Result<Option<Members>, Refusal>, AllocError> {
+) -> Result<Result<Option<Members>, Refusal>, AllocError>
+    ensures { IfOk result (λ r. AreMembers error (option_map string_bytes text) (result_map_both (option_map (λ m. members_view m.entries)) (λ why. why) r)) }
+{
     let Some(given) = text else {
         return Ok(Ok(None));
     };
@@ -110,7 +125,9 @@ fn members_in(
 }
 
 /// The members of an object, or of none where it is null.
-fn members_of(json: Value, error: RequestError) -> Result<Option<Members>, Refusal> {
+fn members_of(json: Value, error: RequestError) -> Result<Option<Members>, Refusal>
+    ensures { result_map_both (option_map (λ m. members_view m.entries)) (λ why. why) result ≡ members_or error (maybe_members_in (Some (view json))) }
+{
     match json {
         Value::Null => Ok(None),
         Value::Object(members) => Ok(Some(members)),

@@ -192,7 +192,7 @@ fn read_document(
 
 /// What is to be done for a `GET` with this query.
 fn read_query(alloc: Global, query: &str, media: MediaType) -> Result<Plan, AllocError>
-    ensures { IfOk result (IsQueryPlan media) }
+    ensures { IfOk result (IsQueryPlan media (Some query.now)) }
 {
     match parts_in(alloc, parameters_in(alloc, query)?)? {
         Ok(parts) => Ok(Plan::Ask(media, parts, false)),
