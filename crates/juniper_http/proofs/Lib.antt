@@ -2,3 +2,4 @@ mod Fields
 mod InTurn
 mod Pairs
 mod Pieces
+mod Ranges

@@ -34,7 +34,8 @@ taken_pair name value pairs g =
     (rw (at (codes "extensions") g.extensions) refl)))
 
 -- before any is taken
-pub behind_nothing : (pairs : List (List ℕ × List ℕ)) → behind pairs (record { query = None; operation_name = None; variables = None; extensions = None }) ≡ given_by pairs
+pub behind_nothing : (pairs : List (List ℕ × List ℕ))
+    → behind pairs (record { query = None; operation_name = None; variables = None; extensions = None }) ≡ given_by pairs
 behind_nothing pairs =
     rw (or_none (last_value (codes "query") pairs)) (rw (or_none (last_value (codes "operationName") pairs))
     (rw (or_none (last_value (codes "variables") pairs)) (rw (or_none (last_value (codes "extensions") pairs)) refl)))
@@ -46,8 +47,10 @@ read_pair : (name value n v : List ℕ) → DecodesTo name n × DecodesTo value 
 read_pair name value n v (first, second) = (read_text name n first, read_text value v second)
 
 -- The iterator's next pair is taken: it stands first in what is left, and it was decoded.
-pub one_more : (left rest : List (List ℕ × List ℕ)) (item : Result (String Global × String Global) AllocError) (n v : String Global) (key : List ℕ) (g made whole : Given)
-    → (name : List ℕ) × (value : List ℕ) × (left ≡ (name, value) ∷ rest) × IfOk item (λ pair. DecodesTo name (string_bytes pair.0) × DecodesTo value (string_bytes pair.1))
+pub one_more : (left rest : List (List ℕ × List ℕ)) (item : Result (String Global × String Global) AllocError)
+    (n v : String Global) (key : List ℕ) (g made whole : Given)
+    → (name : List ℕ) × (value : List ℕ) × (left ≡ (name, value) ∷ rest)
+    × IfOk item (λ pair. DecodesTo name (string_bytes pair.0) × DecodesTo value (string_bytes pair.1))
     → item ≡ Ok (n, v) → key ≡ string_bytes n → made ≡ with_value key (string_bytes v) g → behind left g ≡ whole → behind rest made ≡ whole
 one_more left rest item n v key g made whole h was is_key is_made so_far =
     let decoded : DecodesTo h.0 (string_bytes n) × DecodesTo h.1 (string_bytes v)

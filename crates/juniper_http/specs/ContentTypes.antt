@@ -19,7 +19,7 @@ is_fine p = not (bytes_eq (trim (before_first (λ b. b == 61) p)) (codes "charse
 abbrev pub type_named : List ℕ → Body
 type_named name = if bytes_eq name (codes "application/json") then Json else (if bytes_eq name (codes "application/graphql") then Document else Other)
 
--- a media type, and then parameters, between semicolons
+-- a media type, and then parameters, between semicolons; one within quotes cuts too
 abbrev pub lower_type : List ℕ → Body
 lower_type t =
     if list_all is_fine (slice_split (λ b. b == 59) (after_first (λ b. b == 59) t)) then type_named (trim (before_first (λ b. b == 59) t)) else Other

@@ -1,8 +1,9 @@
 -- What may be planned for a request.
-use Rattle.std.specs.Prelude.{◌≡◌, ℕ, ◌==◌, nat_le, nat_lt, if◌then◌else◌, List, length, Bool, true, false, is_some, Option, Some, None, Result, Ok, Err, codes, IsTrue, IsUtf8}
+use Rattle.std.specs.Prelude.{◌≡◌, ℕ, ◌==◌, nat_le, nat_lt, if◌then◌else◌, List, length, Bool, true, false, is_some, Option, Some, None}
+use Rattle.std.specs.Prelude.{Result, Ok, Err, codes, IsTrue, IsUtf8}
 use Rattle.http.specs.declared.request.Request.{Request}
 use Rattle.http.specs.Request.{head_of, body_of}
-use Rattle.http_header.specs.HeaderMap.{ContainsKey, get}
+use Rattle.http_header.specs.HeaderMap.{get, get_all}
 use Rattle.http_uri.specs.Uri.{uri_path, uri_query}
 use Rattle.serde_json.specs.Data.{Data}
 use Rattle.serde_json.specs.Read.{read}
@@ -10,6 +11,7 @@ use Rattle.juniper_request.specs.Requests.{Asked, Body, IsRead, single, batch, b
 use Rattle.juniper_request.specs.declared.error.NotJson.{NotJson as Fault}
 use Rattle.juniper_request.specs.declared.error.RequestError.TheVariants.{Query}
 use Rattle.juniper_request.specs.declared.read.GraphQLBatchRequest.{GraphQLBatchRequest}
+use Rattle.juniper_http.specs.Accept.{Ranged, choice, prefers_page, ranges_of}
 use Rattle.juniper_http.specs.ContentTypes.{IsFieldType}
 use Rattle.juniper_http.specs.Decisions.{is_known, step_of, verb_of}
 use Rattle.juniper_http.specs.Parameters.{given_in, IsAskedBy}
@@ -76,12 +78,18 @@ IsJsonPlan limits media body p = (read : Result GraphQLBatchRequest Fault) × Is
 abbrev pub IsDocumentPlan : MediaType → List ℕ → Plan → Type 0
 IsDocumentPlan media body p = (IsUtf8 body → Asks media (asked_of body) true p) × (¬ (IsUtf8 body) → p ≡ Refuse OtherType)
 
--- What is known of a request's head. How `Accept` is read is left open, but for one that is missing.
+-- the ranges that a request takes
+abbrev pub taken_by : Request (List ℕ) → List Ranged
+taken_by r = ranges_of (get_all (head_of r).headers (codes "accept"))
+
+-- What is known of a request's head. An `Accept` with no range in it is as if it were missing.
 pub record AreFacts (limits : Limits) (r : Request (List ℕ)) (f : Facts) : Type 0 where
   pub verb : f.verb ≡ verb_of (head_of r).method
   pub path : f.is_known_path ≡ is_known (uri_path (head_of r).uri)
   pub query : f.has_query ≡ is_some (uri_query (head_of r).uri)
-  pub accept : ¬ (ContainsKey (head_of r).headers (codes "accept")) → f.has_accept ≡ false
+  pub accept : f.has_accept ≡ nat_lt 0 (length (taken_by r))
+  pub media : f.media ≡ choice (taken_by r)
+  pub page : f.wants_page ≡ prefers_page (taken_by r)
   pub body : IsFieldType (get (head_of r).headers (codes "content-type")) f.body
   pub fits : f.fits ≡ nat_le (length (body_of r)) limits.max_body_len
 

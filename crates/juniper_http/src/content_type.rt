@@ -65,7 +65,7 @@ fn is_utf8(value: &str) -> bool
 }
 
 /// The texts before and behind the first such character; all and nothing where there is none.
-fn cut(text: &str, separator: char) -> (&str, &str)
+pub fn cut(text: &str, separator: char) -> (&str, &str)
     requires { separator < 128 }
     ensures before { result.0.now ≡ before_first (λ b. b == separator) text.now }
     ensures after { result.1.now ≡ after_first (λ b. b == separator) text.now }

@@ -20,7 +20,7 @@ mod service;
 #[cfg(test)]
 mod tests;
 
-pub use accept::{Range, choose, ranges, wants_page, weight_of};
+pub use accept::{Range, add_ranges, choose, has_range, wants_page, weight_of};
 pub use decision::{Body, Facts, Step, Verb, decide};
 pub use endpoint::{Endpoint, Reply};
 pub use media::MediaType;

@@ -1,15 +1,16 @@
 //! What a request asks for.
 
-ghost use Rattle.std.specs.Prelude.{◌≡◌, IfOk, codes};
+ghost use Rattle.std.specs.Prelude.{◌≡◌, ◌++◌, IfOk, Some, codes, map};
 ghost use Rattle.http.specs.Request.{body_of, head_of};
 ghost use Rattle.juniper_request.specs.Requests.{view_body};
 ghost use Rattle.http_header.specs.HeaderMap.{get};
+ghost use Rattle.juniper_http.specs.Accept.{field_ranges, view_range};
 ghost use Rattle.juniper_http.specs.ContentTypes.{IsFieldType};
 ghost use Rattle.juniper_http.specs.Decisions.{is_known, verb_of};
 ghost use Rattle.juniper_http.specs.declared.decision.Verb.TheVariants as verbs;
-ghost use Rattle.juniper_http.specs.Plans.{AreFacts, IsBodyPlan, IsDocumentPlan, IsJsonPlan, IsPlan, IsPlanFor, IsQueryPlan, batch_len};
+ghost use Rattle.juniper_http.specs.Plans.{AreFacts, IsBodyPlan, IsDocumentPlan, IsJsonPlan, IsPlan, IsPlanFor, IsQueryPlan, batch_len, taken_by};
 
-use crate::accept::{choose, ranges, wants_page};
+use crate::accept::{Range, add_ranges, choose, has_range, wants_page};
 use crate::content_type::body_type;
 use crate::decision::{Body, Facts, Step, Verb, decide};
 use crate::media::MediaType;
@@ -64,13 +65,12 @@ pub fn plan_of(alloc: Global, request: &Request<Bytes>, limits: &Limits) -> Resu
 fn facts_of(alloc: Global, request: &Request<Bytes>, limits: &Limits) -> Result<Facts, AllocError>
     ensures { IfOk result (AreFacts limits.now request.now) }
 {
-    let accept = accepted(alloc, request)?;
-    let ranges = ranges(alloc, accept.as_str())?;
+    let ranges = accepted(alloc, request)?;
     Ok(Facts {
         verb: verb(request.method().as_str()),
         is_known_path: is_known(request.uri().path()),
         has_query: request.uri().query().is_some(),
-        has_accept: request.headers().contains_key(header::ACCEPT) && !accept.is_empty(),
+        has_accept: has_range(ranges.as_slice()),
         media: choose(ranges.as_slice()),
         wants_page: wants_page(ranges.as_slice()),
         body: type_of(alloc, request)?,
@@ -97,20 +97,31 @@ fn is_known(path: &str) -> bool
     path == "/" || path == "/graphql"
 }
 
-/// The `Accept` of a request in lower case, its values joined by commas; empty where there is none.
-fn accepted(alloc: Global, request: &Request<Bytes>) -> Result<String, AllocError> {
-    let mut text = String::new(alloc);
+/// The ranges that a request takes.
+fn accepted<'a>(
+    alloc: Global,
+    request: &'a Request<Bytes>,
+) -> Result<Vec<Range<'a>>, AllocError>
+    ensures { IfOk result (λ made. map view_range made.items ≡ taken_by request.now) }
+{
+    let mut made = Vec::new(alloc);
     for value in request.headers().get_all(header::ACCEPT) {
-        if let Ok(value) = value.to_str() {
-            if !text.is_empty() {
-                text.push(',')?;
-            }
-            for c in value.chars() {
-                text.push(c.to_ascii_lowercase())?;
-            }
-        }
+        made = add_value(made, value)?;
     }
-    Ok(text)
+    Ok(made)
+}
+
+/// The ranges with those of a line of the field behind them.
+fn add_value<'a>(
+    ranges: Vec<Range<'a>>,
+    value: &'a HeaderValue,
+) -> Result<Vec<Range<'a>>, AllocError>
+    ensures { IfOk result (λ made. map view_range made.items ≡ map view_range ranges.entry.items ++ field_ranges value.now) }
+{
+    match value.to_str() {
+        Ok(text) => add_ranges(ranges, text),
+        Err(_) => Ok(ranges),
+    }
 }
 
 /// What a request's `content-type` says of its body.

@@ -1,6 +1,6 @@
 //! What no clause says: whole requests, and what comes of them.
 
-use crate::accept::{choose, ranges};
+use crate::accept::{add_ranges, choose};
 use crate::endpoint::{Endpoint, Reply};
 use crate::media::MediaType;
 use crate::outcome::Outcome;
@@ -22,6 +22,14 @@ application/graphql-response+json;q=0.5, application/json = Json
 application/*;q=0.1, application/json;q=0.05 = GraphqlResponse
 application/json;q=0, */* = GraphqlResponse
 APPLICATION/JSON;Q=0.7 = Json
+application/json;q=0.50, application/graphql-response+json;q=0.5 = GraphqlResponse
+application/graphql-response+json;q=0.999, application/json;q=1.000 = Json
+application/graphql-response+json;q=0.12, application/json;q=0.121 = Json
+application/graphql-response+json;charset=utf-8;q=0.2, application/json ; q=0.3 = Json
+application/graphql-response+json;q=, application/json;q=0.001 = Json
+application/graphql-response+json;q=0.x, application/json;q=0.001 = Json
+*/*, application/graphql-response+json;q=0 = Json
+json = None
 text/html = None
 */*;q=0 = None
  = None";
@@ -33,8 +41,7 @@ fn accept_is_weighed(rt: HostRuntime) -> Result<(), Fail> {
             assert!(rt; false, "no row: {row}");
             return Ok(());
         };
-        let lower = text.to_ascii_lowercase(rt.alloc())?;
-        let ranges = ranges(rt.alloc(), lower.as_str())?;
+        let ranges = add_ranges(Vec::new(rt.alloc()), text)?;
         let found = match choose(ranges.as_slice()) {
             Some(MediaType::GraphqlResponse) => "GraphqlResponse",
             Some(MediaType::Json) => "Json",
@@ -99,6 +106,10 @@ POST / | Content-Type: application/json | {\"query\":\"0123456789012345678901234
 GET /?query=q&operationName=N | - | - | 200 | application/graphql-response+json | <1 q N>
 GET /?query=%7B+a%7D | Accept: application/json | - | 200 | application/json | <1 { a} ->
 GET /?query=write | - | - | 405 | application/graphql-response+json | <1 write ->
+GET /?query=a&query=q&%6FperationName=N | - | - | 200 | application/graphql-response+json | <1 q N>
+GET /?query=q | Accept: image/png ;; Accept: application/json | - | 200 | application/json | <1 q ->
+GET /?query=q | Accept: image | - | 200 | application/graphql-response+json | <1 q ->
+GET /?query=q&variables=null&extensions=%5B%5D | - | - | 400 | application/json | {\"errors\":[{\"message\":\"extensions must be an object or null\"}]}
 GET /?query=q&variables=%7B%7D | - | - | 200 | application/graphql-response+json | <1 q ->
 GET /?query=q&variables=7 | - | - | 400 | application/json | {\"errors\":[{\"message\":\"variables must be an object or null\"}]}
 GET /?query=q&variables=x | - | - | 400 | application/json | {\"errors\":[{\"message\":\"not JSON, at line 1 column 1\"}]}
