@@ -27,9 +27,9 @@ pub taken_pair : (name value : List ℕ) (pairs : List (List ℕ × List ℕ)) (
     → behind pairs (with_value (form_text name) (form_text value) g) ≡ behind ((name, value) ∷ pairs) g
 taken_pair name value pairs g =
     let at : (wanted : List ℕ) (before : Option (List ℕ))
-        → option_or (last_value wanted pairs) (option_or (value_at wanted (form_text name) (form_text value)) before)
-        ≡ option_or (last_value wanted ((name, value) ∷ pairs)) before
-        = λ wanted before. or_assoc (last_value wanted pairs) (value_at wanted (form_text name) (form_text value)) before in
+    → option_or (last_value wanted pairs) (option_or (value_at wanted (form_text name) (form_text value)) before)
+    ≡ option_or (last_value wanted ((name, value) ∷ pairs)) before
+    = λ wanted before. or_assoc (last_value wanted pairs) (value_at wanted (form_text name) (form_text value)) before in
     rw (at (codes "query") g.query) (rw (at (codes "operationName") g.operation_name) (rw (at (codes "variables") g.variables)
     (rw (at (codes "extensions") g.extensions) refl)))
 
@@ -54,6 +54,6 @@ pub one_more : (left rest : List (List ℕ × List ℕ)) (item : Result (String 
     → item ≡ Ok (n, v) → key ≡ string_bytes n → made ≡ with_value key (string_bytes v) g → behind left g ≡ whole → behind rest made ≡ whole
 one_more left rest item n v key g made whole h was is_key is_made so_far =
     let decoded : DecodesTo h.0 (string_bytes n) × DecodesTo h.1 (string_bytes v)
-        = subst (λ i. IfOk i (λ pair. DecodesTo h.0 (string_bytes pair.0) × DecodesTo h.1 (string_bytes pair.1))) was h.3 in
+    = subst (λ i. IfOk i (λ pair. DecodesTo h.0 (string_bytes pair.0) × DecodesTo h.1 (string_bytes pair.1))) was h.3 in
     let texts = read_pair h.0 h.1 (string_bytes n) (string_bytes v) decoded in
     rw is_made (rw is_key (rw texts.0 (rw texts.1 (taken_pair h.0 h.1 rest g ∙ subst (λ l. behind l g ≡ whole) h.2 so_far))))

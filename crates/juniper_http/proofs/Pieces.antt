@@ -56,8 +56,8 @@ pub pieces_step : {A : Type 0} (f : List ℕ → Option A) (p : ℕ → Bool) (x
 pieces_step f p xs none =
     let within : position_or_len p xs ≤ length xs = prefix_len-le-length (λ x. not (p x)) xs in
     elim (cases_Bool (nat_lt (position_or_len p xs) (length xs))) [
-      inl less ↦ step_of_cut f p xs (grind (arith, nat_tests))
-    | inr same ↦ step_of_one f p xs none (grind (arith, nat_tests))
+      | inl less ↦ step_of_cut f p xs (grind (arith, nat_tests))
+      | inr same ↦ step_of_one f p xs none (grind (arith, nat_tests))
     ]
 
 pub shorter : (p : ℕ → Bool) (xs after : List ℕ) → after ≡ after_first p xs → 0 < length xs → length after < length xs

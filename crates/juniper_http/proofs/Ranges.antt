@@ -20,8 +20,8 @@ pub next_part : (made next whole : List Ranged) (rest part after : List ℕ) →
     → next ≡ made ++ option_to_list (range_of part) → made ++ ranges_in rest ≡ whole → next ++ ranges_in after ≡ whole
 next_part made next whole rest part after is_part is_after is_next so_far =
     let step : ranges_in rest ≡ option_to_list (range_of part) ++ ranges_in after
-        = rw is_part (rw is_after (pieces_step range_of (λ b. b == 44) rest refl
-        ∙ cons_list (range_of (before_first (λ b. b == 44) rest)) (ranges_in (after_first (λ b. b == 44) rest)))) in
+    = rw is_part (rw is_after (pieces_step range_of (λ b. b == 44) rest refl
+    ∙ cons_list (range_of (before_first (λ b. b == 44) rest)) (ranges_in (after_first (λ b. b == 44) rest)))) in
     ap (λ l. l ++ ranges_in after) is_next ∙ append_assoc made (option_to_list (range_of part)) (ranges_in after) ∙ ap (λ l. made ++ l) (sym step) ∙ so_far
 
 pub no_part : (made whole : List Ranged) (rest : List ℕ) → length rest ≡ 0 → made ++ ranges_in rest ≡ whole → made ≡ whole
@@ -36,8 +36,8 @@ visible_line v text visible e =
 pub hidden_line : (v : FieldValue) → ¬ (IsVisibleAscii v.bytes) → [] ≡ field_ranges v
 hidden_line v hidden =
     elim (cases_Bool (is_visible_text v.bytes)) [
-      inl shown ↦ absurd (hidden (AllPass-from_list_all is_visible_or_blank v.bytes shown))
-    | inr not_shown ↦ sym (ap (λ b. if b then ranges_in v.bytes else []) not_shown)
+      | inl shown ↦ absurd (hidden (AllPass-from_list_all is_visible_or_blank v.bytes shown))
+      | inr not_shown ↦ sym (ap (λ b. if b then ranges_in v.bytes else []) not_shown)
     ]
 
 -- one line more

@@ -98,10 +98,7 @@ fn is_known(path: &str) -> bool
 }
 
 /// The ranges that a request takes.
-fn accepted<'a>(
-    alloc: Global,
-    request: &'a Request<Bytes>,
-) -> Result<Vec<Range<'a>>, AllocError>
+fn accepted<'a>(alloc: Global, request: &'a Request<Bytes>) -> Result<Vec<Range<'a>>, AllocError>
     ensures { IfOk result (λ made. map view_range made.items ≡ taken_by request.now) }
 {
     let mut made = Vec::new(alloc);

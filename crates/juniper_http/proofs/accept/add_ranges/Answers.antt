@@ -7,5 +7,5 @@ pub parts-preserved : goal.parts-preserved
 parts-preserved c = (
   search rules,
   next_part (map view_range c.parts.made.items) _ (map view_range c.args.ranges.items ++ ranges_in c.args.text.now)
-  c.parts.rest.now c.cut.result.0.now c.cut.result.1.now c.cut.ensures.before c.cut.ensures.after c.in_ok-made.ensures c.parts.invariant.1,
+      c.parts.rest.now c.cut.result.0.now c.cut.result.1.now c.cut.ensures.before c.cut.ensures.after c.in_ok-made.ensures c.parts.invariant.1,
 )

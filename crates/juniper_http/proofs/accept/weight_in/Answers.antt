@@ -6,7 +6,7 @@ pub parameters-preserved : goal.parameters-preserved
 parameters-preserved c = (
   search rules,
   weighs_next c.parameters.rest.now c.cut.result.0.now c.cut.result.1.now c.args.parameters.now c.weight_given.result
-  c.cut.ensures.before c.cut.ensures.after c.weight_given.ensures c.in-None.is c.parameters.invariant.1,
+      c.cut.ensures.before c.cut.ensures.after c.weight_given.ensures c.in-None.is c.parameters.invariant.1,
 )
 
 pub returns-in-Some : goal.returns-in-Some
