@@ -3,7 +3,7 @@
 use crate::inputs::{Input, Scalar, ending, read_input};
 use crate::turns::{Ended, Room, Task, Turn, tried};
 use indexmap::IndexMap;
-use juniper_language::Spanning;
+use juniper_language::{Span, Spanning};
 use juniper_values::{Arguments, FieldError, FromInputValue, IntoFieldError, ResolveError};
 use std::alloc::{AllocError, Global};
 use std::fmt::Debug;
@@ -27,15 +27,19 @@ where
         let held_back = room.hold_back(alloc);
         let outcome = self.arguments.get::<T>(alloc, "n");
         drop(held_back);
-        let is_kept = match self.arguments.get_input_value("n") {
-            Some(kept) => kept.item == *self.copy,
-            None => false,
-        };
-        if is_kept {
+        if is_kept(self.arguments.get_input_value("n"), self.copy) {
             ending(alloc, told(outcome), self.expected)
         } else {
             Turn::Wrong
         }
+    }
+}
+
+/// Whether this value is there.
+fn is_kept(kept: Option<&Spanning<Input, Span>>, value: &Input) -> bool {
+    match kept {
+        Some(kept) => kept.item == *value,
+        None => false,
     }
 }
 
