@@ -2,6 +2,7 @@
 """Prints docs/API.md: each public name of `juniper` by module, with its signature and the first sentence of what its source says. Run at the top of the repository:
 python3 tools/api.py > docs/API.md"""
 import functools
+import glob
 import os
 import re
 
@@ -96,11 +97,10 @@ def parts_of(lines, at):
 
 def module_row(name):
     """Returns the row of a module, with the first sentence of its file."""
-    for at, _, names in sorted(os.walk("crates")):
-        if f"{name}.rt" in names and at.endswith("/src"):
-            said = re.match(r"((?://! ?.*\n)+)", text_of(f"{at}/{name}.rt"))
-            whole = re.sub(r"\s*//! ?", " ", said[1]).strip() if said else ""
-            return row(f"mod {name}", re.split(r"(?<=[.;:])\s", whole)[0].rstrip(".;:"))
+    for path in sorted(glob.glob(f"crates/*/src/{name}.rt")):
+        said = re.match(r"((?://! ?.*\n)+)", text_of(path))
+        whole = re.sub(r"\s*//! ?", " ", said[1]).strip() if said else ""
+        return row(f"mod {name}", re.split(r"(?<=[.;:])\s", whole)[0].rstrip(".;:"))
     return row(f"mod {name}", "")
 
 
