@@ -6,7 +6,9 @@ pub use juniper_declared::{
 pub use juniper_resolvable::{add, fails, int, list, text};
 pub use juniper_values::{enum_argument, int_argument};
 pub use juniper_words::{
-    Answer, EnumType, InputType, MutationType, Named, QueryType, ServedQuery, ServedRoot, argument,
-    bool_argument, given, id_argument, input_field, input_field_or, nodes, nodes_where, null,
-    object, object_or_null, served, served_query, text_argument,
+    Answer, EnumType, FieldOf, InputType, MutationType, Named, QueryType, ServedQuery, ServedRoot,
+    argument, bool_argument, boolean, count, fails_with_code, found_or, found_or_code, given,
+    id_argument, input_field, input_field_or, is_answered, nodes, nodes_at, nodes_where, null,
+    object, object_fields, object_or_null, served, served_query, text_argument, text_or_null,
+    unanswered, value,
 };

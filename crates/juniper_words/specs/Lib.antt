@@ -1,4 +1,6 @@
 pub mod InputsRead
 pub mod Nodes
+pub mod Replies
 pub mod Served
 pub mod Server
+pub mod Forgotten

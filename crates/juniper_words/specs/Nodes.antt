@@ -19,6 +19,14 @@ object_or_null (Some n) = answered (node n)
 abbrev pub nodes_where : {E N : Type 0} → (ℕ → N) → (E → Bool) → List E → List N
 nodes_where place passes es = map (λ e. place e.0) (filter (λ e. passes e.1) (enumerate_from 0 es))
 
+-- the nodes of these places, in order
+abbrev pub nodes_at : {N : Type 0} → (ℕ → N) → List ℕ → List N
+nodes_at place places = map place places
+
+-- at each place a call of the closure gives the node that the function gives
+abbrev pub MakesEach : {F N : Type 0} → Shared F (ℕ × Unit {0}) N → F → (ℕ → N) → Type 0
+MakesEach g f at = (i : ℕ) (n : _) → FnReturns g f (i, tt) n → n ≡ at i
+
 -- at each place below this one, a call of the closure gives the node that the function gives
 abbrev pub Makes : {F N : Type 0} → Shared F (ℕ × Unit {0}) N → F → ℕ → (ℕ → N) → Type 0
 Makes g f end at = (i : ℕ) (n : _) → i < end → FnReturns g f (i, tt) n → n ≡ at i

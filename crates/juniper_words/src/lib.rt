@@ -4,8 +4,10 @@
 
 mod answers;
 mod arguments;
+mod early;
 mod enums;
 mod fields;
+mod forgotten;
 mod input_type;
 mod lists;
 mod node_lists;
@@ -14,11 +16,15 @@ mod serving;
 #[cfg(test)]
 mod tests;
 
-pub use answers::{Answer, null, object, object_or_null};
+pub use answers::{
+    Answer, boolean, count, fails_with_code, null, object, object_or_null, text_or_null, value,
+};
 pub use arguments::{argument, bool_argument, given, id_argument, text_argument};
+pub use early::{found_or, found_or_code};
 pub use enums::EnumType;
 pub use fields::{input_field, input_field_or};
+pub use forgotten::{FieldOf, is_answered, object_fields, unanswered};
 pub use input_type::InputType;
-pub use node_lists::{nodes, nodes_where};
+pub use node_lists::{nodes, nodes_at, nodes_where};
 pub use roots::{MutationType, Named, QueryType};
 pub use serving::{ServedQuery, ServedRoot, served, served_query};

@@ -2,7 +2,7 @@
 
 ghost use Rattle.std.specs.Prelude.{◌≡◌, ◌<◌, ℕ, Bool, IfOk, length};
 ghost use Rattle.juniper_resolvable.specs.ResolvedView.{Answers};
-ghost use Rattle.juniper_words.specs.Nodes.{Makes, Tests, nodes_reply, nodes_where};
+ghost use Rattle.juniper_words.specs.Nodes.{Makes, MakesEach, Tests, nodes_at, nodes_reply, nodes_where};
 
 use juniper_errors::ResolveError;
 use juniper_resolvable::Resolved;
@@ -41,6 +41,23 @@ pub fn nodes_where<E, N: Drop, P: Fn(usize) -> N, F: Fn(&E) -> bool>(
         if passes(entry) {
             nodes.push(node(place))?;
         }
+    }
+    Ok(nodes)
+}
+
+/// The nodes of these places, in order: `"labels" => nodes(alloc, &nodes_at(alloc, &issue.labels, Node::Label)?)`. An error where memory
+/// is refused.
+pub fn nodes_at<N: Drop, P: Fn(usize) -> N>(
+    alloc: Global,
+    places: &[usize],
+    node: P,
+) -> Result<Vec<N>, AllocError>
+    requires { P.IsAlwaysCallable node }
+    ensures { IfOk result (λ nodes. (at : ℕ → N) → MakesEach P.Fn node at → nodes.items ≡ nodes_at at places.now) }
+{
+    let mut nodes = Vec::with_capacity(alloc, places.len())?;
+    for place in places {
+        nodes.push(node(*place))?;
     }
     Ok(nodes)
 }

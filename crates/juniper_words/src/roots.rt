@@ -1,16 +1,17 @@
 //! Resolvers of the root types, which need not tell their types, and juniper's traits of them under the names of these types
 //! (sections 3.3, 6.2.2 and 6.4.2 of the Specification).
 
-ghost use Rattle.std.specs.Prelude.{◌≡◌, Bool, Some, []};
+ghost use Rattle.std.specs.Prelude.{◌≡◌, Bool, IfOk, Some, [], map};
 ghost use Rattle.graphql_spec.specs.Constants.{Members};
 ghost use Rattle.graphql_spec.specs.Resolvers.{Reply};
 ghost use Rattle.graphql_spec.specs.Shown.{Name};
 ghost use Rattle.juniper_registry.specs.DeclaredTypes.{object, type_named};
-ghost use Rattle.juniper_resolvable.specs.ResolvedView.{Answers};
+ghost use Rattle.juniper_resolvable.specs.ResolvedView.{AllAnswer, Answers};
 ghost use Rattle.juniper_types.specs.ExecutorView.{IsAskedFor, context_of};
 ghost use Rattle.juniper_types.specs.Stepping.{Leaves};
 ghost use Rattle.juniper_values.specs.ArgumentView.{view_arguments};
 
+use crate::answers::Answer;
 use juniper_errors::ResolveError;
 use juniper_meta::MetaType;
 use juniper_registry::{GraphQLReference, GraphQLType, Registry};
@@ -56,6 +57,51 @@ pub trait QueryType<S: ScalarValue> {
     ) -> Result<Resolved<Self::Node, S>, ResolveError<S>>
         requires { IsAskedFor S.shown executor.now field_name.now (view_arguments S.shown arguments.now) }
         ensures { Answers S.shown result (answer (context_of executor.now) node.now field_name.now (view_arguments S.shown arguments.now)) };
+
+    /// For how many nodes of a list a field is asked at once by [`QueryType::resolve_fields`], at most. Where it is one, as it is
+    /// by default, or zero, each node is asked for itself by [`QueryType::resolve_field`].
+    fn nodes_at_once(_type_name: &str) -> usize {
+        1
+    }
+
+    /// The answers to a field of nodes of one object type, one for each, in their order, as those of
+    /// [`GraphQLValue::resolve_fields`] are. By default they are those of [`QueryType::resolve_each`].
+    fn resolve_fields(
+        alloc: Global,
+        nodes: &[&Self::Node],
+        field_name: &str,
+        arguments: &Arguments<'_, S>,
+        executor: &Executor<Self::Context, S>,
+    ) -> Result<Vec<Answer<Self::Node, S>>, AllocError>
+        requires { IsAskedFor S.shown executor.now field_name.now (view_arguments S.shown arguments.now) }
+        ensures { IfOk result (λ made. AllAnswer S.shown
+            (λ node. answer (context_of executor.now) node field_name.now (view_arguments S.shown arguments.now))
+            (map (λ n. n.now) nodes.now) made.items) }
+    {
+        Self::resolve_each(alloc, nodes, field_name, arguments, executor)
+    }
+
+    /// The answers to a field of nodes, each asked for itself by [`QueryType::resolve_field`]: for the fields for which a resolver that has
+    /// its own [`QueryType::resolve_fields`] loads nothing at once.
+    fn resolve_each(
+        alloc: Global,
+        nodes: &[&Self::Node],
+        field_name: &str,
+        arguments: &Arguments<'_, S>,
+        executor: &Executor<Self::Context, S>,
+    ) -> Result<Vec<Answer<Self::Node, S>>, AllocError>
+        requires { IsAskedFor S.shown executor.now field_name.now (view_arguments S.shown arguments.now) }
+        ensures { IfOk result (λ made. AllAnswer S.shown
+            (λ node. answer (context_of executor.now) node field_name.now (view_arguments S.shown arguments.now))
+            (map (λ n. n.now) nodes.now) made.items) }
+    {
+        let mut made = Vec::with_capacity(alloc, nodes.len())?;
+        for node in nodes {
+            let answer = Self::resolve_field(alloc, node, field_name, arguments, executor);
+            made.push(answer)?;
+        }
+        Ok(made)
+    }
 }
 
 /// The resolver of a server's mutations. [`Named`] of it is a [`GraphQLMutationValue`].
@@ -162,6 +208,22 @@ impl<T: QueryType<S>, S: ScalarValue> GraphQLValue<S> for Named<T> {
         executor: &Executor<T::Context, S>,
     ) -> Result<Resolved<T::Node, S>, ResolveError<S>> {
         T::resolve_field(alloc, node, field_name, arguments, executor)
+    }
+
+    fn nodes_at_once(&self, _info: &&'static str, type_name: &str) -> usize {
+        T::nodes_at_once(type_name)
+    }
+
+    fn resolve_fields(
+        &self,
+        alloc: Global,
+        _info: &&'static str,
+        nodes: &[&T::Node],
+        field_name: &str,
+        arguments: &Arguments<'_, S>,
+        executor: &Executor<T::Context, S>,
+    ) -> Result<Vec<Result<Resolved<T::Node, S>, ResolveError<S>>>, AllocError> {
+        T::resolve_fields(alloc, nodes, field_name, arguments, executor)
     }
 }
 

@@ -1,7 +1,14 @@
 //! Tests: what is read of arguments and of lists, what is answered, and roots over types that are told by data.
 
-ghost use Rattle.std.specs.Prelude.{codes, false};
+ghost use Rattle.std.specs.Prelude.{◌∷◌, [], codes, cond, false, length};
+ghost use Rattle.std.specs.Str.{bytes_eq};
 ghost use Rattle.graphql_spec.specs.Resolvers.{answered, node, nothing};
+ghost use Rattle.juniper_resolvable.specs.ResolvedView.{Answers};
+ghost use Rattle.juniper_values.specs.ArgumentsRead.{with_read};
+ghost use Rattle.juniper_words.specs.Forgotten.{unanswered_reply};
+ghost use Rattle.juniper_words.specs.Nodes.{nodes_at, nodes_reply};
+ghost use Rattle.juniper_words.specs.Replies.{count_reply, fails_with_code, found_or_code};
+ghost use Rattle.juniper_words.specs.declared.tests.Episode.TheVariants as episodes;
 
 use super::*;
 use juniper_declared::Reference::{List, NonNull, NonNullList, Nullable};
@@ -9,7 +16,7 @@ use juniper_declared::{DeclaredField, DeclaredInput, DeclaredType, Literal};
 use juniper_errors::ResolveError;
 use juniper_registry::Registry;
 use juniper_resolvable::Resolved;
-use juniper_syntax::{DefaultScalarValue, InputValue, Spanning};
+use juniper_syntax::{DefaultScalarValue, InputValue, ScalarValue, Spanning, Value};
 use juniper_types::Executor;
 use juniper_values::Arguments;
 use std::alloc::{AllocError, Global};
@@ -108,6 +115,207 @@ fn nodes_are_answered_as_objects_or_as_null(rt: HostRuntime) -> Result<(), Fail>
     assert!(rt; matches!(object, Ok(Resolved::Node(1))));
     let null: Answer<u8, DefaultScalarValue> = null();
     assert!(rt; matches!(null, Ok(Resolved::Null)));
+    Ok(())
+}
+
+/// What is answered, as it is printed: a scalar, or the message and the extensions of an error.
+fn shown(alloc: Global, answer: &Answer<u8, DefaultScalarValue>) -> Result<String, AllocError> {
+    match answer {
+        Ok(Resolved::Scalar(scalar)) => format!(in alloc; "{scalar:?}"),
+        Ok(Resolved::Null) => format!(in alloc; "null"),
+        Ok(_) => format!(in alloc; "a list or an object"),
+        Err(ResolveError::Field(error)) => {
+            let message = error.message();
+            let extensions = error.extensions();
+            format!(in alloc; "{message}: {extensions:?}")
+        }
+        Err(ResolveError::Memory) => Err(AllocError),
+    }
+}
+
+/// An enum of one value.
+#[derive(Clone, Copy, Debug, PartialEq, Eq)]
+enum Episode {
+    Jedi,
+}
+
+impl EnumType for Episode {
+    ghost values = { episodes.Jedi ∷ [] };
+
+    ghost name_of = { λ _. codes "JEDI" };
+
+    fn values() -> &'static [Episode] {
+        &[Episode::Jedi]
+    }
+
+    fn value_name(&self) -> &'static str {
+        "JEDI"
+    }
+}
+
+#[test]
+fn values_of_enums_are_texts(rt: HostRuntime) -> Result<(), Fail> {
+    let answer = value(rt.alloc(), Episode::Jedi);
+    assert_eq!(rt; shown(rt.alloc(), &answer)?.as_str(), "String(\"JEDI\")");
+    Ok(())
+}
+
+#[test]
+fn answers_are_one_word(rt: HostRuntime) -> Result<(), Fail> {
+    let alloc = rt.alloc();
+    assert_eq!(rt; shown(alloc, &boolean(true))?.as_str(), "Boolean(true)");
+    assert_eq!(rt; shown(alloc, &count(alloc, 3))?.as_str(), "Int(3)");
+    let most = count(alloc, 2_147_483_647);
+    assert_eq!(rt; shown(alloc, &most)?.as_str(), "Int(2147483647)");
+    let more = count(alloc, 2_147_483_648);
+    assert_eq!(rt; shown(alloc, &more)?.as_str(), "The number is no Int: Null");
+    let text = text_or_null(alloc, Some("a"));
+    assert_eq!(rt; shown(alloc, &text)?.as_str(), "String(\"a\")");
+    assert_eq!(rt; shown(alloc, &text_or_null(alloc, None))?.as_str(), "null");
+    Ok(())
+}
+
+#[test]
+fn errors_have_a_code(rt: HostRuntime) -> Result<(), Fail> {
+    let alloc = rt.alloc();
+    let answer: Answer<u8, DefaultScalarValue> = fails_with_code(alloc, "No", "FORBIDDEN");
+    match answer {
+        Err(ResolveError::Field(error)) => {
+            assert_eq!(rt; error.message(), "No");
+            match error.extensions() {
+                Value::Object(extensions) => {
+                    assert_eq!(rt; extensions.field_count(), 1);
+                    match extensions.get_field_value("code") {
+                        Some(Value::Scalar(code)) => {
+                            assert_eq!(rt; code.try_to_str(), Some("FORBIDDEN"));
+                        }
+                        _ => return Err(Fail::from(AllocError)),
+                    }
+                }
+                _ => return Err(Fail::from(AllocError)),
+            }
+        }
+        _ => return Err(Fail::from(AllocError)),
+    }
+    Ok(())
+}
+
+#[test]
+fn what_is_missing_ends_early(rt: HostRuntime) -> Result<(), Fail> {
+    let alloc = rt.alloc();
+    let found: Result<i32, ResolveError<DefaultScalarValue>> = found_or(alloc, Some(1), "No");
+    assert!(rt; matches!(found, Ok(1)));
+    let missing: Result<i32, ResolveError<DefaultScalarValue>> = found_or(alloc, None, "No");
+    match missing {
+        Err(ResolveError::Field(error)) => {
+            assert_eq!(rt; error.message(), "No");
+            assert!(rt; error.extensions().is_null());
+        }
+        _ => return Err(Fail::from(AllocError)),
+    }
+    let coded: Result<i32, ResolveError<DefaultScalarValue>> = found_or_code(
+        alloc,
+        None,
+        "No",
+        "NOT_FOUND",
+    );
+    match coded {
+        Err(ResolveError::Field(error)) => {
+            assert_eq!(rt; error.message(), "No");
+            assert!(rt; !error.extensions().is_null());
+        }
+        _ => return Err(Fail::from(AllocError)),
+    }
+    Ok(())
+}
+
+#[test]
+fn nodes_stand_at_places(rt: HostRuntime) -> Result<(), Fail> {
+    let alloc = rt.alloc();
+    let nodes = nodes_at(alloc, &[3, 1], Some)?;
+    assert_eq!(rt;
+        format!(in alloc; "{nodes:?}")?.as_str(),
+        "[Some(3), Some(1)]"
+    );
+    Ok(())
+}
+
+/// Words of arms and of their definition: nothing is written to prove them.
+fn places_field<S: ScalarValue>(
+    alloc: Global,
+    field_name: &str,
+    places: &[usize],
+    found: Option<usize>,
+) -> Answer<usize, S>
+    ensures { Answers S.shown result
+        (cond (bytes_eq field_name.now (codes "first")) (with_read (found_or_code (codes "Nothing there") (codes "NOT_FOUND") found)
+        (λ place. answered (node place)))
+        (cond (bytes_eq field_name.now (codes "all")) (nodes_reply (nodes_at (λ place. place) places.now))
+        (cond (bytes_eq field_name.now (codes "total")) (count_reply (length places.now))
+        (cond (bytes_eq field_name.now (codes "secret")) (fails_with_code (codes "Not public") (codes "FORBIDDEN"))
+        unanswered_reply)))) }
+{
+    match field_name {
+        "first" => {
+            let place = found_or_code(alloc, found, "Nothing there", "NOT_FOUND")?;
+            object(place)
+        }
+        "all" => nodes(alloc, &nodes_at(alloc, places, |place| place)?),
+        "total" => count(alloc, places.len()),
+        "secret" => fails_with_code(alloc, "Not public", "FORBIDDEN"),
+        _ => unanswered(alloc),
+    }
+}
+
+#[test]
+fn words_stand_beside_one_another(rt: HostRuntime) -> Result<(), Fail> {
+    let alloc = rt.alloc();
+    let first = places_field::<DefaultScalarValue>(alloc, "first", &[3, 1], Some(3));
+    assert!(rt; matches!(first, Ok(Resolved::Node(3))));
+    let all = places_field::<DefaultScalarValue>(alloc, "all", &[3, 1], None);
+    assert!(rt; is_answered(&all));
+    let other = places_field::<DefaultScalarValue>(alloc, "other", &[3, 1], None);
+    assert!(rt; !is_answered(&other));
+    Ok(())
+}
+
+/// A resolver that names one of its two fields.
+fn tally_field(alloc: Global, field_name: &str) -> Answer<u8, DefaultScalarValue> {
+    match field_name {
+        "there" => null(),
+        _ => unanswered(alloc),
+    }
+}
+
+const THERE: DeclaredField = DeclaredField("there", &[], Nullable("Int"));
+
+const FORGOTTEN: DeclaredField = DeclaredField("forgotten", &[], Nullable("Int"));
+
+/// Two objects, of which the second is not asked about, an interface and an enum.
+static TALLIES: [DeclaredType; 4] = [
+    DeclaredType::Object("Tally", &[], &[THERE, FORGOTTEN]),
+    DeclaredType::Interface("Counted", &[THERE]),
+    DeclaredType::Enum("Size", &["SMALL"]),
+    DeclaredType::Object("Other", &[], &[THERE]),
+];
+
+fn asks(alloc: Global, field: &FieldOf) -> bool {
+    match field.type_name {
+        "Tally" => is_answered(&tally_field(alloc, field.field_name)),
+        _ => false,
+    }
+}
+
+#[test]
+fn forgotten_fields_are_found(rt: HostRuntime) -> Result<(), Fail> {
+    let alloc = rt.alloc();
+    let mut line = String::new(alloc);
+    for field in &object_fields(alloc, &TALLIES)? {
+        if !asks(alloc, field) {
+            write!(line, "{}.{} ", field.type_name, field.field_name)?;
+        }
+    }
+    assert_eq!(rt; line.as_str(), "Tally.forgotten Other.there ");
     Ok(())
 }
 
