@@ -1,4 +1,4 @@
-//! Tests of schemas: which can be executed, which values fit, what look-ups find, what is listed, and what declarations
+//! Tests of schemas: which can be executed and why others cannot, which values fit, what look-ups find, what is listed, and what declarations
 //! tell. Schemas are written as texts.
 #![tactic(auto)]
 
@@ -6,6 +6,8 @@
 mod clauses;
 #[cfg(test)]
 mod directives;
+#[cfg(test)]
+mod faults;
 #[cfg(test)]
 mod fitting;
 #[cfg(test)]

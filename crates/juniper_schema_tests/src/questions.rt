@@ -1,5 +1,6 @@
 //! What is asked of a schema, and the rows that say what is answered.
 
+use crate::faults::put_fault;
 use crate::fitting::fits;
 use crate::lists::{put_directives, put_roots, put_types};
 use crate::lookups::{put_found, put_made, put_parts, put_subtype};
@@ -27,6 +28,8 @@ pub enum Question {
     Subtype,
     /// `TYPE NAME => WHAT`: what is found by the name in the type of the first, and whether that accepts an Int.
     Parts,
+    /// `SCHEMA => FAULT`: the first fault of the schema; `none` where it can be executed.
+    Fault,
     /// `SCHEMA => ROOTS`: the name of the query type, that type, and the mutation type.
     Roots,
     /// `SCHEMA => NAMES`: the names of the types that it lists.
@@ -103,6 +106,7 @@ fn is_answered(
         Question::Made => put_made(alloc, schema, asked, &mut line),
         Question::Subtype => put_subtype(schema, asked, &mut line),
         Question::Parts => put_parts(schema, asked, &mut line),
+        Question::Fault => put_fault(alloc, schema_of(alloc, asked), &mut line),
         Question::Roots => put_roots(schema_of(alloc, asked), &mut line),
         Question::Types => put_types(alloc, schema_of(alloc, asked), &mut line),
         Question::Directives => put_directives(alloc, schema_of(alloc, asked), &mut line),

@@ -1,0 +1,59 @@
+//! The types that fields, arguments and input fields end in (section 3.4.2 of the Specification).
+
+ghost use Rattle.std.specs.Prelude.{◌≡◌, map};
+ghost use Rattle.std.specs.List.{list_all};
+ghost use Rattle.graphql_spec.specs.Executable as spec;
+ghost use Rattle.juniper_meta.specs.MetaView.{view_argument, view_field, view_type};
+ghost use Rattle.juniper_faults.specs.Searching.{IsApart};
+ghost use Rattle.juniper_schema.specs.SchemaView.{view_schema};
+
+use crate::names::entry;
+use juniper_meta::meta::{Argument, Field};
+use juniper_schema::SchemaType;
+use juniper_syntax::{ScalarValue, Type};
+
+/// Whether the types of the field and of its arguments are known.
+#[tactic(auto, unfolding(graphql_spec::specs::Executable::field_is_known))]
+pub fn field_is_known<S: ScalarValue>(schema: &SchemaType<S>, field: &Field<S>) -> bool
+    requires { IsApart (view_schema S.shown schema.now) }
+    ensures { result ≡ spec.field_is_known (view_schema S.shown schema.now) (view_field S.shown field.now) }
+{
+    ends_in_output(schema, &field.field_type) && end_in_input(schema, field.declared_arguments())
+}
+
+/// Whether inside all lists there is a scalar, enum, object, interface or union (IsOutputType).
+#[tactic(auto, unfolding(graphql_spec::specs::Executable::ends_in_output, graphql_spec::specs::Fields::is_leaf, graphql_spec::specs::Fields::is_composite))]
+fn ends_in_output<S: ScalarValue>(schema: &SchemaType<S>, reference: &Type<String>) -> bool
+    requires { IsApart (view_schema S.shown schema.now) }
+    ensures { result ≡ spec.ends_in_output (view_schema S.shown schema.now) (view_type reference.now) }
+{
+    match entry(schema, reference.innermost_name()) {
+        Some(meta) => meta.is_leaf() || meta.is_composite(),
+        None => false,
+    }
+}
+
+/// Whether the types of the arguments or input fields are known.
+fn end_in_input<S: ScalarValue>(schema: &SchemaType<S>, declared: &[Argument<S>]) -> bool
+    requires { IsApart (view_schema S.shown schema.now) }
+    ensures { result ≡ list_all (spec.ends_in_input (view_schema S.shown schema.now)) (map (view_argument S.shown) declared.now) }
+{
+    for argument in declared {
+        if !ends_in_input(schema, argument) {
+            return false;
+        }
+    }
+    true
+}
+
+/// Whether inside all lists there is a scalar, enum or input object (IsInputType).
+#[tactic(auto, unfolding(graphql_spec::specs::Executable::ends_in_input, graphql_spec::specs::Fields::is_input))]
+pub fn ends_in_input<S: ScalarValue>(schema: &SchemaType<S>, argument: &Argument<S>) -> bool
+    requires { IsApart (view_schema S.shown schema.now) }
+    ensures { result ≡ spec.ends_in_input (view_schema S.shown schema.now) (view_argument S.shown argument.now) }
+{
+    match entry(schema, argument.arg_type.innermost_name()) {
+        Some(meta) => meta.is_input(),
+        None => false,
+    }
+}
