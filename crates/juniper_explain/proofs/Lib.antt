@@ -1,0 +1,10 @@
+mod Elsewhere
+mod Found
+mod Joined
+mod Judging
+mod Marking
+mod Nearing
+mod Repeating
+mod SiteCalls
+mod Telling
+mod WordNames

@@ -1,0 +1,13 @@
+use Rattle.juniper_schema.specs.SchemaView.{view_schema}
+use Rattle.juniper_placed.specs.PlacedView.{view_placed}
+use Rattle.juniper_explain.specs.Explanations.{view_explanations}
+use Rattle.juniper_explain.specs.Nodes.{wrong_set}
+use Rattle.juniper_written.proofs.Lists.{IsFlatSoFar}
+use Rattle.juniper_explain.proofs.fields.explain_sets.Given as goal
+
+abbrev pub invariant-loop-placed : goal.invariant-loop-placed
+invariant-loop-placed g l =
+    let shown = g.S.ScalarValue.shown in
+    let s = view_schema shown l.schema in
+    IsFlatSoFar (λ x. wrong_set s (view_placed shown x) (view_placed shown x).declared) l.placed-items (view_explanations l.initial.explanations.items)
+    l.placed-index (view_explanations l.explanations.items)
