@@ -1,0 +1,4 @@
+pub mod Chosen
+pub mod Leaving
+pub mod Looking
+pub mod Telling

@@ -1,0 +1,155 @@
+-- What is told of a request, over plain variables.
+use Rattle.std.proofs.Common.{◌≡◌, Bool, List, [], map, Option, Result, Ok, Err, Vec, Global, string_bytes, refl, sym, ap, subst}
+use Rattle.std.proofs.Common.{◌∙◌, inl, inr}
+use Rattle.graphql_spec.specs.Documents.{Document}
+use Rattle.graphql_spec.specs.Inputs.{Variables}
+use Rattle.graphql_spec.specs.Outcomes as outcome
+use Rattle.graphql_spec.specs.Outcomes.{Request, Service, Response, refuses, responds, Reads, Becomes}
+use Rattle.graphql_spec.specs.Requests.{Refusal, refused}
+use Rattle.graphql_spec.specs.Shown.{Name, Text}
+use Rattle.graphql_spec.proofs.Deciding.{steps-decide}
+use Rattle.juniper.specs.Answering.{AnswersAs, Responds, StandsFor}
+use Rattle.juniper.specs.Objections.{IsRefusal, Objects}
+use Rattle.juniper.specs.Promised.{IsFullOutcome}
+use Rattle.juniper.specs.RequestErrors.{RequestError, view_request_error, not_parsed, not_valid, no_operation, multiple_operations, unknown_operation}
+use Rattle.juniper.specs.RequestErrors.{is_subscription, not_subscription, no_mutation_type, variable_not_constant, out_of_memory}
+use Rattle.juniper.specs.declared.error.GraphQLError.{GraphQLError}
+use Rattle.juniper.specs.declared.prepared.Bounds.{Bounds}
+use Rattle.juniper.specs.declared.prepared.Objection.{Objection}
+use Rattle.juniper.specs.declared.prepared.Objection.TheVariants as objection
+use Rattle.juniper_errors.specs.ErrorView.{view_listed}
+use Rattle.juniper_errors.specs.declared.execution_error.ExecutionError.{ExecutionError}
+use Rattle.juniper_http.specs.declared.endpoint.Reply.{Reply}
+use Rattle.juniper_http.specs.declared.outcome.Outcome.{Outcome}
+use Rattle.juniper_http.specs.declared.outcome.Outcome.TheVariants.{Refused, Writes, OutOfMemory}
+use Rattle.juniper_json.specs.Refusals.{refusals_of}
+use Rattle.juniper_json.specs.declared.read.VariablesError.{VariablesError}
+use Rattle.juniper_json.specs.RefusalText.{refusals_text}
+use Rattle.juniper_position.specs.RuleView.{view_rule_error}
+use Rattle.juniper_request.specs.Requests.{Asked}
+use Rattle.juniper_syntax.specs.Scalars.{default_shown}
+use Rattle.juniper_syntax.specs.ValueView.{view_value}
+use Rattle.juniper_syntax.specs.declared.scalar.DefaultScalarValue.{DefaultScalarValue}
+use Rattle.juniper_syntax.specs.declared.value.Value.{Value}
+use Rattle.juniper_endpoint.specs.Lines.{IsTold, bare_line, outcome_of, outcome_text, refused_outcome, writes_text}
+use Rattle.juniper_endpoint.specs.Looks.{IsObjected, IsSeen}
+use Rattle.juniper_endpoint.specs.Replied.{IsTaken, MayRun, Replies, given_among, refused_among, request_asked}
+use Rattle.juniper_endpoint.specs.declared.look.Finding.{Finding}
+use Rattle.juniper_endpoint.specs.declared.look.Finding.TheVariants as look
+
+-- what a call of the executor answers
+abbrev Answered : Type 0
+Answered = Result (Value DefaultScalarValue × Vec (ExecutionError DefaultScalarValue) Global) GraphQLError
+
+-- some response that is promised
+by-error : (P : Response → Type 0) (e : RequestError) → Responds P e → (r : Response) × P r
+by-error P out_of_memory p = (outcome.out_of_memory, p)
+by-error P (not_parsed e) (r, is, p) = (refuses r, p)
+by-error P (not_valid es) (r, is, p) = (refuses r, p)
+by-error P no_operation (r, is, p) = (refuses r, p)
+by-error P multiple_operations (r, is, p) = (refuses r, p)
+by-error P unknown_operation (r, is, p) = (refuses r, p)
+by-error P is_subscription (r, is, p) = (refuses r, p)
+by-error P not_subscription (r, is, p) = (refuses r, p)
+by-error P no_mutation_type (r, is, p) = (refuses r, p)
+by-error P (variable_not_constant n) (r, is, p) = (refuses r, p)
+
+some-response : (P : Response → Type 0) (r : Answered) → AnswersAs default_shown P r → (x : Response) × P x
+some-response P (Ok p) full = (responds (view_value default_shown p.0) (map (view_listed default_shown) p.1.items), full)
+some-response P (Err e) full = by-error P (view_request_error e) full
+
+-- the request with these values is the one that is asked
+pub request-same : (a : Asked) (t : Text) (v : Variables) → t ≡ a.query → v ≡ given_among a.variables →
+    record { text = t; operation = a.operation_name; variables = v } ≡ request_asked a
+request-same a t v e f = rw (e, f) refl
+
+-- what is seen, of the same values
+pub seen-so : (among rs : List (Name × VariablesError)) (w : Bool) (name : Option Name) (d : Document) (x y : Finding) → rs ≡ among → x ≡ y →
+    IsSeen rs w name d x → IsSeen among w name d y
+seen-so among rs w name d x y e f i = subst (IsSeen among w name d) f (subst (λ r. IsSeen r w name d x) e i)
+
+module _ {C N : Type 0} (S : Service C N) (b : Bounds) (a : Asked) (w : Bool) (c : C) where
+  -- that memory is refused may be told
+  abbrev Left : C → Type 0
+  Left after = Replies S b a w c OutOfMemory [] after
+
+  -- an error of the executor
+  error-told : (after : C) → Left after → (e : RequestError) → Responds (λ r. IsFullOutcome S (request_asked a) c r after) e → (line : Text) →
+      line ≡ refusals_text (refusals_of e) → Replies S b a w c (refused_outcome e) line after
+  error-told after left out_of_memory p line is = left
+  error-told after left (not_parsed e) (r, x, p) line is = inl (not_parsed e, r, x, p, is)
+  error-told after left (not_valid es) (r, x, p) line is = inl (not_valid es, r, x, p, is)
+  error-told after left no_operation (r, x, p) line is = inl (no_operation, r, x, p, is)
+  error-told after left multiple_operations (r, x, p) line is = inl (multiple_operations, r, x, p, is)
+  error-told after left unknown_operation (r, x, p) line is = inl (unknown_operation, r, x, p, is)
+  error-told after left is_subscription (r, x, p) line is = inl (is_subscription, r, x, p, is)
+  error-told after left not_subscription (r, x, p) line is = inl (not_subscription, r, x, p, is)
+  error-told after left no_mutation_type (r, x, p) line is = inl (no_mutation_type, r, x, p, is)
+  error-told after left (variable_not_constant n) (r, x, p) line is = inl (variable_not_constant n, r, x, p, is)
+
+  -- a reply that says so, or that memory is refused
+  told : (after : C) → Left after → (o : Outcome) (line : Text) (reply : Reply) → IsTold o line reply → ((l : Text) → l ≡ line → Replies S b a w c o l after) →
+      Replies S b a w c reply.outcome (string_bytes reply.line) after
+  told after left o line reply (inl (is, says)) f = subst (λ x. Replies S b a w c x (string_bytes reply.line) after) (sym is) (f (string_bytes reply.line) says)
+  told after left o line reply (inr is) f = subst (λ x. Replies S b a w c x (string_bytes reply.line) after) (sym is) left
+
+  pub memory-told : (after : C) → after ≡ c → (reply : Reply) → reply.outcome ≡ OutOfMemory → Replies S b a w c reply.outcome (string_bytes reply.line) after
+  memory-told after same reply is = subst (λ x. Replies S b a w c x (string_bytes reply.line) after) (sym is) (inl same)
+
+  -- ## A request that is executed
+
+  answered-line : MayRun S b a w → (after : C) (r : Answered) → AnswersAs default_shown (λ x. IsFullOutcome S (request_asked a) c x after) r →
+      (l : Text) → l ≡ outcome_text r → Replies S b a w c (outcome_of r) l after
+  answered-line may after (Ok p) full l is = (may, (view_value default_shown p.0, map (view_listed default_shown) p.1.items, full, is))
+  answered-line may after (Err e) full l is =
+      error-told after (inr (may, some-response (λ x. IsFullOutcome S (request_asked a) c x after) (Err e) full)) (view_request_error e) full l is
+
+  pub answered-told : MayRun S b a w → (after : C) (r : Answered) → AnswersAs default_shown (λ x. IsFullOutcome S (request_asked a) c x after) r →
+      (reply : Reply) → IsTold (outcome_of r) (outcome_text r) reply → Replies S b a w c reply.outcome (string_bytes reply.line) after
+  answered-told may after r full reply t =
+      told after (inr (may, some-response (λ x. IsFullOutcome S (request_asked a) c x after) r full)) (outcome_of r) (outcome_text r) reply t
+      (answered-line may after r full)
+
+  -- ## A text that is objected to
+
+  refusal-becomes : (r : Refusal) → IsRefusal b a.query S.schema S.introspection_disabled r → Becomes S (request_asked a) (refused r)
+  refusal-becomes r (inl (is, unread)) = subst (λ z. Becomes S (request_asked a) (refused z)) (sym is) ((steps-decide S).unread (request_asked a) unread)
+  refusal-becomes r (inr (d, within, (x, xs, is, found))) =
+      subst (λ z. Becomes S (request_asked a) (refused z)) (sym is) ((steps-decide S).invalid (request_asked a) d within.0.1 x xs found)
+
+  refusal-full : (e : RequestError) → StandsFor (IsRefusal b a.query S.schema S.introspection_disabled) e →
+      Responds (λ r. IsFullOutcome S (request_asked a) c r c) e
+  refusal-full out_of_memory u = ((inl refl, tt), tt)
+  refusal-full (not_parsed e) (r, is, p) = (r, is, (((refusal-becomes r p, refl), tt), tt))
+  refusal-full (not_valid es) (r, is, p) = (r, is, (((refusal-becomes r p, refl), tt), tt))
+  refusal-full no_operation (r, is, p) = (r, is, (((refusal-becomes r p, refl), tt), tt))
+  refusal-full multiple_operations (r, is, p) = (r, is, (((refusal-becomes r p, refl), tt), tt))
+  refusal-full unknown_operation (r, is, p) = (r, is, (((refusal-becomes r p, refl), tt), tt))
+  refusal-full is_subscription (r, is, p) = (r, is, (((refusal-becomes r p, refl), tt), tt))
+  refusal-full not_subscription (r, is, p) = (r, is, (((refusal-becomes r p, refl), tt), tt))
+  refusal-full no_mutation_type (r, is, p) = (r, is, (((refusal-becomes r p, refl), tt), tt))
+  refusal-full (variable_not_constant n) (r, is, p) = (r, is, (((refusal-becomes r p, refl), tt), tt))
+
+  pub objection-told : (e : Objection) → Objects b a.query S.schema S.introspection_disabled e → (reply : Reply) → IsObjected e reply →
+      Replies S b a w c reply.outcome (string_bytes reply.line) c
+  objection-told objection.TooLong o reply t = told c (inl refl) Refused _ reply t (λ l is. inr (refl, inl (objection.TooLong, tt, o, is)))
+  objection-told objection.TooManyFields o reply t = told c (inl refl) Refused _ reply t (λ l is. inr (refl, inl (objection.TooManyFields, tt, o, is)))
+  objection-told objection.TooDeep o reply t = told c (inl refl) Refused _ reply t (λ l is. inr (refl, inl (objection.TooDeep, tt, o, is)))
+  objection-told (objection.Refused e) o reply t = told c (inl refl) _ _ reply t
+      (error-told c (inl refl) (view_request_error e) (refusal-full (view_request_error e) o.1))
+
+  -- ## What a look shows
+
+  module _ (d : Document) (taken : IsTaken S b a d) where
+    pub seen-writes : IsSeen (refused_among a.variables) w a.operation_name d look.Writes → (reply : Reply) → IsTold Writes (bare_line writes_text) reply →
+        Replies S b a w c reply.outcome (string_bytes reply.line) c
+    seen-writes (o, choice, (reads, kind)) reply t = told c (inl refl) Writes _ reply t (λ l is. (refl, reads, (d, o, (taken, choice), kind), is))
+
+    pub seen-unfitting : (errors : Vec _ Global) → IsSeen (refused_among a.variables) w a.operation_name d (look.Unfitting errors) → (reply : Reply) →
+        IsTold Refused (refusals_text (refusals_of (not_valid (map view_rule_error errors.items)))) reply →
+        Replies S b a w c reply.outcome (string_bytes reply.line) c
+    seen-unfitting errors (o, choice, (some, same)) reply t = told c (inl refl) Refused _ reply t
+        (λ l is. inr (refl, inr (d, o, (taken, choice), some, is ∙ ap (λ es. refusals_text (refusals_of (not_valid es))) same)))
+
+    pub seen-free : IsSeen (refused_among a.variables) w a.operation_name d look.Passes → MayRun S b a w
+    seen-free free = (d, taken, free)

@@ -1,0 +1,3 @@
+pub mod Lines
+pub mod Looks
+pub mod Replied

@@ -1,0 +1,84 @@
+//! A root with a context, behind HTTP.
+
+ghost use Rattle.std.specs.Prelude.{◌≡◌, string_bytes};
+ghost use Rattle.juniper_request.specs.Requests.{view_request};
+ghost use Rattle.juniper_syntax.specs.Scalars.{default_shown};
+ghost use Rattle.juniper.specs.RootView.{service_of};
+ghost use Rattle.juniper_endpoint.specs.Looks.{IsGivenBy};
+ghost use Rattle.juniper_endpoint.specs.Replied.{Replies};
+
+use crate::given::given_by;
+use crate::lines::{objection_reply, without_memory};
+use crate::replied::reply_prepared;
+use juniper::{
+    Bounds, DefaultScalarValue, GraphQLMutationValue, GraphQLType, GraphQLValue, RootNode, prepare,
+};
+use juniper_http::{Endpoint, Reply};
+use juniper_json::GivenVariables;
+use juniper_request::GraphQLRequest;
+use std::alloc::Global;
+
+/// A root whose requests are executed one after another in one context, within bounds.
+#[derive(Drop)]
+pub struct RootEndpoint<
+    'r,
+    Q: GraphQLValue<DefaultScalarValue>,
+    M: GraphQLType<DefaultScalarValue>,
+    Sub: GraphQLType<DefaultScalarValue>,
+> {
+    /// What requests are executed on.
+    pub root: &'r RootNode<Q, M, Sub, DefaultScalarValue>,
+    /// What they are executed in: a mutation leaves it as its steps do.
+    pub context: Q::Context,
+    /// What is taken of a text.
+    pub bounds: Bounds,
+}
+
+impl<
+    Q: GraphQLValue<DefaultScalarValue>,
+    M: GraphQLMutationValue<DefaultScalarValue, Context = Q::Context, Node = Q::Node>,
+    Sub: GraphQLType<DefaultScalarValue>,
+> Endpoint for RootEndpoint<'_, Q, M, Sub> {
+    ghost replies = { λ old asked may_write reply new. (new ≡ record old { context = new.context })
+        × Replies (service_of Q.concrete Q.answer Q.root M.step M.torn default_shown old.root.now) old.bounds asked may_write old.context
+        reply.outcome (string_bytes reply.line) new.context };
+
+    fn reply(&mut self, alloc: Global, request: &GraphQLRequest<'_>, may_write: bool) -> Reply {
+        match given_by(alloc, request.variables) {
+            Err(_) => without_memory(alloc),
+            Ok(given) => self.reply_with(alloc, request, &given, may_write),
+        }
+    }
+}
+
+impl<
+    Q: GraphQLValue<DefaultScalarValue>,
+    M: GraphQLMutationValue<DefaultScalarValue, Context = Q::Context, Node = Q::Node>,
+    Sub: GraphQLType<DefaultScalarValue>,
+> RootEndpoint<'_, Q, M, Sub> {
+    /// Replies to a request with these values of its variables.
+    fn reply_with(
+        &mut self,
+        alloc: Global,
+        request: &GraphQLRequest<'_>,
+        given: &GivenVariables,
+        may_write: bool,
+    ) -> Reply
+        requires { IsGivenBy (view_request request.now).variables given.now }
+        ensures rest { self.new ≡ record self.old { context = self.new.context } }
+        ensures said { Replies (service_of Q.concrete Q.answer Q.root M.step M.torn default_shown self.old.root.now) self.old.bounds (view_request request.now)
+            may_write self.old.context result.outcome (string_bytes result.line) self.new.context }
+    {
+        match prepare(alloc, self.root, request.query, &self.bounds) {
+            Err(objection) => objection_reply(alloc, objection),
+            Ok(prepared) => reply_prepared(
+                alloc,
+                &prepared,
+                request,
+                given,
+                may_write,
+                &mut self.context,
+            ),
+        }
+    }
+}

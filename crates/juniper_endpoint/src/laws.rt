@@ -1,0 +1,42 @@
+//! Laws of replies. Each function does nothing; its contract is the law.
+
+ghost use Rattle.std.specs.Prelude.{◌≡◌, ◌≢◌, ℕ, List, codes, false};
+ghost use Rattle.graphql_spec.specs.Outcomes as outcomes;
+ghost use Rattle.graphql_spec.specs.Shown.{Text};
+ghost use Rattle.http.specs.Request.{head_of};
+ghost use Rattle.http.specs.declared.request.Request.{Request};
+ghost use Rattle.http_server.specs.declared.response.Response.{Response};
+ghost use Rattle.juniper.specs.declared.prepared.Bounds.{Bounds};
+ghost use Rattle.juniper_http.specs.Served.{Serves};
+ghost use Rattle.juniper_http.specs.declared.endpoint.Reply.{Reply};
+ghost use Rattle.juniper_http.specs.declared.outcome.Outcome.{Outcome};
+ghost use Rattle.juniper_http.specs.declared.service.GraphQLService.{GraphQLService};
+ghost use Rattle.juniper_request.specs.Requests.{Asked};
+ghost use Rattle.juniper_endpoint.specs.Replied.{Replies};
+
+use crate::endpoint::RootEndpoint;
+use juniper::{DefaultScalarValue, GraphQLMutationValue, GraphQLType, GraphQLValue};
+use juniper_http::Endpoint;
+
+/// A request that may only read leaves the context as it was.
+pub fn reading_leaves<C, N>()
+    ensures { (S : outcomes.Service C N) (b : Bounds) (a : Asked) (c : C) (outcome : Outcome) (line : Text) (after : C) →
+        Replies S b a false c outcome line after → after ≡ c }
+{}
+
+/// And so the endpoint over a root.
+pub fn reading_leaves_the_endpoint<
+    'r,
+    Q: GraphQLValue<DefaultScalarValue>,
+    M: GraphQLMutationValue<DefaultScalarValue, Context = Q::Context, Node = Q::Node>,
+    Sub: GraphQLType<DefaultScalarValue>,
+>(old: &RootEndpoint<'r, Q, M, Sub>, new: &RootEndpoint<'r, Q, M, Sub>)
+    ensures { (a : Asked) (reply : Reply) → ⟦<RootEndpoint<'r, Q, M, Sub> as Endpoint>⟧.replies old.now a false reply new.now → new.now ≡ old.now }
+{}
+
+/// A request that is no `POST` leaves a service as it was, where its endpoint is left so by requests that may only read.
+pub fn gets_leave<E: Endpoint>()
+    ensures { ((s : E) (a : Asked) (reply : Reply) (t : E) → E.replies s a false reply t → t ≡ s) →
+        (s : GraphQLService E) (request : Request (List ℕ)) (r : Response) (t : GraphQLService E) → (head_of request).method ≢ codes "POST" →
+        Serves E.replies s request r t → t ≡ s }
+{}

@@ -1,0 +1,14 @@
+//! What stands behind HTTP: a root whose requests are executed in one context, within bounds (section 6.1 of the Specification).
+//!
+//! [`RootEndpoint`] is an `Endpoint` of `juniper_http`: each reply is the text of the outcome that `juniper::execute_sync` promises, or
+//! says why the request is not executed.
+#![tactic(auto)]
+
+mod endpoint;
+mod given;
+pub mod laws;
+mod lines;
+mod look;
+mod replied;
+
+pub use endpoint::RootEndpoint;

@@ -1,0 +1,65 @@
+//! Requests whose document is prepared.
+
+ghost use Rattle.std.specs.Prelude.{◌≡◌, string_bytes};
+ghost use Rattle.juniper.specs.Objections.{IsAccepted};
+ghost use Rattle.juniper.specs.PreparedView.{document_of, root_of, source_of};
+ghost use Rattle.juniper.specs.RootView.{service_of};
+ghost use Rattle.juniper.specs.declared.prepared.Bounds.{Bounds};
+ghost use Rattle.juniper_request.specs.Requests.{view_request};
+ghost use Rattle.juniper_syntax.specs.Scalars.{default_shown};
+ghost use Rattle.juniper_endpoint.specs.Looks.{IsGivenBy};
+ghost use Rattle.juniper_endpoint.specs.Replied.{IsTaken, Replies};
+
+use crate::lines::{answered_reply, bare_reply, without_memory};
+use crate::look::{Finding, look};
+use juniper::{
+    DefaultScalarValue, GraphQLError, GraphQLMutationValue, GraphQLType, GraphQLValue, Prepared,
+    execute_prepared,
+};
+use juniper_http::{Outcome, Reply};
+use juniper_json::GivenVariables;
+use juniper_request::GraphQLRequest;
+use std::alloc::Global;
+
+/// Replies to a request whose document is prepared, with the values of its variables.
+pub fn reply_prepared<
+    Q: GraphQLValue<DefaultScalarValue>,
+    M: GraphQLMutationValue<DefaultScalarValue, Context = Q::Context, Node = Q::Node>,
+    Sub: GraphQLType<DefaultScalarValue>,
+>(
+    alloc: Global,
+    prepared: &Prepared<'_, '_, Q, M, Sub, DefaultScalarValue>,
+    request: &GraphQLRequest<'_>,
+    given: &GivenVariables,
+    may_write: bool,
+    context: &mut Q::Context,
+) -> Reply
+    requires text { source_of prepared.now ≡ request.now.query.now }
+    requires given { IsGivenBy (view_request request.now).variables given.now }
+    ensures { (b : Bounds) → IsTaken (service_of Q.concrete Q.answer Q.root M.step M.torn default_shown (root_of prepared.now)) b (view_request request.now)
+        (document_of default_shown prepared.now) →
+        Replies (service_of Q.concrete Q.answer Q.root M.step M.torn default_shown (root_of prepared.now)) b (view_request request.now) may_write context.old
+        result.outcome (string_bytes result.line) context.new }
+{
+    match look(alloc, request, &given.refused, may_write) {
+        Err(_) => without_memory(alloc),
+        Ok(Finding::Writes) => bare_reply(
+            alloc,
+            Outcome::Writes,
+            "A mutation is asked for by POST",
+        ),
+        Ok(Finding::Unfitting(errors)) => {
+            answered_reply(alloc, Err(GraphQLError::ValidationError(errors)))
+        }
+        Ok(Finding::Passes) => {
+            let answered = execute_prepared(
+                alloc,
+                prepared,
+                request.operation_name,
+                &given.values,
+                context,
+            );
+            answered_reply(alloc, answered)
+        }
+    }
+}
