@@ -1,0 +1,9 @@
+use Rattle.std.proofs.Common.{◌≡◌, string_bytes, take}
+use Rattle.std.specs.List.{flat_map}
+use Rattle.juniper_meta.specs.MetaView.{view_argument}
+use Rattle.juniper_sdl.specs.Definitions.{input_field_text}
+use Rattle.juniper_sdl.proofs.members.input_fields_text.Given as goal
+
+abbrev pub invariant-loop-field : goal.invariant-loop-field
+invariant-loop-field g l =
+    string_bytes l.text ≡ flat_map (λ f. input_field_text (view_argument g.S.ScalarValue.shown f)) (take l.field-index l.fields)
