@@ -71,7 +71,7 @@ module _ {S : Type 0} (shown : S → Shown) (vars : VariableMap S) (m : Fragment
       let same : a.first ≡ occurrence_at shown vars m o.field.now = cc in
       subst (λ (x : Spanning (Field S) Span). asks (head_of shown x) q) first (subst (λ h. asks h q) (ap (λ (x : Occurrence). x.head) same) a.asked)
 
-  module _ {N : Type 0} (W : World N) (T : Name) (n : N) where
+  module _ {N : Type 0} (W : World N) (T : Name) where
     -- the type and the reply of a group are those of its first (6.4.2)
     pub first-type : (os : List (CodeOccurrence S)) (f : Spanning (Field S) Span) → IsFirstOf f os →
         W.field_type T (head_of shown f).name.item ≡ type_of W T (view_fields shown vars m os)
@@ -79,11 +79,11 @@ module _ {S : Type 0} (shown : S → Shown) (vars : VariableMap S) (m : Fragment
     first-type [] f first = absurd first
     first-type (o ∷ os) f first = ap (λ (x : Spanning (Field S) Span). W.field_type T (head_of shown x).name.item) (sym first)
 
-    pub first-reply : (os : List (CodeOccurrence S)) (f : Spanning (Field S) Span) → IsFirstOf f os →
+    pub first-reply : (n : N) (os : List (CodeOccurrence S)) (f : Spanning (Field S) Span) → IsFirstOf f os →
         reply_to W T n (head_of shown f) ≡ reply_of W T n (view_fields shown vars m os)
     unfolding occurrence_at reply_of
-    first-reply [] f first = absurd first
-    first-reply (o ∷ os) f first = ap (λ (x : Spanning (Field S) Span). reply_to W T n (head_of shown x)) (sym first)
+    first-reply n [] f first = absurd first
+    first-reply n (o ∷ os) f first = ap (λ (x : Spanning (Field S) Span). reply_to W T n (head_of shown x)) (sym first)
 
 module _ {C S : Type 0} {scalar : Scalars S} {equality : Equality S} {shows : Shows S} (shown : S → Shown) (e : Executor C S scalar equality shows) where
   pub asked-at : (s : SchemaType S scalar equality shows) (vars : VariableMap S) (m : FragmentsByName S) (T : Name) (es : List (Enclosing S))

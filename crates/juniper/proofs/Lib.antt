@@ -13,6 +13,8 @@ pub mod Headlines
 mod Objecting
 pub mod Ending
 pub mod Asked
+mod AskedFields
+mod Replies
 pub mod RootOutcomes
 pub mod Asking
 pub mod RequestErrorEquality

@@ -1,4 +1,5 @@
 pub mod Answering
+pub mod AskedFields
 pub mod Choices
 pub mod Ends
 pub mod Formats
@@ -7,6 +8,7 @@ pub mod Objections
 pub mod PreparedView
 pub mod Promised
 pub mod Questions
+pub mod Replied
 pub mod RequestErrors
 pub mod RootFields
 pub mod RootView

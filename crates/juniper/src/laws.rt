@@ -2,12 +2,18 @@
 
 ghost use Rattle.std.specs.Prelude.{◌≡◌, true};
 ghost use Rattle.graphql_spec.specs.Outcomes.{Request, Response, Service};
+ghost use Rattle.graphql_spec.specs.Schema.{FieldDeclaration};
+ghost use Rattle.juniper_meta.specs.MetaView.{Meta};
+ghost use Rattle.juniper_types.specs.ExecutorView.{IsAskedFor};
+ghost use Rattle.juniper.specs.AskedFields.{IsOfField, asked_arguments, asked_name};
 ghost use Rattle.juniper.specs.Ends.{RequestsEnd, TextsAreRead};
 ghost use Rattle.juniper.specs.Headline.{Headline};
 ghost use Rattle.juniper.specs.Promised.{IsFullOutcome};
 ghost use Rattle.juniper.specs.RequestErrors.{view_request_error};
 
 use crate::error::GraphQLError;
+use juniper_language::ScalarValue;
+use juniper_types::Executor;
 
 /// What [`crate::execute_sync`] promises, part by part: a refusal is that of the first step that fails; the data is that of the
 /// Specification's execution; the errors are sorted, each belongs to a failure, at its exact place and at the first of its field's
@@ -29,4 +35,13 @@ pub fn requests_end<C, N>()
 pub fn equal_request_errors_show_the_same(a: &GraphQLError, b: &GraphQLError)
     ensures equal { ⟦<GraphQLError as PartialEq>⟧.eq a.now b.now ≡ true → view_request_error a.now ≡ view_request_error b.now }
     ensures same { view_request_error a.now ≡ view_request_error b.now → ⟦<GraphQLError as PartialEq>⟧.eq a.now b.now ≡ true }
+{}
+
+/// An executor that [`Executor::at_field`] made may be shown to a resolver by hand, as [`crate::GraphQLValue::resolve_field`] requires, with the
+/// name of its field and the coerced arguments: where the schema can be executed and declares the field for the object type, the executor
+/// shows the field's type, its occurrences are all that the selections around it hold of one response key, and the path ends with that key
+/// (sections 6.3.2 and 6.4.1).
+pub fn fields_may_be_asked<C, S: ScalarValue>(executor: &Executor<C, S>)
+    ensures { (f : FieldDeclaration) (m : Meta) → IsOfField S.shown executor.now f m →
+        IsAskedFor S.shown executor.now (asked_name S.shown executor.now) (asked_arguments S.shown executor.now) }
 {}

@@ -12,6 +12,7 @@ mod operation;
 mod prepared;
 mod preparing;
 mod question;
+mod replying;
 mod request;
 mod root_walk;
 mod served;

@@ -30,21 +30,25 @@ ghost use Rattle.juniper_walk.specs.Completing.{IsTold};
 ghost use Rattle.juniper_walk.specs.FieldWords.{head_of};
 ghost use Rattle.juniper_walk.specs.Walking.{SelectionsAgree};
 ghost use Rattle.juniper.specs.RootFields.{IsReadyRoot, IsRootPlan, IsRootStep, all_fields, asks_in, collector_in, field_in, selected_in, values_in};
-ghost use Rattle.juniper.specs.ServedView.{mutation_root, schema_of};
+ghost use Rattle.juniper.specs.ServedView.{info_of, mutation_root, resolver_of, schema_of};
+ghost use Rattle.juniper.specs.Services.{world_in};
 ghost use Rattle.juniper.specs.Stepping.{GroupRan, GroupStopped, IsGiven, StepLeaves};
 ghost use Rattle.juniper.specs.Walkings.{starts_by};
 
 use crate::coerce::coerce_arguments;
 use crate::node_resolver::WithInfo;
 use crate::question::{Question, arguments_of};
+use crate::replying::type_name;
 use crate::root_walk::RootWalk;
 use crate::served::Served;
-use crate::service::{Service, first_of, type_name};
+use crate::service::{Service, first_of};
 use juniper_intro::{RootedNode, rooted_answer};
 use juniper_language::{Field, Object, ScalarValue, Span, Spanning, Value};
 use juniper_lookahead::Enclosing;
 use juniper_plan::{GroupNo, GroupRange, Plan};
-use juniper_types::{Executor, FieldPath, GraphQLMutationValue, GraphQLValue, Resolved};
+use juniper_types::{
+    Executor, FieldPath, GraphQLMutationValue, GraphQLType, GraphQLValue, Resolved,
+};
 use juniper_values::{Arguments, ExecutionError, ResolveError};
 use juniper_walk::{Asked, Site, Walked, path_below};
 use std::alloc::{AllocError, Global};
@@ -153,15 +157,7 @@ fn step_with<
 }
 
 /// Completes what a root field answered under the context that its step left (6.4.3).
-fn complete<
-    's,
-    'd,
-    'a,
-    Q: GraphQLValue<S, Node = RootedNode<N>>,
-    M: GraphQLMutationValue<S, Context = Q::Context, Node = N>,
-    N: Drop,
-    S: ScalarValue,
->(
+fn complete<'s, 'd, 'a, Q: GraphQLValue<S>, M: GraphQLType<S>, S: ScalarValue>(
     served: &Served<'s, Q, M, S>,
     walk: &RootWalk<'_, 'd, 'a, S>,
     plan: &mut Plan<'d, 'a, S, Question<'s, S>>,
@@ -174,13 +170,15 @@ fn complete<
     requires standing { IsRootPlan S.shown walk.now (view_schema S.shown (schema_of served.now)) plan.old }
     requires bound { group.0 < length plan.old.groups.items }
     requires some { HasFirst (view_all S.shown (collector_in S.shown walk.now) (fields_at plan.old group.0)) }
-    requires merge { Merges ((mutation_root Q.concrete Q.answer M.step M.torn S.shown served.now (values_in S.shown walk.now)).world context.now)
+    requires merge { Merges (world_in Q.concrete Q.answer (resolver_of served.now) (info_of served.now) context.now
+        (view_schema S.shown (schema_of served.now)) (values_in S.shown walk.now))
         (innermost (view_type (λ n. string_bytes n) asked.declared.now))
         (all_below (view_all S.shown (collector_in S.shown walk.now) (fields_at plan.old group.0))) }
     ensures plan { IfOk result (λ _. IsRootStep S.shown walk.now (view_schema S.shown (schema_of served.now)) plan.old plan.new) }
     ensures told { IfOk result (λ _. IsTold asked.entry.answer) }
     ensures completed { (reply : _) → Answers S.shown asked.entry.answer reply → IfOk result (λ w. GroupCompleted whole (starts_by served.now.walking)
-        ((mutation_root Q.concrete Q.answer M.step M.torn S.shown served.now (values_in S.shown walk.now)).world context.now) (path_place path.now.value) []
+        (world_in Q.concrete Q.answer (resolver_of served.now) (info_of served.now) context.now (view_schema S.shown (schema_of served.now))
+        (values_in S.shown walk.now)) (path_place path.now.value) []
         (view_type (λ n. string_bytes n) asked.entry.declared.now) reply
         (view_all S.shown (collector_in S.shown walk.now) (fields_at plan.old group.0))
         (view_value S.shown w.value) (map (view_listed S.shown) w.errors.items)) }
@@ -197,7 +195,7 @@ fn complete<
         query_type: served.query_type(),
         undeclared: served.undeclared,
     };
-    let walked = service.complete_group(
+    let walked = service.complete_root_group(
         walk.alloc,
         served.walking,
         walk.fragments,
@@ -303,15 +301,7 @@ fn run_group<
 }
 
 /// The root groups, put into a plan (6.3.2).
-fn plan_root<
-    's,
-    'd,
-    'a,
-    Q: GraphQLValue<S, Node = RootedNode<N>>,
-    M: GraphQLMutationValue<S, Context = Q::Context, Node = N>,
-    N: Drop,
-    S: ScalarValue,
->(
+fn plan_root<'s, 'd, 'a, Q: GraphQLValue<S>, M: GraphQLType<S>, S: ScalarValue>(
     served: &Served<'s, Q, M, S>,
     walk: &RootWalk<'_, 'd, 'a, S>,
     plan: &mut Plan<'d, 'a, S, Question<'s, S>>,

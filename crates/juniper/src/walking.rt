@@ -24,17 +24,17 @@ ghost use Rattle.juniper_syntax.specs.ValueView.{view_value};
 ghost use Rattle.juniper_walk.specs.Completing.{IsTold};
 ghost use Rattle.juniper_walk.specs.Walking.{IsReadyWalk, SelectionsAgree};
 ghost use Rattle.juniper.specs.Questions.{IsQuestion};
-ghost use Rattle.juniper.specs.Services.{world_with};
+ghost use Rattle.juniper.specs.Services.{world_in, world_with};
 ghost use Rattle.juniper.specs.Walkings.{Lists, TellsQuery, collector_of, starts_by};
 
-use crate::node_resolver::NodeResolver;
+use crate::node_resolver::{NodeResolver, WithInfo};
 use crate::question::Question;
 use crate::service::{Service, first_of};
 use juniper_collect::{Collector, FragmentMap};
 use juniper_language::{ScalarValue, Selection, SourcePosition};
 use juniper_lookahead::{Enclosing, Occurrence};
 use juniper_plan::{GroupNo, GroupRange, Plan, root_groups};
-use juniper_types::FieldPath;
+use juniper_types::{FieldPath, GraphQLValue};
 use juniper_walk::{Asked, Group, Resolver, Walk, Walked};
 use std::alloc::{AllocError, Global};
 use std::rc::Rc;
@@ -213,6 +213,44 @@ impl<'c, 's, Q: NodeResolver<S>, S: ScalarValue> Service<'c, 's, Q, S> {
             },
         };
         let walked = walking.complete_group(&walk, plan, path, asked, group)?;
+        Ok(walked)
+    }
+}
+
+impl<'c, 'r, 's, Q: GraphQLValue<S>, S: ScalarValue> Service<'c, 's, WithInfo<'r, Q, S>, S> {
+    /// [`Service::complete_group`] for a user's resolver; apart, since its check grows with the parameters of the function that calls it.
+    pub(crate) fn complete_root_group<'d, 'a>(
+        self,
+        alloc: Global,
+        walking: Walking,
+        fragments: &FragmentMap<'d, 'a, S>,
+        plan: &mut Plan<'d, 'a, S, Question<'s, S>>,
+        path: &Rc<FieldPath<'a>>,
+        asked: Asked<'_, Q::Node, S>,
+        group: GroupNo,
+    ) -> Result<Walked<S>, AllocError>
+        requires ready { IsReady S.shown (collector_of fragments self.variables self) }
+        requires standing { IsStanding S.shown (collector_of fragments self.variables self)
+            (IsQuestion S.shown (view_schema S.shown self.schema.now) (view_variables S.shown self.variables.now))
+            (is_possible (view_schema S.shown self.schema.now)) plan.old }
+        requires bound { group.0 < group_count plan.old }
+        requires some { HasFirst (view_all S.shown (collector_of fragments self.variables self) (fields_at plan.old group.0)) }
+        requires merge { Merges (world_in Q.concrete Q.answer self.resolver.now.resolver.now self.resolver.now.info.now self.context.now
+            (view_schema S.shown self.schema.now) (view_variables S.shown self.variables.now))
+            (innermost (view_type (λ n. string_bytes n) asked.declared.now))
+            (all_below (view_all S.shown (collector_of fragments self.variables self) (fields_at plan.old group.0))) }
+        ensures plan { IfOk result (λ _. IsStep S.shown (collector_of fragments.entry self.entry.variables self.entry)
+            (IsQuestion S.shown (view_schema S.shown self.entry.schema.now) (view_variables S.shown self.entry.variables.now))
+            (is_possible (view_schema S.shown self.entry.schema.now)) plan.old plan.new) }
+        ensures told { IfOk result (λ _. IsTold asked.entry.answer) }
+        ensures completed { (reply : _) → Answers S.shown asked.entry.answer reply → IfOk result (λ w. GroupCompleted whole (starts_by walking)
+            (world_in Q.concrete Q.answer self.entry.resolver.now.resolver.now self.entry.resolver.now.info.now self.entry.context.now
+            (view_schema S.shown self.entry.schema.now) (view_variables S.shown self.entry.variables.now)) (path_place path.now.value) []
+            (view_type (λ n. string_bytes n) asked.entry.declared.now) reply
+            (view_all S.shown (collector_of fragments.entry self.entry.variables self.entry) (fields_at plan.old group.0))
+            (view_value S.shown w.value) (map (view_listed S.shown) w.errors.items)) }
+    {
+        let walked = self.complete_group(alloc, walking, fragments, plan, path, asked, group)?;
         Ok(walked)
     }
 }

@@ -9,7 +9,7 @@ mod skeleton;
 mod spot;
 
 pub use apart::{Completer, Fault, take_apart};
-pub use filling::fill;
+pub use filling::{fill, whole};
 pub use joining::{join, settle};
 pub use skeleton::Skeleton;
 pub use spot::Spot;

@@ -66,6 +66,24 @@ Vec<Vec<i32>> | [1, 2, null] => Err(Item(Null))
 [Option<i32>; 3] | [1, 2, null] => Ok([Some(1), Some(2), None])
 [[i32; 1]; 3] | [1, 2, null] => Err(Item(Null))
 [[i32; 1]; 3] | [1, [2], 3] => Ok([[1], [2], [3]])
+[i32; 1] | 1 => Ok([1])
+[i32; 1] | [1] => Ok([1])
+[i32; 1] | [] => Err(WrongCount { actual: 0, expected: 1 })
+[i32; 1] | null => Err(Null)
+[Option<i32>; 1] | 1 => Ok([Some(1)])
+[Option<i32>; 1] | [null] => Ok([None])
+[Option<i32>; 1] | null => Err(Null)
+[[i32; 1]; 1] | 1 => Ok([[1]])
+[[i32; 1]; 1] | [1] => Ok([[1]])
+[[i32; 1]; 1] | [[1, 2]] => Err(Item(WrongCount { actual: 2, expected: 1 }))
+[Option<i32>; 0] | [] => Ok([])
+[Option<i32>; 0] | 1 => Err(WrongCount { actual: 1, expected: 0 })
+[Option<i32>; 0] | [null] => Err(WrongCount { actual: 1, expected: 0 })
+Option<[i32; 1]> | null => Ok(None)
+Option<[i32; 1]> | 1 => Ok(Some([1]))
+Option<[Vec<i32>; 1]> | 1 => Ok(Some([[1]]))
+Option<[Vec<i32>; 1]> | [[1, 2]] => Ok(Some([[1, 2]]))
+Option<[Vec<i32>; 1]> | [null] => Err(Item(Null))
 [i32; 0] | [] => Ok([])
 [i32; 0] | 1 => Err(WrongCount { actual: 1, expected: 0 })
 [i32; 0] | null => Err(Null)
@@ -186,6 +204,10 @@ fn told_at_array(
 ) -> Result<String, AllocError> {
     match kind {
         "[i32; 0]" => told::<[i32; 0]>(alloc, question, value),
+        "[i32; 1]" => told::<[i32; 1]>(alloc, question, value),
+        "[Option<i32>; 0]" => answered::<Scalar, [Option<i32>; 0]>(alloc, value),
+        "[Option<i32>; 1]" => answered::<Scalar, [Option<i32>; 1]>(alloc, value),
+        "[[i32; 1]; 1]" => answered::<Scalar, [[i32; 1]; 1]>(alloc, value),
         "[i32; 3]" => told::<[i32; 3]>(alloc, question, value),
         "[Option<i32>; 3]" => told::<[Option<i32>; 3]>(alloc, question, value),
         "[[i32; 1]; 3]" => answered::<Scalar, [[i32; 1]; 3]>(alloc, value),
@@ -206,6 +228,8 @@ fn told_at_wrapper(
         "Option<Vec<i32>>" | "Vec<Vec<i32>>" => {
             told_around::<Vec<i32>>(alloc, question, kind, value)
         }
+        "Option<[i32; 1]>" => answered::<Scalar, Option<[i32; 1]>>(alloc, value),
+        "Option<[Vec<i32>; 1]>" => answered::<Scalar, Option<[Vec<i32>; 1]>>(alloc, value),
         "Option<[i32; 3]>" => told_around::<[i32; 3]>(alloc, question, kind, value),
         "Option<[Option<i32>; 3]>" => {
             told_around::<[Option<i32>; 3]>(alloc, question, kind, value)

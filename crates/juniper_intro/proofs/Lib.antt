@@ -9,3 +9,4 @@ pub mod Looked
 pub mod RootSchemas
 pub mod AllowedSchemas
 pub mod RootReplies
+pub mod Users

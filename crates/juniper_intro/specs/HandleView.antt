@@ -12,7 +12,7 @@ use Rattle.juniper_intro.specs.declared.handle.Handle.{Handle}
 use Rattle.juniper_intro.specs.declared.handle.Handle.TheVariants as handle
 use Rattle.juniper_intro.specs.declared.node.RootedNode.{RootedNode}
 use Rattle.juniper_intro.specs.declared.node.RootedNode.TheVariants as node
-use Rattle.std.specs.Prelude.{List}
+use Rattle.std.specs.Prelude.{List, [], ◌∷◌, Option, Some, None, option_map}
 
 -- ## As the code has them
 
@@ -70,3 +70,9 @@ abbrev pub view_node : {N : Type 0} → Schema → List Name → RootedNode N �
 view_node s names node.Root = rooted.root
 view_node s names (node.User n) = rooted.user n
 view_node s names (node.Introspected h) = rooted.introspected (meant s names (view_handle h))
+
+-- the users' nodes that these are, if all of them are such
+abbrev pub users_in : {N : Type 0} → List (RootedNode N) → Option (List N)
+users_in [] = Some []
+users_in (node.User n ∷ rs) = option_map (λ ns. n ∷ ns) (users_in rs)
+users_in (r ∷ rs) = None

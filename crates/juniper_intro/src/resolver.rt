@@ -1,12 +1,13 @@
 //! The root as a resolver: introspection, and all else by the query's resolver (section 4 of the Specification).
 
-ghost use Rattle.std.specs.Prelude.{◌≡◌};
+ghost use Rattle.std.specs.Prelude.{◌≡◌, IfOk, map, option_map};
 ghost use Rattle.graphql_spec.specs.Rules.{is_introspection};
-ghost use Rattle.juniper_intro.specs.HandleView.{of_handle, of_user, view_handle};
+ghost use Rattle.graphql_spec.specs.SeenNodes.{map_reply};
+ghost use Rattle.juniper_intro.specs.HandleView.{of_handle, of_user, users_in, view_handle};
 ghost use Rattle.juniper_intro.specs.Handles.{held_reply, held_user_reply};
 ghost use Rattle.juniper_intro.specs.HeldReplies.{held_answer, held_concrete};
 ghost use Rattle.juniper_intro.specs.Introspectors.{names_of, number_of, schema_of};
-ghost use Rattle.juniper_resolvable.specs.ResolvedView.{Answers};
+ghost use Rattle.juniper_resolvable.specs.ResolvedView.{AllAnswer, Answers};
 ghost use Rattle.juniper_schema.specs.SchemaView.{view_schema};
 ghost use Rattle.juniper_types.specs.ExecutorView.{IsAskedFor, context_of};
 ghost use Rattle.juniper_values.specs.ArgumentView.{view_arguments};
@@ -16,7 +17,7 @@ use crate::handle::Handle;
 use crate::introspector::Introspector;
 use crate::node::RootedNode;
 use crate::root::RootNode;
-use crate::rooted::rooted_answer;
+use crate::rooted::{rooted_answer, rooted_answers};
 use crate::words::Answer;
 use juniper_meta::MetaType;
 use juniper_registry::{GraphQLReference, GraphQLType, Registry};
@@ -157,6 +158,38 @@ impl<Q: GraphQLValue<S>, M: GraphQLType<S>, Sub: GraphQLType<S>, S: ScalarValue>
             }
         }
     }
+
+    fn nodes_at_once(&self, info: &Q::TypeInfo, type_name: &str) -> usize {
+        if type_name.starts_with("__") {
+            return 1;
+        }
+        self.query.nodes_at_once(info, type_name)
+    }
+
+    fn resolve_fields(
+        &self,
+        alloc: Global,
+        info: &Q::TypeInfo,
+        nodes: &[&RootedNode<Q::Node>],
+        field_name: &str,
+        arguments: &Arguments<'_, S>,
+        executor: &Executor<Q::Context, S>,
+    ) -> Result<Vec<Result<Resolved<RootedNode<Q::Node>, S>, ResolveError<S>>>, AllocError> {
+        if !is_introspection(field_name) {
+            if let Some(users) = users_of(alloc, nodes)? {
+                let answers = self.resolve_all_users(
+                    alloc, info, &users, field_name, arguments, executor,
+                )?;
+                return Ok(answers);
+            }
+        }
+        let mut made = Vec::with_capacity(alloc, nodes.len())?;
+        for node in nodes {
+            let answer = self.resolve_field(alloc, info, node, field_name, arguments, executor);
+            made.push(answer)?;
+        }
+        Ok(made)
+    }
 }
 
 impl<Q: GraphQLValue<S>, M: GraphQLType<S>, Sub: GraphQLType<S>, S: ScalarValue> RootNode<
@@ -190,6 +223,44 @@ impl<Q: GraphQLValue<S>, M: GraphQLType<S>, Sub: GraphQLType<S>, S: ScalarValue>
             .resolve_field(alloc, info, node, field_name, arguments, executor);
         rooted_answer(alloc, answered)
     }
+
+    /// What users' nodes answer to a field that is not of introspection: the query's resolver is asked once for all of them.
+    fn resolve_all_users(
+        &self,
+        alloc: Global,
+        info: &Q::TypeInfo,
+        users: &[&Q::Node],
+        field_name: &str,
+        arguments: &Arguments<'_, S>,
+        executor: &Executor<Q::Context, S>,
+    ) -> Result<Vec<Result<Resolved<RootedNode<Q::Node>, S>, ResolveError<S>>>, AllocError>
+        requires { IsAskedFor S.shown executor.now field_name.now (view_arguments S.shown arguments.now) }
+        ensures { IfOk result (λ made. AllAnswer S.shown (λ n. map_reply of_user (Q.answer self.now.query info.now (context_of executor.now) n field_name.now
+            (view_arguments S.shown arguments.now))) (map (λ n. n.now) users.now) made.items) }
+    {
+        let answered = self
+            .query
+            .resolve_fields(alloc, info, users, field_name, arguments, executor)?;
+        let made = rooted_answers(alloc, answered)?;
+        Ok(made)
+    }
+}
+
+/// The nodes of the query's resolver that these are, if all of them are such.
+fn users_of<'n, N>(
+    alloc: Global,
+    nodes: &[&'n RootedNode<N>],
+) -> Result<Option<Vec<&'n N>>, AllocError>
+    ensures { IfOk result (λ found. option_map (λ users. map (λ n. n.now) users.items) found ≡ users_in (map (λ n. n.now) nodes.now)) }
+{
+    let mut users = Vec::with_capacity(alloc, nodes.len())?;
+    for node in nodes {
+        match *node {
+            RootedNode::User(user) => users.push(user)?,
+            RootedNode::Root | RootedNode::Introspected(_) => return Ok(None),
+        }
+    }
+    Ok(Some(users))
 }
 
 /// Whether the field is `__schema` or `__type` (4.1).

@@ -1,9 +1,9 @@
 //! Answers of the query's resolver among the root's nodes.
 
-ghost use Rattle.std.specs.Prelude.{◌≡◌, IfOk};
+ghost use Rattle.std.specs.Prelude.{◌≡◌, IfOk, List};
 ghost use Rattle.graphql_spec.specs.Resolvers.{Reply};
 ghost use Rattle.graphql_spec.specs.SeenNodes.{map_reply, map_tree};
-ghost use Rattle.juniper_resolvable.specs.ResolvedView.{Answers, view_resolved};
+ghost use Rattle.juniper_resolvable.specs.ResolvedView.{AllAnswer, Answers, view_resolved};
 ghost use Rattle.juniper_intro.specs.HandleView.{of_user};
 ghost use Rattle.juniper_intro.specs.Wants.{KeepsWant};
 
@@ -53,4 +53,20 @@ pub fn rooted_answer<N: Drop, S: ScalarValue>(
         }
         Err(error) => Err(error),
     }
+}
+
+/// The same of each of them; an error where memory is refused.
+pub(crate) fn rooted_answers<N: Drop, S: ScalarValue>(
+    alloc: Global,
+    answered: Vec<Result<Resolved<N, S>, ResolveError<S>>>,
+) -> Result<Vec<Answer<N, S>>, AllocError>
+    ensures { IfOk result (λ made. (reply : N → Reply N) (nodes : List N) → AllAnswer S.shown reply nodes answered.items →
+        AllAnswer S.shown (λ n. map_reply of_user (reply n)) nodes made.items) }
+{
+    let mut made = Vec::with_capacity(alloc, answered.len())?;
+    for answer in answered {
+        let seen = rooted_answer(alloc, answer);
+        made.push(seen)?;
+    }
+    Ok(made)
 }

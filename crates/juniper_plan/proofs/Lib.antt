@@ -11,10 +11,13 @@ pub mod Taken
 pub mod Kept
 pub mod Rounds
 pub mod RootRounds
+pub mod Waiting
 pub mod Whole
 pub mod Sorted
+pub mod Columns
 pub mod Completed
 pub mod Put
 pub mod Nodes
 pub mod Turns
 pub mod Leaves
+pub mod Holes

@@ -13,12 +13,17 @@ use Rattle.juniper_completion.specs.CompletionLaws.{all_listed}
 use Rattle.juniper_completion.specs.NodeLaws.{AreWalkedOnce, IsWalkedOnce}
 use Rattle.juniper_plan.specs.PlanWalks.{AreObjectsWalked, IsObjectWalked}
 
+pub listed-last : (ess : List (List Listed)) (es : List Listed) → all_listed (ess ++ es ∷ []) ≡ all_listed ess ++ es
+unfolding all_listed
+listed-last [] es = append-nil es
+listed-last (fs ∷ ess) es = ap (λ l. fs ++ l) (listed-last ess es) ∙ sym (append_assoc fs (all_listed ess) es)
+
 module _ {N : Type 0} (W : World N) (s : Forest) where
   abbrev Walked : List (Spot N) → List Value → List (List Listed) → Type 0
   Walked = AreWalkedOnce whole first_start W s
 
   -- the object of a node of its own type
-  walked-once : (x : Spot N) (T : Name) (v : Value) (es : List Listed) → T ≡ W.concrete x.what → IsObjectWalked W x.place s T x.what v es →
+  pub walked-once : (x : Spot N) (T : Name) (v : Value) (es : List Listed) → T ≡ W.concrete x.what → IsObjectWalked W x.place s T x.what v es →
       IsWalkedOnce whole first_start W s x v es
   walked-once x T v es typed one =
       let a = subst (λ U. IsObjectWalked W x.place s U x.what v es) typed one in record { value = a.value; errors = a.errors }
@@ -31,11 +36,6 @@ module _ {N : Type 0} (W : World N) (s : Forest) where
   walked-last (m ∷ ns) [] ess n v es a b = absurd a
   walked-last (m ∷ ns) (u ∷ vs) [] n v es a b = absurd a
   walked-last (m ∷ ns) (u ∷ vs) (fs ∷ ess) n v es a b = (a.0, walked-last ns vs ess n v es a.1 b)
-
-  listed-last : (ess : List (List Listed)) (es : List Listed) → all_listed (ess ++ es ∷ []) ≡ all_listed ess ++ es
-  unfolding all_listed
-  listed-last [] es = append-nil es
-  listed-last (fs ∷ ess) es = ap (λ l. fs ++ l) (listed-last ess es) ∙ sym (append_assoc fs (all_listed ess) es)
 
   pub none-yet : (ns : List (Spot N)) (vs : List Value) (es : List Listed) → ns ≡ [] → vs ≡ [] → es ≡ [] → AreObjectsWalked W s ns vs es
   unfolding all_listed

@@ -6,21 +6,25 @@ use Rattle.graphql_spec.specs.Shown.{Shown, Name}
 use Rattle.graphql_spec.specs.Documents.{Head}
 use Rattle.graphql_spec.specs.Values.{Value, Entries, null, object}
 use Rattle.graphql_spec.specs.Errors.{Place, Listed}
+use Rattle.graphql_spec.specs.ExactAnswers.{whole}
+use Rattle.graphql_spec.specs.GroupLaws.{first_start}
 use Rattle.graphql_spec.specs.Selections.{Forest, depth, Occurrence, all_below, keys, occurrences, with_key}
 use Rattle.graphql_spec.specs.Resolvers.{World}
 use Rattle.graphql_spec.proofs.Lists.{IsMore}
 use Rattle.juniper_completion.specs.Skeletons.{Spot, Skeleton}
+use Rattle.juniper_completion.specs.NodeLaws.{AreWalkedOnce}
 use Rattle.juniper_collect.specs.Collected.{view_all}
 use Rattle.juniper_collect.specs.declared.collecting.Collector.{Collector}
 use Rattle.juniper_plan.specs.declared.plan.GroupRange.{GroupRange}
 use Rattle.juniper_plan.specs.declared.plan.Plan.{Plan}
 use Rattle.juniper_plan.specs.PlanWalks.{AreObjectsWalked, IsGroupOf, IsObjectWalked, IsPrepared, IsPut, IsWalking}
+use Rattle.juniper_plan.specs.Rows.{IsNext}
 use Rattle.juniper_plan.specs.Plans.{IsAskedAt, IsMade, IsStanding, IsStep, StandsFor, fields_at, key_at}
 use Rattle.juniper_plan.proofs.Depths.{group-shallower}
 use Rattle.juniper_plan.proofs.Keys.{key-has-one}
 use Rattle.juniper_plan.proofs.Standing.{IsPlaced, asked-at, fields-kept, grown-none, grown-twice, longer, placed, range-length, stands-still}
 use Rattle.juniper_plan.proofs.Turns.{through-null, walking-ends, walking-on, walking-stops}
-use Rattle.juniper_plan.proofs.Nodes.{one-more}
+use Rattle.juniper_plan.proofs.Waiting.{walked-append}
 
 cons-head : {A : Type 0} (x y : A) (xs ys : List A) → x ∷ xs ≡ y ∷ ys → x ≡ y
 cons-head x y xs ys e = cc
@@ -59,6 +63,11 @@ module _ {S P Q : Type 0} (shown : S → Shown) (c : Collector S P) (asks : Name
   group-of p i n os at = let (first, others, some) = key-has-one os (take n (keys os)) at.rest (key_at p i) at.split in
       record { first = first; others = others; some = at.fields ∙ some; whole = at.fields }
 
+  -- what stands for an object still does
+  pub still-stands : (p q : Plan S Q) (r : GroupRange) (T : Name) (s : Forest) → IsStanding shown c asks possible p →
+      StandsFor shown c asks T p r (occurrences possible T s) → IsStep shown c asks possible p q → StandsFor shown c asks T q r (occurrences possible T s)
+  still-stands p q r T s standing stands step = stands-still shown c asks T p q r (occurrences possible T s) standing.within standing.asked step.grown stands
+
   -- ## A group of an object
 
   module _ (p q : Plan S Q) (r : GroupRange) (T : Name) (s : Forest) (standing : IsStanding shown c asks possible p)
@@ -68,7 +77,7 @@ module _ {S P Q : Type 0} (shown : S → Shown) (c : Collector S P) (asks : Name
     os = occurrences possible T s
 
     still : StandsFor shown c asks T q r os
-    still = stands-still shown c asks T p q r os standing.within standing.asked step.grown stands
+    still = still-stands p q r T s standing stands step
 
     at-group : IsPlaced shown c q i (i - r.first.0) os
     at-group = placed shown c asks T q r os i (i - r.first.0) still low high refl
@@ -82,13 +91,30 @@ module _ {S P Q : Type 0} (shown : S → Shown) (c : Collector S P) (asks : Name
     pub group-asked : IsAskedAt asks T q i (view_all shown c (fields_at q i))
     group-asked = asked-at shown c asks T q r os i (i - r.first.0) still low high refl step.standing.asked
 
-    pub group-falls : 2 * depth (all_below (view_all shown c (fields_at q i))) + 1 < 2 * depth s
+    pub group-falls : 3 * depth (all_below (view_all shown c (fields_at q i))) + 2 < 3 * depth s
     group-falls =
         let more : IsMore (with_key (key_at q i) os) = key-has-one os (take (i - r.first.0) (keys os)) at-group.rest (key_at q i) at-group.split in
         let less : depth (all_below (with_key (key_at q i) os)) < depth s = group-shallower possible T s (key_at q i) more in
         let same : depth (all_below (view_all shown c (fields_at q i))) ≡ depth (all_below (with_key (key_at q i) os)) =
         ap (λ l. depth (all_below l)) at-group.fields in
         omega (arith, less, same)
+
+    pub group-next : {N : Type 0} (W : World N) → possible ≡ W.possible →
+        IsNext W s T (take (i - r.first.0) (keys (occurrences W.possible T s))) (key_at q i) (view_all shown c (fields_at q i))
+    group-next W e =
+        let same : os ≡ occurrences W.possible T s = ap (λ f. occurrences f T s) e in
+        record {
+          rest = at-group.rest;
+          split = subst (λ l. keys l ≡ take (i - r.first.0) (keys l) ++ key_at q i ∷ at-group.rest) same at-group.split;
+          whole = at-group.fields ∙ ap (with_key (key_at q i)) same;
+        }
+
+    pub next-keys : {N : Type 0} (W : World N) → possible ≡ W.possible → take (i + 1 - r.first.0) (keys (occurrences W.possible T s))
+        ≡ take (i - r.first.0) (keys (occurrences W.possible T s)) ++ key_at q i ∷ []
+    next-keys W e =
+        let next = group-next W e in
+        ap (λ x. take x (keys (occurrences W.possible T s))) {x = i + 1 - r.first.0} {y = suc (i - r.first.0)} (omega (arith, low))
+        ∙ take-next (keys (occurrences W.possible T s)) (i - r.first.0) (key_at q i) next.rest next.split
 
     module _ {N : Type 0} (W : World N) (possible_is : possible ≡ W.possible) (at : Place) (m : N) (es made : Entries) (errors more : List Listed)
         (walking : IsWalking W at T m (occurrences W.possible T s) (take (i - r.first.0) (keys (occurrences W.possible T s))) es errors)
@@ -141,6 +167,15 @@ module _ {S P Q : Type 0} (shown : S → Shown) (c : Collector S P) (asks : Name
       ∙ range-length shown c asks T p r (occurrences possible T s) stands in
       walking-ends W at T m ws s refl (take (i - r.first.0) (keys ws)) (take-past (keys ws) (i - r.first.0) (omega (arith, n, past))) es v errors is walking
 
+  pub all-keys : (p : Plan S Q) (r : GroupRange) (T : Name) (s : Forest) → StandsFor shown c asks T p r (occurrences possible T s) → (i : ℕ) → r.end.0 ≤ i
+      → {N : Type 0} (W : World N) → possible ≡ W.possible →
+      take (i - r.first.0) (keys (occurrences W.possible T s)) ≡ keys (occurrences possible T s)
+  all-keys p r T s stands i past W possible_is =
+      let ws = occurrences W.possible T s in
+      let n : length (keys ws) ≡ r.end.0 - r.first.0 = sym (ap (λ f. length (keys (occurrences f T s))) possible_is)
+      ∙ range-length shown c asks T p r (occurrences possible T s) stands in
+      take-past (keys ws) (i - r.first.0) (omega (arith, n, past)) ∙ ap (λ f. keys (occurrences f T s)) (sym possible_is)
+
   -- ## A node of a group
 
   module _ (p q : Plan S Q) (i : ℕ) (standing : IsStanding shown c asks possible p) (bound : i < length p.groups.items)
@@ -153,18 +188,17 @@ module _ {S P Q : Type 0} (shown : S → Shown) (c : Collector S P) (asks : Name
     pub still-bound : i < length q.groups.items
     still-bound = let long = longer p q step.grown in omega (arith, long, bound)
 
-    pub node-falls : 2 * depth s < 2 * depth (all_below (view_all shown c (fields_at p i))) + 1
+    pub node-falls : 3 * depth s + 1 < 3 * depth (all_below (view_all shown c (fields_at p i))) + 2
     node-falls = let same = ap depth selected in omega (arith, same)
 
     pub step-made : (r : Plan S Q) (T : Name) (held : List Occurrence) (g : GroupRange) → IsMade shown c asks possible T held q r g
         → IsStep shown c asks possible p r
     step-made r T held g made = record { standing = made.standing; grown = grown-twice p q r step.grown made.grown }
 
-    pub node-walked : {N : Type 0} (W : World N) (ns next : List (Spot N)) (vs more : List Value) (es further listed : List Listed) (n : Spot N) (T : Name)
-        (v : Value) → AreObjectsWalked W (all_below (view_all shown c (fields_at p i))) ns vs es → T ≡ W.concrete n.what →
-        IsObjectWalked W n.place s T n.what v listed →
-        next ≡ ns ++ n ∷ [] → more ≡ vs ++ v ∷ [] → further ≡ es ++ listed →
-        AreObjectsWalked W (all_below (view_all shown c (fields_at p i))) next more further
-    node-walked W ns next vs more es further listed n T v all typed one a b e =
-        one-more W (all_below (view_all shown c (fields_at p i))) ns next vs more es further listed n T v all typed
-        (subst (λ x. IsObjectWalked W n.place x T n.what v listed) selected one) a b e
+    pub run-walked : {N : Type 0} (W : World N) (ns ms all : List (Spot N)) (vs us more : List Value) (ess fss further : List (List Listed)) →
+        AreWalkedOnce whole first_start W (all_below (view_all shown c (fields_at p i))) ns vs ess → AreWalkedOnce whole first_start W s ms us fss →
+        all ≡ ns ++ ms → more ≡ vs ++ us → further ≡ ess ++ fss →
+        AreWalkedOnce whole first_start W (all_below (view_all shown c (fields_at p i))) all more further
+    run-walked W ns ms all vs us more ess fss further a b d e f = rw (d, e, f)
+        (walked-append W (all_below (view_all shown c (fields_at p i))) ns ms vs us ess fss a
+        (subst (λ x. AreWalkedOnce whole first_start W x ms us fss) selected b))

@@ -14,9 +14,9 @@ ghost use Rattle.juniper_walk.specs.Walking.{IsReadyWalk};
 ghost use Rattle.juniper_plan.specs.Plans.{IsStanding, IsStep, fields_at, group_count};
 ghost use Rattle.juniper_plan.specs.PlanWalks.{HasFirst};
 
+use crate::filling::fill_walked;
 use crate::plan::{GroupNo, Plan};
 use crate::walking::objects_of;
-use juniper_assemble::fill;
 use juniper_errors::FieldPath;
 use juniper_syntax::ScalarValue;
 use juniper_walk::{Asked, Parted, Resolver, Walk, Walked, list_errors, part_reply};
@@ -51,11 +51,8 @@ pub fn complete_group<'d, 'a, S: ScalarValue, R: Resolver<S>>(
     } = part_reply(walk.alloc, &walk.collector.possible, declared, answer, path)?;
     let start = plan.fields(group)[0].field.span.start;
     let mut listed = list_errors(walk.alloc, start, &errors)?;
-    let walked = objects_of(walk, plan, &nodes, group)?;
-    let mut below = walked.errors;
-    listed.append(&mut below)?;
-    let mut values = walked.values.into_iter();
-    let value = fill(walk.alloc, skeleton, &mut values)?;
+    let mut objects = objects_of(walk, plan, &nodes, group)?.into_iter();
+    let value = fill_walked(walk.alloc, skeleton, &mut objects, &mut listed)?;
     Ok(Walked {
         value,
         errors: listed,

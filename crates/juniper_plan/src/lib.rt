@@ -4,11 +4,13 @@
 
 mod adding;
 mod completing;
+mod filling;
 mod leaf;
 mod making;
 mod plan;
 mod preparing;
 mod root;
+mod rows;
 mod walking;
 
 pub use completing::complete_group;

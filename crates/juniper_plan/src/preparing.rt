@@ -1,15 +1,18 @@
 //! The fields of a response key are resolved once, and the answer taken apart from its nodes (sections 6.4.2 and 6.4.3 of the
 //! Specification).
 
-ghost use Rattle.std.specs.Prelude.{◌≡◌, ◌<◌, ◌++◌, ◌∷◌, [], IfOk};
-ghost use Rattle.graphql_spec.specs.Selections.{occurrences};
+ghost use Rattle.std.specs.Prelude.{◌≡◌, ◌<◌, ◌++◌, ◌∷◌, [], IfOk, List};
+ghost use Rattle.graphql_spec.specs.Execution.{reply_of, type_of};
+ghost use Rattle.graphql_spec.specs.Selections.{Occurrence as Held, occurrences};
+ghost use Rattle.graphql_spec.specs.Shown.{Name};
 ghost use Rattle.graphql_spec.specs.Documents.{response_key};
 ghost use Rattle.graphql_spec.specs.Errors.{key};
 ghost use Rattle.juniper_collect.specs.Collected.{view_all};
 ghost use Rattle.juniper_errors.specs.PathView.{path_place};
 ghost use Rattle.juniper_plan.specs.Plans.{IsAskedAt, IsStanding, all_expanded, fields_at, group_count, key_at};
 ghost use Rattle.juniper_plan.specs.Leaves.{IsTaken};
-ghost use Rattle.juniper_plan.specs.PlanWalks.{IsGroupOf};
+ghost use Rattle.juniper_plan.specs.Lists.{IsAskedAbout};
+ghost use Rattle.juniper_plan.specs.PlanWalks.{HasFirst, IsGroupOf};
 ghost use Rattle.juniper_walk.specs.FieldWords.{head_of};
 ghost use Rattle.juniper_walk.specs.Walking.{IsReadyWalk};
 
@@ -19,7 +22,7 @@ use juniper_assemble::{Skeleton, Spot};
 use juniper_errors::{ExecutionError, FieldPath};
 use juniper_lookahead::Enclosing;
 use juniper_syntax::{Field, ScalarValue, Span, Spanning};
-use juniper_walk::{Parted, Resolver, Site, Walk, list_errors, part_reply, response_key};
+use juniper_walk::{Asked, Parted, Resolver, Site, Walk, list_errors, part_reply, response_key};
 use std::alloc::AllocError;
 use std::rc::Rc;
 
@@ -48,7 +51,7 @@ pub(crate) struct Prepared<'a, N, S> {
 }
 
 /// The path to a field below this path. It is shared only where a node or an error keeps it.
-fn step_below<'a, S: ScalarValue>(
+pub(crate) fn step_below<'a, S: ScalarValue>(
     path: &Rc<FieldPath<'a>>,
     field: &Spanning<Field<'a, S>, Span>,
 ) -> Result<FieldPath<'a>, AllocError>
@@ -90,11 +93,39 @@ pub(crate) fn prepare<'d, 'a, S: ScalarValue, R: Resolver<S>>(
         occurrences: fields,
     };
     let question = plan.question(group);
+    let told = walk
+        .collector
+        .possible
+        .ask(alloc, question, concrete, node, &site);
+    let taken = take(walk, plan, path, group, told)?;
+    Ok(taken)
+}
+
+/// What a node answered to a group, taken apart where it is more than a scalar that fits. What fails is listed where the first of its fields starts.
+pub(crate) fn take<'d, 'a, S: ScalarValue, R: Resolver<S>>(
+    walk: &Walk<'_, 'd, 'a, S, R>,
+    plan: &Plan<'d, 'a, S, R::Question>,
+    path: &Rc<FieldPath<'a>>,
+    group: GroupNo,
+    told: Asked<'_, R::Node, S>,
+) -> Result<Taken<'a, R::Node, S>, AllocError>
+    requires standing { IsStanding S.shown walk.now.collector (R.asks walk.now.collector.possible) (R.possible walk.now.collector.possible) plan.now }
+    requires bound { group.0 < group_count plan.now }
+    requires some { HasFirst (view_all S.shown walk.now.collector (fields_at plan.now group.0)) }
+    ensures { (T : Name) → (m : R.Node) → (all : List Held) → IsGroupOf (key_at plan.now group.0) all
+        (view_all S.shown walk.now.collector (fields_at plan.now group.0)) →
+        IsAskedAbout S.shown (type_of (R.world walk.now.collector.possible) T (view_all S.shown walk.now.collector (fields_at plan.now group.0)))
+        (λ n. reply_of (R.world walk.now.collector.possible) T n (view_all S.shown walk.now.collector (fields_at plan.now group.0))) m told.entry →
+        IfOk result (λ a. IsTaken (R.world walk.now.collector.possible) S.shown (path_place path.now.value) T m (key_at plan.now group.0)
+        (view_all S.shown walk.now.collector (fields_at plan.now group.0)) a) }
+{
+    let alloc = walk.alloc;
     let resolver = &walk.collector.possible;
-    let told = resolver.ask(alloc, question, concrete, node, &site);
     match leaf_of(resolver, told) {
         Reply::Leaf(scalar) => Ok(Taken::Leaf(plan.key(group), scalar)),
         Reply::Other(asked) => {
+            let first = plan.fields(group)[0].field;
+            let here = step_below(path, first)?;
             let declared = asked.declared;
             let place = Rc::new(alloc, here)?;
             let Parted {

@@ -3,6 +3,7 @@
 use juniper::{GraphQLError, RootError, Variables, execute_sync};
 use juniper_demo_server::{DemoContext, DemoRoot, Outcome, demo_root, show};
 use juniper_refusal_tests::turns::{Ended, Room, Task, Turn, tried};
+use juniper_test_root::{Walk, execute_by_steps};
 use std::alloc::{AllocError, Global};
 use std::test::Fail;
 
@@ -14,10 +15,11 @@ fn made_root(alloc: Global) -> Result<DemoRoot, AllocError> {
     }
 }
 
-/// A request that changes nothing, and its answer.
+/// A request that changes nothing, to the executor or to its twin, and its answer.
 #[derive(Drop)]
 struct Asking<'r> {
     root: &'r DemoRoot,
+    of_twin: bool,
     text: &'static str,
     line: &'static str,
 }
@@ -27,7 +29,19 @@ impl<'r> Task for Asking<'r> {
         let variables = Variables::new(alloc);
         let mut context = DemoContext { total: 5, count: 2 };
         let held_back = room.hold_back(alloc);
-        let outcome = execute_sync(alloc, self.text, None, self.root, &variables, &mut context);
+        let outcome = if self.of_twin {
+            execute_by_steps(
+                alloc,
+                Walk::Joined,
+                self.text,
+                None,
+                self.root,
+                &variables,
+                &mut context,
+            )
+        } else {
+            execute_sync(alloc, self.text, None, self.root, &variables, &mut context)
+        };
         drop(held_back);
         if context != (DemoContext { total: 5, count: 2 }) {
             return Turn::Wrong;
@@ -54,7 +68,35 @@ fn asked(
     text: &'static str,
     line: &'static str,
 ) -> Result<Ended, AllocError> {
-    tried(alloc, &mut Asking { root, text, line })
+    let of_twin = false;
+    tried(
+        alloc,
+        &mut Asking {
+            root,
+            of_twin,
+            text,
+            line,
+        },
+    )
+}
+
+/// The same by the executor's twin.
+fn asked_of_twin(
+    alloc: Global,
+    root: &DemoRoot,
+    text: &'static str,
+    line: &'static str,
+) -> Result<Ended, AllocError> {
+    let of_twin = true;
+    tried(
+        alloc,
+        &mut Asking {
+            root,
+            of_twin,
+            text,
+            line,
+        },
+    )
 }
 
 #[test]
@@ -75,6 +117,18 @@ fn a_null_that_rises(rt: HostRuntime) -> Result<(), Fail> {
         r#"{"data":{"hero":null},"errors":[{"message":"secret is secret","locations":[{"line":1,"column":22}],"path":["hero","secret"]}]}"#;
     assert_eq!(rt;
         asked(rt.alloc(), &root, "{ hero { id } hero { secret } }", line)?,
+        Ended::Answered
+    );
+    Ok(())
+}
+
+#[test]
+fn a_null_that_rises_by_the_twin(rt: HostRuntime) -> Result<(), Fail> {
+    let root = made_root(rt.alloc())?;
+    let line =
+        r#"{"data":{"hero":null},"errors":[{"message":"secret is secret","locations":[{"line":1,"column":22}],"path":["hero","secret"]}]}"#;
+    assert_eq!(rt;
+        asked_of_twin(rt.alloc(), &root, "{ hero { id } hero { secret } }", line)?,
         Ended::Answered
     );
     Ok(())

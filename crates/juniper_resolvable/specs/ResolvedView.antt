@@ -31,3 +31,9 @@ FailsWith shown Memory reply = Unit {0}
 abbrev pub Answers : {N S : Type 0} → (S → Shown) → Result (Resolved N S) (ResolveError S) → Reply N → Type 0
 Answers shown (Ok r) reply = reply ≡ answered (view_resolved shown r)
 Answers shown (Err e) reply = FailsWith shown e reply
+
+-- one answer for each node, in their order, and each is this reply of its node, but where memory was refused
+abbrev pub AllAnswer : {M N S : Type 0} → (S → Shown) → (M → Reply N) → List M → List (Result (Resolved N S) (ResolveError S)) → Type 0
+AllAnswer shown reply [] [] = Unit {0}
+AllAnswer shown reply (m ∷ ms) (a ∷ answers) = Answers shown a (reply m) × AllAnswer shown reply ms answers
+AllAnswer shown reply ms answers = ⊥

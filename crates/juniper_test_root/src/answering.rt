@@ -6,7 +6,9 @@ use crate::script::{Notes, RootType, Script};
 use crate::sights::{push_seen, saw_as_told};
 use crate::table::Request;
 use crate::variables::variables_of;
-use juniper::{EmptySubscription, GraphQLError, RootError, RootNode, Variables, execute_sync};
+use juniper::{
+    EmptySubscription, GraphQLError, RootError, RootNode, RuleError, Variables, execute_sync,
+};
 use juniper_json::answer_line;
 use juniper_schema_text::{Declarations, Scalar, read_declarations};
 use std::alloc::{AllocError, Global};
@@ -109,7 +111,7 @@ pub(crate) fn operation_name(request: &Request) -> Option<&'static str> {
     }
 }
 
-/// What a request is answered: a line of JSON with its data and errors, `refused: ` and why it is refused, or `unread: ` and what of
+/// What a request is answered: a line of JSON with its data and errors, `refused: ` and why it is refused, with places, or `unread: ` and what of
 /// it cannot be read; behind it ` steps: ` and their number, where a mutation took some, and ` sees: ` and what resolvers were shown, where it
 /// is not what the request tells. An error where memory is refused.
 pub fn printed(alloc: Global, request: &Request) -> Result<String, AllocError> {
@@ -142,17 +144,33 @@ pub fn printed(alloc: Global, request: &Request) -> Result<String, AllocError> {
     Ok(line)
 }
 
-/// `refused: `, and why a request is refused, with `; ` in place of line feeds.
+/// `refused: `, and why a request is refused: its reasons, with `; ` between them, and ` @` and the byte of the text behind one that has a place.
 pub(crate) fn refusal_line(alloc: Global, refusal: &GraphQLError) -> Result<String, AllocError> {
-    let reasons = format!(in alloc; "{refusal}")?;
     let mut line = String::from_str(alloc, "refused: ")?;
+    match refusal {
+        GraphQLError::ParseError(error) => {
+            let at = error.span.start.index();
+            write!(line, "{refusal} @{at}")?;
+        }
+        GraphQLError::ValidationError(errors) => push_rule_errors(errors.as_slice(), &mut line)?,
+        _ => write!(line, "{refusal}")?,
+    }
+    Ok(line)
+}
+
+/// Appends the errors of rules, with `; ` between them, and behind each ` @` and the byte of each of its places.
+fn push_rule_errors(errors: &[RuleError], line: &mut String) -> Result<(), AllocError> {
     let mut is_first = true;
-    for reason in reasons.lines() {
+    for error in errors {
         if !is_first {
             line.push_str("; ")?;
         }
-        line.push_str(reason)?;
+        line.push_str(error.message())?;
+        for place in error.locations() {
+            let at = place.index();
+            write!(line, " @{at}")?;
+        }
         is_first = false;
     }
-    Ok(line)
+    Ok(())
 }

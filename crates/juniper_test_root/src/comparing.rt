@@ -7,22 +7,33 @@ use crate::table::Request;
 use juniper::twin::execute_by_join;
 use juniper::{
     ExecutionError, GraphQLError, GraphQLMutationValue, GraphQLType, GraphQLValue, RootNode,
-    ScalarValue, Value, Variables, check_variables, execute_sync, get_operation,
-    parse_document_source, validate,
+    ScalarValue, Value, Variables, check_variables, execute_sync, execute_validated_query,
+    get_operation, parse_document_source, validate,
 };
+use juniper_schema_text::Scalar;
 use std::alloc::{AllocError, Global};
 
 /// What a request is answered.
 pub type Outcome<S> = Result<(Value<S>, Vec<ExecutionError<S>>), GraphQLError>;
 
-/// What the executor's twin answers to a request, by the same steps as the executor.
-pub fn execute_sync_by_join<
+/// How a valid request is executed.
+#[derive(Clone, Copy, Debug, PartialEq, Eq)]
+pub enum Walk {
+    /// By `execute_validated_query`.
+    Planned,
+    /// By the executor's twin.
+    Joined,
+}
+
+/// What is answered to a request, by the same steps as those of `execute_sync`.
+pub fn execute_by_steps<
     Q: GraphQLValue<S>,
     M: GraphQLMutationValue<S, Context = Q::Context, Node = Q::Node>,
     Sub: GraphQLType<S>,
     S: ScalarValue,
 >(
     alloc: Global,
+    walk: Walk,
     document_source: &str,
     operation_name: Option<&str>,
     root_node: &RootNode<Q, M, Sub, S>,
@@ -45,7 +56,14 @@ pub fn execute_sync_by_join<
     }
     let operation = get_operation(&document, operation_name)?;
     check_variables(alloc, operation, variables, schema)?;
-    execute_by_join(alloc, &document, operation, root_node, variables, context)
+    match walk {
+        Walk::Planned => {
+            execute_validated_query(alloc, &document, operation, root_node, variables, context)
+        }
+        Walk::Joined => {
+            execute_by_join(alloc, &document, operation, root_node, variables, context)
+        }
+    }
 }
 
 /// In what the answers of both walks differ; `None` where they do not: of two refusals in what they print, otherwise in data or errors. Each
@@ -98,7 +116,7 @@ fn is_among<S: ScalarValue>(error: &ExecutionError<S>, others: &[ExecutionError<
 }
 
 /// In what both walks answer a request to a scripted root otherwise, in their answers, in the steps that were taken, or in what resolvers are
-/// shown; `None` where they do not differ. An error where memory is refused.
+/// shown, or `execute_validated_query` and `execute_sync`; `None` where they do not differ. An error where memory is refused.
 pub fn compared(alloc: Global, request: &Request) -> Result<Option<&'static str>, AllocError> {
     let Ok(Ready { root, variables }) = read_request(alloc, request) else {
         return Ok(None);
@@ -109,12 +127,48 @@ pub fn compared(alloc: Global, request: &Request) -> Result<Option<&'static str>
     let planned = execute_sync(alloc, text, name, &root, &variables, &mut context);
     let sights = String::from_str(alloc, request.joined_sights())?;
     let mut other = Notes::new(alloc, sights);
-    let joined = execute_sync_by_join(alloc, text, name, &root, &variables, &mut other);
+    let joined = execute_by_steps(
+        alloc,
+        Walk::Joined,
+        text,
+        name,
+        &root,
+        &variables,
+        &mut other,
+    );
     if context.steps != other.steps {
         return Ok(Some("steps"));
     }
     if !saw_as_told(&other) {
         return Ok(Some("sights"));
     }
+    if !is_validated_alike(alloc, request, &planned, context.steps)? {
+        return Ok(Some("steps of requests"));
+    }
     difference(alloc, &planned, &joined)
+}
+
+/// Whether `execute_validated_query` answers a request to a scripted root so, with so many steps of a mutation.
+fn is_validated_alike(
+    alloc: Global,
+    request: &Request,
+    planned: &Outcome<Scalar>,
+    steps: u8,
+) -> Result<bool, AllocError> {
+    let Ok(Ready { root, variables }) = read_request(alloc, request) else {
+        return Ok(false);
+    };
+    let name = operation_name(request);
+    let text = request.document.as_str();
+    let mut context = Notes::new(alloc, String::new(alloc));
+    let stepped = execute_by_steps(
+        alloc,
+        Walk::Planned,
+        text,
+        name,
+        &root,
+        &variables,
+        &mut context,
+    );
+    Ok(context.steps == steps && difference(alloc, planned, &stepped)?.is_none())
 }

@@ -16,7 +16,7 @@ mod variables;
 
 pub use answering::{ScriptRoot, Unread, printed, read_root};
 pub use columns::columns_asked_for;
-pub use comparing::{Outcome, compared, difference, execute_sync_by_join};
+pub use comparing::{Outcome, Walk, compared, difference, execute_by_steps};
 pub use reader::read_script;
 pub use script::{Answer, Line, Node, Notes, RootType, Script, Tree};
 pub use table::{Request, Row, read_table};

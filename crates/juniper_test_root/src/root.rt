@@ -94,6 +94,10 @@ impl<S: ScalarValue> GraphQLValue<S> for Script {
         let steps = executor.context().steps;
         reply(alloc, self.answer_of(node, field_name), steps, arguments)
     }
+
+    fn nodes_at_once(&self, _info: &Self::TypeInfo, type_name: &str) -> usize {
+        if type_name.starts_with("Many") { 3 } else { 1 }
+    }
 }
 
 /// The step of a root field counts one more, and answers what the lines of the root's node say, else those of its object type, else null.

@@ -5,6 +5,7 @@
 //!   that type alone, and its children, if it has any, as ` { SELECTION .. }`;
 //! - `for TYPE:CHILDREN`, the children for that type alone;
 //! - `columns NAME ..`, the columns that are asked for;
+//! - `names NAME ..`, the names of the children: the first, the last, and then the others from the front, until there is `none`;
 //! - `occurrences SELECTION .. | SELECTION ..`, all occurrences of the field, from the front and then from the back;
 //! - `place TYPE at LINE:COLUMN in KEY.POSITION.KEY`, the declared type of the field, where it starts, counted from 1, and the path of an
 //!   error that is made there;
@@ -129,6 +130,9 @@ fn show<C, S: ScalarValue>(
     if form.starts_with("columns") {
         return push_columns(alloc, executor, out);
     }
+    if form.starts_with("names") {
+        return push_names(alloc, executor, out);
+    }
     if form.starts_with("occurrences") {
         return push_occurrences(alloc, executor, out);
     }
@@ -149,6 +153,30 @@ fn push_children_for<C, S: ScalarValue>(
     let selection = executor.look_ahead();
     let kept = selection.children_for_explicit_type(alloc, name)?;
     push_children(alloc, &kept, LEVELS, out)
+}
+
+/// Adds the names of the children, from both ends.
+fn push_names<C, S: ScalarValue>(
+    alloc: Global,
+    executor: &Executor<C, S>,
+    out: &mut String,
+) -> Result<(), AllocError> {
+    let selection = executor.look_ahead();
+    let children = selection.children(alloc)?;
+    let mut names = children.names();
+    out.push_str("names")?;
+    push_name(names.next(), out)?;
+    push_name(names.next_back(), out)?;
+    for _turn in 1..children.len() {
+        push_name(names.next(), out)?;
+    }
+    Ok(())
+}
+
+/// Adds a name, or `none`.
+fn push_name(name: Option<&str>, out: &mut String) -> Result<(), AllocError> {
+    let name = name.unwrap_or("none");
+    write!(out, " {name}")
 }
 
 /// Adds the columns that are asked for.

@@ -66,6 +66,9 @@ sees: id: columns
 { hero { id } } => {"data":{"hero":{"id":"2001"}}}
 sees: hero: hero { name aliasedName: name }
 { hero { name aliasedName: name } } => {"data":{"hero":{"name":"R2-D2","aliasedName":"R2-D2"}}}
+sees: hero: names name friends aliasedName none
+{ hero { name aliasedName: name friends { name } } }
+=> {"data":{"hero":{"name":"R2-D2","aliasedName":"R2-D2","friends":[{"name":"Luke"}]}}}
 
 # A key is resolved once, and shows its first occurrence; the twin resolves each occurrence.
 sees: hero: hero { id }
@@ -147,12 +150,12 @@ sees: name: name
 
 # A request that is refused asks no resolver.
 sees: hero: hero { x }
-{ hero { x } } => refused: Unknown field sees: nothing
+{ hero { x } } => refused: Unknown field @0 sees: nothing
 variables: {"n": "x"}
 sees: hero: hero { id }
-query Q($n: Int) { hero(id: $n) { id } } => refused: Variable `$n` has no fitting value sees: nothing
+query Q($n: Int) { hero(id: $n) { id } } => refused: Variable `$n` has no fitting value @8 sees: nothing
 sees: hero: hero { id }
-{ hero { id } => refused: Unexpected end of input sees: nothing
+{ hero { id } => refused: Unexpected end of input @13 sees: nothing
 sees: hero: hero { id }
 query Q { hero { id } } query R { hero { id } } => refused: Multiple operations provided sees: nothing
 name: S
@@ -166,7 +169,7 @@ mutation { hero { id } } => refused: Mutations are not supported sees: nothing
 
 #[test]
 fn resolvers_see_ahead(rt: HostRuntime) -> Result<(), Fail> {
-    assert_eq!(rt; report(rt.alloc(), AHEAD)?.as_str(), "41 rows, 0 differ");
+    assert_eq!(rt; report(rt.alloc(), AHEAD)?.as_str(), "42 rows, 0 differ");
     Ok(())
 }
 

@@ -1,4 +1,4 @@
-//! Introspection of the demo's schema.
+//! Introspection of the demo's schema, and its fields.
 
 use juniper::{
     DefaultScalarValue, GraphQLValue, IntrospectionFormat, Variables, execute_sync, introspect,
@@ -103,7 +103,7 @@ const WITHOUT_DESCRIPTIONS: &str =
 "ofType":null},{"kind":"OBJECT","name":"Human","ofType":null}]},"#;
 
 /// The query that clients commonly send, which GraphiQL sends too.
-const CLIENTS: &str = r#"query IntrospectionQuery {
+pub(crate) const CLIENTS: &str = r#"query IntrospectionQuery {
   __schema {
 
     queryType { name }
@@ -268,5 +268,53 @@ fn roots_show_their_parts(rt: HostRuntime) -> Result<(), Fail> {
     let name = GraphQLValue::<DefaultScalarValue>::type_name(root.query(), root.query_info());
     assert_eq!(rt; name, Some("Query"));
     assert!(rt; !root.is_introspection_disabled());
+    Ok(())
+}
+
+/// A type and a name, and the type of its field of this name (4.1, 4.2).
+const FIELDS: &str = "\
+Query.id => ID!
+Query.hero => Character
+Query.grid => [[Cell!]!]
+Query.__typename => String!
+Query.__schema => __Schema!
+Query.__type => __Type
+Mutation.add => Tally!
+Mutation.__schema => none
+Character.appearsIn => [Episode!]!
+Character.__typename => String!
+Droid.height => none
+Human.height => Int
+Episode.__typename => none
+Ghost.id => none
+__Field.args => [__InputValue!]!
+query.id => none";
+
+/// The type of a field, by the names of its type and of itself.
+fn field_type(alloc: Global, root: &DemoRoot, case: &str) -> Result<String, AllocError> {
+    let (type_name, name) = case.split_once('.').unwrap_or(("", ""));
+    match root.schema().field_of(type_name, name) {
+        Some(field) => field.field_type.to_string(alloc),
+        None => String::from_str(alloc, "none"),
+    }
+}
+
+/// The first of these rows that tells another type; nothing where there is none.
+fn first_other<'r>(alloc: Global, root: &DemoRoot, rows: &'r str) -> Result<&'r str, AllocError> {
+    for row in rows.lines() {
+        let (case, told) = row.split_once(" => ").unwrap_or((row, ""));
+        if field_type(alloc, root, case)?.as_str() != told {
+            return Ok(row);
+        }
+    }
+    Ok("")
+}
+
+#[test]
+fn fields_are_found_by_name(rt: HostRuntime) -> Result<(), Fail> {
+    let root = made_root(rt.alloc())?;
+    assert_eq!(rt; first_other(rt.alloc(), &root, FIELDS)?, "");
+    let wrong = "Query.id => ID";
+    assert_eq!(rt; first_other(rt.alloc(), &root, wrong)?, wrong);
     Ok(())
 }

@@ -1,6 +1,10 @@
-//! The errors of requests and rules.
+//! The errors of requests, rules and fields.
 
-use juniper::{GraphQLError, RootError, RuleError};
+use juniper::{
+    DefaultScalarValue, ExecutionError, FieldError, GraphQLError, Object, PathPart, RootError,
+    RuleError, Value,
+};
+use juniper_json::answer_line;
 use juniper_language::{ParseError, SourcePosition, Span, Spanning};
 use std::alloc::{AllocError, AllocFailed, Global};
 use std::test::Fail;
@@ -130,5 +134,65 @@ fn an_error_keeps_its_message_and_place(rt: HostRuntime) -> Result<(), Fail> {
     );
     let clone = error.try_clone(rt.alloc())?;
     assert!(rt; error == clone);
+    Ok(())
+}
+
+#[test]
+fn a_place_is_lent_with_its_item(rt: HostRuntime) {
+    let span = Span {
+        start: SourcePosition::new(3, 0, 3),
+        end: SourcePosition::new(4, 0, 4),
+    };
+    let located = Spanning::new(span, 7);
+    let lent = located.as_ref();
+    assert_eq!(rt; *lent.item, 7);
+    assert_eq!(rt; *lent.span, span);
+}
+
+/// The extensions of a field's error, and how the error is printed behind data that is null (7.1.2).
+const EXTENDED: &str =
+    r#"null => {"data":null,"errors":[{"message":"failed","locations":[{"line":2,"column":5}],"path":["a",1]}]}
+7 => {"data":null,"errors":[{"message":"failed","locations":[{"line":2,"column":5}],"path":["a",1],"extensions":7}]}
+[7,null] => {"data":null,"errors":[{"message":"failed","locations":[{"line":2,"column":5}],"path":["a",1],"extensions":[7,null]}]}
+{"code":7} => {"data":null,"errors":[{"message":"failed","locations":[{"line":2,"column":5}],"path":["a",1],"extensions":{"code":7}}]}"#;
+
+/// The extensions of a row.
+fn extensions_of(alloc: Global, case: &str) -> Result<Value<DefaultScalarValue>, AllocError> {
+    let seven = Value::Scalar(DefaultScalarValue::Int(7));
+    match case {
+        "7" => Ok(seven),
+        "[7,null]" => Ok(Value::List(vec![in alloc; seven, Value::Null]?)),
+        "{\"code\":7}" => {
+            let mut object = Object::with_capacity(alloc, 1)?;
+            drop(object.add_field(String::from_str(alloc, "code")?, seven)?);
+            Ok(Value::Object(object))
+        }
+        _ => Ok(Value::Null),
+    }
+}
+
+/// An answer with one error, which has the extensions of a row.
+fn extended_line(alloc: Global, case: &str) -> Result<String, AllocError> {
+    let error = FieldError::new(alloc, "failed", extensions_of(alloc, case)?)?;
+    let path = [PathPart::Key("a"), PathPart::Index(1)];
+    let made = ExecutionError::new(alloc, SourcePosition::new(9, 1, 4), &path, error)?;
+    answer_line(alloc, &Value::Null, &[made])
+}
+
+/// The first of these rows that tells another line than the one that is printed; nothing where there is none.
+fn first_other_line<'r>(alloc: Global, rows: &'r str) -> Result<&'r str, AllocError> {
+    for row in rows.lines() {
+        let (case, line) = row.split_once(" => ").unwrap_or((row, ""));
+        if extended_line(alloc, case)?.as_str() != line {
+            return Ok(row);
+        }
+    }
+    Ok("")
+}
+
+#[test]
+fn extensions_are_printed(rt: HostRuntime) -> Result<(), Fail> {
+    assert_eq!(rt; first_other_line(rt.alloc(), EXTENDED)?, "");
+    assert_eq!(rt; first_other_line(rt.alloc(), "7 => {}")?, "7 => {}");
     Ok(())
 }

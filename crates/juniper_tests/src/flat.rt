@@ -49,40 +49,40 @@ pub(crate) const REFUSED: &str = r#"schema:
 type Query { id: ID!, name: String!, number(plus: Int = 1): Int }
 answers:
 rows:
-{ x } => refused: Unknown field
-query { x } => refused: Unknown field
-{ x { y } } => refused: Unknown field
-{ x(a: 1) } => refused: Unknown field
-{ x ...F } => refused: Unknown fragment
-{ x number(minus: true) } => refused: Unknown field; Unknown argument
-{ __schema } => refused: Selection set does not fit the field
-{ __schema { types { name } x } } => refused: Unknown field
-{ __type(name: 1) } => refused: Selection set does not fit the field; Argument does not fit its type
-{ id { a } } => refused: Unknown field; Selection set does not fit the field
-{ a: id a: name } => refused: Fields cannot be merged
-{ a: number(plus: 1) a: number } => refused: Fields cannot be merged
-{ number(plus: 1) ... on Query { number(plus: 2) } } => refused: Fields cannot be merged
-{ number(plus: true) } => refused: Argument does not fit its type
-{ number(plus: [1]) } => refused: Argument does not fit its type
-{ number(minus: 1) } => refused: Unknown argument
-{ id(plus: 1) } => refused: Unknown argument
-{ number(plus: 1, plus: 1) } => refused: Argument name is not unique
-{ number(plus: 1, plus: "1") } => refused: Argument name is not unique
-{ number(minus: 1, minus: 2) x } => refused: Argument name is not unique
-{ id @skip } => refused: Argument is missing
-{ id @skip(if: 1) } => refused: Argument does not fit its type
-{ id @skip(if: $v) } => refused: Variable is not defined
-{ id @other(if: true) } => refused: Unknown directive
-{ id } { id } => refused: Anonymous operation is not alone; Anonymous operation is not alone
-{ ...F } fragment F on Query { id ...F } => refused: Fragment spreads itself
-=> refused: Unexpected end of input
-{ => refused: Unexpected end of input
-} => refused: Unexpected token
-{} => refused: Unexpected token
-{ id } x => refused: Unexpected token
-{ number(plus: 2147483648) } => refused: Unexpected token
-{ id ? } => refused: Unknown character
-{ id(a: "x) } => refused: Unterminated string literal
+{ x } => refused: Unknown field @0
+query { x } => refused: Unknown field @0
+{ x { y } } => refused: Unknown field @0
+{ x(a: 1) } => refused: Unknown field @0
+{ x ...F } => refused: Unknown fragment @0
+{ x number(minus: true) } => refused: Unknown field @0; Unknown argument @0
+{ __schema } => refused: Selection set does not fit the field @0
+{ __schema { types { name } x } } => refused: Unknown field @0
+{ __type(name: 1) } => refused: Selection set does not fit the field @0; Argument does not fit its type @0
+{ id { a } } => refused: Unknown field @0; Selection set does not fit the field @0
+{ a: id a: name } => refused: Fields cannot be merged @0
+{ a: number(plus: 1) a: number } => refused: Fields cannot be merged @0
+{ number(plus: 1) ... on Query { number(plus: 2) } } => refused: Fields cannot be merged @0
+{ number(plus: true) } => refused: Argument does not fit its type @0
+{ number(plus: [1]) } => refused: Argument does not fit its type @0
+{ number(minus: 1) } => refused: Unknown argument @0
+{ id(plus: 1) } => refused: Unknown argument @0
+{ number(plus: 1, plus: 1) } => refused: Argument name is not unique @0
+{ number(plus: 1, plus: "1") } => refused: Argument name is not unique @0
+{ number(minus: 1, minus: 2) x } => refused: Argument name is not unique @0
+{ id @skip } => refused: Argument is missing @0
+{ id @skip(if: 1) } => refused: Argument does not fit its type @0
+{ id @skip(if: $v) } => refused: Variable is not defined @0
+{ id @other(if: true) } => refused: Unknown directive @0
+{ id } { id } => refused: Anonymous operation is not alone @0; Anonymous operation is not alone @7
+{ ...F } fragment F on Query { id ...F } => refused: Fragment spreads itself @9
+=> refused: Unexpected end of input @0
+{ => refused: Unexpected end of input @1
+} => refused: Unexpected token @0
+{} => refused: Unexpected token @1
+{ id } x => refused: Unexpected token @7
+{ number(plus: 2147483648) } => refused: Unexpected token @15
+{ id ? } => refused: Unknown character @5
+{ id(a: "x) } => refused: Unterminated string literal @8
 "#;
 
 pub(crate) const OPERATIONS: &str = r#"schema:
@@ -106,11 +106,11 @@ query A { id } => refused: Unknown operation name
 name: Q
 { id } => refused: Unknown operation name
 name: Q
-{ x } => refused: Unknown field
+{ x } => refused: Unknown field @0
 name: Q
 query Q { id } => {"data":{"id":"q1"}}
 name: Q
-{ ... { x } } => refused: Unknown field
+{ ... { x } } => refused: Unknown field @0
 name: Q
 mutation M { id } query Q { name } subscription S { id } => {"data":{"name":"demo"}}
 name: M
@@ -119,7 +119,7 @@ name: S
 query Q { name } subscription S { id } => refused: Operation is a subscription
 # All operations are validated, not only the one that is named.
 name: A
-query A { id } query B { x } => refused: Unknown field
+query A { id } query B { x } => refused: Unknown field @15
 "#;
 
 #[test]

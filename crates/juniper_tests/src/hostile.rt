@@ -38,13 +38,13 @@ rows:
     fragment F6 on Query { ...F5 ...F5 } fragment F7 on Query { ...F6 ...F6 } fragment F8 on Query { ...F7 ...F7 }
 => {"data":{"id":"q1"}}
 { ...F } fragment F on Query { ...G } fragment G on Query { ...F }
-=> refused: Fragment spreads itself; Fragment spreads itself
+=> refused: Fragment spreads itself @9; Fragment spreads itself @38
 { id } fragment F on Query { hero { ...G } } fragment G on Character { friend { ... { ...G } } }
-=> refused: Fragment spreads itself
-{ ...F ...F ...F } fragment F on Query { ...Nowhere } => refused: Unknown fragment
+=> refused: Fragment spreads itself @45
+{ ...F ...F ...F } fragment F on Query { ...Nowhere } => refused: Unknown fragment @19
 
 # Directives: one that nobody knows, and one that stands here as well.
-{ id @x } => refused: Unknown directive
+{ id @x } => refused: Unknown directive @0
 { id @deprecated } => {"data":{"id":"q1"}}
 
 # What is no object of the type.

@@ -138,12 +138,12 @@ query Q($n: String!) { __type(name: $n) { name } }
     {"name":"onField","deprecationReason":"Use the locations array instead"}]}}}
 { __type(name: "_EmptyMutation") { name } } => {"data":{"__type":null}}
 # What the rules refuse: these fields are the query type's alone.
-{ __type { name } } => refused: Argument is missing
-{ __type(name: 1) { name } } => refused: Argument does not fit its type
-{ __schema { nope } } => refused: Unknown field
-{ __schema } => refused: Selection set does not fit the field
-{ node { __schema { types { name } } } } => refused: Unknown field
-mutation { __schema { types { name } } } => refused: Unknown field"#;
+{ __type { name } } => refused: Argument is missing @0
+{ __type(name: 1) { name } } => refused: Argument does not fit its type @0
+{ __schema { nope } } => refused: Unknown field @0
+{ __schema } => refused: Selection set does not fit the field @0
+{ node { __schema { types { name } } } } => refused: Unknown field @0
+mutation { __schema { types { name } } } => refused: Unknown field @0"#;
 
 #[test]
 fn schemas_tell_of_themselves(rt: HostRuntime) -> Result<(), Fail> {

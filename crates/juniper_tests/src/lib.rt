@@ -4,6 +4,8 @@
 #[cfg(test)]
 mod ahead;
 #[cfg(test)]
+mod by_hand;
+#[cfg(test)]
 mod demo;
 #[cfg(test)]
 mod errors;
@@ -13,6 +15,8 @@ mod flat;
 mod hostile;
 #[cfg(test)]
 mod introspection;
+#[cfg(test)]
+mod lists;
 #[cfg(test)]
 mod mutations;
 #[cfg(test)]

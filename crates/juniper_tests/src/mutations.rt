@@ -105,7 +105,7 @@ sees: c: fragment G is not there
 mutation M($n: Int, $m: Int) { echo(n: $n) add { ...F } b: echo(n: $m) c: steps } fragment F on Tally { steps }
 => {"data":{"echo":7,"add":{"steps":2},"b":null,"c":4}} steps: 4
 # What is refused takes no step, and a query takes none.
-mutation { x } => refused: Unknown field
+mutation { x } => refused: Unknown field @0
 { id steps } => {"data":{"id":"q1","steps":0}}
 name: Q
 mutation M { steps } query Q { steps } => {"data":{"steps":0}}

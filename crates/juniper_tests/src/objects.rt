@@ -38,7 +38,7 @@ rows:
 { hero { id name } } => {"data":{"hero":{"id":"2001","name":"R2-D2"}}}
 { hero { ... { name } } } => {"data":{"hero":{"name":"R2-D2"}}}
 { human { name } } => {"data":{"human":null}}
-{ hero } => refused: Selection set does not fit the field
+{ hero } => refused: Selection set does not fit the field @0
 { some { name } } => {"data":{"some":[{"name":"R2-D2"},null,{"name":"Leia"}]}}
 { hero { friends { friends { name } } } }
 => {"data":{"hero":{"friends":[{"friends":[{"name":"R2-D2"}]},{"friends":null}]}}}
@@ -90,7 +90,7 @@ fragment F on Character { name }
 => {"data":{"must":{"id":"1000"},"hero":{"id":"2001","name":"R2-D2"}}}
 { human { id } human { name } } => {"data":{"human":null}}
 { heroes { ... on Human { x: name } ... on Droid { x: function } } } => {"data":{"heroes":[{"x":"Astromech"},{"x":"Luke"}]}}
-{ heroes { ... on Human { x: height } ... on Droid { x: function } } } => refused: Fields cannot be merged
+{ heroes { ... on Human { x: height } ... on Droid { x: function } } } => refused: Fields cannot be merged @0
 "#;
 
 #[test]

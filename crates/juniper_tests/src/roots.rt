@@ -1,10 +1,11 @@
 //! Roots without mutations: what a registry may not await, what requests are answered, and what stands for no mutation and no
 //! subscription; with two types of scalars (sections 3.3 and 6.2 of the Specification).
 
+use crate::by_hand::ByHand;
 use juniper::words::{DeclaredType, Named, ServedQuery, registry_of};
 use juniper::{
-    DefaultScalarValue, EmptyMutation, EmptySubscription, GraphQLType, Registry, RootError,
-    RootNode, ScalarValue, Variables, execute_sync,
+    DefaultScalarValue, EmptyMutation, EmptySubscription, GraphQLType, GraphQLValue, Registry,
+    RootError, RootNode, ScalarValue, Variables, execute_sync,
 };
 use juniper_demo_server::{
     CELL, CHARACTER, DROID, Demo, DemoContext, DemoNode, EPISODES, HUMAN, QUERY,
@@ -63,18 +64,33 @@ enum Told {
     Made,
     /// The answer to a request.
     Answer,
+    /// The same by a resolver in a box.
+    Boxed,
+    /// The same by a resolver behind a reference.
+    Lent,
+    /// The same by a resolver that is asked by hand.
+    ByHand,
     /// The name of a type, the reference to it, and its declaration.
     Type,
 }
 
-/// The root over these types, when this name was referred to too.
-fn root_awaiting<S: ScalarValue>(alloc: Global, name: &str) -> Result<Root<S>, RootError> {
+/// The registry of these types, when this name was referred to too.
+fn registry_awaiting<S: ScalarValue>(alloc: Global, name: &str) -> Result<Registry<S>, RootError> {
     let Ok(mut registry) = registry_of::<S>(alloc, &QUERY_TYPES) else {
         return Err(RootError::Memory);
     };
     if registry.named_type(name).is_err() {
         return Err(RootError::Memory);
     }
+    Ok(registry)
+}
+
+/// The root over these types, when this name was referred to too.
+fn root_awaiting<S: ScalarValue>(alloc: Global, name: &str) -> Result<Root<S>, RootError> {
+    let registry = match registry_awaiting::<S>(alloc, name) {
+        Ok(registry) => registry,
+        Err(error) => return Err(error),
+    };
     let query = Named(Demo);
     let mutation = EmptyMutation::new();
     let subscription = EmptySubscription::new();
@@ -103,11 +119,46 @@ fn answer_of<S: ScalarValue>(alloc: Global, text: &str) -> Result<String, AllocE
     let Ok(root) = root_awaiting::<S>(alloc, "Query") else {
         return Err(AllocError);
     };
+    answer_by(alloc, &root, text)
+}
+
+/// What a root answers to a request, or why it refuses it.
+fn answer_by<Q: GraphQLValue<S, Context = DemoContext, Node = DemoNode>, S: ScalarValue>(
+    alloc: Global,
+    root: &RootNode<Q, EmptyMutation<DemoContext, DemoNode>, EmptySubscription<DemoContext>, S>,
+    text: &str,
+) -> Result<String, AllocError> {
     let variables = Variables::new(alloc);
     let mut context = DemoContext::new();
-    match execute_sync(alloc, text, None, &root, &variables, &mut context) {
+    match execute_sync(alloc, text, None, root, &variables, &mut context) {
         Ok((data, errors)) => answer_line(alloc, &data, errors.as_slice()),
         Err(refusal) => refusal.to_string(alloc),
+    }
+}
+
+/// What a request is answered by a root of this resolver, and by defaults for no mutation and no subscription.
+fn answer_from<Q, S: ScalarValue>(alloc: Global, query: Q, text: &str) -> Result<String, AllocError>
+where
+    Q: GraphQLValue<S, Context = DemoContext, Node = DemoNode, TypeInfo = &'static str> + Drop,
+{
+    let Ok(registry) = registry_awaiting::<S>(alloc, "Query") else {
+        return Err(AllocError);
+    };
+    let mutation = EmptyMutation::default();
+    let subscription = EmptySubscription::default();
+    let made = RootNode::new(
+        alloc,
+        query,
+        mutation,
+        subscription,
+        registry,
+        "Query",
+        (),
+        (),
+    );
+    match made {
+        Ok(root) => answer_by(alloc, &root, text),
+        Err(_) => Err(AllocError),
     }
 }
 
@@ -142,6 +193,9 @@ fn told_of<S: ScalarValue>(alloc: Global, told: Told, case: &str) -> Result<Stri
     match told {
         Told::Made => made_of::<S>(alloc, case),
         Told::Answer => answer_of::<S>(alloc, case),
+        Told::Boxed => answer_from::<_, S>(alloc, Box::new(alloc, Named(Demo))?, case),
+        Told::Lent => answer_from::<_, S>(alloc, &Named(Demo), case),
+        Told::ByHand => answer_from::<_, S>(alloc, Named(ByHand), case),
         Told::Type => type_of::<S>(alloc, case),
     }
 }
@@ -169,6 +223,21 @@ fn nothing_may_be_awaited_but_built_in_scalars(rt: HostRuntime) {
 #[test]
 fn roots_without_mutations_answer(rt: HostRuntime) {
     assert_eq!(rt; first_other(rt.alloc(), Told::Answer, REQUESTS), Ok(None));
+}
+
+#[test]
+fn a_resolver_in_a_box_answers(rt: HostRuntime) {
+    assert_eq!(rt; first_other(rt.alloc(), Told::Boxed, REQUESTS), Ok(None));
+}
+
+#[test]
+fn a_resolver_behind_a_reference_answers(rt: HostRuntime) {
+    assert_eq!(rt; first_other(rt.alloc(), Told::Lent, REQUESTS), Ok(None));
+}
+
+#[test]
+fn a_resolver_that_is_asked_by_hand_answers(rt: HostRuntime) {
+    assert_eq!(rt; first_other(rt.alloc(), Told::ByHand, REQUESTS), Ok(None));
 }
 
 #[test]

@@ -1,39 +1,9 @@
-//! A server that refuses what is past its bounds, as docs/SERVING.md shows it.
+//! A server that prepares texts within bounds, as docs/SERVING.md shows it.
 
-use juniper::{
-    DefaultScalarValue, Document, GraphQLError, Variables, execute_sync, expanded_fields,
-    get_operation, parse_document_source,
-};
+use juniper::{Bounds, DefaultScalarValue, InputValue, Variables, execute_prepared, prepare};
 use juniper_demo_server::{DemoContext, DemoRoot, demo_root, show};
 use std::alloc::{AllocError, Global};
 use std::test::Fail;
-
-/// What a server takes.
-#[derive(Clone, Copy)]
-struct Bounds {
-    /// The most bytes of a text.
-    bytes: usize,
-    /// The most fields of an operation, with every spread put in.
-    fields: u64,
-}
-
-/// What a server has against a request; nothing where it may be validated and executed.
-fn objection(
-    alloc: Global,
-    bounds: &Bounds,
-    text: &str,
-    operation_name: Option<&str>,
-) -> Result<Option<&'static str>, GraphQLError> {
-    if text.len() > bounds.bytes {
-        return Ok(Some("The text is too long"));
-    }
-    let document: Document<'_, DefaultScalarValue> = parse_document_source(alloc, text)?;
-    let operation = get_operation(&document, operation_name)?;
-    if expanded_fields(alloc, &document, operation)? > bounds.fields {
-        return Ok(Some("The operation selects too many fields"));
-    }
-    Ok(None)
-}
 
 /// What a request is answered: a line of JSON, or why there is none.
 fn answer(
@@ -42,34 +12,42 @@ fn answer(
     bounds: &Bounds,
     text: &str,
 ) -> Result<String, AllocError> {
-    match objection(alloc, bounds, text, None) {
-        Err(refusal) => format!(in alloc; "refused: {refusal}"),
-        Ok(Some(objection)) => format!(in alloc; "refused: {objection}"),
-        Ok(None) => {
+    match prepare(alloc, root, text, bounds) {
+        Err(objection) => format!(in alloc; "refused: {objection}"),
+        Ok(prepared) => {
             let variables = Variables::new(alloc);
             let mut context = DemoContext::new();
-            let outcome = execute_sync(alloc, text, None, root, &variables, &mut context);
+            let outcome = execute_prepared(alloc, &prepared, None, &variables, &mut context);
             Ok(show(alloc, &outcome)?.line)
         }
     }
 }
 
-/// Requests, and what is answered by a server that takes 120 bytes and 7 fields.
+/// Requests, and what is answered by a server that takes 120 bytes, 7 fields and 4 levels.
 const ROWS: &str = r#"{ id a: id } => {"data":{"id":"q1","a":"q1"}}
+{ id                                                                                                                   } => {"data":{"id":"q1"}}
+{ id                                                                                                                    } => refused: The text is too long
 { ...F ...F ...F ...F ...F ...F ...F } fragment F on Query { id } => {"data":{"id":"q1"}}
-{ ...F ...F ...F ...F ...F ...F ...F ...F } fragment F on Query { id } => refused: The operation selects too many fields
-{ ...A ...A } fragment A on Query { ...B ...B } fragment B on Query { ...C ...C } fragment C on Query { id } => refused: The operation selects too many fields
-{ ...A } fragment A on Query { ...B ...B } fragment B on Query { ...C ...C } fragment C on Query { id name @skip(if: true) } => refused: The text is too long
-{ ...F } fragment F on Query { id ...F } => refused: The operation selects too many fields
+{ ...F ...F ...F ...F ...F ...F ...F ...F } fragment F on Query { id } => refused: An operation selects too many fields
+{ ...A ...A } fragment A on Query { ...B ...B } fragment B on Query { ...C ...C } fragment C on Query { id } => refused: An operation selects too many fields
+{ ...A } fragment A on Query { ...B } fragment B on Query { ...C } fragment C on Query { id } => {"data":{"id":"q1"}}
+{ ...A } fragment A on Query { ...B } fragment B on Query { ...C } fragment C on Query { ... { id } } => refused: An operation nests too deep
+{ a { b { c { d } } } } => refused: Unknown field
+{ a { b { c { d { e } } } } } => refused: An operation nests too deep
+{ a b c d e f g h { i { j { k { l } } } } } => refused: An operation selects too many fields
+{ ...F } fragment F on Query { id ...F } => refused: An operation selects too many fields
+{ id } fragment F on Query { id ...F } => refused: Fragment spreads itself
 { id ...F } => refused: Unknown fragment
-{ id => refused: Unexpected end of input
-query A { id } query B { id } => refused: Multiple operations provided"#;
+{ a b c d e f g h => refused: Unexpected end of input
+query A { id } query B { id } => refused: Multiple operations provided
+query A { id } query B { a b c d e f g h } => refused: An operation selects too many fields"#;
 
 /// The first row that is answered otherwise, with its answer.
 fn first_other(alloc: Global, root: &DemoRoot) -> Result<String, AllocError> {
     let bounds = Bounds {
         bytes: 120,
         fields: 7,
+        levels: 4,
     };
     for row in ROWS.lines() {
         if let Some((text, said)) = row.split_once(" => ") {
@@ -82,6 +60,40 @@ fn first_other(alloc: Global, root: &DemoRoot) -> Result<String, AllocError> {
     Ok(String::new(alloc))
 }
 
+/// Given values of the variable `n`.
+fn given(alloc: Global, number: Option<i32>) -> Result<Variables<DefaultScalarValue>, AllocError> {
+    let mut variables = Variables::new(alloc);
+    if let Some(number) = number {
+        let value = InputValue::Scalar(DefaultScalarValue::Int(number));
+        variables.insert(String::from_str(alloc, "n")?, value)?;
+    }
+    Ok(variables)
+}
+
+/// What one prepared mutation answers, in one context, to the numbers that are given, or not, one after the other.
+fn totals(alloc: Global, root: &DemoRoot, numbers: &[Option<i32>]) -> Result<String, AllocError> {
+    let text = "mutation M($n: Int!) { add(n: $n) { total count } }";
+    let prepared = match prepare(alloc, root, text, &Bounds::DEFAULT) {
+        Err(objection) => return format!(in alloc; "{objection}"),
+        Ok(prepared) => prepared,
+    };
+    let mut lines = String::new(alloc);
+    let mut context = DemoContext::new();
+    for number in numbers {
+        let variables = given(alloc, *number)?;
+        let outcome = execute_prepared(alloc, &prepared, Some("M"), &variables, &mut context);
+        lines.push_str(show(alloc, &outcome)?.line.as_str())?;
+        lines.push_str("\n")?;
+    }
+    Ok(lines)
+}
+
+/// What is answered to 2, to nothing, and to 5.
+const TOTALS: &str = r#"{"data":{"add":{"total":2,"count":1}}}
+refused: Variable `$n` has no fitting value
+{"data":{"add":{"total":7,"count":2}}}
+"#;
+
 #[test]
 fn a_server_refuses_past_its_bounds(rt: HostRuntime) -> Result<(), Fail> {
     let root = match demo_root(rt.alloc()) {
@@ -89,5 +101,16 @@ fn a_server_refuses_past_its_bounds(rt: HostRuntime) -> Result<(), Fail> {
         Err(_) => return Err(Fail::from(AllocError)),
     };
     assert_eq!(rt; first_other(rt.alloc(), &root)?.as_str(), "");
+    Ok(())
+}
+
+#[test]
+fn a_prepared_text_is_executed_again(rt: HostRuntime) -> Result<(), Fail> {
+    let root = match demo_root(rt.alloc()) {
+        Ok(root) => root,
+        Err(_) => return Err(Fail::from(AllocError)),
+    };
+    let lines = totals(rt.alloc(), &root, &[Some(2), None, Some(5)])?;
+    assert_eq!(rt; lines.as_str(), TOTALS);
     Ok(())
 }

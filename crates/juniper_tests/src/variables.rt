@@ -32,8 +32,8 @@ rows:
 { text(of: "") flag a: flag(of: false) } => {"data":{"text":"","flag":true,"a":false}}
 { episode a: episode(of: NEWHOPE) b: episode(of: null) } => {"data":{"episode":"JEDI","a":"NEWHOPE","b":null}}
 { must(of: 0) } => {"data":{"must":0}}
-{ must } => refused: Argument is missing
-{ must(of: null) } => refused: Argument does not fit its type
+{ must } => refused: Argument is missing @0
+{ must(of: null) } => refused: Argument does not fit its type @0
 "#;
 
 pub(crate) const VARIABLES: &str = r#"schema:
@@ -79,17 +79,17 @@ query Q($n: Int = null) { number(plus: $n) } => {"data":{"number":null}}
 query Q($n: Int! = 4) { must(of: $n) } => {"data":{"must":4}}
 query Q($n: Int = 4) { must(of: $n) } => {"data":{"must":4}}
 variables: {"n": null}
-query Q($n: Int! = 4) { must(of: $n) } => refused: Variable `$n` has no fitting value
+query Q($n: Int! = 4) { must(of: $n) } => refused: Variable `$n` has no fitting value @8
 
 # Values that do not fit.
-query Q($n: Int!) { must(of: $n) } => refused: Variable `$n` has no fitting value
+query Q($n: Int!) { must(of: $n) } => refused: Variable `$n` has no fitting value @8
 variables: {"n": null}
-query Q($n: Int!) { must(of: $n) } => refused: Variable `$n` has no fitting value
+query Q($n: Int!) { must(of: $n) } => refused: Variable `$n` has no fitting value @8
 variables: {"n": "5"}
-query Q($n: Int) { number(plus: $n) } => refused: Variable `$n` has no fitting value
+query Q($n: Int) { number(plus: $n) } => refused: Variable `$n` has no fitting value @8
 variables: {"n": true, "t": 1}
 query Q($n: Int, $t: String) { number(plus: $n) text(of: $t) }
-=> refused: Variable `$n` has no fitting value; Variable `$t` has no fitting value
+=> refused: Variable `$n` has no fitting value @8; Variable `$t` has no fitting value @17
 
 # Texts and enums.
 variables: {"t": "a \"b\" \\ \u00e9"}
@@ -98,7 +98,7 @@ variables: {"e": "EMPIRE"}
 query Q($e: Episode) { episode(of: $e) } => {"data":{"episode":"EMPIRE"}}
 query Q($e: Episode) { episode(of: $e) } => {"data":{"episode":"JEDI"}}
 variables: {"e": "empire"}
-query Q($e: Episode) { episode(of: $e) } => refused: Variable `$e` has no fitting value
+query Q($e: Episode) { episode(of: $e) } => refused: Variable `$e` has no fitting value @8
 
 # Lists and input objects.
 variables: {"l": [1, 2]}
@@ -106,15 +106,15 @@ query Q($l: [Int!]) { list(of: $l) } => {"data":{"list":3}}
 variables: {"l": 1}
 query Q($l: [Int!]) { list(of: $l) } => {"data":{"list":3}}
 variables: {"l": [1, null]}
-query Q($l: [Int!]) { list(of: $l) } => refused: Variable `$l` has no fitting value
+query Q($l: [Int!]) { list(of: $l) } => refused: Variable `$l` has no fitting value @8
 variables: {"b": {"width": 1, "inner": {"width": 2, "label": null}}}
 query Q($b: Box) { box(of: $b) } => {"data":{"box":4}}
 variables: {"b": {"label": "x"}}
-query Q($b: Box) { box(of: $b) } => refused: Variable `$b` has no fitting value
+query Q($b: Box) { box(of: $b) } => refused: Variable `$b` has no fitting value @8
 variables: {"b": {"width": 1, "depth": 2}}
-query Q($b: Box) { box(of: $b) } => refused: Variable `$b` has no fitting value
+query Q($b: Box) { box(of: $b) } => refused: Variable `$b` has no fitting value @8
 variables: {"b": {"width": 1, "inner": {}}}
-query Q($b: Box) { box(of: $b) } => refused: Variable `$b` has no fitting value
+query Q($b: Box) { box(of: $b) } => refused: Variable `$b` has no fitting value @8
 
 # Conditions.
 variables: {"f": true}
@@ -141,11 +141,11 @@ query Q($b: Int = 7, $a: Int, $c: Int = 8, $aa: Int, $ab: Int, $ba: Int,
 variables: {"a": "5", "c": null, "y": true, "z": 1, "other": "x"}
 query Q($b: Int! = 7, $a: Int!, $c: Int! = 8, $aa: Int!, $ab: Int, $ba: Int,
     $A: Int, $_: Int, $B: Int, $b1: Int, $b0: Int, $a_: Int, $aA: Int, $abc: Int, $z: Int, $y: Int) { name }
-=> refused: Variable `$a` has no fitting value; Variable `$c` has no fitting value; Variable `$aa` has no fitting value; Variable `$y` has no fitting value
+=> refused: Variable `$a` has no fitting value @22; Variable `$c` has no fitting value @32; Variable `$aa` has no fitting value @46; Variable `$y` has no fitting value @168
 variables: {"a": "5", "c": null, "x": true, "z": 1, "other": "x"}
 query Q($b: Int! = 7, $a: Int!, $c: Int! = 8, $aa: Int!, $ab: Int, $ba: Int,
     $A: Int, $_: Int, $B: Int, $b1: Int, $b0: Int, $a_: Int, $aA: Int, $abc: Int, $z: Int, $y: Int, $x: Int) { name }
-=> refused: Variable `$a` has no fitting value; Variable `$c` has no fitting value; Variable `$aa` has no fitting value; Variable `$x` has no fitting value
+=> refused: Variable `$a` has no fitting value @22; Variable `$c` has no fitting value @32; Variable `$aa` has no fitting value @46; Variable `$x` has no fitting value @177
 
 # Operations by name: only the variables of the one that runs must have values.
 name: B
@@ -153,18 +153,18 @@ variables: {"n": 1}
 query A($m: Int!) { must(of: $m) } query B($n: Int!) { must(of: $n) } => {"data":{"must":1}}
 name: A
 variables: {"n": 1}
-query A($m: Int!) { must(of: $m) } query B($n: Int!) { must(of: $n) } => refused: Variable `$m` has no fitting value
+query A($m: Int!) { must(of: $m) } query B($n: Int!) { must(of: $n) } => refused: Variable `$m` has no fitting value @8
 
 # Documents that are not valid.
 variables: {"m": 1}
-query Q($n: Int) { number(plus: $m) } => refused: Variable is not defined
-query Q($n: String) { number(plus: $n) } => refused: Variable may not stand here
-query Q($n: Int) { must(of: $n) } => refused: Variable may not stand here
-query Q($f: Boolean) { name @skip(if: $f) } => refused: Variable may not stand here
-query Q($n: Int, $n: Int) { number(plus: $n) } => refused: Variable name is not unique
-query Q($n: Int = "x") { number(plus: $n) } => refused: Default value does not fit its type
-query Q($n: Hero) { name } => refused: Variable is not of an input type
-query Q($n: Int) { a: number(plus: $n) a: number(plus: 1) } => refused: Fields cannot be merged
+query Q($n: Int) { number(plus: $m) } => refused: Variable is not defined @0
+query Q($n: String) { number(plus: $n) } => refused: Variable may not stand here @0
+query Q($n: Int) { must(of: $n) } => refused: Variable may not stand here @0
+query Q($f: Boolean) { name @skip(if: $f) } => refused: Variable may not stand here @0
+query Q($n: Int, $n: Int) { number(plus: $n) } => refused: Variable name is not unique @0
+query Q($n: Int = "x") { number(plus: $n) } => refused: Default value does not fit its type @0
+query Q($n: Hero) { name } => refused: Variable is not of an input type @0
+query Q($n: Int) { a: number(plus: $n) a: number(plus: 1) } => refused: Fields cannot be merged @0
 "#;
 
 #[test]

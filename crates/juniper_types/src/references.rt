@@ -5,7 +5,7 @@ use crate::resolver::GraphQLValue;
 use juniper_resolvable::Resolved;
 use juniper_syntax::ScalarValue;
 use juniper_values::{Arguments, ResolveError};
-use std::alloc::Global;
+use std::alloc::{AllocError, Global};
 
 /// The resolver that is referred to.
 impl<'t, T: GraphQLValue<S>, S: ScalarValue> GraphQLValue<S> for &'t T {
@@ -46,5 +46,21 @@ impl<'t, T: GraphQLValue<S>, S: ScalarValue> GraphQLValue<S> for &'t T {
         executor: &Executor<T::Context, S>,
     ) -> Result<Resolved<T::Node, S>, ResolveError<S>> {
         (**self).resolve_field(alloc, info, node, field_name, arguments, executor)
+    }
+
+    fn nodes_at_once(&self, info: &T::TypeInfo, type_name: &str) -> usize {
+        (**self).nodes_at_once(info, type_name)
+    }
+
+    fn resolve_fields(
+        &self,
+        alloc: Global,
+        info: &T::TypeInfo,
+        nodes: &[&T::Node],
+        field_name: &str,
+        arguments: &Arguments<'_, S>,
+        executor: &Executor<T::Context, S>,
+    ) -> Result<Vec<Result<Resolved<T::Node, S>, ResolveError<S>>>, AllocError> {
+        (**self).resolve_fields(alloc, info, nodes, field_name, arguments, executor)
     }
 }

@@ -1,19 +1,19 @@
 //! Resolvers.
 
-ghost use Rattle.std.specs.Prelude.{◌≡◌, option_map};
+ghost use Rattle.std.specs.Prelude.{◌≡◌, IfOk, map, option_map};
 ghost use Rattle.graphql_spec.specs.Shown.{Name};
 ghost use Rattle.graphql_spec.specs.Constants.{Members};
 ghost use Rattle.graphql_spec.specs.Resolvers.{Reply};
 ghost use Rattle.juniper_values.specs.ArgumentView.{view_arguments};
 ghost use Rattle.juniper_types.specs.ExecutorView.{IsAskedFor, context_of};
-ghost use Rattle.juniper_resolvable.specs.ResolvedView.{Answers};
+ghost use Rattle.juniper_resolvable.specs.ResolvedView.{AllAnswer, Answers};
 
 use crate::executor::Executor;
 use juniper_registry::GraphQLType;
 use juniper_resolvable::Resolved;
 use juniper_syntax::ScalarValue;
 use juniper_values::{Arguments, ResolveError};
-use std::alloc::Global;
+use std::alloc::{AllocError, Global};
 
 /// A resolver by its meaning: two definitions, which each implementation writes and which its calls answer, memory aside.
 /// They see the arguments' meaning alone, so neither their order nor where they are written can count.
@@ -64,4 +64,35 @@ pub trait GraphQLValue<S: ScalarValue>: GraphQLType<S> {
     ) -> Result<Resolved<Self::Node, S>, ResolveError<S>>
         requires { IsAskedFor S.shown executor.now field_name.now (view_arguments S.shown arguments.now) }
         ensures { Answers S.shown result (answer self.now info.now (context_of executor.now) node.now field_name.now (view_arguments S.shown arguments.now)) };
+
+    /// For how many nodes of a list a field is asked at once by [`GraphQLValue::resolve_fields`], at most. Where it is one, as it
+    /// is by default, or zero, each node is asked for itself by [`GraphQLValue::resolve_field`].
+    fn nodes_at_once(&self, _info: &Self::TypeInfo, _type_name: &str) -> usize {
+        1
+    }
+
+    /// The answers to a field of nodes of one object type, one for each, in their order: each is what
+    /// [`GraphQLValue::resolve_field`] may answer for its node, which is what the default asks. What many nodes need can be
+    /// loaded once here. The executor is that of the field, its path that to one of the nodes. An error where memory is refused.
+    fn resolve_fields(
+        &self,
+        alloc: Global,
+        info: &Self::TypeInfo,
+        nodes: &[&Self::Node],
+        field_name: &str,
+        arguments: &Arguments<'_, S>,
+        executor: &Executor<Self::Context, S>,
+    ) -> Result<Vec<Result<Resolved<Self::Node, S>, ResolveError<S>>>, AllocError>
+        requires { IsAskedFor S.shown executor.now field_name.now (view_arguments S.shown arguments.now) }
+        ensures { IfOk result (λ made. AllAnswer S.shown
+            (λ node. answer self.now info.now (context_of executor.now) node field_name.now (view_arguments S.shown arguments.now))
+            (map (λ n. n.now) nodes.now) made.items) }
+    {
+        let mut made = Vec::with_capacity(alloc, nodes.len())?;
+        for node in nodes {
+            let answer = self.resolve_field(alloc, info, node, field_name, arguments, executor);
+            made.push(answer)?;
+        }
+        Ok(made)
+    }
 }

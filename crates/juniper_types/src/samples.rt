@@ -110,6 +110,10 @@ impl<S: ScalarValue> GraphQLValue<S> for Counter {
     ) -> Result<Resolved<i32, S>, ResolveError<S>> {
         Ok(Resolved::Scalar(S::from_int(*executor.context())))
     }
+
+    fn nodes_at_once(&self, _info: &(), _type_name: &str) -> usize {
+        100
+    }
 }
 
 /// The place after so many characters of a text's first line.

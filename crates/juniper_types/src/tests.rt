@@ -27,11 +27,11 @@ occurrences => 2: mate mate | 2: mate mate
 occurrences from the back => 1 left after mate | 1 left after mate
 error => 0:9 hero 2 mate failed | 0:9 hero 2 mate failed";
 
-/// How a resolver is held: its type, its concrete type and its root.
+/// How a resolver is held: its type, its concrete type, its root, and for how many nodes it is asked at once.
 const RESOLVERS: &str = "\
-itself => Counter Counted 5
-in a box => Counter Counted 5
-behind a reference => Counter Counted 5";
+itself => Counter Counted 5 100
+in a box => Counter Counted 5 100
+behind a reference => Counter Counted 5 100";
 
 /// What is told of a case that no table has.
 fn unknown(alloc: Global) -> Result<String, AllocError> {
@@ -172,7 +172,7 @@ fn resolved(
     }
 }
 
-/// The type of a resolver, its concrete type and its root.
+/// The type of a resolver, its concrete type, its root, and for how many nodes it is asked at once.
 fn resolved_by<T: GraphQLValue<DefaultScalarValue, Node = i32>>(
     alloc: Global,
     resolver: &T,
@@ -182,7 +182,8 @@ fn resolved_by<T: GraphQLValue<DefaultScalarValue, Node = i32>>(
     let name = resolver.type_name(info).unwrap_or("no name");
     let root = resolver.root_node();
     let concrete = resolver.concrete_type_name(executor.context(), info, root);
-    format!(in alloc; "{name} {concrete} {root}")
+    let at_once = resolver.nodes_at_once(info, "Counted");
+    format!(in alloc; "{name} {concrete} {root} {at_once}")
 }
 
 /// What is told of a case of the tables.

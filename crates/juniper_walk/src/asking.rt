@@ -1,12 +1,12 @@
 //! What a request gives to its walk.
 
-ghost use Rattle.std.specs.Prelude.{◌≡◌, IfOk, string_bytes};
+ghost use Rattle.std.specs.Prelude.{◌≡◌, IfOk, map, string_bytes};
 ghost use Rattle.graphql_spec.specs.Execution.{reply_of, type_of};
 ghost use Rattle.juniper_syntax.specs.TypeView.{view_type};
 ghost use Rattle.juniper_lookahead.specs.Expansion.{IsAcyclic};
 ghost use Rattle.juniper_lookahead.specs.Sites.{IsWholeGroup, view_fields};
 ghost use Rattle.juniper_errors.specs.PathView.{path_place};
-ghost use Rattle.juniper_resolvable.specs.ResolvedView.{Answers};
+ghost use Rattle.juniper_resolvable.specs.ResolvedView.{AllAnswer, Answers};
 ghost use Rattle.juniper_walk.specs.Asking.{IsAskedOf, IsPathOf};
 ghost use Rattle.juniper_walk.specs.FieldWords.{head_of};
 
@@ -38,6 +38,15 @@ pub struct Asked<'t, N, S> {
     pub declared: &'t Type<String>,
     /// Its answer, or the error with which it fails.
     pub answer: Result<Resolved<N, S>, ResolveError<S>>,
+}
+
+/// What a field of nodes answers.
+#[derive(Drop)]
+pub struct AskedAll<'t, N, S> {
+    /// The type that the field declares.
+    pub declared: &'t Type<String>,
+    /// Its answers, or the errors with which it fails, one for each node.
+    pub answers: Vec<Result<Resolved<N, S>, ResolveError<S>>>,
 }
 
 /// What answers the fields of nodes; it stands for the schema, the variables and the resolver of a request.
@@ -89,6 +98,31 @@ pub trait Resolver<S: ScalarValue>: Completer<S> + Conditions {
             ≡ type_of (Self.world self.now) concrete.now (view_fields S.shown (values self.now) site.now.fragments.now site.now.occurrences.now) }
         ensures answer { Answers S.shown result.answer (reply_of (Self.world self.now) concrete.now node.now
             (view_fields S.shown (values self.now) site.now.fragments.now site.now.occurrences.now)) };
+
+    /// For how many nodes of an object type a field is asked at once, at most; where it is one or zero, each node is asked for itself.
+    fn nodes_at_once(&self, concrete: &str) -> usize;
+
+    /// What the first occurrence of a field answers of each of these nodes, in order, as [`Resolver::ask`] would; the path is that of one of
+    /// them. An error where memory is refused. (A `Vec`, since the borrow checker's part of a proof covers no slice of references to what holds references.)
+    fn ask_all<'t, 'd, 'a>(
+        &'t self,
+        alloc: Global,
+        question: &'t Self::Question,
+        concrete: &str,
+        nodes: &Vec<&Self::Node>,
+        site: &Site<'_, 'd, 'a, S>,
+    ) -> Result<AskedAll<'t, Self::Node, S>, AllocError>
+        requires acyclic { IsAcyclic S.shown site.now.fragments.now }
+        requires question { IsAskedOf (asks self.now concrete.now)
+            (view_fields S.shown (values self.now) site.now.fragments.now site.now.occurrences.now) question.now }
+        requires path { IsPathOf (view_fields S.shown (values self.now) site.now.fragments.now site.now.occurrences.now) (path_place site.now.path.now) }
+        requires whole { IsWholeGroup S.shown (Self.possible self.now) (values self.now) site.now.fragments.now concrete.now site.now.enclosing.now
+            site.now.occurrences.now }
+        ensures declared { IfOk result (λ asked. view_type (λ n. string_bytes n) asked.declared.now
+            ≡ type_of (Self.world self.now) concrete.now (view_fields S.shown (values self.now) site.now.fragments.now site.now.occurrences.now)) }
+        ensures answers { IfOk result (λ asked. AllAnswer S.shown (λ m. reply_of (Self.world self.now) concrete.now m
+            (view_fields S.shown (values self.now) site.now.fragments.now site.now.occurrences.now)) (map (λ n. n.now) nodes.now.items)
+            asked.answers.items) };
 }
 
 /// What one request gives to each of its fields.

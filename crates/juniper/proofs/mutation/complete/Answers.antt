@@ -7,35 +7,34 @@ use Rattle.juniper_plan.proofs.Elsewhere.{standing-elsewhere}
 use Rattle.juniper_plan.specs.PlanWalks.{HasFirst}
 use Rattle.juniper_plan.specs.Plans.{fields_at}
 use Rattle.juniper.specs.RootFields.{asks_in, collector_in, values_in}
-use Rattle.juniper.specs.Services.{mutation_on, rooted_steps}
+use Rattle.juniper.specs.Services.{world_in}
 use Rattle.juniper.proofs.RootGroups.{completed-elsewhere, merges-elsewhere, root-ready, same-fields-elsewhere, step-elsewhere}
 use Rattle.juniper.proofs.mutation.complete.Goals as goal
 
 pub invariant_of-service : goal.invariant_of-service
 invariant_of-service g c = record { executable = c.args.served.now.executable; unnamed = c.args.served.now.unnamed }
 
-pub complete_group-requires-clause-ready : goal.complete_group-requires-clause-ready
-complete_group-requires-clause-ready g c = root-ready g.S.ScalarValue.shown c.args.walk.now _ refl refl c.requires.ready
+pub complete_root_group-requires-clause-ready : goal.complete_root_group-requires-clause-ready
+complete_root_group-requires-clause-ready g c = root-ready g.S.ScalarValue.shown c.args.walk.now _ refl refl c.requires.ready
 
-pub complete_group-requires-clause-standing : goal.complete_group-requires-clause-standing
-complete_group-requires-clause-standing g c =
+pub complete_root_group-requires-clause-standing : goal.complete_root_group-requires-clause-standing
+complete_root_group-requires-clause-standing g c =
     standing-elsewhere g.S.ScalarValue.shown (collector_in g.S.ScalarValue.shown c.args.walk.now) _ refl refl
     (asks_in g.S.ScalarValue.shown c.args.walk.now (view_schema g.S.ScalarValue.shown c.args.served.now.schema.now))
     (is_possible (view_schema g.S.ScalarValue.shown c.args.served.now.schema.now)) c.args.plan.now c.requires.standing
 
-pub complete_group-requires-clause-some : goal.complete_group-requires-clause-some
-complete_group-requires-clause-some g c =
+pub complete_root_group-requires-clause-some : goal.complete_root_group-requires-clause-some
+complete_root_group-requires-clause-some g c =
     subst HasFirst (same-fields-elsewhere g.S.ScalarValue.shown (collector_in g.S.ScalarValue.shown c.args.walk.now) _ refl refl
     (fields_at c.args.plan.now c.args.group.0)) c.requires.some
 
-pub complete_group-requires-clause-merge : goal.complete_group-requires-clause-merge
-complete_group-requires-clause-merge g c =
+pub complete_root_group-requires-clause-merge : goal.complete_root_group-requires-clause-merge
+complete_root_group-requires-clause-merge g c =
     let shown = g.S.ScalarValue.shown in
     let root = c.args.served.now in
-    let M = mutation_on g.Q.GraphQLValue.concrete g.Q.GraphQLValue.answer root.query.now root.query_info.now
-    (rooted_steps g.M.GraphQLMutationValue.step g.M.GraphQLMutationValue.torn root.mutation.now root.mutation_info.now) (view_schema shown root.schema.now)
+    let W = world_in g.Q.GraphQLValue.concrete g.Q.GraphQLValue.answer root.query.now root.query_info.now c.args.context.now (view_schema shown root.schema.now)
     (values_in shown c.args.walk.now) in
-    merges-elsewhere shown _ (collector_in shown c.args.walk.now) refl refl (M.world c.args.context.now)
+    merges-elsewhere shown _ (collector_in shown c.args.walk.now) refl refl W
     (innermost (view_type (λ n. string_bytes n) c.args.asked.declared.now)) (fields_at c.args.plan.now c.args.group.0) c.requires.merge
 
 pub returns-clause-plan : goal.returns-clause-plan

@@ -1,20 +1,33 @@
-use Rattle.std.proofs.Common.{◌+◌, ◌*◌, ◌-◌, map, take}
+use Rattle.std.proofs.Common.{◌≡◌, ◌+◌, ◌*◌, ◌-◌, ◌≤◌, length, map, take}
+use Rattle.graphql_spec.specs.ExactAnswers.{whole}
+use Rattle.graphql_spec.specs.GroupLaws.{first_start}
 use Rattle.graphql_spec.specs.Selections.{all_below, depth, keys, occurrences}
-use Rattle.juniper_syntax.specs.ValueView.{view_object, view_value}
+use Rattle.juniper_syntax.specs.ValueView.{view_object}
 use Rattle.juniper_errors.specs.ErrorView.{view_listed}
 use Rattle.juniper_errors.specs.PathView.{path_place}
 use Rattle.juniper_assemble.specs.SpotView.{view_nodes}
 use Rattle.juniper_collect.specs.Collected.{view_all}
 use Rattle.juniper_plan.specs.Plans.{IsStep, all_expanded, fields_at}
-use Rattle.juniper_plan.specs.PlanWalks.{AreObjectsWalked, IsWalking}
+use Rattle.juniper_completion.specs.NodeLaws.{AreWalkedOnce}
+use Rattle.juniper_plan.specs.PlanWalks.{IsWalking}
+use Rattle.juniper_plan.specs.Rows.{AreAdded, AreRows, listed_of, values_of}
 use Rattle.juniper_plan.proofs.walking.+walking.Given as goal
 
--- twice how deep what is selected is nested, and one more for the nodes of an answer
+-- three times how deep what is selected is nested, one more for nodes of one type, and two more for the nodes of an answer
 abbrev pub decreases-object : goal.decreases-object
-decreases-object g l = 2 * depth (all_expanded g.S.ScalarValue.shown l.walk.now.collector l.enclosing.now)
+decreases-object g l = 3 * depth (all_expanded g.S.ScalarValue.shown l.walk.now.collector l.enclosing.now)
 
 abbrev pub decreases-objects_of : goal.decreases-objects_of
-decreases-objects_of g l = 2 * depth (all_below (view_all g.S.ScalarValue.shown l.walk.now.collector (fields_at l.plan.now l.group.0))) + 1
+decreases-objects_of g l = 3 * depth (all_below (view_all g.S.ScalarValue.shown l.walk.now.collector (fields_at l.plan.now l.group.0))) + 2
+
+abbrev pub decreases-rows_of : goal.decreases-rows_of
+decreases-rows_of g l = 3 * depth (all_expanded g.S.ScalarValue.shown l.walk.now.collector l.enclosing.now)
+
+abbrev pub decreases-one_by_one : goal.decreases-one_by_one
+decreases-one_by_one g l = 3 * depth (all_expanded g.S.ScalarValue.shown l.walk.now.collector l.enclosing.now) + 1
+
+abbrev pub decreases-objects_of-loop-start : goal.decreases-objects_of-loop-start
+decreases-objects_of-loop-start g l = length l.nodes - l.start
 
 -- the groups so far are walked
 abbrev pub invariant-object-loop-number : goal.invariant-object-loop-number
@@ -31,13 +44,39 @@ invariant-object-loop-number g l =
     }
 
 -- and the nodes so far
-abbrev pub invariant-objects_of-loop-spot : goal.invariant-objects_of-loop-spot
-invariant-objects_of-loop-spot g l =
+abbrev pub invariant-objects_of-loop-start : goal.invariant-objects_of-loop-start
+invariant-objects_of-loop-start g l =
     let shown = g.S.ScalarValue.shown in
     record {
       step : IsStep shown l.walk.collector (g.R.Resolver.asks l.walk.collector.possible) (g.R.Conditions.possible l.walk.collector.possible) l.initial.plan
           l.plan;
-      walked : AreObjectsWalked (g.R.Completer.world l.walk.collector.possible)
-          (all_below (view_all shown l.walk.collector (fields_at l.initial.plan l.fn.group.0))) (view_nodes (take l.spot-index l.nodes))
-          (map (view_value shown) l.values.items) (map (view_listed shown) l.errors.items);
+      inside : l.start ≤ length l.nodes;
+      walked : AreWalkedOnce whole first_start (g.R.Completer.world l.walk.collector.possible)
+          (all_below (view_all shown l.walk.collector (fields_at l.initial.plan l.fn.group.0))) (view_nodes (take l.start l.nodes))
+          (values_of shown l.done.items) (listed_of shown l.done.items);
+    }
+
+-- the objects of the nodes so far were put behind those that were there
+abbrev pub invariant-one_by_one-loop-spot : goal.invariant-one_by_one-loop-spot
+invariant-one_by_one-loop-spot g l =
+    let shown = g.S.ScalarValue.shown in
+    record {
+      step : IsStep shown l.walk.collector (g.R.Resolver.asks l.walk.collector.possible) (g.R.Conditions.possible l.walk.collector.possible) l.initial.plan
+          l.plan;
+      added : AreAdded (g.R.Completer.world l.walk.collector.possible) (all_expanded shown l.walk.collector l.enclosing) shown
+          (view_nodes (take l.spot-index l.nodes)) l.initial.done.items l.done.items;
+    }
+
+-- the groups so far are walked in each row
+abbrev pub invariant-rows_of-loop-number : goal.invariant-rows_of-loop-number
+invariant-rows_of-loop-number g l =
+    let shown = g.S.ScalarValue.shown in
+    let W = g.R.Completer.world l.walk.collector.possible in
+    let s = all_expanded shown l.walk.collector l.enclosing in
+    record {
+      step : IsStep shown l.walk.collector (g.R.Resolver.asks l.walk.collector.possible) (g.R.Conditions.possible l.walk.collector.possible) l.initial.plan
+          l.plan;
+      counted : length l.rows.items ≡ length l.nodes;
+      walked : AreRows W s l.concrete shown (take (l.number - l.fn.groups.first.0) (keys (occurrences W.possible l.concrete s)))
+          (view_nodes l.nodes) l.rows.items;
     }

@@ -1,0 +1,38 @@
+use Rattle.std.proofs.Common.{ap, map, subst, sym, ◌∙◌}
+use Rattle.std.specs.Prelude.{option_map}
+use Rattle.graphql_spec.specs.SeenNodes.{map_reply}
+use Rattle.juniper_schema.specs.SchemaView.{view_schema}
+use Rattle.juniper_types.proofs.Batches.{answers-more, answers-whole}
+use Rattle.juniper_resolvable.specs.ResolvedView.{AllAnswer}
+use Rattle.juniper_types.specs.ExecutorView.{context_of}
+use Rattle.juniper_values.specs.ArgumentView.{view_arguments}
+use Rattle.juniper_intro.proofs.Users.{users-answer}
+use Rattle.juniper_intro.specs.HandleView.{of_user}
+use Rattle.juniper_intro.specs.Introspectors.{names_of, number_of, schema_of}
+use Rattle.juniper_intro.proofs.resolver.RootNodeGraphQLValue.resolve_fields.Goals as goal
+
+pub loop-node-preserved : goal.loop-node-preserved
+loop-node-preserved g c =
+    let l = c.loop-node in
+    answers-more g.S.ScalarValue.shown _ (λ n. n.now) c.args.nodes.now l.node-index c.node-item.result l.made.items c.push.new.self.items _
+    c.loop-node-test.true c.node-item.is c.in_ok-push.ensures.items c.resolve_field-answer.ensures l.invariant
+
+pub returns : goal.returns
+returns g c =
+    answers-whole g.S.ScalarValue.shown _ (λ n. n.now) c.args.nodes.now c.loop-node.node-index c.loop-node.made.items c.loop-node-test.false
+    c.loop-node.invariant
+
+pub returns-in-Some : goal.returns-in-Some
+returns-in-Some g c =
+    let shown = g.S.ScalarValue.shown in
+    let self = c.args.self.now in
+    let answer = g.Q.GraphQLValue.answer self.query c.args.info.now (context_of c.args.executor.now) in
+    let name = c.args.field_name.now in
+    let given = view_arguments shown c.args.arguments.now in
+    let found = sym c.in_ok-users.ensures ∙ ap (option_map (λ users. map (λ n. n.now) users.items)) c.in-Some.is in
+    let plain = sym c.is_introspection.ensures ∙ c.if-not-is_introspection.true in
+    users-answer shown (view_schema shown (schema_of self.introspector)) (names_of self.introspector) (number_of self.introspector) answer
+    (g.Q.GraphQLValue.root self.query) name given (map (λ n. n.now) c.args.nodes.now) (map (λ n. n.now) c.in-Some.users.items)
+    c.in_ok-answers.answers.items plain found
+    (subst (λ l. AllAnswer shown (λ n. map_reply of_user (answer n name given)) (map (λ n. n.now) l) c.in_ok-answers.answers.items) c.deref.ensures.value
+    c.in_ok-answers.ensures)
