@@ -1,5 +1,6 @@
 mod Elsewhere
 mod Found
+mod InputFields
 mod Joined
 mod Judging
 mod Marking

@@ -26,7 +26,7 @@ use Rattle.juniper_explain.specs.Nodes.{repeated_fragment, repeated_operation, t
 use Rattle.juniper_explain.specs.Nodes.{unknown_spread}
 use Rattle.juniper_explain.specs.Nodes.{introspection_field, own_undefined, undefined_at, undefined_name, undefined_variable, undefined_variables}
 use Rattle.juniper_explain.specs.Nodes.{variable_name, where_found}
-use Rattle.juniper_explain.specs.Nodes.{misfit, missing_arguments, repeated_arguments, repeated_in, repeated_input_fields, repeated_of, repeated_variables}
+use Rattle.juniper_explain.specs.Nodes.{misfit, missing_arguments, repeated_arguments, repeated_in, repeated_of, repeated_variables}
 use Rattle.juniper_explain.specs.Nodes.{unknown_arguments, unknown_types}
 use Rattle.juniper_explain.specs.Nodes.{unknown_type, use_findings, wrong_argument, wrong_arguments, wrong_default, wrong_set}
 use Rattle.juniper_explain.specs.Sites.{Site, sites}
@@ -34,6 +34,7 @@ use Rattle.juniper_explain.specs.Words.{condition_words, definition_word, direct
 use Rattle.juniper_explain.proofs.Found.{AreOf, error-is, has-found, of-append, of-each, of-found}
 use Rattle.juniper_explain.proofs.Joined.{all-from-left, any-either, any-seen, has-append, has-each, has-flat, any-same}
 use Rattle.juniper_written.proofs.Lists.{seen-twice}
+use Rattle.juniper_explain.proofs.InputFields.{input-error}
 use Rattle.juniper_explain.proofs.Repeating.{first-has, of-repeated}
 use Rattle.juniper_explain.proofs.SiteCalls.{any-call}
 use Rattle.juniper_explain.proofs.WordNames.{conditions-are, spreads-are}
@@ -272,8 +273,8 @@ schema-error s disabled x = error-is rule.DisableIntrospection x _ _
 module _ (s : Schema) (disabled : Bool) (d : Document) where
   names-told : (earlier : List Definition) (x : Definition) →
       rules.name_errors s disabled d earlier x ≡ flat_map (error_of x) (name_findings s d earlier x)
-  unfolding rules.name_errors name_findings inside_findings repeated_operation other_operation repeated_fragment own_spread repeated_input_fields
-      unknown_types rule_text
+  unfolding rules.name_errors name_findings inside_findings repeated_operation other_operation repeated_fragment own_spread unknown_types
+      rule_text
   names-told earlier x =
       all-from-left (reported (rules.repeats_operation earlier x) (codes "Operation name is not unique") x) (
       reported (rules.is_not_alone d x) (codes "Anonymous operation is not alone") x
@@ -292,7 +293,7 @@ module _ (s : Schema) (disabled : Bool) (d : Document) where
       (ap₂ (λ a b. a ++ b) (named-error x _ _ (definition_word x) _ _)
       (ap₂ (λ a b. a ++ b) (variables-error x)
       (ap₂ (λ a b. a ++ b) (arguments-error x)
-      (ap₂ (λ a b. a ++ b) (whole-error x _ _)
+      (ap₂ (λ a b. a ++ b) (input-error x)
       (ap₂ (λ a b. a ++ b) (directive-error x)
       (ap (λ a. a ++ []) (type-error s x)))))))))))
 

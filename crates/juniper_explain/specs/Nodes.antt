@@ -5,7 +5,7 @@ use Rattle.std.specs.Option.{is_none}
 use Rattle.std.specs.Str.{bytes_eq}
 use Rattle.graphql_spec.specs.Shown.{Name, Text}
 use Rattle.graphql_spec.specs.Positions.{Span, Spanned}
-use Rattle.graphql_spec.specs.Inputs.{Input, variable}
+use Rattle.graphql_spec.specs.Inputs.{Input, variable, list, object, InputItems, no_items, item, InputFields, no_fields, input_field}
 use Rattle.graphql_spec.specs.Types.{TypeRef, innermost, type_text}
 use Rattle.graphql_spec.specs.Display.{display}
 use Rattle.graphql_spec.specs.Documents.{Head, Argument, Definition, Document, Word, Directive, VariableDefinition, fragments}
@@ -15,7 +15,7 @@ use Rattle.graphql_spec.specs.Fields.{type_named, is_composite, is_input, fields
 use Rattle.graphql_spec.specs.Fits.{fits}
 use Rattle.graphql_spec.specs.Placed.{Placed, directive_named, placed_in}
 use Rattle.graphql_spec.specs.Rules.{repeats_operation, is_not_alone, repeats_fragment, spreads_itself}
-use Rattle.graphql_spec.specs.Rules.{repeats_input_field, set_is_wrong, must_be_written, uses_undefined, misuses_variable, cannot_merge, looks_at_schema}
+use Rattle.graphql_spec.specs.Rules.{set_is_wrong, must_be_written, uses_undefined, misuses_variable, cannot_merge, looks_at_schema}
 use Rattle.graphql_spec.specs.Rules.{is_introspection}
 use Rattle.graphql_spec.specs.VariableUses.{definition_of}
 use Rattle.graphql_spec.specs.Written.{all_directives, argument_lists, defined_variables, heads, selections_of}
@@ -24,7 +24,7 @@ use Rattle.juniper_explain.specs.declared.rule.Rule.TheVariants as rule
 use Rattle.juniper_explain.specs.Explanations.{Explanation, Judgement, explanations_at, first_judged, found, has_any, judged, named, whole}
 use Rattle.juniper_explain.specs.Nearest.{suggested}
 use Rattle.juniper_explain.specs.Sites.{Site, sites}
-use Rattle.juniper_explain.specs.Words.{condition_words, definition_word, directive_word, spread_words, type_word}
+use Rattle.juniper_explain.specs.Words.{condition_words, definition_word, directive_word, field_words, spread_words, type_word}
 
 -- ## Names
 
@@ -79,9 +79,36 @@ repeated_in as' = repeated rule.UniqueArgumentNames (codes "Argument name `") (c
 unfoldable pub repeated_arguments : Definition → List Explanation
 repeated_arguments x = flat_map repeated_in (argument_lists x)
 
--- two fields of one name in an object value
+-- fields of an object value with the name of an earlier one
+unfoldable pub repeated_fields : InputFields → List Explanation
+repeated_fields fs = repeated rule.UniqueInputFieldNames (codes "Input field name `") (codes "` is not unique") (λ n. false) (field_words fs)
+
+-- those of each object in a value, at any depth: an object's own before those within its fields
+unfoldable mutual
+  pub repeated_within : Input → List Explanation
+  repeated_within (list is) = repeated_in_items is
+  repeated_within (object fs) = repeated_fields fs ++ repeated_in_values fs
+  repeated_within _ = []
+
+  -- item by item
+  pub repeated_in_items : InputItems → List Explanation
+  repeated_in_items no_items = []
+  repeated_in_items (item v at rest) = repeated_within v ++ repeated_in_items rest
+
+  -- field by field
+  pub repeated_in_values : InputFields → List Explanation
+  repeated_in_values no_fields = []
+  repeated_in_values (input_field k k_at v v_at rest) = repeated_within v ++ repeated_in_values rest
+
+-- those in a default, where there is one
+unfoldable pub repeated_in_default : Option (Spanned Input) → List Explanation
+repeated_in_default None = []
+repeated_in_default (Some v) = repeated_within v.item
+
+-- those in the arguments of a definition, and in the defaults of its variables
 unfoldable pub repeated_input_fields : Definition → List Explanation
-repeated_input_fields x = whole (repeats_input_field x) rule.UniqueInputFieldNames x
+repeated_input_fields x =
+    flat_map (flat_map (λ a. repeated_within a.value.item)) (argument_lists x) ++ flat_map (λ v. repeated_in_default v.default) (defined_variables x)
 
 -- the unknown types of a definition's conditions and variables
 unfoldable pub unknown_types : Schema → Definition → List Explanation

@@ -2,6 +2,7 @@
 use Rattle.std.specs.Prelude.{ℕ, List, [], ◌∷◌, ◌++◌, Option, Some, None, map}
 use Rattle.std.specs.Borrow.{Bor}
 use Rattle.graphql_spec.specs.Documents.{Word, Selections, end, field, spread, inline, Definition, operation, fragment, VariableDefinition, Directive}
+use Rattle.graphql_spec.specs.Inputs.{InputFields, no_fields, input_field}
 use Rattle.graphql_spec.specs.Positions.{Span}
 use Rattle.graphql_spec.specs.Types.{innermost}
 use Rattle.graphql_spec.specs.Written.{selections_of}
@@ -51,6 +52,11 @@ type_word v = record { item = innermost v.of_type.item; span = v.of_type.span }
 -- the name of a directive, where the directive stands
 unfoldable pub directive_word : Directive → Word
 directive_word x = record { item = x.name.item; span = x.span }
+
+-- the names of an object value's fields
+unfoldable pub field_words : InputFields → List Word
+field_words no_fields = []
+field_words (input_field k k_at v v_at rest) = record { item = k; span = k_at } ∷ field_words rest
 
 -- spreads and type conditions, each in document order
 pub record Words : Type 0 where

@@ -16,6 +16,7 @@ mod explaining;
 mod explanation;
 mod fields;
 mod given;
+mod input_fields;
 mod introspection;
 pub mod laws;
 mod names;

@@ -16,13 +16,13 @@ ghost use Rattle.juniper_explain.specs.Words.{view_marked, words_of};
 use crate::conditions::explain_unknown_conditions;
 use crate::definitions::explain_definition;
 use crate::directives::explain_directives;
-use crate::explanation::{Explanation, add_whole};
+use crate::explanation::Explanation;
+use crate::input_fields::{explain_in_arguments, explain_in_defaults};
 use crate::repeats::{explain_repeated_arguments, explain_repeated_variables};
-use crate::rule::Rule;
 use crate::spreads::{explain_own_spread, explain_spreads};
 use crate::variables::{explain_unknown_variables, variables_of};
 use crate::words::{Words, words_in};
-use juniper_name_rules::{Earlier, count_operations, repeats_input_field};
+use juniper_name_rules::{Earlier, count_operations};
 use juniper_phases::Listed;
 use juniper_schema::SchemaType;
 use juniper_spreads::FragmentsByName;
@@ -97,18 +97,12 @@ fn explain_repeats<'d, 'a, S: ScalarValue>(
         ≡ ((view_explanations explanations.old.items ++ repeated_variables (definition_of S.shown listed.now))
         ++ repeated_arguments (definition_of S.shown listed.now)) ++ repeated_input_fields (definition_of S.shown listed.now)) }
 {
-    let definition = listed.definition;
-    let arguments = &listed.arguments;
-    explain_repeated_variables(alloc, variables_of(definition), explanations)?;
-    explain_repeated_arguments(alloc, &arguments.lists, explanations)?;
-    let field = repeats_input_field(alloc, definition, arguments)?;
-    add_whole(
-        alloc,
-        explanations,
-        field,
-        Rule::UniqueInputFieldNames,
-        definition,
-    )
+    let lists = &listed.arguments.lists;
+    let variables = variables_of(listed.definition);
+    explain_repeated_variables(alloc, variables, explanations)?;
+    explain_repeated_arguments(alloc, lists, explanations)?;
+    explain_in_arguments(alloc, lists, explanations)?;
+    explain_in_defaults(alloc, variables, explanations)
 }
 
 /// Explains the directives and the types that are not known.

@@ -111,7 +111,7 @@ fn argument_words<'a, S: ScalarValue>(
 }
 
 /// Explains the names that stand earlier in the list; the time grows with their number.
-fn explain_repeated<'a>(
+pub(crate) fn explain_repeated<'a>(
     alloc: Global,
     words: &Vec<Spanning<&'a str, Span>>,
     wording: &Wording<'_>,

@@ -13,7 +13,7 @@ type Query { issue(id: ID!): Issue, issues(first: Int, states: [State!], filter:
 type Issue { id: ID!, title: String, state: State! }
 enum State { OPEN CLOSED }
 union Found = | Issue
-input Filter { title: String }
+input Filter { title: String, and: [Filter!] }
 placeholder Int
 placeholder ID";
 
@@ -70,9 +70,15 @@ query A { issues { id } } query A { issues { id } } => Operation name `A` is not
 { issues { id } } query A { issues { id } } => Anonymous operation is not alone@0;
 { issues { id @Skip(if: true) } } => Unknown directive `@Skip`@14;
 { issues(first: 1, first: 2) { id } a: issues(first: 1) { id @skip(if: true, if: true) } } => Argument name `first` is not unique@19; Argument name `if` is not unique@77;
-{ issues(filter: {title: \"a\", title: \"b\"}) { id } } => Input field name is not unique@0;
 { issues { a: id a: title } } => Fields cannot be merged@0;
 { issues { id nope } } query A { nope ...F } query A { ...F } => Anonymous operation is not alone@0; Unknown fragment `F`@41; Operation name `A` is not unique@51; Unknown fragment `F`@58;";
+
+/// Fields of object values, at any depth, with the name of an earlier one.
+const INPUT_FIELDS: &str = "\
+{ issues(filter: {title: \"a\", title: \"b\"}) { id } } => Input field name `title` is not unique@30;
+{ issues(filter: {and: [{title: \"a\"}, {title: \"b\", title: \"c\", title: \"d\"}], and: []}) { id } a: issues(first: {x: [[{y: 1, y: 2}]]}) { id @skip(if: {z: 1, z: 2}) } } => Input field name `and` is not unique@77; Input field name `title` is not unique@51; Input field name `title` is not unique@63; Input field name `y` is not unique@124; Input field name `z` is not unique@156;
+query Q($f: Filter = {title: \"a\", title: \"b\"}, $g: [Filter!] = [{and: {title: \"c\", title: \"d\"}}]) { issues(filter: {title: \"e\", title: \"f\"}) { id } } => Input field name `title` is not unique@128; Input field name `title` is not unique@34; Input field name `title` is not unique@83;
+{ issues(filter: {title: \"a\", and: [{title: \"b\"}, {title: \"c\"}]}) { id } } =>";
 
 /// Introspection, where it is disabled.
 const DISABLED: &str = "\
@@ -147,6 +153,11 @@ fn variables_are_explained(rt: HostRuntime) {
 #[test]
 fn fragments_are_explained(rt: HostRuntime) {
     assert_eq!(rt; first_other(rt.alloc(), false, FRAGMENTS), None);
+}
+
+#[test]
+fn input_fields_are_explained(rt: HostRuntime) {
+    assert_eq!(rt; first_other(rt.alloc(), false, INPUT_FIELDS), None);
 }
 
 #[test]
