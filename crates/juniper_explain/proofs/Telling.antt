@@ -4,7 +4,7 @@ use Rattle.std.specs.List.{flat_map, list_any}
 use Rattle.std.specs.Option.{is_none}
 use Rattle.std.specs.Str.{bytes_eq}
 use Rattle.graphql_spec.specs.Documents.{Argument, Definition, Document, Word, VariableDefinition, fragments}
-use Rattle.graphql_spec.specs.Positions.{Span, Spanned}
+use Rattle.graphql_spec.specs.Positions.{Spanned}
 use Rattle.graphql_spec.specs.Inputs.{Input}
 use Rattle.graphql_spec.specs.Fields.{declaration_in, is_composite, is_input, type_named}
 use Rattle.graphql_spec.specs.Fits.{fits}
@@ -24,8 +24,7 @@ use Rattle.juniper_explain.specs.Nodes.{inside_findings, judgements, missing_arg
 use Rattle.juniper_explain.specs.Nodes.{own_spread}
 use Rattle.juniper_explain.specs.Nodes.{repeated_fragment, repeated_operation, type_findings, unknown_argument, unknown_directive, unknown_field}
 use Rattle.juniper_explain.specs.Nodes.{unknown_spread}
-use Rattle.juniper_explain.specs.Nodes.{introspection_field, own_undefined, undefined_at, undefined_name, undefined_variable, undefined_variables}
-use Rattle.juniper_explain.specs.Nodes.{variable_name, where_found}
+use Rattle.juniper_explain.specs.Nodes.{introspection_field, misused_variables, undefined_variables, where_found}
 use Rattle.juniper_explain.specs.Nodes.{misfit, missing_arguments, repeated_arguments, repeated_in, repeated_of, repeated_variables}
 use Rattle.juniper_explain.specs.Nodes.{unknown_arguments, unknown_types}
 use Rattle.juniper_explain.specs.Nodes.{unknown_type, use_findings, wrong_argument, wrong_arguments, wrong_default, wrong_set}
@@ -35,8 +34,10 @@ use Rattle.juniper_explain.proofs.Found.{AreOf, error-is, has-found, of-append, 
 use Rattle.juniper_explain.proofs.Joined.{all-from-left, any-either, any-seen, has-append, has-each, has-flat, any-same}
 use Rattle.juniper_written.proofs.Lists.{seen-twice}
 use Rattle.juniper_explain.proofs.InputFields.{input-error}
+use Rattle.juniper_explain.proofs.Misusing.{misused-has, misused-of}
 use Rattle.juniper_explain.proofs.Repeating.{first-has, of-repeated}
 use Rattle.juniper_explain.proofs.SiteCalls.{any-call}
+use Rattle.juniper_explain.proofs.Undefining.{undefined-has, undefined-of}
 use Rattle.juniper_explain.proofs.WordNames.{conditions-are, spreads-are}
 
 -- ## Names with places
@@ -228,30 +229,15 @@ unfolding where_found
 of-where r true es are = are
 of-where r false es are = tt
 
-of-undefined : (vs : List VariableDefinition) (at : Span) (o : Option (List ℕ)) → AreOf rule.NoUndefinedVariables (undefined_at vs at o)
-unfolding undefined_at undefined_name
-of-undefined vs at None = tt
-of-undefined vs at (Some n) = of-named _ _ (record { item = n; span = at }) _ _
-
-own-or-whole : (b : Bool) → (b || not b) ≡ true
-own-or-whole true = refl
-own-or-whole false = refl
-
-undefined-has : (x : Definition) → has_any (undefined_variables x) ≡ true
-unfolding undefined_variables whole
-undefined-has x = has-append (own_undefined x) _ ∙ (ap (λ b. has_any (own_undefined x) || b) (has-found (not (has_any (own_undefined x))) _ _ _)
-    ∙ own-or-whole (has_any (own_undefined x)))
-
-undefined-of : (x : Definition) → AreOf rule.NoUndefinedVariables (undefined_variables x)
-unfolding undefined_variables own_undefined undefined_variable whole
-undefined-of x = of-append _ _ _ (of-each _ (flat_map (undefined_variable (defined_variables x)))
-    (λ as'. of-each _ (undefined_variable (defined_variables x)) (λ a. of-undefined (defined_variables x) a.value.span (variable_name a.value.item)) as')
-    (argument_lists x)) (of-found _ _ _ _)
-
-undefined-error : (s : Schema) (d : Document) (x : Definition) → error_of x (where_found (rules.uses_undefined s d x) (undefined_variables x))
+undefined-error : (s : Schema) (d : Document) (x : Definition) → error_of x (where_found (rules.uses_undefined s d x) (undefined_variables d x))
     ≡ reported (rules.uses_undefined s d x) (rule_text rule.NoUndefinedVariables) x
-undefined-error s d x = error-is rule.NoUndefinedVariables x _ _ (of-where _ _ _ (undefined-of x))
-    (if-found (rules.uses_undefined s d x) true (undefined_variables x) (undefined-has x) (λ e. refl))
+undefined-error s d x = error-is rule.NoUndefinedVariables x _ _ (of-where _ _ _ (undefined-of d x))
+    (if-found (rules.uses_undefined s d x) (has_any (undefined_variables d x)) (undefined_variables d x) refl (undefined-has s d x))
+
+misused-error : (s : Schema) (d : Document) (x : Definition) → error_of x (where_found (rules.misuses_variable s d x) (misused_variables s d x))
+    ≡ reported (rules.misuses_variable s d x) (rule_text rule.VariablesInAllowedPosition) x
+misused-error s d x = error-is rule.VariablesInAllowedPosition x _ _ (of-where _ _ _ (misused-of s d x))
+    (if-found (rules.misuses_variable s d x) (has_any (misused_variables s d x)) (misused_variables s d x) refl (misused-has s d x))
 
 and-both : (a b c : Bool) → (a && (b && c)) ≡ true → c ≡ true
 and-both true true c is = is
@@ -326,7 +312,7 @@ module _ (s : Schema) (disabled : Bool) (d : Document) where
       ∷ reported (rules.cannot_merge s d x) (codes "Fields cannot be merged") x
       ∷ reported (rules.looks_at_schema s disabled x) (codes "Introspection is disabled") x ∷ [])
       ∙ sym (ap₂ (λ a b. a ++ b) (undefined-error s d x)
-      (ap₂ (λ a b. a ++ b) (whole-error x _ _)
+      (ap₂ (λ a b. a ++ b) (misused-error s d x)
       (ap₂ (λ a b. a ++ b) (whole-error x _ _)
       (ap (λ a. a ++ []) (schema-error s disabled x)))))
 

@@ -2,6 +2,10 @@ pub mod Explanations
 pub mod NearView
 pub mod Nearest
 pub mod Nodes
+pub mod Parts
+pub mod Positions
+pub mod PositionsView
 pub mod Sites
 pub mod SitesView
+pub mod Variables
 pub mod Words

@@ -4,11 +4,12 @@ use Rattle.std.specs.List.{flat_map, list_any}
 use Rattle.std.specs.Option.{is_none}
 use Rattle.std.specs.Str.{bytes_eq}
 use Rattle.graphql_spec.specs.Shown.{Name, Text}
-use Rattle.graphql_spec.specs.Positions.{Span, Spanned}
-use Rattle.graphql_spec.specs.Inputs.{Input, variable, list, object, InputItems, no_items, item, InputFields, no_fields, input_field}
+use Rattle.graphql_spec.specs.Positions.{Spanned}
+use Rattle.graphql_spec.specs.Inputs.{Input, list, object, InputItems, no_items, item, InputFields, no_fields, input_field}
 use Rattle.graphql_spec.specs.Types.{TypeRef, innermost, type_text}
 use Rattle.graphql_spec.specs.Display.{display}
-use Rattle.graphql_spec.specs.Documents.{Head, Argument, Definition, Document, Word, Directive, VariableDefinition, fragments}
+use Rattle.graphql_spec.specs.Documents.{Head, Argument, Definition, operation, fragment, Document, Operation, Word, Directive, VariableDefinition}
+use Rattle.graphql_spec.specs.Documents.{fragments, variables_of, word_name}
 use Rattle.graphql_spec.specs.Fragments.{fragment_of}
 use Rattle.graphql_spec.specs.Schema.{Schema, InputDeclaration, FieldDeclaration}
 use Rattle.graphql_spec.specs.Fields.{type_named, is_composite, is_input, fields_of, declaration_in}
@@ -17,13 +18,15 @@ use Rattle.graphql_spec.specs.Placed.{Placed, directive_named, placed_in}
 use Rattle.graphql_spec.specs.Rules.{repeats_operation, is_not_alone, repeats_fragment, spreads_itself}
 use Rattle.graphql_spec.specs.Rules.{set_is_wrong, must_be_written, uses_undefined, misuses_variable, cannot_merge, looks_at_schema}
 use Rattle.graphql_spec.specs.Rules.{is_introspection}
-use Rattle.graphql_spec.specs.VariableUses.{definition_of}
+use Rattle.graphql_spec.specs.VariableUses.{definition_of, may_stand, parts}
 use Rattle.graphql_spec.specs.Written.{all_directives, argument_lists, defined_variables, heads, selections_of}
 use Rattle.juniper_explain.specs.declared.rule.Rule.{Rule}
 use Rattle.juniper_explain.specs.declared.rule.Rule.TheVariants as rule
-use Rattle.juniper_explain.specs.Explanations.{Explanation, Judgement, explanations_at, first_judged, found, has_any, judged, named, whole}
+use Rattle.juniper_explain.specs.Explanations.{Explanation, Judgement, explanations_at, first_judged, found, judged, named, whole}
 use Rattle.juniper_explain.specs.Nearest.{suggested}
+use Rattle.juniper_explain.specs.Positions.{Place, places_used}
 use Rattle.juniper_explain.specs.Sites.{Site, sites}
+use Rattle.juniper_explain.specs.Variables.{words_used}
 use Rattle.juniper_explain.specs.Words.{condition_words, definition_word, directive_word, field_words, spread_words, type_word}
 
 -- ## Names
@@ -220,31 +223,34 @@ type_findings s earlier x =
 unfoldable pub where_found : Bool → List Explanation → List Explanation
 where_found violated es = cond violated es []
 
--- the name of the variable that a value is
-unfoldable pub variable_name : Input → Option Name
-variable_name (variable n) = Some n
-variable_name _ = None
+-- what is said of a variable that an operation does not define
+unfoldable pub undefined_text : Option Name → Text
+undefined_text None = codes "` is not defined"
+undefined_text (Some n) = codes "` is not defined by operation `" ++ (n ++ codes "`")
 
--- the name of a variable that is not defined
-unfoldable pub undefined_name : List VariableDefinition → Word → List Explanation
-undefined_name vs w = named (is_none (definition_of vs w.item)) rule.NoUndefinedVariables w (codes "Variable `$") (codes "` is not defined")
+-- a variable that an operation does not define
+unfoldable pub undefined_name : Operation → Word → List Explanation
+undefined_name o w = named (is_none (definition_of (variables_of o) w.item)) rule.NoUndefinedVariables w (codes "Variable `$") (undefined_text (word_name o.name))
 
--- a variable that is not defined, at the place of an argument's value
-unfoldable pub undefined_at : List VariableDefinition → Span → Option Name → List Explanation
-undefined_at vs at None = []
-undefined_at vs at (Some n) = undefined_name vs (record { item = n; span = at })
+-- those of an operation, in itself and in the fragments that it reaches
+unfoldable pub undefined_variables : Document → Definition → List Explanation
+undefined_variables d (operation o) = flat_map (undefined_name o) (flat_map words_used (parts d o))
+undefined_variables d (fragment f) = []
 
--- an argument that is such a variable
-unfoldable pub undefined_variable : List VariableDefinition → Argument → List Explanation
-undefined_variable vs a = undefined_at vs a.value.span (variable_name a.value.item)
+-- a variable of this definition where it may not stand
+unfoldable pub misused_at : VariableDefinition → Place → List Explanation
+misused_at v p = found (not (may_stand v p.used)) rule.VariablesInAllowedPosition p.span.start
+    (codes "Variable `$" ++ (p.used.variable ++ (codes "` of type `" ++ (type_text v.of_type.item
+    ++ (codes "` cannot stand where `" ++ (type_text p.used.place ++ codes "` is expected"))))))
 
--- those of a definition's own arguments
-unfoldable pub own_undefined : Definition → List Explanation
-own_undefined x = flat_map (flat_map (undefined_variable (defined_variables x))) (argument_lists x)
+-- one of these variables, where it may not stand
+unfoldable pub misused_by : List VariableDefinition → Place → List Explanation
+misused_by vs p = elim (definition_of vs p.used.variable) [ None ↦ [] | Some v ↦ misused_at v p ]
 
--- or the definition itself, where there are none: then the variable stands inside a value, or in a fragment
-unfoldable pub undefined_variables : Definition → List Explanation
-undefined_variables x = own_undefined x ++ whole (not (has_any (own_undefined x))) rule.NoUndefinedVariables x
+-- those of an operation, in itself and in the fragments that it reaches
+unfoldable pub misused_variables : Schema → Document → Definition → List Explanation
+misused_variables s d (operation o) = flat_map (misused_by (variables_of o)) (flat_map (places_used s) (parts d o))
+misused_variables s d (fragment f) = []
 
 -- a field `__schema` or `__type`
 unfoldable pub introspection_field : Head → List Explanation
@@ -253,8 +259,8 @@ introspection_field h = named (is_introspection h.name.item) rule.DisableIntrosp
 -- what the rules on uses find at a definition, rule by rule
 unfoldable pub use_findings : Schema → Bool → Document → List Definition → Definition → List (List Explanation)
 use_findings s disabled d earlier x =
-    where_found (uses_undefined s d x) (undefined_variables x)
-    ∷ whole (misuses_variable s d x) rule.VariablesInAllowedPosition x
+    where_found (uses_undefined s d x) (undefined_variables d x)
+    ∷ where_found (misuses_variable s d x) (misused_variables s d x)
     ∷ whole (cannot_merge s d x) rule.OverlappingFieldsCanBeMerged x
     ∷ where_found (looks_at_schema s disabled x) (flat_map introspection_field (heads (selections_of x)))
     ∷ []

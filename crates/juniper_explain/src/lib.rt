@@ -2,10 +2,8 @@
 //! [`validate`](juniper_phases::validate) lists one or more explanations, each with its rule, the place of what violates it,
 //! and a text with the names.
 //!
-//! Of these rules the whole definition is the node, and the explanation has the place and the text of the listed error: the
-//! names of the fields of input objects that are not unique (5.6.3), variables that may not stand where they do (5.8.5), and
-//! fields that cannot be merged (5.3.2). So it is of a variable that is not defined (5.8.3), where it stands inside a list or
-//! an object, or in a fragment that the operation reaches, and none of the operation's own arguments is such a variable.
+//! Of one rule the whole definition is the node, and the explanation has the place and the text of the listed error: fields
+//! that cannot be merged (5.3.2).
 #![tactic(auto)]
 
 mod arguments;
@@ -19,15 +17,20 @@ mod given;
 mod input_fields;
 mod introspection;
 pub mod laws;
+mod misused;
 mod names;
 mod nearest;
+mod parts;
 mod repeats;
 mod rule;
 mod sites;
 mod spreads;
+mod standing;
 mod types;
 mod undefined;
 mod uses;
+mod variable_places;
+mod variable_words;
 mod variables;
 mod words;
 

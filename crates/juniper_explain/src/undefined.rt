@@ -1,149 +1,134 @@
 //! NoUndefinedVariables (section 5.8.3 of the Specification).
 
-ghost use Rattle.std.specs.Prelude.{◌≡◌, ◌++◌, OnOk, map, option_map};
+ghost use Rattle.std.specs.Prelude.{◌≡◌, ◌++◌, IfOk, OnOk, codes, map, option_map, string_bytes};
 ghost use Rattle.std.specs.List.{flat_map, list_any};
 ghost use Rattle.std.specs.Option.{is_none};
 ghost use Rattle.std.specs.Str.{bytes_eq};
-ghost use Rattle.graphql_spec.specs.Documents.{written};
+ghost use Rattle.graphql_spec.specs.Documents as documents;
+ghost use Rattle.graphql_spec.specs.Documents.{word_name};
+ghost use Rattle.graphql_spec.specs.Schema.{Schema};
 ghost use Rattle.graphql_spec.specs.VariableUses as variable_uses;
-ghost use Rattle.juniper_phases.specs.Listing.{IsListed, definition_of};
-ghost use Rattle.juniper_syntax.specs.DocumentView.{view_argument, view_arguments, view_variable, view_word};
-ghost use Rattle.juniper_syntax.specs.InputView.{view_input};
-ghost use Rattle.juniper_written.specs.WrittenView.{view_list};
-ghost use Rattle.juniper_explain.specs.Explanations.{view_explanations};
-ghost use Rattle.juniper_explain.specs.Nodes.{undefined_name, undefined_variable, undefined_variables, variable_name, where_found};
+ghost use Rattle.juniper_phases.specs.Listing.{AreListedOnTypes, IsListedOnTypes, definition_of};
+ghost use Rattle.juniper_spreads.specs.SpreadsView.{AreFragmentsOf};
+ghost use Rattle.juniper_syntax.specs.DocumentView.{view_operation, view_variable, view_word};
+ghost use Rattle.juniper_explain.specs.Explanations.{named, view_explanations};
+ghost use Rattle.juniper_explain.specs.Nodes.{undefined_name, undefined_text, undefined_variables, where_found};
+ghost use Rattle.juniper_explain.specs.Words.{view_words};
 
-use crate::explanation::{Explanation, Wording, add_named, add_whole};
+use crate::explanation::{Explanation, Wording, add_named};
+use crate::parts::parts_of;
 use crate::rule::Rule;
-use crate::variables::{Variable, variables_of};
-use juniper_phases::Listed;
-use juniper_syntax::ast::Arguments;
-use juniper_syntax::{InputValue, ScalarValue, Span, Spanning};
+use crate::variable_words::words_used;
+use crate::variables::{Variable, listed};
+use juniper_phases::ListedOnTypes;
+use juniper_spreads::FragmentsByName;
+use juniper_syntax::{Definition, Operation, ScalarValue, Span, Spanning};
 use std::alloc::{AllocError, Global};
 
-/// An argument that is given.
-type Given<'a, S> = (Spanning<&'a str, Span>, Spanning<InputValue<S>, Span>);
-
-/// What is said of a variable.
-const UNDEFINED: Wording<'static> = Wording {
-    rule: Rule::NoUndefinedVariables,
-    before: "Variable `$",
-    after: "` is not defined",
-};
-
-/// Explains the variables that a definition uses and does not define, where it violates the rule.
+/// Explains the variables that a definition of a document, with these fragments, uses and does not define, in itself or in
+/// fragments that it reaches, where it violates the rule.
 #[tactic(auto, unfolding(crate::specs::Nodes::where_found))]
-pub(crate) fn explain_undefined<'d, 'a, S: ScalarValue>(
+pub(crate) fn explain_undefined<'p, 'l, 'd, 'a, S: ScalarValue>(
     alloc: Global,
-    listed: &Listed<'d, 'a, S>,
+    document: &'p [ListedOnTypes<'l, 'd, 'a, S>],
+    fragments: &FragmentsByName<'d, 'a, S>,
+    one: &'p ListedOnTypes<'l, 'd, 'a, S>,
     is_violated: bool,
     explanations: &mut Vec<Explanation>,
 ) -> Result<(), AllocError>
-    ensures { OnOk result (IsListed S.shown listed.now → view_explanations explanations.new.items ≡ view_explanations explanations.old.items
-        ++ where_found is_violated (undefined_variables (definition_of S.shown listed.now))) }
+    ensures { OnOk result ((s : Schema) (d : documents.Document) → AreListedOnTypes S.shown s document.now d → AreFragmentsOf S.shown fragments.now d →
+        IsListedOnTypes S.shown s one.now → view_explanations explanations.new.items ≡ view_explanations explanations.old.items
+        ++ where_found is_violated (undefined_variables d (definition_of S.shown one.now.listed.now))) }
 {
     if is_violated {
-        explain_all(alloc, listed, explanations)
+        explain_all(alloc, document, fragments, one, explanations)
     } else {
         Ok(())
     }
 }
 
-/// Explains the arguments that are variables which the definition does not define; where none of its own arguments is one,
-/// the definition itself.
-fn explain_all<'d, 'a, S: ScalarValue>(
+/// Explains those of a definition: of an operation all, and of a fragment none.
+fn explain_all<'p, 'l, 'd, 'a, S: ScalarValue>(
     alloc: Global,
-    listed: &Listed<'d, 'a, S>,
+    document: &'p [ListedOnTypes<'l, 'd, 'a, S>],
+    fragments: &FragmentsByName<'d, 'a, S>,
+    one: &'p ListedOnTypes<'l, 'd, 'a, S>,
     explanations: &mut Vec<Explanation>,
 ) -> Result<(), AllocError>
-    ensures { OnOk result (IsListed S.shown listed.now → view_explanations explanations.new.items ≡ view_explanations explanations.old.items
-        ++ undefined_variables (definition_of S.shown listed.now)) }
+    ensures { OnOk result ((s : Schema) (d : documents.Document) → AreListedOnTypes S.shown s document.now d → AreFragmentsOf S.shown fragments.now d →
+        IsListedOnTypes S.shown s one.now → view_explanations explanations.new.items ≡ view_explanations explanations.old.items
+        ++ undefined_variables d (definition_of S.shown one.now.listed.now)) }
 {
-    let definition = listed.definition;
-    let before = explanations.len();
-    let variables = variables_of(definition);
-    explain_own(alloc, variables, &listed.arguments.lists, explanations)?;
-    let is_only_elsewhere = explanations.len() == before;
-    add_whole(
-        alloc,
-        explanations,
-        is_only_elsewhere,
-        Rule::NoUndefinedVariables,
-        definition,
-    )
+    let listed = one.listed;
+    match listed.definition {
+        Definition::Operation(operation) => {
+            let parts = parts_of(alloc, document, fragments, one)?;
+            let words = words_used(alloc, &parts)?;
+            explain_words(alloc, operation, &words, explanations)
+        }
+        Definition::Fragment(_) => Ok(()),
+    }
 }
 
-/// Explains those of the arguments that are variables which none of these defines.
-fn explain_own<'d, 'a, S: ScalarValue>(
+/// Explains those of the names that the operation does not define.
+fn explain_words<'a, S: ScalarValue>(
     alloc: Global,
-    variables: &[Variable<'a, S>],
-    lists: &Vec<&'d Option<Spanning<Arguments<'a, S>, Span>>>,
+    operation: &Spanning<Operation<'a, S>, Span>,
+    words: &Vec<Spanning<&str, Span>>,
     explanations: &mut Vec<Explanation>,
 ) -> Result<(), AllocError>
     ensures { OnOk result (view_explanations explanations.new.items ≡ view_explanations explanations.old.items
-        ++ flat_map (flat_map (undefined_variable (map (view_variable S.shown) variables.now))) (view_list S.shown lists.now.items)) }
+        ++ flat_map (undefined_name (view_operation S.shown operation.now)) (view_words words.now.items)) }
 {
-    for index in 0..lists.len() {
-        let given = lists[index];
-        explain_given(alloc, variables, given, explanations)?;
+    let variables = listed(&operation.item.variable_definitions);
+    let after = undefined_text(alloc, &operation.item.name)?;
+    let wording = Wording {
+        rule: Rule::NoUndefinedVariables,
+        before: "Variable `$",
+        after: after.as_str(),
+    };
+    for index in 0..words.len() {
+        let word = words[index];
+        explain_name(alloc, variables, &word, &wording, explanations)?;
     }
     Ok(())
 }
 
-/// Explains those of the arguments of a field or directive.
-fn explain_given<'a, S: ScalarValue>(
+/// What is said behind the name of a variable that the operation of this name does not define.
+#[tactic(auto, unfolding(crate::specs::Nodes::undefined_text, graphql_spec::specs::Documents::word_name))]
+fn undefined_text(
     alloc: Global,
-    variables: &[Variable<'a, S>],
-    given: &Option<Spanning<Arguments<'a, S>, Span>>,
-    explanations: &mut Vec<Explanation>,
-) -> Result<(), AllocError>
-    ensures { OnOk result (view_explanations explanations.new.items ≡ view_explanations explanations.old.items
-        ++ flat_map (undefined_variable (map (view_variable S.shown) variables.now)) (written (view_arguments S.shown given.now))) }
+    operation: &Option<Spanning<&str, Span>>,
+) -> Result<String, AllocError>
+    ensures { IfOk result (λ t. string_bytes t ≡ undefined_text (word_name (option_map view_word operation.now))) }
 {
-    match given {
-        Some(arguments) => {
-            for argument in &arguments.item.items {
-                explain_argument(alloc, variables, argument, explanations)?;
-            }
-            Ok(())
-        }
-        None => Ok(()),
+    match operation {
+        Some(word) => by_operation(alloc, word.item),
+        None => String::from_str(alloc, "` is not defined"),
     }
 }
 
-/// Explains an argument, where it is such a variable.
-fn explain_argument<'a, S: ScalarValue>(
-    alloc: Global,
-    variables: &[Variable<'a, S>],
-    argument: &Given<'a, S>,
-    explanations: &mut Vec<Explanation>,
-) -> Result<(), AllocError>
-    ensures { OnOk result (view_explanations explanations.new.items ≡ view_explanations explanations.old.items
-        ++ undefined_variable (map (view_variable S.shown) variables.now) (view_argument S.shown argument.now)) }
+/// What is said of an operation with a name.
+fn by_operation(alloc: Global, name: &str) -> Result<String, AllocError>
+    ensures { IfOk result (λ t. string_bytes t ≡ codes "` is not defined by operation `" ++ (name.now ++ codes "`")) }
 {
-    let value = &argument.1;
-    match variable_of(&value.item) {
-        Some(name) => {
-            let word = Spanning::new(value.span, name);
-            explain_name(alloc, variables, &word, explanations)
-        }
-        None => Ok(()),
-    }
+    format!(in alloc; "` is not defined by operation `{name}`")
 }
 
 /// Explains the name of a variable, where none of these has it.
-#[tactic(auto, unfolding(crate::specs::Nodes::undefined_name))]
 fn explain_name<'a, S: ScalarValue>(
     alloc: Global,
     variables: &[Variable<'a, S>],
     word: &Spanning<&str, Span>,
+    wording: &Wording<'_>,
     explanations: &mut Vec<Explanation>,
 ) -> Result<(), AllocError>
     ensures { OnOk result (view_explanations explanations.new.items ≡ view_explanations explanations.old.items
-        ++ undefined_name (map (view_variable S.shown) variables.now) (view_word word.now)) }
+        ++ named (is_none (variable_uses.definition_of (map (view_variable S.shown) variables.now) (view_word word.now).item)) wording.now.rule
+        (view_word word.now) wording.now.before.now wording.now.after.now) }
 {
     let is_undefined = is_undefined(variables, word.item);
-    add_named(alloc, explanations, is_undefined, word, &UNDEFINED)
+    add_named(alloc, explanations, is_undefined, word, wording)
 }
 
 /// Whether none of the variables has this name.
@@ -163,19 +148,4 @@ fn defines<'a, S: ScalarValue>(variables: &[Variable<'a, S>], name: &str) -> boo
         }
     }
     false
-}
-
-/// The name of the variable that a value is.
-#[tactic(auto, unfolding(crate::specs::Nodes::variable_name))]
-fn variable_of<S: ScalarValue>(value: &InputValue<S>) -> Option<&str>
-    ensures { option_map (λ n. n.now) result ≡ variable_name (view_input S.shown value.now) }
-{
-    match value {
-        InputValue::Variable(name) => Some(name.as_str()),
-        InputValue::Null => None,
-        InputValue::Scalar(_) => None,
-        InputValue::Enum(_) => None,
-        InputValue::List(_) => None,
-        InputValue::Object(_) => None,
-    }
 }

@@ -14,6 +14,7 @@ ghost use Rattle.juniper_explain.specs.Nodes.{use_findings};
 
 use crate::explanation::{Explanation, add_whole};
 use crate::introspection::explain_introspection;
+use crate::misused::explain_misused;
 use crate::rule::Rule;
 use crate::undefined::explain_undefined;
 use juniper_phases::{Listed, ListedOnTypes};
@@ -55,7 +56,9 @@ pub(crate) fn explain_uses<'d, 'a, S: ScalarValue>(
         explain_definition(
             alloc,
             &given,
-            one.listed,
+            listed,
+            fragments,
+            one,
             own,
             cannot_merge,
             &mut explanations,
@@ -76,30 +79,44 @@ struct Given<'r, 'u, S: ScalarValue> {
 }
 
 /// Explains what the rules on uses find at a definition, of which this is listed, and which uses these variables.
-fn explain_definition<'r, 'u, S: ScalarValue>(
+fn explain_definition<'r, 'u, 'p, 'l, 'd: 'r, 'a, S: ScalarValue>(
     alloc: Global,
     given: &Given<'r, 'u, S>,
-    listed: &Listed<'_, '_, S>,
+    document: &'p [ListedOnTypes<'l, 'd, 'a, S>],
+    fragments: &FragmentsByName<'d, 'a, S>,
+    one: &'p ListedOnTypes<'l, 'd, 'a, S>,
     own: &'r Used<'u>,
     cannot_merge: bool,
     explanations: &mut Vec<Explanation>,
 ) -> Result<(), AllocError>
     ensures { OnOk result ((d : documents.Document) (ds : List documents.Definition) →
-        AreUsesOfFragments (view_schema S.shown given.now.schema.now) given.now.used_by_fragments.now d → IsListed S.shown listed.now →
-        view_used own.now ≡ usage_of (view_schema S.shown given.now.schema.now) (definition_of S.shown listed.now) →
-        cannot_merge ≡ rules.cannot_merge (view_schema S.shown given.now.schema.now) d (definition_of S.shown listed.now) →
+        AreUsesOfFragments (view_schema S.shown given.now.schema.now) given.now.used_by_fragments.now d →
+        AreListedOnTypes S.shown (view_schema S.shown given.now.schema.now) document.now d → AreFragmentsOf S.shown fragments.now d →
+        IsListedOnTypes S.shown (view_schema S.shown given.now.schema.now) one.now →
+        view_used own.now ≡ usage_of (view_schema S.shown given.now.schema.now) (definition_of S.shown one.now.listed.now) →
+        cannot_merge ≡ rules.cannot_merge (view_schema S.shown given.now.schema.now) d (definition_of S.shown one.now.listed.now) →
         view_explanations explanations.new.items ≡ view_explanations explanations.old.items ++ flat_map (λ es. es)
-        (use_findings (view_schema S.shown given.now.schema.now) given.now.introspection_disabled d ds (definition_of S.shown listed.now))) }
+        (use_findings (view_schema S.shown given.now.schema.now) given.now.introspection_disabled d ds (definition_of S.shown one.now.listed.now))) }
 {
+    let listed = one.listed;
     let definition = listed.definition;
     let inside = uses_inside(alloc, given, listed, own)?;
-    explain_undefined(alloc, listed, inside.undefined, explanations)?;
-    add_whole(
+    explain_undefined(
         alloc,
+        document,
+        fragments,
+        one,
+        inside.undefined,
         explanations,
+    )?;
+    explain_misused(
+        alloc,
+        given.schema,
+        document,
+        fragments,
+        one,
         inside.misused,
-        Rule::VariablesInAllowedPosition,
-        definition,
+        explanations,
     )?;
     add_whole(
         alloc,

@@ -53,7 +53,7 @@ fn no_variables<'v, 'a, S: ScalarValue>(_definition: &'v Definition<'a, S>) -> &
 }
 
 /// The variables of a list, where there is one.
-fn listed<'v, 'a, S: ScalarValue>(
+pub(crate) fn listed<'v, 'a, S: ScalarValue>(
     variables: &'v Option<Spanning<VariableDefinitions<'a, S>, Span>>,
 ) -> &'v [Variable<'a, S>]
     ensures { map (view_variable S.shown) result.now ≡ view_variables S.shown variables.now }

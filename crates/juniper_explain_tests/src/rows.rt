@@ -47,12 +47,29 @@ query Q($first: Int = \"x\") { issues { id } } => Default `\"x\"` of `$first` is
 query Q($all: [Issue!]) { issues { id } } => Variable `$all` is of `[Issue!]`, which is no input type@8;
 query Q($all: [Isue!]) { issues { id } } => Unknown type `Isue`@14;
 query Q($a: Int, $b: Int, $a: Int, $a: Int) { issues { id } } => Variable name `$a` is not unique@26; Variable name `$a` is not unique@35;
-query Q { issues(first: $n) { id } } => Variable `$n` is not defined@24;
-query Q($a: Int) { issues(first: $b) { id @skip(if: $c) } } => Variable `$b` is not defined@33; Variable `$c` is not defined@52;
-query Q { issues(filter: {title: $n}) { id } } => Variable is not defined@0;
-query Q { ...F } fragment F on Query { issues(first: $n) { id } } => Variable is not defined@0;
-query Q($n: String) { issues(first: $n) { id } } => Variable may not stand here@0;
 query Q($n: Int) { issues(first: $n) { id } } =>";
+
+/// Variables that are not defined, in values at any depth and in fragments.
+const UNDEFINED: &str = "\
+query Q { issues(first: $n) { id } } => Variable `$n` is not defined by operation `Q`@24;
+{ issues(first: $n) { id } } => Variable `$n` is not defined@16;
+query Q($a: Int) { issues(first: $b) { id @skip(if: $c) } } => Variable `$b` is not defined by operation `Q`@33; Variable `$c` is not defined by operation `Q`@52;
+query Q { issues(filter: {title: $n, and: [{title: $m}, {title: $n}]}, states: [OPEN, $s]) { id } } => Variable `$n` is not defined by operation `Q`@33; Variable `$m` is not defined by operation `Q`@51; Variable `$n` is not defined by operation `Q`@64; Variable `$s` is not defined by operation `Q`@86;
+query Q { ...F } fragment F on Query { issues(first: $n) { id } } => Variable `$n` is not defined by operation `Q`@53;
+fragment G on Query { issues(first: $n) { id } } query Q { ...F b: issues(first: $m) { id } } fragment F on Query { ...G } fragment H on Query { issues(first: $k) { id } } => Variable `$m` is not defined by operation `Q`@81; Variable `$n` is not defined by operation `Q`@36;
+query A($n: Int) { ...F } query B { ...F } fragment F on Query { issues(first: $n) { id } } => Variable `$n` is not defined by operation `B`@79;
+query Q { issues { id } } fragment F on Query { issues(first: $n) { id } } =>";
+
+/// Variables where they may not stand, in values at any depth and in fragments.
+const MISUSED: &str = "\
+query Q($n: String) { issues(first: $n) { id } } => Variable `$n` of type `String` cannot stand where `Int` is expected@36;
+query Q($i: ID) { issue(id: $i) { id } } => Variable `$i` of type `ID` cannot stand where `ID!` is expected@28;
+query Q($i: ID = \"a\") { issue(id: $i) { id } } =>
+query Q($i: ID = null, $b: [Boolean!]!) { issue(id: $i) { id @skip(if: $b) } } => Variable `$i` of type `ID` cannot stand where `ID!` is expected@52; Variable `$b` of type `[Boolean!]!` cannot stand where `Boolean!` is expected@71;
+query Q($s: State, $t: [State!], $u: String) { issues(states: [OPEN, $s, $t], filter: {title: $s, and: [{title: $u}, $u]}) { id } a: issues(states: $t) { id } } => Variable `$s` of type `State` cannot stand where `State!` is expected@69; Variable `$t` of type `[State!]` cannot stand where `State!` is expected@73; Variable `$s` of type `State` cannot stand where `String` is expected@94; Variable `$u` of type `String` cannot stand where `Filter!` is expected@117;
+query Q($n: [Int]) { ...F } fragment F on Query { ...G } fragment G on Query { issues(first: $n) { id @include(if: $n) } } => Variable `$n` of type `[Int]` cannot stand where `Int` is expected@93; Variable `$n` of type `[Int]` cannot stand where `Boolean!` is expected@115;
+query Q($n: ID) { issues(first: $n) { id } a: issues(first: $m) { id } } => Variable `$m` is not defined by operation `Q`@60; Variable `$n` of type `ID` cannot stand where `Int` is expected@32;
+query A($n: Int) { ...F } query B($n: ID) { ...F } fragment F on Query { issues(first: $n) { id } } => Variable `$n` of type `ID` cannot stand where `Int` is expected@87;";
 
 /// Fragments, their spreads and their conditions.
 const FRAGMENTS: &str = "\
@@ -148,6 +165,16 @@ fn arguments_are_explained(rt: HostRuntime) {
 #[test]
 fn variables_are_explained(rt: HostRuntime) {
     assert_eq!(rt; first_other(rt.alloc(), false, VARIABLES), None);
+}
+
+#[test]
+fn undefined_variables_are_explained(rt: HostRuntime) {
+    assert_eq!(rt; first_other(rt.alloc(), false, UNDEFINED), None);
+}
+
+#[test]
+fn misused_variables_are_explained(rt: HostRuntime) {
+    assert_eq!(rt; first_other(rt.alloc(), false, MISUSED), None);
 }
 
 #[test]

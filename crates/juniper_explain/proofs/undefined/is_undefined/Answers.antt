@@ -1,6 +1,6 @@
 use Rattle.std.proofs.Common.{ap, map, not, sym, ◌∙◌}
 use Rattle.juniper_syntax.specs.DocumentView.{view_variable}
-use Rattle.juniper_explain.proofs.Elsewhere.{none-defined}
+use Rattle.juniper_explain.proofs.Undefining.{none-defined}
 use Rattle.juniper_explain.proofs.undefined.is_undefined.Goals as goal
 
 pub returns : goal.returns

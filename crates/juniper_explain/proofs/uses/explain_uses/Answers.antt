@@ -6,7 +6,7 @@ use Rattle.juniper_schema.specs.SchemaView.{view_schema}
 use Rattle.juniper_use_rules.specs.UsesView.{usage_of, view_used}
 use Rattle.juniper_phases.specs.Listing.{definition_of}
 use Rattle.juniper_explain.proofs.Judging.{told, told-all, told-first, told-next}
-use Rattle.juniper_phases.proofs.Listing.{definitions-on-types, listed-is, on-types-at}
+use Rattle.juniper_phases.proofs.Listing.{definitions-on-types, on-types-at}
 use Rattle.juniper_phases.proofs.SideBySide.{beside-is, mark-is}
 use Rattle.juniper_explain.proofs.uses.explain_uses.Goals as goal
 
@@ -34,10 +34,10 @@ loop-index-preserved g c = λ d listed are merging.
     let uses = c.in_ok-used_by_fragments.ensures s d (ap (map view_used) c.deref.ensures.value ∙ used) are.spread in
     let marked = c.is_marked-cannot_merge.ensures ∙ mark-is (λ y. definition_of shown y.listed.now)
     (cannot_merge s d) xs i x below c.index-listed-index.is c.args.cannot_merge.now (merging ∙ ap (map (cannot_merge s d)) (sym own_definitions)) in
-    let is = listed-is shown s x (on-types-at shown s xs d listed i x below c.index-listed-index.is) in
+    let is = on-types-at shown s xs d listed i x below c.index-listed-index.is in
     told-next (λ y. definition_of shown y.listed.now) (use_findings s c.args.introspection_disabled d) xs i x below c.index-listed-index.is
     (view_explanations c.loop-index.explanations.items) _
-    (c.in_ok-explain_definition.ensures d (map (λ y. definition_of shown y.listed.now) (take i xs)) uses is own marked)
+    (c.in_ok-explain_definition.ensures d (map (λ y. definition_of shown y.listed.now) (take i xs)) uses listed are is own marked)
     (c.loop-index.invariant d listed are merging)
 
 pub returns : goal.returns

@@ -1,0 +1,165 @@
+//! VariablesInAllowedPosition (section 5.8.5 of the Specification).
+
+ghost use Rattle.std.specs.Prelude.{◌≡◌, ◌++◌, IfOk, OnOk, codes, map, option_map, string_bytes};
+ghost use Rattle.std.specs.List.{flat_map};
+ghost use Rattle.graphql_spec.specs.Documents as documents;
+ghost use Rattle.graphql_spec.specs.Documents.{variables_of};
+ghost use Rattle.graphql_spec.specs.Types.{type_text};
+ghost use Rattle.graphql_spec.specs.VariableUses as variable_uses;
+ghost use Rattle.juniper_meta.specs.MetaView as metas;
+ghost use Rattle.juniper_phases.specs.Listing.{AreListedOnTypes, IsListedOnTypes, definition_of};
+ghost use Rattle.juniper_schema.specs.SchemaView.{view_schema};
+ghost use Rattle.juniper_spreads.specs.SpreadsView.{AreFragmentsOf};
+ghost use Rattle.juniper_syntax.specs.DocumentView.{view_variable};
+ghost use Rattle.juniper_syntax.specs.TypeView.{view_type};
+ghost use Rattle.juniper_explain.specs.Explanations.{view_explanations};
+ghost use Rattle.juniper_explain.specs.Nodes.{misused_at, misused_by, misused_variables, where_found};
+ghost use Rattle.juniper_explain.specs.PositionsView.{view_place, view_places};
+
+use crate::explanation::{Explanation, add};
+use crate::parts::parts_of;
+use crate::rule::Rule;
+use crate::standing::may_stand;
+use crate::variable_places::{Place, places_used};
+use crate::variables::{Variable, listed};
+use juniper_phases::ListedOnTypes;
+use juniper_schema::SchemaType;
+use juniper_spreads::FragmentsByName;
+use juniper_syntax::{Definition, ScalarValue, Type};
+use std::alloc::{AllocError, Global};
+
+/// Explains the variables that a definition of a document, with these fragments, uses where they may not stand, in itself or
+/// in fragments that it reaches, where it violates the rule.
+#[tactic(auto, unfolding(crate::specs::Nodes::where_found))]
+pub(crate) fn explain_misused<'u, 'p, 'l, 'd: 'u, 'a, S: ScalarValue>(
+    alloc: Global,
+    schema: &'u SchemaType<S>,
+    document: &'p [ListedOnTypes<'l, 'd, 'a, S>],
+    fragments: &FragmentsByName<'d, 'a, S>,
+    one: &'p ListedOnTypes<'l, 'd, 'a, S>,
+    is_violated: bool,
+    explanations: &mut Vec<Explanation>,
+) -> Result<(), AllocError>
+    ensures { OnOk result ((d : documents.Document) → AreListedOnTypes S.shown (view_schema S.shown schema.now) document.now d →
+        AreFragmentsOf S.shown fragments.now d → IsListedOnTypes S.shown (view_schema S.shown schema.now) one.now →
+        view_explanations explanations.new.items ≡ view_explanations explanations.old.items
+        ++ where_found is_violated (misused_variables (view_schema S.shown schema.now) d (definition_of S.shown one.now.listed.now))) }
+{
+    if is_violated {
+        explain_all(alloc, schema, document, fragments, one, explanations)
+    } else {
+        Ok(())
+    }
+}
+
+/// Explains those of a definition: of an operation all, and of a fragment none.
+fn explain_all<'u, 'p, 'l, 'd: 'u, 'a, S: ScalarValue>(
+    alloc: Global,
+    schema: &'u SchemaType<S>,
+    document: &'p [ListedOnTypes<'l, 'd, 'a, S>],
+    fragments: &FragmentsByName<'d, 'a, S>,
+    one: &'p ListedOnTypes<'l, 'd, 'a, S>,
+    explanations: &mut Vec<Explanation>,
+) -> Result<(), AllocError>
+    ensures { OnOk result ((d : documents.Document) → AreListedOnTypes S.shown (view_schema S.shown schema.now) document.now d →
+        AreFragmentsOf S.shown fragments.now d → IsListedOnTypes S.shown (view_schema S.shown schema.now) one.now →
+        view_explanations explanations.new.items ≡ view_explanations explanations.old.items
+        ++ misused_variables (view_schema S.shown schema.now) d (definition_of S.shown one.now.listed.now)) }
+{
+    let own = one.listed;
+    match own.definition {
+        Definition::Operation(operation) => {
+            let parts = parts_of(alloc, document, fragments, one)?;
+            let places = places_used(alloc, schema, &parts)?;
+            let variables = listed(&operation.item.variable_definitions);
+            explain_places(alloc, variables, &places, explanations)
+        }
+        Definition::Fragment(_) => Ok(()),
+    }
+}
+
+/// Explains those of the variables at positions that may not stand there.
+fn explain_places<'a, S: ScalarValue>(
+    alloc: Global,
+    variables: &[Variable<'a, S>],
+    places: &[Place<'_>],
+    explanations: &mut Vec<Explanation>,
+) -> Result<(), AllocError>
+    ensures { OnOk result (view_explanations explanations.new.items ≡ view_explanations explanations.old.items
+        ++ flat_map (misused_by (map (view_variable S.shown) variables.now)) (view_places places.now)) }
+{
+    for place in places {
+        explain_place(alloc, variables, place, explanations)?;
+    }
+    Ok(())
+}
+
+/// Explains a variable at a position where it may not stand; one that is not defined may.
+fn explain_place<'a, S: ScalarValue>(
+    alloc: Global,
+    variables: &[Variable<'a, S>],
+    place: &Place<'_>,
+    explanations: &mut Vec<Explanation>,
+) -> Result<(), AllocError>
+    ensures { OnOk result (view_explanations explanations.new.items ≡ view_explanations explanations.old.items
+        ++ misused_by (map (view_variable S.shown) variables.now) (view_place place.now)) }
+{
+    match first_of(variables, place.variable.item) {
+        Some(variable) => explain_variable(alloc, variable, place, explanations),
+        None => Ok(()),
+    }
+}
+
+/// The first of the variables of a name.
+fn first_of<'v, 'a, S: ScalarValue>(
+    variables: &'v [Variable<'a, S>],
+    name: &str,
+) -> Option<&'v Variable<'a, S>>
+    ensures { option_map (λ v. view_variable S.shown v.now) result ≡ variable_uses.definition_of (map (view_variable S.shown) variables.now) name.now }
+{
+    for variable in variables {
+        if name == variable.0.item {
+            return Some(variable);
+        }
+    }
+    None
+}
+
+/// Explains a variable of this definition at a position where it may not stand.
+#[tactic(auto, unfolding(crate::specs::Nodes::misused_at, crate::specs::Explanations::found))]
+fn explain_variable<S: ScalarValue>(
+    alloc: Global,
+    variable: &Variable<'_, S>,
+    place: &Place<'_>,
+    explanations: &mut Vec<Explanation>,
+) -> Result<(), AllocError>
+    ensures { OnOk result (view_explanations explanations.new.items ≡ view_explanations explanations.old.items
+        ++ misused_at (view_variable S.shown variable.now) (view_place place.now)) }
+{
+    if may_stand(variable, place.expected, place.has_default) {
+        return Ok(());
+    }
+    let word = place.variable;
+    let message = misused_text(alloc, word.item, &variable.1.var_type.item, place.expected)?;
+    add(
+        explanations,
+        Rule::VariablesInAllowedPosition,
+        word.span.start,
+        message,
+    )
+}
+
+/// What is said of such a variable.
+fn misused_text(
+    alloc: Global,
+    name: &str,
+    own: &Type<&str>,
+    expected: &Type<String>,
+) -> Result<String, AllocError>
+    ensures { IfOk result (λ t. string_bytes t ≡ codes "Variable `$" ++ (name.now ++ (codes "` of type `" ++ (type_text (view_type (λ n. n.now) own.now)
+        ++ (codes "` cannot stand where `" ++ (type_text (metas.view_type expected.now) ++ codes "` is expected")))))) }
+{
+    format!(in alloc;
+        "Variable `${name}` of type `{own}` cannot stand where `{expected}` is expected"
+    )
+}

@@ -1,0 +1,236 @@
+//! The variables that are used in arguments, each with its place and with the type of its position (section 5.8.5 of the
+//! Specification).
+
+ghost use Rattle.std.specs.Prelude.{◌≡◌, ◌++◌, ◌∷◌, [], IfOk, OnOk, map, option_map};
+ghost use Rattle.std.specs.List.{flat_map};
+ghost use Rattle.graphql_spec.specs.Fields.{type_named};
+ghost use Rattle.graphql_spec.specs.Types.{innermost};
+ghost use Rattle.graphql_spec.specs.VariableUses.{at_declared, input_fields, item_type};
+ghost use Rattle.juniper_position.specs.Positions.{view_span};
+ghost use Rattle.juniper_syntax.specs.InputView.{view_fields, view_input, view_items};
+ghost use Rattle.juniper_meta.specs.MetaView.{view_argument, view_type};
+ghost use Rattle.juniper_schema.specs.SchemaView.{view_schema};
+ghost use Rattle.juniper_placed.specs.CallView.{view_call, view_calls};
+ghost use Rattle.juniper_explain.specs.Parts.{view_each};
+ghost use Rattle.juniper_explain.specs.Positions.{places_at, places_in_call, places_in_fields, places_in_items};
+ghost use Rattle.juniper_explain.specs.PositionsView.{view_places};
+
+use juniper_meta::{Argument, find_argument};
+use juniper_phases::ListedOnTypes;
+use juniper_placed::Call;
+use juniper_schema::SchemaType;
+use juniper_syntax::ast::Arguments;
+use juniper_syntax::{InputValue, ScalarValue, Span, Spanning, Type};
+use std::alloc::{AllocError, Global};
+
+/// A field of an object value: its name and its value.
+type InputField<S> = (Spanning<String, Span>, Spanning<InputValue<S>, Span>);
+
+/// A variable at a position.
+#[derive(Drop)]
+pub(crate) struct Place<'u> {
+    /// Its name, with its place.
+    pub variable: Spanning<&'u str, Span>,
+    /// The type of the position.
+    pub expected: &'u Type<String>,
+    /// Whether the position has a default.
+    pub has_default: bool,
+}
+
+/// The variables in the arguments of some definitions, of which this is listed, in the order in which they are written. An
+/// error where memory is refused.
+pub(crate) fn places_used<'u, 'd: 'u, 'a, S: ScalarValue>(
+    alloc: Global,
+    schema: &'u SchemaType<S>,
+    parts: &Vec<&ListedOnTypes<'_, 'd, 'a, S>>,
+) -> Result<Vec<Place<'u>>, AllocError>
+    ensures { IfOk result (λ ps. view_places ps.items ≡ flat_map (λ l. flat_map (places_in_call (view_schema S.shown schema.now)) l.calls)
+        (view_each S.shown parts.now.items)) }
+{
+    let mut places = Vec::new(alloc);
+    for index in 0..parts.len() {
+        let part = parts[index];
+        push_of_calls(schema, &part.calls, &mut places)?;
+    }
+    Ok(places)
+}
+
+/// Adds those in the arguments of a definition's fields and directives.
+fn push_of_calls<'u, 'd: 'u, 'a, S: ScalarValue>(
+    schema: &'u SchemaType<S>,
+    calls: &[Call<'d, 'a, 'd, S>],
+    places: &mut Vec<Place<'u>>,
+) -> Result<(), AllocError>
+    ensures { OnOk result (view_places places.new.items ≡ view_places places.old.items
+        ++ flat_map (places_in_call (view_schema S.shown schema.now)) (view_calls S.shown calls.now)) }
+{
+    for call in calls {
+        push_of_call(schema, call, places)?;
+    }
+    Ok(())
+}
+
+/// Adds those in the arguments of one field or directive.
+fn push_of_call<'u, 'd: 'u, 'a, S: ScalarValue>(
+    schema: &'u SchemaType<S>,
+    call: &Call<'d, 'a, 'd, S>,
+    places: &mut Vec<Place<'u>>,
+) -> Result<(), AllocError>
+    ensures { OnOk result (view_places places.new.items ≡ view_places places.old.items
+        ++ places_in_call (view_schema S.shown schema.now) (view_call S.shown call.now)) }
+{
+    let declared: &'u [Argument<S>] = call.declared;
+    let given: &'u Option<Spanning<Arguments<'a, S>, Span>> = call.given;
+    match given {
+        Some(arguments) => {
+            for argument in &arguments.item.items {
+                let found = find_argument(declared, argument.0.item);
+                push_declared(schema, &argument.1.item, argument.1.span, found, places)?;
+            }
+            Ok(())
+        }
+        None => Ok(()),
+    }
+}
+
+/// Adds those in a value that stands at a declared argument or input field; none where nothing is declared.
+#[cycle(placing)]
+fn push_declared<'u, S: ScalarValue>(
+    schema: &'u SchemaType<S>,
+    value: &'u InputValue<S>,
+    span: Span,
+    declared: Option<&'u Argument<S>>,
+    places: &mut Vec<Place<'u>>,
+) -> Result<(), AllocError>
+    ensures { OnOk result (view_places places.new.items ≡ view_places places.old.items
+        ++ at_declared (option_map (λ a. view_argument S.shown a.now) declared.entry)
+        (λ t b. places_at (view_schema S.shown schema.now) (view_input S.shown value.now) (view_span span) t b)) }
+{
+    match declared {
+        Some(argument) => {
+            let has_default = argument.default_value.is_some();
+            push_of_value(schema, value, span, &argument.arg_type, has_default, places)?;
+            Ok(())
+        }
+        None => Ok(()),
+    }
+}
+
+/// Adds those in a value that stands at a type.
+#[cycle(placing)]
+fn push_of_value<'u, S: ScalarValue>(
+    schema: &'u SchemaType<S>,
+    value: &'u InputValue<S>,
+    span: Span,
+    expected: &'u Type<String>,
+    has_default: bool,
+    places: &mut Vec<Place<'u>>,
+) -> Result<(), AllocError>
+    ensures { OnOk result (view_places places.new.items ≡ view_places places.old.items
+        ++ places_at (view_schema S.shown schema.now) (view_input S.shown value.now) (view_span span) (view_type expected.now) has_default) }
+{
+    match value {
+        InputValue::Null => Ok(()),
+        InputValue::Scalar(_) => Ok(()),
+        InputValue::Enum(_) => Ok(()),
+        InputValue::Variable(name) => {
+            let variable = Spanning::new(span, name.as_str());
+            push_place(variable, expected, has_default, places)?;
+            Ok(())
+        }
+        InputValue::List(items) => {
+            push_of_items(schema, items.as_slice(), item_type(expected), places)?;
+            Ok(())
+        }
+        InputValue::Object(fields) => {
+            push_of_fields(
+                schema,
+                fields.as_slice(),
+                input_fields(schema, expected),
+                places,
+            )?;
+            Ok(())
+        }
+    }
+}
+
+/// Adds those in the items of a list, which stand at this type.
+#[cycle(placing)]
+fn push_of_items<'u, S: ScalarValue>(
+    schema: &'u SchemaType<S>,
+    items: &'u [Spanning<InputValue<S>, Span>],
+    expected: &'u Type<String>,
+    places: &mut Vec<Place<'u>>,
+) -> Result<(), AllocError>
+    ensures { OnOk result (view_places places.new.items ≡ view_places places.old.items
+        ++ places_in_items (view_schema S.shown schema.now) (view_items S.shown items.now) (view_type expected.now)) }
+{
+    for item in items {
+        push_of_value(schema, &item.item, item.span, expected, false, places)?;
+    }
+    Ok(())
+}
+
+/// Adds those in the fields of an object, each at its declaration.
+#[cycle(placing)]
+fn push_of_fields<'u, S: ScalarValue>(
+    schema: &'u SchemaType<S>,
+    fields: &'u [InputField<S>],
+    declared: &'u [Argument<S>],
+    places: &mut Vec<Place<'u>>,
+) -> Result<(), AllocError>
+    ensures { OnOk result (view_places places.new.items ≡ view_places places.old.items
+        ++ places_in_fields (view_schema S.shown schema.now) (view_fields S.shown fields.now) (map (view_argument S.shown) declared.now)) }
+{
+    for field in fields {
+        let found = find_argument(declared, field.0.item.as_str());
+        push_declared(schema, &field.1.item, field.1.span, found, places)?;
+    }
+    Ok(())
+}
+
+/// Adds a variable at a position.
+fn push_place<'u>(
+    variable: Spanning<&'u str, Span>,
+    expected: &'u Type<String>,
+    has_default: bool,
+    places: &mut Vec<Place<'u>>,
+) -> Result<(), AllocError>
+    ensures { OnOk result (view_places places.new.items ≡ view_places places.old.items ++ record {
+      used = record { variable = variable.entry.item.now; place = view_type expected.now; has_default = has_default };
+      span = view_span variable.entry.span;
+    } ∷ []) }
+{
+    places.push(Place {
+        variable,
+        expected,
+        has_default,
+    })?;
+    Ok(())
+}
+
+/// The type of a list's items; of what is no list it is the type itself.
+#[tactic(auto, unfolding(graphql_spec::specs::VariableUses::item_type))]
+fn item_type(expected: &Type<String>) -> &Type<String>
+    ensures { view_type result.now ≡ item_type (view_type expected.now) }
+{
+    match expected {
+        Type::Named(_) => expected,
+        Type::NonNullNamed(_) => expected,
+        Type::List(inner, _) => &**inner,
+        Type::NonNullList(inner, _) => &**inner,
+    }
+}
+
+/// The fields of the input object that a type names; none where it names none.
+fn input_fields<'u, S: ScalarValue>(
+    schema: &'u SchemaType<S>,
+    expected: &Type<String>,
+) -> &'u [Argument<S>]
+    ensures { map (view_argument S.shown) result.now ≡ input_fields (type_named (view_schema S.shown schema.now) (innermost (view_type expected.now))) }
+{
+    match schema.concrete_type_by_name(expected.innermost_name()) {
+        Some(meta) => meta.input_fields(),
+        None => &[],
+    }
+}
