@@ -1,0 +1,129 @@
+//! The demo, served over standard input and output, with a line on standard error for each request:
+//!
+//! - `juniper_serve` answers the requests of one connection of HTTP/1.1;
+//! - `juniper_serve --lines` answers a request of JSON in each line by a line of JSON, all in one context;
+//! - `juniper_serve --sdl` prints the schema as a text of the language for type systems.
+#![tactic(auto)]
+
+mod lines;
+mod logged;
+mod mode;
+#[cfg(test)]
+mod tests;
+
+use http_server::{Config, Connection};
+use juniper::Bounds;
+use juniper_demo_server::{DemoContext, DemoRoot, demo_root};
+use juniper_endpoint::RootEndpoint;
+use juniper_http::{Endpoint, GraphQLService, Limits};
+use juniper_sdl::as_sdl;
+use lines::response_to;
+use logged::Logged;
+use mode::{Mode, mode_of};
+use std::hash::RandomState;
+use std::io::BufRead;
+use std::process::ExitCode;
+use std::{env, io};
+
+/// What is told of words that are not understood.
+const USAGE: &str = "usage: juniper_serve [--lines | --sdl]";
+
+/// A longer body is refused by a response with errors.
+const MAX_BODY: usize = 256 * 1024;
+
+/// The connection refuses a body that is longer than this before it is read.
+const MAX_READ: usize = 1024 * 1024;
+
+/// A batch of more requests is refused.
+const MAX_BATCH: usize = 50;
+
+/// Answers the requests of one connection.
+fn serve_http<E: Endpoint + Drop>(rt: &HostRuntime, endpoint: E) -> io::Result<()> {
+    let alloc = rt.alloc();
+    let limits = Limits {
+        max_body_len: MAX_BODY,
+        max_batch_len: MAX_BATCH,
+    };
+    let service = GraphQLService {
+        alloc,
+        endpoint,
+        limits,
+        closes: false,
+    };
+    let mut logged = Logged { rt, service };
+    let config = Config {
+        max_body_len: MAX_READ,
+        max_pending: 0,
+        ..Config::default()
+    };
+    let mut connection = Connection::new(alloc, RandomState::new(rt)?, config);
+    let mut reader = rt.reader();
+    let mut writer = io::writer(rt);
+    http_server::serve(&mut connection, &mut logged, &mut reader, &mut writer)
+}
+
+/// Answers the request in each line.
+fn serve_lines<E: Endpoint>(rt: &HostRuntime, endpoint: &mut E) -> io::Result<()> {
+    let alloc = rt.alloc();
+    for line in rt.reader().split(alloc, b'\n') {
+        let request = line?;
+        let response = response_to(alloc, endpoint, request.as_slice())?;
+        println!(rt; "{response}")?;
+        eprintln!(rt; "{} B, {} B", request.len(), response.len())?;
+    }
+    Ok(())
+}
+
+/// Serves a root in a mode.
+fn serve(rt: &HostRuntime, mode: Mode, root: &DemoRoot) -> io::Result<()> {
+    let mut endpoint = RootEndpoint {
+        root,
+        context: DemoContext::new(),
+        bounds: Bounds::DEFAULT,
+    };
+    match mode {
+        Mode::Http => serve_http(rt, endpoint),
+        Mode::Lines => serve_lines(rt, &mut endpoint),
+        Mode::Sdl => {
+            let text = as_sdl(rt.alloc(), root.schema())?;
+            print!(rt; "{text}")
+        }
+    }
+}
+
+/// Serves in the mode of the words; a status tells that there is none.
+fn run(rt: &HostRuntime) -> io::Result<ExitCode> {
+    let alloc = rt.alloc();
+    let arguments = match env::args(rt) {
+        Ok(arguments) => arguments,
+        Err(error) => {
+            eprintln!(rt; "The words cannot be read: {error}")?;
+            return Ok(ExitCode::from(2));
+        }
+    };
+    let words = arguments.skip(1).collect::<Vec<String>>(alloc)?;
+    let Some(mode) = mode_of(words.as_slice()) else {
+        eprintln!(rt; "{USAGE}")?;
+        return Ok(ExitCode::from(2));
+    };
+    match demo_root(alloc) {
+        Ok(root) => {
+            serve(rt, mode, &root)?;
+            Ok(ExitCode::from(0))
+        }
+        Err(error) => {
+            eprintln!(rt; "{error}")?;
+            Ok(ExitCode::from(1))
+        }
+    }
+}
+
+fn main(rt: HostRuntime) -> ExitCode {
+    match run(&rt) {
+        Ok(status) => status,
+        Err(error) => {
+            let _written = eprintln!(rt; "{error}");
+            ExitCode::from(1)
+        }
+    }
+}
