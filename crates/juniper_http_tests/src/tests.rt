@@ -1,0 +1,234 @@
+//! Bytes of HTTP, and what the demo answers to them.
+
+use http_server::{Config, Connection, serve};
+use juniper::Bounds;
+use juniper_demo_server::{DemoContext, demo_root};
+use juniper_endpoint::RootEndpoint;
+use juniper_http::{GraphQLService, Limits};
+use std::alloc::{AllocError, Global};
+use std::hash::RandomState;
+use std::test::Fail;
+
+/// Requests: method and target, fields, body; the status, the media type and the body of the answer; how often the context was added to.
+/// A dash is nothing. Texts of at most 120 bytes, 7 fields and 4 levels are taken, bodies of at most 200 bytes, batches of at most two.
+const REQUESTS: &str = r#"
+POST / | Content-Type: application/json | {"query":"{ id }"} | 200 | graphql-response+json | {"data":{"id":"q1"}} | 0
+POST /graphql | Content-Type: application/json ;; Accept: application/json | {"query":"{ id fail }"} | 200 | json | {"data":{"id":"q1","fail":null},"errors":[{"message":"failed","locations":[{"line":1,"column":6}],"path":["fail"]}]} | 0
+POST / | Content-Type: application/graphql | { number(plus: 2) } | 200 | graphql-response+json | {"data":{"number":43}} | 0
+POST / | Content-Type: application/json | {"query":"mutation { add(n: 5) { total count } }"} | 200 | graphql-response+json | {"data":{"add":{"total":5,"count":1}}} | 1
+GET /?query=%7Bid%7D | - | - | 200 | graphql-response+json | {"data":{"id":"q1"}} | 0
+HEAD /?query=%7Bid%7D | - | - | 200 | graphql-response+json | - | 0
+GET /?query=query($p:Int)%7Bnumber(plus:$p)%7D&variables=%7B%22p%22:3%7D | - | - | 200 | graphql-response+json | {"data":{"number":44}} | 0
+GET /?query=mutation%7Badd(n:5)%7Btotal%7D%7D | - | - | 405 | graphql-response+json | {"errors":[{"message":"A mutation is asked for by POST"}]} | 0
+GET /?query=mutation%20M%7Badd(n:5)%7Btotal%7D%7D%20query%20Q%7Bid%7D&operationName=Q | - | - | 200 | graphql-response+json | {"data":{"id":"q1"}} | 0
+GET /?query=mutation%20M%7Badd(n:5)%7Btotal%7D%7D%20query%20Q%7Bid%7D&operationName=M | Accept: application/json | - | 405 | json | {"errors":[{"message":"A mutation is asked for by POST"}]} | 0
+GET /?query=mutation%20M%7Badd(n:5)%7Btotal%7D%7D%20query%20Q%7Bid%7D | - | - | 400 | graphql-response+json | {"errors":[{"message":"Multiple operations provided"}]} | 0
+POST / | Content-Type: application/json | {"query":"query($p: Int) { number(plus: $p) }","variables":{"p":2}} | 200 | graphql-response+json | {"data":{"number":43}} | 0
+POST / | Content-Type: application/json | {"query":"query($p: Int) { number(plus: $p) }","variables":{"p":2,"q":2.5}} | 200 | graphql-response+json | {"data":{"number":43}} | 0
+POST / | Content-Type: application/json | {"query":"query($p: Int) { number(plus: $p) }","variables":{"p":2.5}} | 400 | graphql-response+json | {"errors":[{"message":"Variable `$p` has no fitting value","locations":[{"line":1,"column":7}]}]} | 0
+POST / | Content-Type: application/json | {"query":"query($p: Int) { number(plus: $p) }","variables":{"p":[{"x":99999999999}]}} | 400 | graphql-response+json | {"errors":[{"message":"Variable `$p` has no fitting value","locations":[{"line":1,"column":7}]}]} | 0
+POST / | Content-Type: application/json | {"query":"query($p: Int) { number(plus: $p) }","variables":{"p":"2"}} | 400 | graphql-response+json | {"errors":[{"message":"Variable `$p` has no fitting value","locations":[{"line":1,"column":7}]}]} | 0
+POST / | Content-Type: application/json | {"query":"query A { id } query B { name }","operationName":"B"} | 200 | graphql-response+json | {"data":{"name":"demo"}} | 0
+POST / | Content-Type: application/json | {"query":"query A { id } query B { name }","operationName":"C"} | 400 | graphql-response+json | {"errors":[{"message":"Unknown operation name"}]} | 0
+POST / | Content-Type: application/json | {"query":"{ id"} | 400 | graphql-response+json | {"errors":[{"message":"Unexpected end of input","locations":[{"line":1,"column":5}]}]} | 0
+POST / | Content-Type: application/json ;; Accept: application/json | {"query":"{ id"} | 200 | json | {"errors":[{"message":"Unexpected end of input","locations":[{"line":1,"column":5}]}]} | 0
+POST / | Content-Type: application/json | {"query":"{ id }                                                                                                                  "} | 200 | graphql-response+json | {"data":{"id":"q1"}} | 0
+POST / | Content-Type: application/json | {"query":"{ id }                                                                                                                   "} | 400 | graphql-response+json | {"errors":[{"message":"The text is too long"}]} | 0
+POST / | Content-Type: application/json | {"query":"{ a: id b: id c: id d: id e: id f: id g: id }"} | 200 | graphql-response+json | {"data":{"a":"q1","b":"q1","c":"q1","d":"q1","e":"q1","f":"q1","g":"q1"}} | 0
+POST / | Content-Type: application/json | {"query":"{ a: id b: id c: id d: id e: id f: id g: id h: id }"} | 400 | graphql-response+json | {"errors":[{"message":"An operation selects too many fields"}]} | 0
+POST / | Content-Type: application/json | {"query":"{ hero { friends { friends { id } } } }"} | 200 | graphql-response+json | {"data":{"hero":{"friends":[{"friends":[{"id":"2001"}]},null]}}} | 0
+POST / | Content-Type: application/json | {"query":"{ hero { friends { friends { ... { id } } } } }"} | 400 | graphql-response+json | {"errors":[{"message":"An operation nests too deep"}]} | 0
+POST / | Content-Type: application/json | [{"query":"mutation { add(n: 1) { total } }"},{"query":"mutation { add(n: 2) { total } }"}] | 200 | graphql-response+json | [{"data":{"add":{"total":1}}},{"data":{"add":{"total":3}}}] | 2
+POST / | Content-Type: application/json | [{"query":7},{"query":"{ id }"}] | 200 | graphql-response+json | [{"errors":[{"message":"query must be a string"}]},{"data":{"id":"q1"}}] | 0
+POST / | Content-Type: application/json | [{"query":"{"},{"query":"{ id }"}] | 200 | graphql-response+json | [{"errors":[{"message":"Unexpected end of input","locations":[{"line":1,"column":2}]}]},{"data":{"id":"q1"}}] | 0
+POST / | Content-Type: application/json | [1,2,3] | 413 | json | {"errors":[{"message":"the batch is too long"}]} | 0
+POST / | Content-Type: application/json | [] | 400 | json | {"errors":[{"message":"the batch is empty"}]} | 0
+POST / | Content-Type: application/json | { | 400 | json | {"errors":[{"message":"not JSON, at line 1 column 1"}]} | 0
+POST / | Content-Type: application/json | 7 | 400 | json | {"errors":[{"message":"a request must be an object"}]} | 0
+POST / | Content-Type: text/plain | {"query":"{ id }"} | 415 | json | {"errors":[{"message":"the body must be JSON in UTF-8"}]} | 0
+POST / | Content-Type: application/json ;; Accept: image/png | {"query":"{ id }"} | 406 | json | {"errors":[{"message":"accept application/graphql-response+json or application/json"}]} | 0
+POST / | Content-Type: application/json | {"query":"{ id }","operationName":"01234567890123456789012345678901234567890123456789012345678901234567890123456789012345678901234567890123456789012345678901234567890123456789012345678901234567890123456789"} | 413 | json | {"errors":[{"message":"the body is too large"}]} | 0
+PUT / | - | - | 405 | json | {"errors":[{"message":"only GET, HEAD and POST are supported"}]} | 0
+GET /other?query=%7Bid%7D | - | - | 404 | json | {"errors":[{"message":"not found"}]} | 0"#;
+
+/// A row's request, and what comes of it.
+#[derive(Clone, Copy)]
+struct Row<'a> {
+    start: &'a str,
+    fields: &'a str,
+    body: &'a str,
+    status: &'a str,
+    media: &'a str,
+    answer: &'a str,
+    count: &'a str,
+}
+
+/// Takes a row apart.
+fn row_of(line: &str) -> Option<Row<'_>> {
+    let (start, rest) = line.split_once(" | ")?;
+    let (fields, rest) = rest.split_once(" | ")?;
+    let (body, rest) = rest.split_once(" | ")?;
+    let (status, rest) = rest.split_once(" | ")?;
+    let (media, rest) = rest.split_once(" | ")?;
+    let (answer, count) = rest.split_once(" | ")?;
+    Some(Row {
+        start,
+        fields,
+        body,
+        status,
+        media,
+        answer,
+        count,
+    })
+}
+
+/// What a dash stands for.
+fn given(text: &str) -> &str {
+    if text == "-" { "" } else { text }
+}
+
+/// What is taken.
+const BOUNDS: Bounds = Bounds {
+    bytes: 120,
+    fields: 7,
+    levels: 4,
+};
+
+/// What a new connection to a new demo answers to these bytes, and behind a bar how often the context was added to.
+fn answer(rt: &HostRuntime, received: &[u8]) -> Result<String, Fail> {
+    let alloc = rt.alloc();
+    let Ok(root) = demo_root(alloc) else {
+        return Ok(String::from_str(alloc, "no root")?);
+    };
+    let endpoint = RootEndpoint {
+        root: &root,
+        context: DemoContext::new(),
+        bounds: BOUNDS,
+    };
+    let limits = Limits {
+        max_body_len: 200,
+        max_batch_len: 2,
+    };
+    let mut service = GraphQLService {
+        alloc,
+        endpoint,
+        limits,
+        closes: false,
+    };
+    let config = Config {
+        max_body_len: 1000,
+        ..Config::default()
+    };
+    let mut connection = Connection::new(alloc, RandomState::new(rt)?, config);
+    let mut input = received;
+    let mut output = Vec::new(alloc);
+    serve(&mut connection, &mut service, &mut input, &mut output)?;
+    let count = service.endpoint.context.count;
+    match std::str::from_utf8(output.as_slice()) {
+        Ok(text) => Ok(format!(in alloc; "{text} | {count}")?),
+        Err(_) => Ok(String::new(alloc)),
+    }
+}
+
+/// The bytes of a row's request.
+fn received(alloc: Global, row: &Row<'_>) -> Result<String, AllocError> {
+    let start = row.start;
+    let fields = given(row.fields).replace(alloc, " ;; ", "\r\n")?;
+    let line = if fields.is_empty() { "" } else { "\r\n" };
+    let body = given(row.body);
+    let len = body.len();
+    format!(in alloc;
+        "{start} HTTP/1.1\r\nHost: x\r\n{fields}{line}Content-Length: {len}\r\n\r\n{body}"
+    )
+}
+
+#[test]
+fn requests_are_answered(rt: HostRuntime) -> Result<(), Fail> {
+    for line in REQUESTS.lines().skip(1) {
+        let Some(row) = row_of(line) else {
+            assert!(rt; false, "no row: {line}");
+            return Ok(());
+        };
+        let sent = received(rt.alloc(), &row)?;
+        let found = answer(&rt, sent.as_str().as_bytes())?;
+        let (head, rest) = found.as_str().split_once("\r\n\r\n").unwrap_or(("", ""));
+        let (body, count) = rest.rsplit_once(" | ").unwrap_or(("", ""));
+        let status = head.get(9..12).unwrap_or("");
+        let media = format!(in rt.alloc();
+            "content-type: application/{}; charset=utf-8",
+            row.media
+        )?;
+        let told = head.contains(media.as_str());
+        let one = format!(in rt.alloc(); "{status} {told} {body} {count}")?;
+        let wanted = format!(in rt.alloc();
+            "{} true {} {}",
+            row.status,
+            given(row.answer),
+            row.count
+        )?;
+        assert_eq!(rt; one.as_str(), wanted.as_str(), "at {line}");
+    }
+    Ok(())
+}
+
+/// Bytes of HTTP/1.1, where a `~` ends a line and a `^` is a byte that no text of UTF-8 has; behind an arrow the statuses and the bodies of
+/// the answers, each between bars, and how often the context was added to.
+const BYTES: &str = r#"
+POST / HTTP/1.1~Host: x~Content-Type: application/json~Content-Length: 18~~{"query":"{ id }"}GET /?query=%7Bname%7D HTTP/1.1~Host: x~~ => 200 {"data":{"id":"q1"}} | 200 {"data":{"name":"demo"}} | 0
+POST / HTTP/1.1~Host: x~Content-Type: application/graphql~Content-Length: 28~~mutation{add(n:7){total}}   POST / HTTP/1.1~Host: x~Content-Type: application/graphql~Content-Length: 25~~mutation{add(n:2){total}} => 200 {"data":{"add":{"total":7}}} | 200 {"data":{"add":{"total":9}}} | 2
+GET /?query=%7Bid%7D HTTP/1.1~Host: x~Connection: close~~GET /?query=%7Bid%7D HTTP/1.1~Host: x~~ => 200 {"data":{"id":"q1"}} | 0
+GET /?query=%7Bid%7D HTTP/1.0~~ => 200 {"data":{"id":"q1"}} | 0
+POST / HTTP/1.1~Host: x~Content-Type: application/graphql~Transfer-Encoding: chunked~~3~{ i~3~d }~0~~ => 200 {"data":{"id":"q1"}} | 0
+POST / HTTP/1.1~Host: x~Content-Type: application/graphql~Transfer-Encoding: chunked~~x~{ id }~0~~ => 400  | 0
+POST / HTTP/1.1~Host: x~Content-Type: application/graphql~Transfer-Encoding: gzip, chunked~~0~~ => 501  | 0
+POST / HTTP/1.1~Host: x~Content-Type: application/graphql~Content-Length: 6~Transfer-Encoding: chunked~~0~~ => 400  | 0
+POST / HTTP/1.1~Host: x~Content-Type: application/graphql~Content-Length: 1001~~{ => 413  | 0
+POST / HTTP/1.1~Host: x~Content-Type: application/graphql~Content-Length: 6~~{ id => 400  | 0
+GET /?query=%7Bid%7D HTTP/1.1~Ho => 400  | 0
+GET /?query=%7Bid%7D HTTP/1.1~~ => 400  | 0
+no request~~ => 400  | 0
+POST / HTTP/1.1~Host: x~Content-Type: application/json~Content-Length: 13~~{"query":"^"} => 400 {"errors":[{"message":"not JSON, at line 1 column 11"}]} | 0
+POST / HTTP/1.1~Host: x~Content-Type: application/graphql~Content-Length: 1~~^ => 415 {"errors":[{"message":"the body must be JSON in UTF-8"}]} | 0
+ =>  | 0"#;
+
+/// The bytes that a row stands for.
+fn bytes_of(alloc: Global, text: &str) -> Result<Vec<u8>, AllocError> {
+    let mut bytes = Vec::new(alloc);
+    for byte in text.bytes() {
+        match byte {
+            b'~' => bytes.extend_from_slice(b"\r\n")?,
+            b'^' => bytes.push(255)?,
+            other => bytes.push(other)?,
+        }
+    }
+    Ok(bytes)
+}
+
+/// The statuses and the bodies of responses, behind what stands before the first.
+fn shown(alloc: Global, found: &str) -> Result<String, AllocError> {
+    let mut shown = String::new(alloc);
+    for part in found.split("HTTP/1.").skip(1) {
+        let (head, body) = part.split_once("\r\n\r\n").unwrap_or(("", ""));
+        let status = head.get(2..5).unwrap_or("");
+        let bar = if shown.is_empty() { "" } else { " | " };
+        shown.push_str(format!(in alloc; "{bar}{status} {body}")?.as_str())?;
+    }
+    Ok(shown)
+}
+
+#[test]
+fn bytes_are_answered(rt: HostRuntime) -> Result<(), Fail> {
+    let alloc = rt.alloc();
+    for line in BYTES.lines().skip(1) {
+        let Some((text, wanted)) = line.split_once(" => ") else {
+            assert!(rt; false, "no row: {line}");
+            return Ok(());
+        };
+        let bytes = bytes_of(alloc, text)?;
+        let found = answer(&rt, bytes.as_slice())?;
+        let (responses, count) = found.as_str().rsplit_once(" | ").unwrap_or(("", ""));
+        let told = format!(in alloc; "{} | {count}", shown(alloc, responses)?)?;
+        assert_eq!(rt; told.as_str(), wanted, "at {line}");
+    }
+    Ok(())
+}
