@@ -1,7 +1,9 @@
 // The demo over graphql-js: node graphql-js.js FILE.. prints for each file the microseconds of processor time (user and system) that one
-// request takes, read, validated, executed and written as JSON; with --parse in front, those of reading it alone.
+// request takes, read, validated, executed and written as JSON; with --parse in front, those of reading it alone. node graphql-js.js
+// --serve PORT answers requests over HTTP, and --serve PORT --prepared keeps each document that it has validated.
 "use strict";
 const fs = require("fs");
+const http = require("http");
 const path = require("path");
 const { buildSchema, execute, parse, validate } = require("graphql");
 
@@ -42,8 +44,34 @@ function microseconds(task, text) {
   return (spent.user + spent.system) / times;
 }
 
+function response({ query, variables, operationName }, kept) {
+  let document = kept && kept.get(query);
+  if (!document) {
+    document = parse(query);
+    const errors = validate(schema, document);
+    if (errors.length > 0) return JSON.stringify({ errors });
+    if (kept) kept.set(query, document);
+  }
+  return JSON.stringify(execute({ schema, document, rootValue: root, variableValues: variables, operationName }));
+}
+
+function serve(port, kept) {
+  http.createServer((request, reply) => {
+    const parts = [];
+    request.on("data", (part) => parts.push(part));
+    request.on("end", () => {
+      reply.setHeader("content-type", "application/json");
+      reply.end(response(JSON.parse(Buffer.concat(parts).toString()), kept));
+    });
+  }).listen(port, "127.0.0.1");
+}
+
 const words = process.argv.slice(2);
-const task = words[0] === "--parse" ? parse : answer;
-for (const file of words.filter((word) => word !== "--parse")) {
-  console.log(`${path.basename(file)} ${microseconds(task, fs.readFileSync(file, "utf8")).toFixed(1)}`);
+if (words[0] === "--serve") {
+  serve(Number(words[1]), words[2] === "--prepared" ? new Map() : null);
+} else {
+  const task = words[0] === "--parse" ? parse : answer;
+  for (const file of words.filter((word) => word !== "--parse")) {
+    console.log(`${path.basename(file)} ${microseconds(task, fs.readFileSync(file, "utf8")).toFixed(1)}`);
+  }
 }

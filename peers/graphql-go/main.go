@@ -1,5 +1,5 @@
 // The demo over graph-gophers/graphql-go: main DEMO.graphql FILE.. prints for each file the microseconds of processor time (user and
-// system) that one request takes, read, validated, executed and written as JSON.
+// system) that one request takes, read, validated, executed and written as JSON. main DEMO.graphql --serve PORT answers requests over HTTP.
 package main
 
 import (
@@ -7,12 +7,14 @@ import (
 	"encoding/json"
 	"errors"
 	"fmt"
+	"net/http"
 	"os"
 	"path/filepath"
 	"strings"
 	"syscall"
 
 	graphql "github.com/graph-gophers/graphql-go"
+	"github.com/graph-gophers/graphql-go/relay"
 )
 
 type cell struct{ n int32 }
@@ -89,6 +91,9 @@ func main() {
 	// The demo's mutations have a field of the name of a query's, of another type: one root cannot resolve both.
 	queries := strings.Replace(string(text), "  mutation: Mutation\n", "", 1)
 	schema := graphql.MustParseSchema(queries, &root{}, graphql.MaxParallelism(1))
+	if len(os.Args) == 4 && os.Args[2] == "--serve" {
+		panic(http.ListenAndServe("127.0.0.1:"+os.Args[3], &relay.Handler{Schema: schema}))
+	}
 	for _, file := range os.Args[2:] {
 		request, err := os.ReadFile(file)
 		if err != nil {
