@@ -1,1 +1,2 @@
 mod Declared
+mod Literals

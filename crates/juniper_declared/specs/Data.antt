@@ -1,8 +1,10 @@
 -- What data declares (3).
-use Rattle.std.specs.Prelude.{◌≡◌, ◌||◌, Bool, true, false, List, [], ◌∷◌, ◌++◌, map, None, option_map, Result, Ok, Err}
+use Rattle.std.specs.Prelude.{ℕ, ◌≡◌, ◌||◌, Bool, true, false, List, [], ◌∷◌, ◌++◌, map, None, option_map, Result, Ok, Err}
+use Rattle.std.specs.Borrow.{Bor}
 use Rattle.graphql_spec.specs.Shown.{Name, int, text, boolean}
 use Rattle.graphql_spec.specs.Inputs as inputs
-use Rattle.graphql_spec.specs.Inputs.{Input}
+use Rattle.graphql_spec.specs.Inputs.{Input, InputItems, InputFields, no_items, item, no_fields, input_field}
+use Rattle.graphql_spec.specs.Positions.{Span, origin}
 use Rattle.graphql_spec.specs.Types.{TypeRef, named, list_of}
 use Rattle.graphql_spec.specs.BuiltIns.{value_named}
 use Rattle.graphql_spec.specs.Schema as schema
@@ -17,8 +19,8 @@ use Rattle.juniper_declared.specs.declared.data.DeclaredField.{DeclaredField}
 use Rattle.juniper_declared.specs.declared.data.DeclaredInput.{DeclaredInput}
 use Rattle.juniper_declared.specs.declared.data.DeclaredType.{DeclaredType}
 use Rattle.juniper_declared.specs.declared.data.DeclaredType.TheVariants as kind
-use Rattle.juniper_declared.specs.declared.data.Literal.{Literal}
-use Rattle.juniper_declared.specs.declared.data.Literal.TheVariants as written
+use Rattle.juniper_declared.specs.declared.data.Literal.{Literal, fold-Literal}
+use Rattle.juniper_declared.specs.declared.data.Literal.TheOpen.{Literal-F}
 use Rattle.juniper_declared.specs.declared.data.Reference.{Reference, Nullable, NonNull, List', NonNullList'}
 
 -- a reference to a type (2.11)
@@ -28,13 +30,41 @@ reference (NonNull n) = named true n.now
 reference (List' p t) = list_of false None (reference t)
 reference (NonNullList' p t) = list_of true None (reference t)
 
+-- the place of what was not read from a text
+abbrev pub unlocated : Span
+unlocated = record { start = origin; end = origin }
+
+-- a list of these items
+abbrev pub in_list : List Input → InputItems
+in_list [] = no_items
+in_list (v ∷ vs) = item v unlocated (in_list vs)
+
+-- an object of these fields
+abbrev pub in_object : List (Bor (List ℕ) × Input) → InputFields
+in_object [] = no_fields
+in_object (m ∷ ms) = input_field m.0.now unlocated m.1 unlocated (in_object ms)
+
+-- one level of a value, with each value inside already seen
+abbrev pub literal_step : Literal-F Input → Input
+literal_step Literal-F.Null = inputs.null
+literal_step (Literal-F.Int n) = inputs.scalar (int n)
+literal_step (Literal-F.Text t) = inputs.scalar (text t.now)
+literal_step (Literal-F.Boolean b) = inputs.scalar (boolean b)
+literal_step (Literal-F.Enum e) = inputs.enumerated e.now
+literal_step (Literal-F.List vs) = inputs.list (in_list vs.now)
+literal_step (Literal-F.Object ms) = inputs.object (in_object ms.now)
+
 -- the value of a default (2.9)
 abbrev pub literal : Literal → Input
-literal written.Null = inputs.null
-literal (written.Int n) = inputs.scalar (int n)
-literal (written.Text t) = inputs.scalar (text t.now)
-literal (written.Boolean b) = inputs.scalar (boolean b)
-literal (written.Enum e) = inputs.enumerated e.now
+literal = fold-Literal Input literal_step
+
+-- the items of a list
+abbrev pub items_of : List Literal → InputItems
+items_of vs = in_list (map literal vs)
+
+-- the fields of an object
+abbrev pub members_of : List (Bor (List ℕ) × Literal) → InputFields
+members_of ms = in_object (map (λ m. (m.0, literal m.1)) ms)
 
 -- an argument, or a field of an input object (3.6.1, 3.10)
 abbrev pub input_of : DeclaredInput → InputDeclaration

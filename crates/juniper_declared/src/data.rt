@@ -29,6 +29,10 @@ pub enum Literal {
     Boolean(bool),
     /// The value of an enum, by its name.
     Enum(&'static str),
+    /// A list, by its items.
+    List(&'static [Literal]),
+    /// An input object, by its fields, each with its name and its value.
+    Object(&'static [(&'static str, Literal)]),
 }
 
 /// An argument, or a field of an input object (3.6.1, 3.10): its name, its type, and its default where it has one.

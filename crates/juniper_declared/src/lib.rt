@@ -5,6 +5,7 @@ mod data;
 mod making;
 mod parts;
 mod registering;
+mod values;
 
 pub use data::{DeclaredField, DeclaredInput, DeclaredType, Literal, Reference};
 pub use registering::registry_of;

@@ -1,14 +1,14 @@
-//! What declarations are made of: references, defaults, arguments, fields and names (section 3 of the Specification).
+//! What declarations are made of: references, arguments, fields and names (section 3 of the Specification).
 
-ghost use Rattle.std.specs.Prelude.{◌≡◌, IfOk, map, option_map};
-ghost use Rattle.juniper_declared.specs.Data.{field_of, input_of, literal, reference};
+ghost use Rattle.std.specs.Prelude.{◌≡◌, IfOk, map};
+ghost use Rattle.juniper_declared.specs.Data.{field_of, input_of, reference};
 ghost use Rattle.juniper_meta.specs.MetaView.{view_argument, view_field, view_names, view_type};
-ghost use Rattle.juniper_syntax.specs.InputView.{view_input};
 
-use crate::data::{DeclaredField, DeclaredInput, Literal, Reference};
+use crate::data::{DeclaredField, DeclaredInput, Reference};
+use crate::values::default_of;
 use juniper_meta::meta::Field;
 use juniper_meta::{Argument, DeprecationStatus};
-use juniper_syntax::{InputValue, ScalarValue, Type};
+use juniper_syntax::{ScalarValue, Type};
 use std::alloc::{AllocError, Global};
 
 /// The type that is referred to.
@@ -29,22 +29,6 @@ fn reference_of(alloc: Global, of_type: &Reference) -> Result<Type<String>, Allo
     }
 }
 
-/// The value that is written so.
-fn value_of<S: ScalarValue>(alloc: Global, value: &Literal) -> Result<InputValue<S>, AllocError>
-    ensures { IfOk result (λ v. view_input S.shown v ≡ literal value.now) }
-{
-    match value {
-        Literal::Null => Ok(InputValue::Null),
-        Literal::Int(number) => Ok(InputValue::Scalar(S::from_int(*number))),
-        Literal::Text(text) => {
-            let text = String::from_str(alloc, text)?;
-            Ok(InputValue::Scalar(S::from_text(text)?))
-        }
-        Literal::Boolean(truth) => Ok(InputValue::Scalar(S::from_bool(*truth))),
-        Literal::Enum(name) => Ok(InputValue::Enum(String::from_str(alloc, name)?)),
-    }
-}
-
 /// An argument, or a field of an input object.
 fn argument_of<S: ScalarValue>(
     alloc: Global,
@@ -58,19 +42,6 @@ fn argument_of<S: ScalarValue>(
         arg_type: reference_of(alloc, &input.1)?,
         default_value: default_of(alloc, &input.2)?,
     })
-}
-
-/// A default, where there is one.
-fn default_of<S: ScalarValue>(
-    alloc: Global,
-    default: &Option<Literal>,
-) -> Result<Option<InputValue<S>>, AllocError>
-    ensures { IfOk result (λ v. option_map (view_input S.shown) v ≡ option_map literal default.now) }
-{
-    match default {
-        None => Ok(None),
-        Some(value) => Ok(Some(value_of(alloc, value)?)),
-    }
 }
 
 /// Arguments, or the fields of an input object, in order.
