@@ -1,2 +1,3 @@
 mod Declared
 mod Literals
+mod NotedValues

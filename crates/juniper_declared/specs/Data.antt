@@ -1,16 +1,17 @@
 -- What data declares (3).
-use Rattle.std.specs.Prelude.{ℕ, ◌≡◌, ◌||◌, Bool, true, false, List, [], ◌∷◌, ◌++◌, map, None, option_map, Result, Ok, Err}
+use Rattle.std.specs.Prelude.{ℕ, ◌≡◌, ◌||◌, Bool, true, false, List, [], ◌∷◌, ◌++◌, map, Option, None, Some, option_map, Result, Ok, Err}
 use Rattle.std.specs.Borrow.{Bor}
-use Rattle.graphql_spec.specs.Shown.{Name, int, text, boolean}
+use Rattle.graphql_spec.specs.Shown.{Name, Text, int, text, boolean}
 use Rattle.graphql_spec.specs.Inputs as inputs
 use Rattle.graphql_spec.specs.Inputs.{Input, InputItems, InputFields, no_items, item, no_fields, input_field}
 use Rattle.graphql_spec.specs.Positions.{Span, origin}
 use Rattle.graphql_spec.specs.Types.{TypeRef, named, list_of}
 use Rattle.graphql_spec.specs.BuiltIns.{value_named}
 use Rattle.graphql_spec.specs.Schema as schema
-use Rattle.graphql_spec.specs.Schema.{FieldDeclaration, InputDeclaration, Shape, object_type, interface_type, current}
+use Rattle.graphql_spec.specs.Schema.{FieldDeclaration, InputDeclaration, EnumValue, Shape, scalar_type, object_type, interface_type}
 use Rattle.graphql_spec.specs.Fields.{typename_field}
-use Rattle.juniper_meta.specs.MetaView.{Meta, named_meta}
+use Rattle.juniper_meta.specs.MetaView.{Meta, deprecated_value, described_value, view_kinds}
+use Rattle.juniper_declared.specs.Notes.{argument_text, deprecation, noted, part_text, reason, type_text}
 use Rattle.juniper_registry.specs.Entries.{Table, awaiting_each, declaring, is_declared}
 use Rattle.juniper_registry.specs.Referred.{referred}
 use Rattle.juniper_registry.specs.declared.error.RegistryError.{RegistryError}
@@ -21,6 +22,7 @@ use Rattle.juniper_declared.specs.declared.data.DeclaredType.{DeclaredType}
 use Rattle.juniper_declared.specs.declared.data.DeclaredType.TheVariants as kind
 use Rattle.juniper_declared.specs.declared.data.Literal.{Literal, fold-Literal}
 use Rattle.juniper_declared.specs.declared.data.Literal.TheOpen.{Literal-F}
+use Rattle.juniper_declared.specs.declared.notes.Note.{Note}
 use Rattle.juniper_declared.specs.declared.data.Reference.{Reference, Nullable, NonNull, List', NonNullList'}
 
 -- a reference to a type (2.11)
@@ -66,33 +68,92 @@ items_of vs = in_list (map literal vs)
 abbrev pub members_of : List (Bor (List ℕ) × Literal) → InputFields
 members_of ms = in_object (map (λ m. (m.0, literal m.1)) ms)
 
--- an argument, or a field of an input object (3.6.1, 3.10)
-abbrev pub input_of : DeclaredInput → InputDeclaration
-input_of i = record { name = i.0.now; description = None; of_type = reference i.1; default = option_map literal i.2 }
+-- an argument, or a field of an input object, with this description (3.6.1, 3.10)
+abbrev pub input_of : Option Text → DeclaredInput → InputDeclaration
+input_of t i = record { name = i.0.now; description = t; of_type = reference i.1; default = option_map literal i.2 }
+
+-- ## Types, with what notes say of their parts
+
+-- an argument of the field of this name (3.6.1)
+abbrev pub argument_of : List Note → Name → DeclaredInput → InputDeclaration
+argument_of ns f i = input_of (noted (argument_text f i.0.now) ns) i
+
+-- a field of an input object (3.10)
+abbrev pub input_field_of : List Note → DeclaredInput → InputDeclaration
+input_field_of ns i = input_of (noted (part_text i.0.now) ns) i
 
 -- a field (3.6)
-abbrev pub field_of : DeclaredField → FieldDeclaration
-field_of f = record { name = f.0.now; description = None; arguments = map input_of f.1.now; of_type = reference f.2; deprecation = current }
+abbrev pub field_of : List Note → DeclaredField → FieldDeclaration
+field_of ns f = record {
+  name = f.0.now;
+  description = noted (part_text f.0.now) ns;
+  arguments = map (argument_of ns f.0.now) f.1.now;
+  of_type = reference f.2;
+  deprecation = deprecation (noted (reason f.0.now) ns);
+}
+
+-- with this description, where there is one
+abbrev pub described_if : Option Text → EnumValue → EnumValue
+described_if None v = v
+described_if (Some t) v = described_value v t
+
+-- deprecated for this reason, where there is one
+abbrev pub deprecated_if : Option Text → EnumValue → EnumValue
+deprecated_if None v = v
+deprecated_if (Some r) v = deprecated_value v (Some r)
+
+-- a value of an enum (3.9)
+abbrev pub value_of : List Note → Name → EnumValue
+value_of ns n = deprecated_if (noted (reason n) ns) (described_if (noted (part_text n) ns) (value_named n))
+
+-- fields, and `__typename` behind them (4.1)
+abbrev pub with_typename : List Note → List DeclaredField → List FieldDeclaration
+with_typename ns fs = map (field_of ns) fs ++ typename_field ∷ []
+
+-- names, in order
+abbrev pub names : List (Bor (List ℕ)) → List Name
+names = map (λ n. n.now)
 
 -- the name of a type
 abbrev pub name_of : DeclaredType → Name
+name_of (kind.Scalar n ks url) = n.now
 name_of (kind.Object n is fs) = n.now
 name_of (kind.Interface n fs) = n.now
+name_of (kind.SubInterface n is fs) = n.now
 name_of (kind.Union n ms) = n.now
 name_of (kind.Enum n vs) = n.now
 name_of (kind.InputObject n is) = n.now
+name_of (kind.Noted' p d ns) = name_of d
 
--- what it is; objects and interfaces have `__typename` behind their fields (3.6 to 3.10, 4.1)
-abbrev pub shape_of : DeclaredType → Shape
-shape_of (kind.Object n is fs) = object_type (map field_of fs.now ++ typename_field ∷ []) (map (λ i. i.now) is.now)
-shape_of (kind.Interface n fs) = interface_type (map field_of fs.now ++ typename_field ∷ []) []
-shape_of (kind.Union n ms) = schema.union_type (map (λ m. m.now) ms.now)
-shape_of (kind.Enum n vs) = schema.enum_type (map value_named (map (λ v. v.now) vs.now))
-shape_of (kind.InputObject n is) = schema.input_object_type (map input_of is.now)
+-- the notes on a type, those next to it first
+abbrev pub notes_on : DeclaredType → List Note
+notes_on (kind.Scalar n ks url) = []
+notes_on (kind.Object n is fs) = []
+notes_on (kind.Interface n fs) = []
+notes_on (kind.SubInterface n is fs) = []
+notes_on (kind.Union n ms) = []
+notes_on (kind.Enum n vs) = []
+notes_on (kind.InputObject n is) = []
+notes_on (kind.Noted' p d ns) = notes_on d ++ ns.now
+
+-- what it is, with these notes (3.5 to 3.10)
+abbrev pub shape_of : List Note → DeclaredType → Shape
+shape_of ns (kind.Scalar n ks url) = scalar_type (view_kinds ks) (option_map (λ u. u.now) url)
+shape_of ns (kind.Object n is fs) = object_type (with_typename ns fs.now) (names is.now)
+shape_of ns (kind.Interface n fs) = interface_type (with_typename ns fs.now) []
+shape_of ns (kind.SubInterface n is fs) = interface_type (with_typename ns fs.now) (names is.now)
+shape_of ns (kind.Union n ms) = schema.union_type (names ms.now)
+shape_of ns (kind.Enum n vs) = schema.enum_type (map (value_of ns) (names vs.now))
+shape_of ns (kind.InputObject n is) = schema.input_object_type (map (input_field_of ns) is.now)
+shape_of ns (kind.Noted' p d more) = shape_of ns d
+
+-- a declaration of this name, with the description that notes give it
+abbrev pub noted_meta : List Note → Name → Shape → Meta
+noted_meta ns n x = record { name = Some n; description = noted type_text ns; shape = x }
 
 -- its name, and its declaration at that name
 abbrev pub declared : DeclaredType → Name × Meta
-declared d = (name_of d, named_meta (name_of d) (shape_of d))
+declared d = (name_of d, noted_meta (notes_on d) (name_of d) (shape_of (notes_on d) d))
 
 -- ## Registries
 

@@ -3,9 +3,11 @@
 
 mod data;
 mod making;
+mod notes;
 mod parts;
 mod registering;
 mod values;
 
 pub use data::{DeclaredField, DeclaredInput, DeclaredType, Literal, Reference};
-pub use registering::registry_of;
+pub use notes::Note;
+pub use registering::{register_each, registry_of};

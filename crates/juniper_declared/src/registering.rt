@@ -25,8 +25,11 @@ pub fn registry_of<S: ScalarValue>(
     }
 }
 
-/// Registers these types, up to the first that is refused.
-fn register_each<S: ScalarValue>(
+/// Registers these types beside those that the registry has, one after the other, up to the first that is refused.
+///
+/// Errors: `AlreadyRegistered` where the name of one is taken when its turn comes; `Memory` where memory is refused. What the registry
+/// has after an error is not said.
+pub fn register_each<S: ScalarValue>(
     registry: &mut Registry<S>,
     types: &[DeclaredType],
 ) -> Result<(), RegistryError>

@@ -5,4 +5,5 @@ use Rattle.juniper_declared.proofs.parts.fields_of.Given as goal
 
 -- what is made, before what is still to be made, is the whole
 abbrev pub invariant-loop-field : goal.invariant-loop-field
-invariant-loop-field g l = map (view_field g.S.ScalarValue.shown) l.made.items ++ map field_of (drop l.field-index l.fields) ≡ map field_of l.fields
+invariant-loop-field g l =
+    map (view_field g.S.ScalarValue.shown) l.made.items ++ map (field_of l.notes) (drop l.field-index l.fields) ≡ map (field_of l.notes) l.fields
