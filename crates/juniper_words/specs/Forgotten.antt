@@ -30,11 +30,14 @@ view_field_of f = (f.type_name.now, f.field_name.now)
 
 -- the fields that a type declares, if it is an object (3.6)
 abbrev pub fields_in : DeclaredType → List (Name × Name)
+fields_in (kind.Scalar n ks url) = []
 fields_in (kind.Object n is fs) = map (λ f. (n.now, f.0.now)) fs.now
 fields_in (kind.Interface n fs) = []
+fields_in (kind.SubInterface n is fs) = []
 fields_in (kind.Union n ms) = []
 fields_in (kind.Enum n vs) = []
 fields_in (kind.InputObject n is) = []
+fields_in (kind.Noted' p d ns) = fields_in d
 
 -- the fields of all objects, in order
 abbrev pub object_fields : List DeclaredType → List (Name × Name)

@@ -59,11 +59,14 @@ fn push_fields(fields: &mut Vec<FieldOf>, declared: &DeclaredType) -> Result<(),
     ensures { OnOk result (map view_field_of fields.new.items ≡ map view_field_of fields.old.items ++ fields_in declared.now) }
 {
     match declared {
+        DeclaredType::Scalar(_, _, _) => Ok(()),
         DeclaredType::Object(type_name, _, own) => push_all(fields, type_name, own),
         DeclaredType::Interface(_, _) => Ok(()),
+        DeclaredType::SubInterface(_, _, _) => Ok(()),
         DeclaredType::Union(_, _) => Ok(()),
         DeclaredType::Enum(_, _) => Ok(()),
         DeclaredType::InputObject(_, _) => Ok(()),
+        DeclaredType::Noted(inner, _) => push_fields(fields, inner),
     }
 }
 

@@ -15,6 +15,8 @@ mod roots;
 mod serving;
 #[cfg(test)]
 mod tests;
+#[cfg(test)]
+mod told;
 
 pub use answers::{
     Answer, boolean, count, fails_with_code, null, object, object_or_null, text_or_null, value,
@@ -27,4 +29,4 @@ pub use forgotten::{FieldOf, is_answered, object_fields, unanswered};
 pub use input_type::InputType;
 pub use node_lists::{nodes, nodes_at, nodes_where};
 pub use roots::{MutationType, Named, QueryType};
-pub use serving::{ServedQuery, ServedRoot, served, served_query};
+pub use serving::{ServedQuery, ServedRoot, served, served_query, served_with};

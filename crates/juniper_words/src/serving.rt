@@ -4,13 +4,14 @@
 ghost use Rattle.std.specs.Prelude.{◌≡◌, IfOk, codes, false, map};
 ghost use Rattle.juniper_declared.specs.Data.{declared};
 ghost use Rattle.juniper_intro.specs.RootView.{is_disabled, mutation_of, resolver_of, schema_of};
+ghost use Rattle.juniper_registry.specs.RegistryView.{view_registry};
 ghost use Rattle.juniper_schema.specs.SchemaView.{view_schema};
-ghost use Rattle.juniper_words.specs.Served.{Serves};
+ghost use Rattle.juniper_words.specs.Served.{Serves, ServesWith};
 
 use crate::roots::{MutationType, Named, QueryType};
-use juniper_declared::{DeclaredType, registry_of};
+use juniper_declared::{DeclaredType, register_each, registry_of};
 use juniper_intro::{RootError, RootNode};
-use juniper_registry::RegistryError;
+use juniper_registry::{Registry, RegistryError};
 use juniper_syntax::ScalarValue;
 use juniper_types::{EmptyMutation, EmptySubscription};
 use std::alloc::Global;
@@ -46,6 +47,46 @@ pub fn served<
         Err(RegistryError::AlreadyRegistered) => return Err(RootError::NotExecutable),
         Err(RegistryError::Memory) => return Err(RootError::Memory),
     };
+    let subscription = EmptySubscription::new();
+    RootNode::new(
+        alloc,
+        Named(query),
+        Named(mutation),
+        subscription,
+        registry,
+        "Query",
+        "Mutation",
+        (),
+    )
+}
+
+/// The root of a query and a mutation over these types beside those of a registry, which are declared by impls. For the rest it is the
+/// root of [`served`].
+///
+/// Errors: [`RootError::NotExecutable`] exactly where the name of one of these types is taken, or the schema of all cannot be executed;
+/// [`RootError::Memory`] where memory is refused.
+pub fn served_with<
+    Q: QueryType<S> + Drop,
+    M: MutationType<S, Context = Q::Context, Node = Q::Node> + Drop,
+    S: ScalarValue,
+>(
+    alloc: Global,
+    query: Q,
+    mutation: M,
+    types: &[DeclaredType],
+    more: Registry<S>,
+) -> Result<ServedRoot<Q, M, Q::Context, S>, RootError>
+    ensures schema { ServesWith (λ r. view_schema S.shown (schema_of r)) (view_registry S.shown more) (map declared types.now) (codes "Mutation") result }
+    ensures resolver { IfOk result (λ r. (resolver_of r).0 ≡ query) }
+    ensures mutation { IfOk result (λ r. (mutation_of r).0 ≡ mutation) }
+    ensures introspection { IfOk result (λ r. is_disabled r ≡ false) }
+{
+    let mut registry = more;
+    match register_each(&mut registry, types) {
+        Ok(()) => {}
+        Err(RegistryError::AlreadyRegistered) => return Err(RootError::NotExecutable),
+        Err(RegistryError::Memory) => return Err(RootError::Memory),
+    }
     let subscription = EmptySubscription::new();
     RootNode::new(
         alloc,

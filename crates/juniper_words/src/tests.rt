@@ -1,8 +1,11 @@
 //! Tests: what is read of arguments and of lists, what is answered, and roots over types that are told by data.
 
-ghost use Rattle.std.specs.Prelude.{◌∷◌, [], codes, cond, false, length};
+ghost use Rattle.std.specs.Prelude.{◌∷◌, [], None, Some, codes, cond, false, length, true};
 ghost use Rattle.std.specs.Str.{bytes_eq};
 ghost use Rattle.graphql_spec.specs.Resolvers.{answered, node, nothing};
+ghost use Rattle.graphql_spec.specs.Schema.{scalar_type};
+ghost use Rattle.juniper_meta.specs.MetaView.{named_meta};
+ghost use Rattle.juniper_registry.specs.DeclaredTypes.{type_named};
 ghost use Rattle.juniper_resolvable.specs.ResolvedView.{Answers};
 ghost use Rattle.juniper_values.specs.ArgumentsRead.{with_read};
 ghost use Rattle.juniper_words.specs.Forgotten.{unanswered_reply};
@@ -12,11 +15,12 @@ ghost use Rattle.juniper_words.specs.declared.tests.Episode.TheVariants as episo
 
 use super::*;
 use juniper_declared::Reference::{List, NonNull, NonNullList, Nullable};
-use juniper_declared::{DeclaredField, DeclaredInput, DeclaredType, Literal};
+use juniper_declared::{DeclaredField, DeclaredInput, DeclaredType, Literal, Note};
 use juniper_errors::ResolveError;
-use juniper_registry::Registry;
+use juniper_meta::{MetaType, ScalarKinds};
+use juniper_registry::{GraphQLReference, GraphQLType, Registry};
 use juniper_resolvable::Resolved;
-use juniper_syntax::{DefaultScalarValue, InputValue, ScalarValue, Spanning, Value};
+use juniper_syntax::{DefaultScalarValue, InputValue, ScalarValue, Spanning, Type, Value};
 use juniper_types::Executor;
 use juniper_values::Arguments;
 use std::alloc::{AllocError, Global};
@@ -291,13 +295,24 @@ const THERE: DeclaredField = DeclaredField("there", &[], Nullable("Int"));
 
 const FORGOTTEN: DeclaredField = DeclaredField("forgotten", &[], Nullable("Int"));
 
-/// Two objects, of which the second is not asked about, an interface and an enum.
-static TALLIES: [DeclaredType; 4] = [
+/// Two objects, of which the second has notes and is not asked about, two interfaces, an enum and a scalar.
+static TALLIES: [DeclaredType; 6] = [
     DeclaredType::Object("Tally", &[], &[THERE, FORGOTTEN]),
     DeclaredType::Interface("Counted", &[THERE]),
+    DeclaredType::SubInterface("Summed", &["Counted"], &[THERE]),
     DeclaredType::Enum("Size", &["SMALL"]),
-    DeclaredType::Object("Other", &[], &[THERE]),
+    DeclaredType::Scalar("Sum", NO_KINDS, None),
+    DeclaredType::Noted(
+        &DeclaredType::Object("Other", &[], &[THERE]),
+        &[Note::About("Other.")],
+    ),
 ];
+
+const NO_KINDS: ScalarKinds = ScalarKinds {
+    int: false,
+    text: false,
+    boolean: false,
+};
 
 fn asks(alloc: Global, field: &FieldOf) -> bool {
     match field.type_name {
@@ -434,6 +449,79 @@ fn is_query_root(alloc: Global, types: &[DeclaredType]) -> bool {
 /// Whether a query and a mutation over these types make a root.
 fn is_root(alloc: Global, types: &[DeclaredType]) -> bool {
     served::<Greeter, Greeter, DefaultScalarValue>(alloc, Greeter, Greeter, types).is_ok()
+}
+
+/// A scalar that is declared by impls: `scalar Letters`.
+#[derive(Drop)]
+struct Cipher;
+
+impl<S: ScalarValue> GraphQLReference<S> for Cipher {
+    type TypeInfo = ();
+
+    ghost named = { λ _. Some (codes "Letters") };
+
+    ghost reference = { λ _. type_named (codes "Letters") };
+
+    fn name(_info: &()) -> Option<&str> {
+        Some("Letters")
+    }
+
+    fn type_in(
+        _alloc: Global,
+        _info: &(),
+        registry: &mut Registry<S>,
+    ) -> Result<Type<String>, AllocError> {
+        registry.named_type("Letters")
+    }
+}
+
+impl<S: ScalarValue> GraphQLType<S> for Cipher {
+    ghost declaration = { λ _. named_meta (codes "Letters") (scalar_type (record { int = false; text = true; boolean = false }) None) };
+
+    fn meta(
+        _alloc: Global,
+        _info: &(),
+        registry: &mut Registry<S>,
+    ) -> Result<MetaType<S>, AllocError> {
+        let texts = ScalarKinds {
+            int: false,
+            text: true,
+            boolean: false,
+        };
+        let scalar = registry.build_scalar_type::<Cipher>(&(), texts)?;
+        Ok(scalar.into_meta())
+    }
+
+    ghost keeps_name = { λ _ _ e. e };
+}
+
+/// Types of which one refers to that scalar, which is not among them.
+static BUT_LETTERS: [DeclaredType; 5] = [QUERY, MUTATION, KIN_TYPE, FOUND_TYPE, LETTER];
+
+/// Whether a query and a mutation over these types, beside that scalar where it is registered, make a root.
+fn is_root_beside(
+    alloc: Global,
+    types: &[DeclaredType],
+    is_registered: bool,
+) -> Result<bool, AllocError> {
+    let mut more: Registry<DefaultScalarValue> = Registry::empty(alloc);
+    if is_registered && more.register::<Cipher>(&()).is_err() {
+        return Err(AllocError);
+    }
+    let root = served_with::<Greeter, Greeter, DefaultScalarValue>(
+        alloc, Greeter, Greeter, types, more,
+    );
+    Ok(root.is_ok())
+}
+
+#[test]
+fn types_by_impls_stand_beside_data(rt: HostRuntime) -> Result<(), Fail> {
+    let alloc = rt.alloc();
+    assert!(rt; is_root_beside(alloc, &BUT_LETTERS, true)?);
+    assert!(rt; !is_root_beside(alloc, &BUT_LETTERS, false)?);
+    assert!(rt; is_root_beside(alloc, &ALL, false)?);
+    assert!(rt; !is_root_beside(alloc, &ALL, true)?);
+    Ok(())
 }
 
 #[test]
