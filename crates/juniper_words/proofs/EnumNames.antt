@@ -1,5 +1,5 @@
 -- The first of an enum's values that has a name, as it is looked for.
-use Rattle.std.proofs.Common.{◌≡◌, ◌≤◌, ◌<◌, ◌+◌, ℕ, cond, List, [], ◌∷◌, Some, None, length, drop, get_or, bytes_eq, ap, subst, refl, ◌∙◌}
+use Rattle.std.proofs.Common.{◌≡◌, ◌≤◌, ◌<◌, ◌+◌, ℕ, cond, List, ◌∷◌, Some, None, length, drop, get_or, bytes_eq, ap, subst, refl, ◌∙◌}
 use Rattle.std.proofs.lemmas.List.{at_drop_more, drop_all}
 use Rattle.graphql_spec.specs.Shown.{Name}
 use Rattle.juniper_words.specs.InputsRead.{named_among}

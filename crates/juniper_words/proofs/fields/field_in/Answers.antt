@@ -1,4 +1,4 @@
-use Rattle.std.proofs.Common.{Some, None, cond, true, false, refl, sym, ap, ◌∙◌, drop, ◌+◌, bytes_eq, Bool, ◌≡◌}
+use Rattle.std.proofs.Common.{Some, cond, sym, ap, ◌∙◌, drop, ◌+◌, bytes_eq}
 use Rattle.graphql_spec.specs.Constants.{meaning}
 use Rattle.juniper_syntax.specs.InputView.{view_input}
 use Rattle.juniper_words.proofs.FoundFields.{found, found-next, found-none}
