@@ -1,5 +1,5 @@
 -- What a request is answered that asks a schema about itself.
-use Rattle.std.proofs.Common.{◌≡◌, ℕ, Bor, IfSome, List, None, Option, Result, Some, Vec, Global, subst}
+use Rattle.std.proofs.Common.{◌≡◌, None, Result, Vec, Global, subst}
 use Rattle.graphql_spec.specs.Inputs.{Variables}
 use Rattle.graphql_spec.specs.Outcomes.{Request, Service}
 use Rattle.graphql_spec.specs.Shown.{Shown, Text}
@@ -22,7 +22,3 @@ module _ {A C N : Type 0} (shown : A → Shown) (S : Service C N) (c after : C) 
   asked-as f t given same none comes =
       subst (λ x. Comes (record { text = x; operation = None; variables = λ name. None })) same
       (subst (λ v. Comes (record { text = t; operation = None; variables = v })) none comes)
-
--- a name that was found is the one that was looked for
-pub named-so : (r : Option (Bor (List ℕ))) (found : Bor (List ℕ)) (name : List ℕ) → r ≡ Some found → IfSome r (λ n. n.now ≡ name) → found.now ≡ name
-named-so r found name is p = subst (λ o. IfSome o (λ n. n.now ≡ name)) is p

@@ -27,10 +27,11 @@ use Rattle.juniper_errors.specs.ErrorView.{view_listed}
 use Rattle.juniper_errors.specs.declared.execution_error.ExecutionError.{ExecutionError}
 use Rattle.juniper.specs.Answering.{AnswersAs, AreCoercible, AreRefused, IsInvalid, IsUnchosen, Responds, StandsFor, outcome_of}
 use Rattle.juniper.specs.Promised.{IsFullOutcome, IsFullOutcomeOf}
-use Rattle.juniper.specs.Stepping.{IsLeftOf}
-use Rattle.juniper.specs.Walkings.{ListsBy, TellsQuery, TellsRun}
-use Rattle.juniper.specs.declared.walking.Walking.{Walking}
-use Rattle.juniper.specs.declared.walking.Walking.TheVariants.{Grouped, Joined}
+use Rattle.juniper_execute.specs.Stepping.{IsLeftOf}
+use Rattle.juniper_execute.specs.Walkings.{TellsQuery, TellsRun}
+use Rattle.juniper.specs.WalkedOutcomes.{ListsBy}
+use Rattle.juniper_execute.specs.declared.walking.Walking.{Walking}
+use Rattle.juniper_execute.specs.declared.walking.Walking.TheVariants.{Grouped, Joined}
 use Rattle.juniper.proofs.ToldFirsts.{firsts-become, mutation-told, query-told, told-of-run}
 use Rattle.juniper_position.specs.RuleView.{view_rule_error}
 use Rattle.juniper_position.specs.declared.rule.RuleError.{RuleError as CodeError}

@@ -29,7 +29,8 @@ use Rattle.graphql_spec.proofs.StartedRuns.{run-started}
 use Rattle.graphql_spec.proofs.CausesOfRuns.{query-cause, query-stand, run-cause, run-stand}
 use Rattle.graphql_spec.proofs.Sorting.{sort, sorted, same-counts}
 use Rattle.graphql_spec.proofs.Exact.{walks-exact-answer, runs-exact-answer}
-use Rattle.juniper.proofs.ToldFirsts.{firsts-become, listed-tells, mutation-told, query-told, run-tells, told-of-run}
+use Rattle.juniper_execute.proofs.ToldFirsts.{run-tells}
+use Rattle.juniper.proofs.ToldFirsts.{firsts-become, listed-tells, mutation-told, query-told, told-of-run}
 use Rattle.juniper.specs.Promised.{IsFullOutcome}
 
 -- ## All failures, each for the first of its field's occurrences

@@ -14,9 +14,9 @@ use Rattle.graphql_spec.specs.Shown.{Name}
 use Rattle.juniper_intro.specs.RootLaws.{RepliesAreSeen, TypesAreSeen, UsersAreSeen}
 use Rattle.juniper_intro.specs.declared.node.RootedNode.{RootedNode}
 use Rattle.juniper.specs.Services.{rooted_steps, service_in, steps_at}
-use Rattle.juniper.specs.Walkings.{IsWalkedOutcome, ListsBy}
-use Rattle.juniper.specs.declared.walking.Walking.{Walking}
-use Rattle.juniper.specs.declared.walking.Walking.TheVariants.{Grouped, Joined}
+use Rattle.juniper.specs.WalkedOutcomes.{IsWalkedOutcome, ListsBy}
+use Rattle.juniper_execute.specs.declared.walking.Walking.{Walking}
+use Rattle.juniper_execute.specs.declared.walking.Walking.TheVariants.{Grouped, Joined}
 use Rattle.juniper.proofs.SeenFailures.{firsts-seen}
 
 -- steps whose replies are a root's nodes are seen as the user's
@@ -73,15 +73,15 @@ module _ {Q M C N I J : Type 0} (concrete : Q → I → C → N → Name) (answe
         is_root (steps-seen sees users step torn m j s.mutation)) (seen, o.1, lists-seen w disabled i m j y c x o.2)
 
     -- the same where the parts of the root come by other names
-    pub outcome-moved : (w : Walking) (disabled : Bool) (i : I) (m : M) (j : J) (x : Schema) (b : Bool) (h : I) (n : M) (k : J) → x ≡ s → b ≡ disabled →
-        h ≡ i → n ≡ m →
-        k ≡ j →
-        (y : Schema → Outcome) (c : C) (z : Response) (after : C) → IsWalkedOutcome (held_service x b h n k) w (y x) c z after →
-        IsWalkedOutcome (seen_service s disabled i m j) w (y s) c z after
-    outcome-moved w disabled i m j x b h n k ex eb eh en ek y c z after o =
+    pub outcome-moved : (w : Walking) (disabled : Bool) (i : I) (m : M) (j : J) (x : Schema) (h : I) (n : M) (k : J) (t : RootedNode N) → x ≡ s → h ≡ i →
+        n ≡ m → k ≡ j → t ≡ top → (y : Schema → Outcome) (c : C) (z : Response) (after : C) →
+        IsWalkedOutcome (service x disabled (held_concrete h) (held_answer h) t (option_map (λ (T : Name). rooted_steps step torn n k) x.mutation)) w (y x)
+        c z after → IsWalkedOutcome (seen_service s disabled i m j) w (y s) c z after
+    outcome-moved w disabled i m j x h n k t ex eh en ek et y c z after o =
         outcome-seen w disabled i m j (y s) c z after
-        (subst (λ t. IsWalkedOutcome (held_service s disabled i m t) w (y s) c z after) ek
-        (subst (λ t. IsWalkedOutcome (held_service s disabled i t k) w (y s) c z after) en
-        (subst (λ t. IsWalkedOutcome (held_service s disabled t n k) w (y s) c z after) eh
-        (subst (λ t. IsWalkedOutcome (held_service s t h n k) w (y s) c z after) eb
-        (subst (λ t. IsWalkedOutcome (held_service t b h n k) w (y t) c z after) ex o)))))
+        (subst (λ v. IsWalkedOutcome (held_service s disabled i m v) w (y s) c z after) ek
+        (subst (λ v. IsWalkedOutcome (held_service s disabled i v k) w (y s) c z after) en
+        (subst (λ v. IsWalkedOutcome (held_service s disabled v n k) w (y s) c z after) eh
+        (subst (λ v. IsWalkedOutcome (held_service v disabled h n k) w (y v) c z after) ex
+        (subst (λ v. IsWalkedOutcome (service x disabled (held_concrete h) (held_answer h) v
+        (option_map (λ (T : Name). rooted_steps step torn n k) x.mutation)) w (y x) c z after) et o)))))

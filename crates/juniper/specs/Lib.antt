@@ -7,13 +7,8 @@ pub mod Headline
 pub mod Objections
 pub mod PreparedView
 pub mod Promised
-pub mod Questions
-pub mod Replied
 pub mod RequestErrors
-pub mod RootFields
 pub mod RootView
-pub mod ServedView
 pub mod Services
-pub mod Stepping
-pub mod Walkings
+pub mod WalkedOutcomes
 pub use Rattle.juniper_words.specs.Server

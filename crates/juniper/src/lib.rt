@@ -1,26 +1,17 @@
 //! The executor: from a query text to data and errors.
 #![tactic(auto)]
 
-mod coerce;
 mod error;
 mod execute;
 mod introspection;
 pub mod laws;
-mod mutation;
-mod node_resolver;
 mod operation;
 mod prepared;
 mod preparing;
-mod question;
-mod replying;
 mod request;
-mod root_walk;
-mod served;
-mod service;
-mod small;
+mod root_resolver;
 pub mod twin;
 mod variables;
-mod walking;
 pub mod words;
 
 pub use error::GraphQLError;

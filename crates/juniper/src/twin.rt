@@ -16,7 +16,7 @@ ghost use Rattle.juniper.specs.RootView.{service_of};
 
 use crate::error::GraphQLError;
 use crate::execute::execute_walked;
-use crate::walking::Walking;
+use juniper_execute::Walking;
 use juniper_intro::RootNode;
 use juniper_language::{Document, Operation, ScalarValue, Span, Spanning, Value, Variables};
 use juniper_types::{GraphQLMutationValue, GraphQLType, GraphQLValue};

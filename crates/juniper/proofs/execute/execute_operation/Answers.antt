@@ -4,18 +4,17 @@ use Rattle.graphql_spec.specs.Shown.{Name}
 use Rattle.juniper_syntax.specs.DocumentView.{view_document, view_kind, view_operation}
 use Rattle.juniper_syntax.specs.InputView.{view_variables}
 use Rattle.juniper_schema.specs.SchemaView.{view_schema}
-use Rattle.juniper.specs.Services.{rooted_steps, service_in}
+use Rattle.juniper.specs.Services.{service_at}
 use Rattle.juniper.proofs.Composing.{subscription-ends, mutation-answers, mutation-ends, mutation-left, mutation-lists, query-ends, query-lists}
 use Rattle.juniper.proofs.execute.execute_operation.Goals as goal
 
 pub returns-in-Subscription : goal.returns-in-Subscription
-returns-in-Subscription g c =
+returns-in-Subscription g c = λ disabled.
     let shown = g.S.ScalarValue.shown in
     let root = c.args.served.now in
     let s = view_schema shown root.schema.now in
-    let m = rooted_steps g.M.GraphQLMutationValue.step g.M.GraphQLMutationValue.torn root.mutation.now root.mutation_info.now in
-    let S = service_in g.Q.GraphQLValue.concrete g.Q.GraphQLValue.answer g.Q.GraphQLValue.root root.query.now root.query_info.now m s
-    root.is_introspection_disabled in (
+    let m = g.M.MutationSteps.steps c.args.steps.now in
+    let S = service_at (g.R.NodeTypes.meaning root.resolver.now) m c.args.root.now s disabled in (
       spec.is_subscription,
       refl,
       (
@@ -27,13 +26,12 @@ returns-in-Subscription g c =
     )
 
 pub returns-in_default : goal.returns-in_default
-returns-in_default g c =
+returns-in_default g c = λ disabled.
     let shown = g.S.ScalarValue.shown in
     let root = c.args.served.now in
     let s = view_schema shown root.schema.now in
-    let m = rooted_steps g.M.GraphQLMutationValue.step g.M.GraphQLMutationValue.torn root.mutation.now root.mutation_info.now in
-    let S = service_in g.Q.GraphQLValue.concrete g.Q.GraphQLValue.answer g.Q.GraphQLValue.root root.query.now root.query_info.now m s
-    root.is_introspection_disabled in
+    let m = g.M.MutationSteps.steps c.args.steps.now in
+    let S = service_at (g.R.NodeTypes.meaning root.resolver.now) m c.args.root.now s disabled in
     let d = view_document shown c.args.document.now in
     let o = view_operation shown c.args.operation.now in
     let given = view_variables shown c.args.variables.now in (
@@ -48,13 +46,12 @@ returns-in_default g c =
     )
 
 pub returns-in-Err : goal.returns-in-Err
-returns-in-Err g c =
+returns-in-Err g c = λ disabled.
     let shown = g.S.ScalarValue.shown in
     let root = c.args.served.now in
     let s = view_schema shown root.schema.now in
-    let m = rooted_steps g.M.GraphQLMutationValue.step g.M.GraphQLMutationValue.torn root.mutation.now root.mutation_info.now in
-    let S = service_in g.Q.GraphQLValue.concrete g.Q.GraphQLValue.answer g.Q.GraphQLValue.root root.query.now root.query_info.now m s
-    root.is_introspection_disabled in
+    let m = g.M.MutationSteps.steps c.args.steps.now in
+    let S = service_at (g.R.NodeTypes.meaning root.resolver.now) m c.args.root.now s disabled in
     let d = view_document shown c.args.document.now in
     let o = view_operation shown c.args.operation.now in
     let given = view_variables shown c.args.variables.now in
@@ -68,13 +65,12 @@ returns-in-Err g c =
     )
 
 pub returns-in-Mutation : goal.returns-in-Mutation
-returns-in-Mutation g c =
+returns-in-Mutation g c = λ disabled.
     let shown = g.S.ScalarValue.shown in
     let root = c.args.served.now in
     let s = view_schema shown root.schema.now in
-    let m = rooted_steps g.M.GraphQLMutationValue.step g.M.GraphQLMutationValue.torn root.mutation.now root.mutation_info.now in
-    let S = service_in g.Q.GraphQLValue.concrete g.Q.GraphQLValue.answer g.Q.GraphQLValue.root root.query.now root.query_info.now m s
-    root.is_introspection_disabled in
+    let m = g.M.MutationSteps.steps c.args.steps.now in
+    let S = service_at (g.R.NodeTypes.meaning root.resolver.now) m c.args.root.now s disabled in
     let d = view_document shown c.args.document.now in
     let o = view_operation shown c.args.operation.now in
     let given = view_variables shown c.args.variables.now in
@@ -90,13 +86,12 @@ returns-in-Mutation g c =
     )
 
 pub returns : goal.returns
-returns g c =
+returns g c = λ disabled.
     let shown = g.S.ScalarValue.shown in
     let root = c.args.served.now in
     let s = view_schema shown root.schema.now in
-    let m = rooted_steps g.M.GraphQLMutationValue.step g.M.GraphQLMutationValue.torn root.mutation.now root.mutation_info.now in
-    let S = service_in g.Q.GraphQLValue.concrete g.Q.GraphQLValue.answer g.Q.GraphQLValue.root root.query.now root.query_info.now m s
-    root.is_introspection_disabled in (
+    let m = g.M.MutationSteps.steps c.args.steps.now in
+    let S = service_at (g.R.NodeTypes.meaning root.resolver.now) m c.args.root.now s disabled in (
       query-ends S s (view_document shown c.args.document.now) (view_operation shown c.args.operation.now)
           (view_variables shown c.args.variables.now) c.args.context.now
           (ap view_kind c.in-Query.is) _ c.in_ok-values-in-Query.ensures _ _ c.in_ok-answered-in-Query.ensures.0,

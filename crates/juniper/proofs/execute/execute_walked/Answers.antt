@@ -1,21 +1,26 @@
-use Rattle.std.proofs.Common.{IsTrue, ap, subst, sym}
+use Rattle.std.proofs.Common.{◌≡◌, IsTrue, [], ap, refl, subst, sym}
 use Rattle.graphql_spec.specs.Executable.{is_executable}
-use Rattle.juniper_intro.specs.RootView.{resolver_of, view_node_of}
+use Rattle.graphql_spec.specs.Rules.{rule_errors}
+use Rattle.juniper_intro.specs.RootView.{is_disabled, resolver_of, view_node_of}
 use Rattle.juniper_schema.specs.SchemaView.{view_schema}
 use Rattle.juniper_syntax.specs.DocumentView.{view_document, view_operation}
 use Rattle.juniper_syntax.specs.InputView.{view_variables}
 use Rattle.juniper.specs.Answering.{outcome_of}
-use Rattle.juniper.specs.Services.{is_undeclared}
 use Rattle.juniper.proofs.Composing.{answers-then}
 use Rattle.juniper.proofs.RootOutcomes.{outcome-moved}
 use Rattle.juniper.proofs.execute.execute_walked.Goals as goal
 
-pub invariant_of-served : goal.invariant_of-served
-unfolding is_undeclared
-invariant_of-served g c = record {
-  executable = subst (λ s. IsTrue (is_executable s)) (sym (ap (view_schema g.S.ScalarValue.shown) c.schema.ensures)) c.root_replies.ensures.executable;
-  unnamed = ap is_undeclared c.undeclared_type-undeclared.ensures;
-}
+pub execute_resolved-requires-clause-executable : goal.execute_resolved-requires-clause-executable
+execute_resolved-requires-clause-executable g c =
+    subst (λ s. IsTrue (is_executable s)) (sym (ap (view_schema g.S.ScalarValue.shown) c.schema-schema.ensures)) c.root_replies.ensures.executable
+
+pub execute_resolved-requires-clause-valid : goal.execute_resolved-requires-clause-valid
+execute_resolved-requires-clause-valid g c =
+    let shown = g.S.ScalarValue.shown in
+    let disabled = is_disabled c.args.root_node.now in (
+      disabled,
+      subst (λ s. rule_errors s disabled (view_document shown c.args.document.now) ≡ []) (sym (ap (view_schema shown) c.schema-schema.ensures)) c.requires.valid,
+    )
 
 pub returns : goal.returns
 returns g c =
@@ -25,8 +30,8 @@ returns g c =
     let o = view_operation shown c.args.operation.now in
     let given = view_variables shown c.args.variables.now in
     let law = c.root_replies.ensures in
-    answers-then shown _ c.execute_operation.result c.execute_operation.ensures _
+    answers-then shown _ c.execute_resolved.result (c.execute_resolved.ensures (is_disabled root)) _
     (λ r p. outcome-moved g.Q.GraphQLValue.concrete g.Q.GraphQLValue.answer g.Q.GraphQLValue.root g.M.GraphQLMutationValue.step g.M.GraphQLMutationValue.torn
-    _ _ _ (view_node_of shown root) (resolver_of root) _ law.types law.replies law.top law.users c.args.walking _ _ _ _ _ _ _ _ _
-    (ap (view_schema shown) c.schema.ensures) c.is_introspection_disabled.ensures c.query_info.ensures c.mutation.ensures c.mutation_info.ensures
-    (λ x. outcome_of x d o given) c.args.context.now r c.execute_operation.new.context p)
+    _ _ _ (view_node_of shown root) (resolver_of root) _ law.types law.replies law.top law.users c.args.walking (is_disabled root) _ _ _ _ _ _ _ _
+    (ap (view_schema shown) c.schema-schema.ensures) c.query_info.ensures c.mutation.ensures c.mutation_info.ensures refl
+    (λ x. outcome_of x d o given) c.args.context.now r c.execute_resolved.new.context p)

@@ -6,8 +6,8 @@ use Rattle.juniper_syntax.specs.DocumentView.{view_document, view_operation}
 use Rattle.juniper_syntax.specs.InputView.{view_variables}
 use Rattle.juniper.specs.Answering.{outcome_of}
 use Rattle.juniper.specs.RootView.{service_of}
-use Rattle.juniper.specs.Walkings.{IsWalkedOutcome}
-use Rattle.juniper.specs.declared.walking.Walking.TheVariants.{Joined}
+use Rattle.juniper.specs.WalkedOutcomes.{IsWalkedOutcome}
+use Rattle.juniper_execute.specs.declared.walking.Walking.TheVariants.{Joined}
 use Rattle.juniper.proofs.Composing.{answers-so}
 use Rattle.juniper.proofs.twin.execute_by_join.Goals as goal
 

@@ -1,6 +1,0 @@
-use Rattle.graphql_spec.specs.Arguments.{coerced_arguments}
-use Rattle.juniper.proofs.coerce.coerce_arguments.Goals as goal
-
-pub returns : goal.returns
-unfolding coerced_arguments
-returns g c = rw (← c.written_arguments.ensures, ← c.in_ok-given.ensures) c.new.ensures

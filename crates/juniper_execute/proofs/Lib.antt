@@ -1,0 +1,8 @@
+pub mod Asked
+mod Executing
+mod Names
+mod AllReplies
+mod RootGroups
+mod RootPlans
+pub mod ToldFirsts
+mod Undeclared

@@ -1,0 +1,24 @@
+use Rattle.std.proofs.Common.{refl}
+use Rattle.graphql_spec.specs.Fields.{is_possible}
+use Rattle.juniper_schema.specs.SchemaView.{view_schema}
+use Rattle.juniper_plan.proofs.Elsewhere.{standing-elsewhere}
+use Rattle.juniper_execute.specs.RootFields.{asks_in, collector_in}
+use Rattle.juniper_execute.proofs.RootGroups.{made-elsewhere, root-ready}
+use Rattle.juniper_execute.proofs.mutation.plan_root.Goals as goal
+
+pub invariant_of-service : goal.invariant_of-service
+invariant_of-service g c = record { executable = c.args.served.now.executable; unnamed = c.args.served.now.unnamed }
+
+pub root_groups-requires-clause-ready : goal.root_groups-requires-clause-ready
+root_groups-requires-clause-ready g c = root-ready g.S.ScalarValue.shown c.args.walk.now _ refl refl c.requires.ready
+
+pub root_groups-requires-clause-standing : goal.root_groups-requires-clause-standing
+root_groups-requires-clause-standing g c =
+    standing-elsewhere g.S.ScalarValue.shown (collector_in g.S.ScalarValue.shown c.args.walk.now) _ refl refl
+    (asks_in g.S.ScalarValue.shown c.args.walk.now (view_schema g.S.ScalarValue.shown c.args.served.now.schema.now))
+    (is_possible (view_schema g.S.ScalarValue.shown c.args.served.now.schema.now)) c.args.plan.now c.requires.standing
+
+pub returns : goal.returns
+returns g c =
+    made-elsewhere g.S.ScalarValue.shown _ (collector_in g.S.ScalarValue.shown c.args.walk.now) refl refl _ _ _ c.args.enclosing.now _ _ _
+    c.in_ok-groups.ensures

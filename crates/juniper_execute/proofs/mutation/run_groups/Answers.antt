@@ -1,0 +1,205 @@
+use Rattle.std.proofs.Common.{map, refl, ap}
+use Rattle.graphql_spec.specs.Fields.{is_possible}
+use Rattle.graphql_spec.specs.Selections.{keys}
+use Rattle.juniper_errors.specs.ErrorView.{view_listed}
+use Rattle.juniper_plan.proofs.Sorted.{bare-stands}
+use Rattle.juniper_schema.specs.SchemaView.{view_schema}
+use Rattle.juniper_syntax.specs.ValueView.{view_object}
+use Rattle.juniper_syntax.proofs.Values.{view-Null, view-Object}
+use Rattle.juniper_execute.specs.RootFields.{all_fields, asks_in, collector_in, values_in}
+use Rattle.juniper_execute.specs.Meanings.{mutation_at}
+use Rattle.juniper_execute.specs.Walkings.{starts_by}
+use Rattle.juniper_execute.proofs.RootPlans.{before-end, left-same, on-err, past-end, plan-asked, plan-begins, plan-bound, plan-ends, plan-group, plan-kept, plan-lost}
+use Rattle.juniper_execute.proofs.RootPlans.{plan-moves, plan-stopped, root-expanded}
+use Rattle.juniper_execute.proofs.mutation.run_groups.Goals as goal
+
+pub plan_root-requires-clause-standing : goal.plan_root-requires-clause-standing
+plan_root-requires-clause-standing g c =
+    bare-stands g.S.ScalarValue.shown (collector_in g.S.ScalarValue.shown c.args.walk.now)
+    (asks_in g.S.ScalarValue.shown c.args.walk.now (view_schema g.S.ScalarValue.shown c.args.served.now.schema.now))
+    (is_possible (view_schema g.S.ScalarValue.shown c.args.served.now.schema.now)) c.new-plan.result c.new-plan.ensures
+
+pub returns-in_err-groups : goal.returns-in_err-groups
+returns-in_err-groups g c =
+    let shown = g.S.ScalarValue.shown in
+    let root = c.args.served.now in
+    let walk = c.args.walk.now in
+    let s = view_schema shown root.schema.now in
+    let M = mutation_at (g.R.NodeTypes.meaning root.resolver.now) s (values_in shown walk) (g.M.MutationSteps.steps walk.steps.now) in
+    let T = walk.concrete.now in
+    let os = all_fields shown walk s in
+    let before = c.args.context.now in
+    on-err _ _ _ c.from_residual.ensures.0 (left-same M T (keys os) os before)
+
+pub returns-in_err-entries : goal.returns-in_err-entries
+returns-in_err-entries g c =
+    let shown = g.S.ScalarValue.shown in
+    let root = c.args.served.now in
+    let walk = c.args.walk.now in
+    let s = view_schema shown root.schema.now in
+    let M = mutation_at (g.R.NodeTypes.meaning root.resolver.now) s (values_in shown walk) (g.M.MutationSteps.steps walk.steps.now) in
+    let T = walk.concrete.now in
+    let os = all_fields shown walk s in
+    let before = c.args.context.now in
+    on-err _ _ _ c.from_residual-in_err-entries.ensures.0 (left-same M T (keys os) os before)
+
+pub loop-number-init : goal.loop-number-init
+loop-number-init g c =
+    let shown = g.S.ScalarValue.shown in
+    let root = c.args.served.now in
+    let walk = c.args.walk.now in
+    let s = view_schema shown root.schema.now in
+    let M = mutation_at (g.R.NodeTypes.meaning root.resolver.now) s (values_in shown walk) (g.M.MutationSteps.steps walk.steps.now) in
+    let T = walk.concrete.now in
+    let os = all_fields shown walk s in
+    let before = c.args.context.now in (
+      c.in_ok-groups.groups,
+      refl,
+      plan-begins M (starts_by root.walking) shown walk s c.in_ok-groups.groups before _ refl refl _ _ _ _ _ refl c.in_ok-groups.ensures
+          c.in_ok-entries.ensures (ap (map (view_listed shown)) c.new-errors.ensures.items),
+    )
+
+pub run_group-requires-clause-standing : goal.run_group-requires-clause-standing
+run_group-requires-clause-standing g c = c.loop-number.invariant.2.standing
+
+pub run_group-requires-clause-bound : goal.run_group-requires-clause-bound
+run_group-requires-clause-bound g c =
+    let shown = g.S.ScalarValue.shown in
+    let root = c.args.served.now in
+    let walk = c.args.walk.now in
+    let s = view_schema shown root.schema.now in
+    let M = mutation_at (g.R.NodeTypes.meaning root.resolver.now) s (values_in shown walk) (g.M.MutationSteps.steps walk.steps.now) in
+    let T = walk.concrete.now in
+    let os = all_fields shown walk s in
+    let before = c.args.context.now in
+    let r = c.loop-number.invariant.0 in
+    let i = c.loop-number.number in
+    let p = c.loop-number.plan in
+    let es = view_object shown c.loop-number.entries in
+    let errors = map (view_listed shown) c.loop-number.errors.items in
+    let now = c.loop-number.context in
+    let ran = c.loop-number.invariant.2 in
+    let high = before-end r i _ c.loop-number.invariant.1 c.loop-number-test.true in
+    plan-bound M (starts_by root.walking) shown walk s r before i p es errors now ran high
+
+pub run_group-requires-clause-enclosing : goal.run_group-requires-clause-enclosing
+run_group-requires-clause-enclosing g c = root-expanded g.S.ScalarValue.shown c.args.walk.now _ refl
+
+pub run_group-requires-clause-group : goal.run_group-requires-clause-group
+run_group-requires-clause-group g c =
+    let shown = g.S.ScalarValue.shown in
+    let root = c.args.served.now in
+    let walk = c.args.walk.now in
+    let s = view_schema shown root.schema.now in
+    let M = mutation_at (g.R.NodeTypes.meaning root.resolver.now) s (values_in shown walk) (g.M.MutationSteps.steps walk.steps.now) in
+    let T = walk.concrete.now in
+    let os = all_fields shown walk s in
+    let before = c.args.context.now in
+    let r = c.loop-number.invariant.0 in
+    let i = c.loop-number.number in
+    let p = c.loop-number.plan in
+    let es = view_object shown c.loop-number.entries in
+    let errors = map (view_listed shown) c.loop-number.errors.items in
+    let now = c.loop-number.context in
+    let ran = c.loop-number.invariant.2 in
+    let high = before-end r i _ c.loop-number.invariant.1 c.loop-number-test.true in
+    plan-group M (starts_by root.walking) shown walk s r before i p es errors now ran high
+
+pub run_group-requires-clause-asked : goal.run_group-requires-clause-asked
+run_group-requires-clause-asked g c =
+    let shown = g.S.ScalarValue.shown in
+    let root = c.args.served.now in
+    let walk = c.args.walk.now in
+    let s = view_schema shown root.schema.now in
+    let M = mutation_at (g.R.NodeTypes.meaning root.resolver.now) s (values_in shown walk) (g.M.MutationSteps.steps walk.steps.now) in
+    let T = walk.concrete.now in
+    let os = all_fields shown walk s in
+    let before = c.args.context.now in
+    let r = c.loop-number.invariant.0 in
+    let i = c.loop-number.number in
+    let p = c.loop-number.plan in
+    let es = view_object shown c.loop-number.entries in
+    let errors = map (view_listed shown) c.loop-number.errors.items in
+    let now = c.loop-number.context in
+    let ran = c.loop-number.invariant.2 in
+    let high = before-end r i _ c.loop-number.invariant.1 c.loop-number-test.true in
+    plan-asked M (starts_by root.walking) shown walk s r before i p es errors now ran high
+
+pub returns-in-Err : goal.returns-in-Err
+returns-in-Err g c =
+    let shown = g.S.ScalarValue.shown in
+    let root = c.args.served.now in
+    let walk = c.args.walk.now in
+    let s = view_schema shown root.schema.now in
+    let M = mutation_at (g.R.NodeTypes.meaning root.resolver.now) s (values_in shown walk) (g.M.MutationSteps.steps walk.steps.now) in
+    let T = walk.concrete.now in
+    let os = all_fields shown walk s in
+    let before = c.args.context.now in
+    let r = c.loop-number.invariant.0 in
+    let i = c.loop-number.number in
+    let p = c.loop-number.plan in
+    let es = view_object shown c.loop-number.entries in
+    let errors = map (view_listed shown) c.loop-number.errors.items in
+    let now = c.loop-number.context in
+    let ran = c.loop-number.invariant.2 in
+    let high = before-end r i _ c.loop-number.invariant.1 c.loop-number-test.true in
+    plan-stopped M (starts_by root.walking) shown walk s r before i p es errors now ran high _ c.in-Err.ensures.ran
+
+pub returns-then-rises : goal.returns-then-rises
+returns-then-rises g c =
+    let shown = g.S.ScalarValue.shown in
+    let root = c.args.served.now in
+    let walk = c.args.walk.now in
+    let s = view_schema shown root.schema.now in
+    let M = mutation_at (g.R.NodeTypes.meaning root.resolver.now) s (values_in shown walk) (g.M.MutationSteps.steps walk.steps.now) in
+    let T = walk.concrete.now in
+    let os = all_fields shown walk s in
+    let before = c.args.context.now in
+    let r = c.loop-number.invariant.0 in
+    let i = c.loop-number.number in
+    let p = c.loop-number.plan in
+    let es = view_object shown c.loop-number.entries in
+    let errors = map (view_listed shown) c.loop-number.errors.items in
+    let now = c.loop-number.context in
+    let ran = c.loop-number.invariant.2 in
+    let high = before-end r i _ c.loop-number.invariant.1 c.loop-number-test.true in
+    plan-moves M (starts_by root.walking) T (keys os) os before _ _ _ _ (view-Null shown)
+    (plan-lost M (starts_by root.walking) shown walk s r before i p es errors now ran high _ _ _ (rw c.if-rises.true at c.in-Ok.ensures.ran))
+
+pub loop-number-preserved : goal.loop-number-preserved
+loop-number-preserved g c =
+    let shown = g.S.ScalarValue.shown in
+    let root = c.args.served.now in
+    let walk = c.args.walk.now in
+    let s = view_schema shown root.schema.now in
+    let M = mutation_at (g.R.NodeTypes.meaning root.resolver.now) s (values_in shown walk) (g.M.MutationSteps.steps walk.steps.now) in
+    let T = walk.concrete.now in
+    let os = all_fields shown walk s in
+    let before = c.args.context.now in
+    let r = c.loop-number.invariant.0 in
+    let i = c.loop-number.number in
+    let p = c.loop-number.plan in
+    let es = view_object shown c.loop-number.entries in
+    let errors = map (view_listed shown) c.loop-number.errors.items in
+    let now = c.loop-number.context in
+    let ran = c.loop-number.invariant.2 in
+    let high = before-end r i _ c.loop-number.invariant.1 c.loop-number-test.true in (
+      r,
+      c.loop-number.invariant.1,
+      plan-kept M (starts_by root.walking) shown walk s r before i p es errors now ran high _ c.in-Ok.ensures.plan _ _ _
+          (rw c.if-rises.false at c.in-Ok.ensures.ran),
+    )
+
+pub returns : goal.returns
+returns g c =
+    let shown = g.S.ScalarValue.shown in
+    let root = c.args.served.now in
+    let walk = c.args.walk.now in
+    let s = view_schema shown root.schema.now in
+    let M = mutation_at (g.R.NodeTypes.meaning root.resolver.now) s (values_in shown walk) (g.M.MutationSteps.steps walk.steps.now) in
+    let T = walk.concrete.now in
+    let os = all_fields shown walk s in
+    let before = c.args.context.now in
+    plan-moves M (starts_by root.walking) T (keys os) os before _ _ _ _ (view-Object shown c.loop-number.entries)
+    (plan-ends M (starts_by root.walking) shown walk s c.loop-number.invariant.0 before _ _ _ _ _ c.loop-number.invariant.2
+    (past-end c.loop-number.invariant.0 _ _ c.loop-number.invariant.1 c.loop-number-test.false))

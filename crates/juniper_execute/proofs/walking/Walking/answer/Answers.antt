@@ -1,0 +1,11 @@
+use Rattle.std.proofs.Common.{map}
+use Rattle.juniper_errors.specs.ErrorView.{view_listed}
+use Rattle.juniper_syntax.specs.ValueView.{view_value}
+use Rattle.juniper_execute.proofs.ToldFirsts.{answer-tells}
+use Rattle.juniper_execute.proofs.walking.Walking.answer.Goals as goal
+
+pub returns-in-Grouped-clause-firsts : goal.returns-in-Grouped-clause-firsts
+returns-in-Grouped-clause-firsts g c =
+    let shown = g.S.ScalarValue.shown in
+    answer-tells c.answer.result _ _ _ _ (λ w. view_value shown w.value) (λ w. map (view_listed shown) w.errors.items)
+    c.answer.ensures.exact c.answer.ensures.firsts _ c.in-Grouped.is

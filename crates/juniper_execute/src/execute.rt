@@ -1,0 +1,109 @@
+//! Queries and mutations of valid documents, executed (ExecuteQuery and ExecuteMutation, section 6.2 of the Specification).
+
+ghost use Rattle.std.specs.Prelude.{◌≡◌, IfOk, Some, map};
+ghost use Rattle.graphql_spec.specs.Documents as documents;
+ghost use Rattle.graphql_spec.specs.Laws.{In};
+ghost use Rattle.graphql_spec.specs.Requests.{selected};
+ghost use Rattle.juniper_syntax.specs.DocumentView.{view_document, view_operation};
+ghost use Rattle.juniper_syntax.specs.InputView.{view_variables};
+ghost use Rattle.juniper_syntax.specs.ValueView.{view_value};
+ghost use Rattle.juniper_errors.specs.ErrorView.{view_listed};
+ghost use Rattle.juniper_execute.specs.ServedView.{mutation_root, schema_of, served_world};
+ghost use Rattle.juniper_execute.specs.Validity.{IsValid};
+ghost use Rattle.juniper_execute.specs.Walkings.{IsQueryWalked, MutationWalked};
+
+use crate::mutation::run_groups;
+use crate::node_resolver::{MutationSteps, NodeResolver};
+use crate::root_walk::RootWalk;
+use crate::served::Served;
+use crate::service::Service;
+use juniper_collect::fragments_of;
+use juniper_syntax::{Document, Operation, ScalarValue, Span, Spanning, Value, Variables};
+use juniper_values::ExecutionError;
+use juniper_walk::{root_path, sort_errors};
+use std::alloc::{AllocError, Global};
+
+/// Executes a query of a valid document (ExecuteQuery, 6.2.1).
+pub fn execute_query<'d, 'a, R: NodeResolver<S>, S: ScalarValue>(
+    alloc: Global,
+    document: &'d Document<'a, S>,
+    operation: &'d Spanning<Operation<'a, S>, Span>,
+    served: &Served<'_, R, S>,
+    root: &R::Node,
+    variables: &Variables<S>,
+    context: &R::Context,
+) -> Result<(Value<S>, Vec<ExecutionError<S>>), AllocError>
+    requires valid { IsValid (schema_of S.shown served.now) (view_document S.shown document.now) }
+    requires member { In (documents.operation (view_operation S.shown operation.now)) (view_document S.shown document.now) }
+    requires query { (view_operation S.shown operation.now).kind ≡ documents.query }
+    ensures { IfOk result (λ p. IsQueryWalked served.now.walking
+        (served_world R.meaning S.shown served.now (view_variables S.shown variables.now) context.now) (schema_of S.shown served.now).query root.now
+        (selected (view_document S.shown document.now) (view_operation S.shown operation.now) (view_variables S.shown variables.now))
+        (view_value S.shown p.0) (map (view_listed S.shown) p.1.items)) }
+{
+    let fragments = fragments_of(alloc, document.as_slice())?;
+    let service = Service {
+        resolver: served.resolver,
+        context,
+        schema: served.schema,
+        variables,
+        query_type: served.query_type(),
+        undeclared: served.undeclared,
+    };
+    let walked = service.answer(
+        alloc,
+        served.walking,
+        &fragments,
+        served.schema.query_name(),
+        root,
+        operation.span.start,
+        operation.item.selection_set.as_slice(),
+    )?;
+    Ok((walked.value, walked.errors))
+}
+
+/// Executes a mutation of a valid document on the mutation type, by these steps (ExecuteMutation, 6.2.2).
+pub fn execute_mutation<
+    'd,
+    'a,
+    R: NodeResolver<S>,
+    M: MutationSteps<S, Context = R::Context, Node = R::Node>,
+    S: ScalarValue,
+>(
+    alloc: Global,
+    document: &'d Document<'a, S>,
+    operation: &'d Spanning<Operation<'a, S>, Span>,
+    served: &Served<'_, R, S>,
+    steps: &M,
+    concrete: &str,
+    variables: &Variables<S>,
+    context: &mut R::Context,
+) -> Result<(Value<S>, Vec<ExecutionError<S>>), AllocError>
+    requires valid { IsValid (schema_of S.shown served.now) (view_document S.shown document.now) }
+    requires member { In (documents.operation (view_operation S.shown operation.now)) (view_document S.shown document.now) }
+    requires mutation { (view_operation S.shown operation.now).kind ≡ documents.mutation }
+    requires root { (schema_of S.shown served.now).mutation ≡ Some concrete.now }
+    ensures { MutationWalked S.shown served.now.walking (mutation_root R.meaning S.shown served.now (M.steps steps.now) (view_variables S.shown variables.now)) concrete.now
+        (selected (view_document S.shown document.now) (view_operation S.shown operation.now) (view_variables S.shown variables.now))
+        context.old result context.new }
+{
+    let fragments = fragments_of(alloc, document.as_slice())?;
+    let path = root_path(alloc, operation.span.start)?;
+    let walk = RootWalk {
+        alloc,
+        steps,
+        concrete,
+        selections: operation.item.selection_set.as_slice(),
+        fragments: &fragments,
+        variables,
+        path: &path,
+    };
+    match run_groups(served, &walk, context) {
+        Err(error) => Err(error),
+        Ok(walked) => {
+            let mut errors = walked.errors;
+            sort_errors(&mut errors)?;
+            Ok((walked.value, errors))
+        }
+    }
+}

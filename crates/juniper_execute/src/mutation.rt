@@ -1,0 +1,353 @@
+//! The root groups of a mutation take their steps one after the other (ExecuteMutation, section 6.2.2 of the Specification).
+
+ghost use Rattle.std.specs.Prelude.{◌≡◌, ◌<◌, [], ◌∷◌, codes, false, length, IfOk, MatchResult, map, string_bytes};
+ghost use Rattle.std.specs.Str.{bytes_eq};
+ghost use Rattle.graphql_spec.specs.ExactAnswers.{whole};
+ghost use Rattle.graphql_spec.specs.Fields.{is_possible};
+ghost use Rattle.graphql_spec.specs.GroupLaws.{GroupCompleted};
+ghost use Rattle.graphql_spec.specs.Laws.{Merges};
+ghost use Rattle.graphql_spec.specs.Mutation.{IsLeft, step_of};
+ghost use Rattle.graphql_spec.specs.MutationLaws.{HasRun};
+ghost use Rattle.graphql_spec.specs.Selections.{all_below, keys, occurrences, with_key};
+ghost use Rattle.graphql_spec.specs.Types.{innermost};
+ghost use Rattle.juniper_collect.specs.Collected.{view_all};
+ghost use Rattle.juniper_plan.specs.Plans.{IsAskedAt, IsMade, all_expanded, fields_at, key_at};
+ghost use Rattle.juniper_plan.specs.PlanWalks.{HasFirst, IsGroupOf};
+ghost use Rattle.juniper_errors.specs.ErrorView.{view_listed};
+ghost use Rattle.juniper_errors.specs.PathView.{path_place};
+ghost use Rattle.juniper_resolvable.specs.ResolvedView.{Answers};
+ghost use Rattle.juniper_syntax.specs.TypeView.{view_type};
+ghost use Rattle.juniper_syntax.specs.ValueView.{view_object, view_value};
+ghost use Rattle.juniper_values.specs.ArgumentView.{view_arguments};
+ghost use Rattle.juniper_walk.specs.Completing.{IsTold};
+ghost use Rattle.juniper_walk.specs.FieldWords.{head_of};
+ghost use Rattle.juniper_walk.specs.Walking.{SelectionsAgree};
+ghost use Rattle.juniper_execute.specs.Questions.{IsFieldAsked, meant_arguments};
+ghost use Rattle.juniper_execute.specs.RootFields.{IsReadyRoot, IsRootPlan, IsRootStep, all_fields, asks_in, collector_in, field_in, selected_in, values_in};
+ghost use Rattle.juniper_execute.specs.ServedView.{mutation_in, schema_of, served_world};
+ghost use Rattle.juniper_execute.specs.Stepping.{GroupRan, GroupStopped, IsGiven, StepLeaves};
+ghost use Rattle.juniper_execute.specs.Walkings.{starts_by};
+
+use crate::coerce::coerce_arguments;
+use crate::node_resolver::{MutationSteps, NodeResolver};
+use crate::question::{Question, arguments_of};
+use crate::replying::type_name;
+use crate::root_walk::RootWalk;
+use crate::served::Served;
+use crate::service::{Service, first_of};
+use juniper_lookahead::Enclosing;
+use juniper_plan::{GroupNo, GroupRange, Plan};
+use juniper_syntax::{Field, Object, ScalarValue, Span, Spanning, Value};
+use juniper_types::{Executor, FieldPath, Resolved};
+use juniper_values::{Arguments, ExecutionError, ResolveError};
+use juniper_walk::{Asked, Site, Walked, path_below};
+use std::alloc::{AllocError, Global};
+use std::rc::Rc;
+
+/// Takes the step of a root field in the context; `__typename` leaves it (4.1).
+#[tactic(auto, unfolding(graphql_spec::specs::Mutation::step_of, graphql_spec::specs::Mutation::torn_of, graphql_spec::specs::Resolvers::world_of))]
+pub(crate) fn step<
+    's,
+    'd,
+    'a,
+    R: NodeResolver<S>,
+    M: MutationSteps<S, Context = R::Context, Node = R::Node>,
+    S: ScalarValue,
+>(
+    served: &Served<'s, R, S>,
+    walk: &RootWalk<'_, 'd, 'a, M, S>,
+    site: &Site<'_, 'd, 'a, S>,
+    written: &Spanning<Field<'a, S>, Span>,
+    question: &Question<'s, S>,
+    context: &mut R::Context,
+) -> Result<Resolved<R::Node, S>, ResolveError<S>>
+    requires { IsFieldAsked S.shown served.now.schema.now walk.now.variables.now walk.now.concrete.now question.now site.now written.now }
+    ensures answer { (os : _) → Answers S.shown result
+        (step_of (mutation_in R.meaning S.shown served.now M.steps walk.now) walk.now.concrete.now
+        context.old (field_in S.shown walk.now written.now ∷ os)).1 }
+    ensures context { (os : _) → StepLeaves (mutation_in R.meaning S.shown served.now M.steps walk.now)
+        walk.now.concrete.now (field_in S.shown walk.now written.now ∷ os) context.old result context.new }
+{
+    if written.item.name.item == "__typename" {
+        return type_name(walk.alloc, walk.concrete);
+    }
+    match &question.arguments {
+        Some(arguments) => step_with(served, walk, site, written, question, arguments, context),
+        None => {
+            let declared = arguments_of(question.declaration);
+            let arguments = coerce_arguments(walk.alloc, declared, written, walk.variables)?;
+            step_with(served, walk, site, written, question, &arguments, context)
+        }
+    }
+}
+
+/// The same with these arguments, for a field of the resolver.
+#[tactic(auto, unfolding(graphql_spec::specs::Mutation::step_of, graphql_spec::specs::Mutation::torn_of, graphql_spec::specs::Resolvers::world_of))]
+fn step_with<
+    's,
+    'd,
+    'a,
+    R: NodeResolver<S>,
+    M: MutationSteps<S, Context = R::Context, Node = R::Node>,
+    S: ScalarValue,
+>(
+    served: &Served<'s, R, S>,
+    walk: &RootWalk<'_, 'd, 'a, M, S>,
+    site: &Site<'_, 'd, 'a, S>,
+    written: &Spanning<Field<'a, S>, Span>,
+    question: &Question<'s, S>,
+    arguments: &Arguments<S>,
+    context: &mut R::Context,
+) -> Result<Resolved<R::Node, S>, ResolveError<S>>
+    requires asked { IsFieldAsked S.shown served.now.schema.now walk.now.variables.now walk.now.concrete.now question.now site.now written.now }
+    requires arguments { view_arguments S.shown arguments.now ≡ meant_arguments (schema_of S.shown served.now) (values_in S.shown walk.now)
+        walk.now.concrete.now (head_of S.shown written.now) }
+    requires own { bytes_eq (head_of S.shown written.now).name.item (codes "__typename") ≡ false }
+    ensures answer { (os : _) → Answers S.shown result
+        (step_of (mutation_in R.meaning S.shown served.now M.steps walk.now) walk.now.concrete.now
+        context.old (field_in S.shown walk.now written.now ∷ os)).1 }
+    ensures context { (os : _) → StepLeaves (mutation_in R.meaning S.shown served.now M.steps walk.now)
+        walk.now.concrete.now (field_in S.shown walk.now written.now ∷ os) context.old result context.new }
+{
+    let alloc = walk.alloc;
+    let name = written.item.name.item;
+    let executor = Executor::at_field(
+        &(),
+        served.schema,
+        walk.variables,
+        site.fragments,
+        site.path,
+        &question.shown,
+        walk.concrete,
+        site.enclosing,
+        site.occurrences,
+    );
+    walk.steps
+        .resolve_root(alloc, name, arguments, &executor, context)
+}
+
+/// Completes what a root field answered under the context that its step left (6.4.3).
+fn complete<'s, 'd, 'a, R: NodeResolver<S>, M, S: ScalarValue>(
+    served: &Served<'s, R, S>,
+    walk: &RootWalk<'_, 'd, 'a, M, S>,
+    plan: &mut Plan<'d, 'a, S, Question<'s, S>>,
+    path: &Rc<FieldPath<'a>>,
+    asked: Asked<'_, R::Node, S>,
+    group: GroupNo,
+    context: &R::Context,
+) -> Result<Walked<S>, AllocError>
+    requires ready { IsReadyRoot S.shown walk.now }
+    requires standing { IsRootPlan S.shown walk.now (schema_of S.shown served.now) plan.old }
+    requires bound { group.0 < length plan.old.groups.items }
+    requires some { HasFirst (view_all S.shown (collector_in S.shown walk.now) (fields_at plan.old group.0)) }
+    requires merge { Merges (served_world R.meaning S.shown served.now (values_in S.shown walk.now) context.now)
+        (innermost (view_type (λ n. string_bytes n) asked.declared.now))
+        (all_below (view_all S.shown (collector_in S.shown walk.now) (fields_at plan.old group.0))) }
+    ensures plan { IfOk result (λ _. IsRootStep S.shown walk.now (schema_of S.shown served.now) plan.old plan.new) }
+    ensures told { IfOk result (λ _. IsTold asked.entry.answer) }
+    ensures completed { (reply : _) → Answers S.shown asked.entry.answer reply → IfOk result (λ w. GroupCompleted whole (starts_by served.now.walking)
+        (served_world R.meaning S.shown served.now (values_in S.shown walk.now) context.now) (path_place path.now.value) []
+        (view_type (λ n. string_bytes n) asked.entry.declared.now) reply
+        (view_all S.shown (collector_in S.shown walk.now) (fields_at plan.old group.0))
+        (view_value S.shown w.value) (map (view_listed S.shown) w.errors.items)) }
+{
+    let service = Service {
+        resolver: served.resolver,
+        context,
+        schema: served.schema,
+        variables: walk.variables,
+        query_type: served.query_type(),
+        undeclared: served.undeclared,
+    };
+    let walked = service.complete_group(
+        walk.alloc,
+        served.walking,
+        walk.fragments,
+        plan,
+        path,
+        asked,
+        group,
+    )?;
+    Ok(walked)
+}
+
+/// Puts the value of a root field into the object, unless its null rises, and lists what fails in it; whether it rises.
+pub(crate) fn give<S: ScalarValue>(
+    alloc: Global,
+    key: &str,
+    is_non_null: bool,
+    walked: Walked<S>,
+    entries: &mut Object<S>,
+    errors: &mut Vec<ExecutionError<S>>,
+) -> Result<bool, AllocError>
+    ensures { IfOk result (λ rises. IsGiven key.now is_non_null (view_value S.shown walked.value) (map (view_listed S.shown) walked.errors.items) rises
+        (view_object S.shown entries.old) (view_object S.shown entries.new)
+        (map (view_listed S.shown) errors.old.items) (map (view_listed S.shown) errors.new.items)) }
+{
+    let mut listed = walked.errors;
+    errors.append(&mut listed)?;
+    if walked.value.is_null() && is_non_null {
+        return Ok(true);
+    }
+    let key = String::from_str(alloc, key)?;
+    drop(entries.add_field(key, walked.value)?);
+    Ok(false)
+}
+
+/// Runs a root group: its step, and what it answers; whether its null rises.
+fn run_group<
+    's,
+    'd,
+    'a,
+    R: NodeResolver<S>,
+    M: MutationSteps<S, Context = R::Context, Node = R::Node>,
+    S: ScalarValue,
+>(
+    served: &Served<'s, R, S>,
+    walk: &RootWalk<'_, 'd, 'a, M, S>,
+    plan: &mut Plan<'d, 'a, S, Question<'s, S>>,
+    enclosing: &[Enclosing<'d, 'a, S>],
+    group: GroupNo,
+    context: &mut R::Context,
+    entries: &mut Object<S>,
+    errors: &mut Vec<ExecutionError<S>>,
+) -> Result<bool, AllocError>
+    requires ready { IsReadyRoot S.shown walk.now }
+    requires standing { IsRootPlan S.shown walk.now (schema_of S.shown served.now) plan.old }
+    requires agree { (c : _) → SelectionsAgree ((mutation_in R.meaning S.shown served.now M.steps walk.now).world c)
+        walk.now.concrete.now (selected_in S.shown walk.now) }
+    requires bound { group.0 < length plan.old.groups.items }
+    requires enclosing { all_expanded S.shown (collector_in S.shown walk.now) enclosing.now ≡ selected_in S.shown walk.now }
+    requires asked { IsAskedAt (asks_in S.shown walk.now (schema_of S.shown served.now)) walk.now.concrete.now plan.old group.0
+        (view_all S.shown (collector_in S.shown walk.now) (fields_at plan.old group.0)) }
+    requires group { IsGroupOf (key_at plan.old group.0) (all_fields S.shown walk.now (schema_of S.shown served.now))
+        (view_all S.shown (collector_in S.shown walk.now) (fields_at plan.old group.0)) }
+    ensures plan { IfOk result (λ _. IsRootStep S.shown walk.now (schema_of S.shown served.now) plan.old plan.new) }
+    ensures ran { MatchResult result
+        (λ rises. GroupRan (mutation_in R.meaning S.shown served.now M.steps walk.now) walk.now.concrete.now
+        (starts_by served.now.walking) (key_at plan.old group.0) (all_fields S.shown walk.now (schema_of S.shown served.now)) context.old
+        (view_object S.shown entries.old) (map (view_listed S.shown) errors.old.items) rises
+        (view_object S.shown entries.new) (map (view_listed S.shown) errors.new.items) context.new)
+        (λ _. GroupStopped (mutation_in R.meaning S.shown served.now M.steps walk.now) walk.now.concrete.now
+        (with_key (key_at plan.old group.0) (all_fields S.shown walk.now (schema_of S.shown served.now)))
+        context.old context.new) }
+{
+    let fields = plan.fields(group);
+    let first = first_of(fields);
+    let path = path_below(walk.alloc, walk.path, first)?;
+    let question = plan.question(group);
+    let declared = question.declared;
+    let site = Site {
+        fragments: walk.fragments.by_name(),
+        path: path.as_ref(),
+        enclosing,
+        occurrences: fields,
+    };
+    let answer = step(served, walk, &site, first, question, context);
+    let key = plan.key(group);
+    let asked = Asked { declared, answer };
+    let walked = match complete(served, walk, plan, &path, asked, group, context) {
+        Err(error) => return Err(error),
+        Ok(walked) => walked,
+    };
+    match give(
+        walk.alloc,
+        key,
+        declared.is_non_null(),
+        walked,
+        entries,
+        errors,
+    ) {
+        Err(error) => Err(error),
+        Ok(rises) => Ok(rises),
+    }
+}
+
+/// The root groups, put into a plan (6.3.2).
+fn plan_root<'s, 'd, 'a, R: NodeResolver<S>, M, S: ScalarValue>(
+    served: &Served<'s, R, S>,
+    walk: &RootWalk<'_, 'd, 'a, M, S>,
+    plan: &mut Plan<'d, 'a, S, Question<'s, S>>,
+    enclosing: &[Enclosing<'d, 'a, S>],
+    context: &R::Context,
+) -> Result<GroupRange, AllocError>
+    requires ready { IsReadyRoot S.shown walk.now }
+    requires standing { IsRootPlan S.shown walk.now (schema_of S.shown served.now) plan.old }
+    ensures { IfOk result (λ r. IsMade S.shown (collector_in S.shown walk.now) (asks_in S.shown walk.now (schema_of S.shown served.now))
+        (is_possible (schema_of S.shown served.now)) walk.now.concrete.now
+        (occurrences (is_possible (schema_of S.shown served.now)) walk.now.concrete.now
+        (all_expanded S.shown (collector_in S.shown walk.now) enclosing.now)) plan.old plan.new r) }
+{
+    let service = Service {
+        resolver: served.resolver,
+        context,
+        schema: served.schema,
+        variables: walk.variables,
+        query_type: served.query_type(),
+        undeclared: served.undeclared,
+    };
+    let groups = service.root_groups(walk.alloc, walk.fragments, plan, walk.concrete, enclosing)?;
+    Ok(groups)
+}
+
+/// Runs the root groups, up to and including the first whose null rises: the data, and the errors as they were met.
+pub(crate) fn run_groups<
+    's,
+    'd,
+    'a,
+    R: NodeResolver<S>,
+    M: MutationSteps<S, Context = R::Context, Node = R::Node>,
+    S: ScalarValue,
+>(
+    served: &Served<'s, R, S>,
+    walk: &RootWalk<'_, 'd, 'a, M, S>,
+    context: &mut R::Context,
+) -> Result<Walked<S>, AllocError>
+    requires ready { IsReadyRoot S.shown walk.now }
+    requires agree { (c : _) → SelectionsAgree ((mutation_in R.meaning S.shown served.now M.steps walk.now).world c)
+        walk.now.concrete.now (selected_in S.shown walk.now) }
+    ensures { MatchResult result
+        (λ w. HasRun whole (starts_by served.now.walking) (mutation_in R.meaning S.shown served.now M.steps walk.now)
+        walk.now.concrete.now (keys (all_fields S.shown walk.now (schema_of S.shown served.now)))
+        (all_fields S.shown walk.now (schema_of S.shown served.now))
+        context.old (view_value S.shown w.value) (map (view_listed S.shown) w.errors.items) context.new)
+        (λ _. IsLeft (mutation_in R.meaning S.shown served.now M.steps walk.now) walk.now.concrete.now
+        (keys (all_fields S.shown walk.now (schema_of S.shown served.now)))
+        (all_fields S.shown walk.now (schema_of S.shown served.now))
+        context.old context.new) }
+{
+    let mut plan = Plan::new(walk.alloc);
+    let enclosing = [Enclosing {
+        selections: walk.selections,
+    }];
+    let groups = plan_root(served, walk, &mut plan, &enclosing, context)?;
+    let mut entries = Object::with_capacity(walk.alloc, groups.end.0 - groups.first.0)?;
+    let mut errors = Vec::new(walk.alloc);
+    for number in groups.first.0..groups.end.0 {
+        let group = GroupNo(number);
+        match run_group(
+            served,
+            walk,
+            &mut plan,
+            &enclosing,
+            group,
+            context,
+            &mut entries,
+            &mut errors,
+        ) {
+            Err(error) => return Err(error),
+            Ok(rises) => {
+                if rises {
+                    return Ok(Walked {
+                        value: Value::Null,
+                        errors,
+                    });
+                }
+            }
+        }
+    }
+    Ok(Walked {
+        value: Value::Object(entries),
+        errors,
+    })
+}

@@ -1,0 +1,230 @@
+//! The two ways to walk what a request selects (sections 6.3 and 6.4 of the Specification).
+
+ghost use Rattle.std.specs.Prelude.{◌≡◌, ◌<◌, [], IfOk, drop, length, map, string_bytes};
+ghost use Rattle.graphql_spec.specs.ExactAnswers.{whole};
+ghost use Rattle.graphql_spec.specs.Fields.{is_possible};
+ghost use Rattle.graphql_spec.specs.GroupLaws.{GroupCompleted};
+ghost use Rattle.graphql_spec.specs.Laws.{Merges};
+ghost use Rattle.graphql_spec.specs.Outcomes.{responds};
+ghost use Rattle.graphql_spec.specs.Selections.{all_below, occurrences};
+ghost use Rattle.graphql_spec.specs.Types.{innermost};
+ghost use Rattle.graphql_spec.specs.Walk.{IsAnswerFor};
+ghost use Rattle.juniper_collect.specs.Collected.{IsReady, expansion, view_all};
+ghost use Rattle.juniper_errors.specs.ErrorView.{view_listed};
+ghost use Rattle.juniper_errors.specs.PathView.{path_place};
+ghost use Rattle.juniper_lookahead.specs.Sites.{IsFirstOf};
+ghost use Rattle.juniper_plan.specs.PlanWalks.{HasFirst};
+ghost use Rattle.juniper_plan.specs.Plans.{IsMade, IsStanding, IsStep, all_expanded, fields_at, group_count};
+ghost use Rattle.juniper_resolvable.specs.ResolvedView.{Answers};
+ghost use Rattle.juniper_schema.specs.SchemaView.{view_schema};
+ghost use Rattle.juniper_syntax.specs.DocumentView.{view_selections};
+ghost use Rattle.juniper_syntax.specs.InputView.{view_variables};
+ghost use Rattle.juniper_syntax.specs.TypeView.{view_type};
+ghost use Rattle.juniper_syntax.specs.ValueView.{view_value};
+ghost use Rattle.juniper_walk.specs.Completing.{IsTold};
+ghost use Rattle.juniper_walk.specs.Walking.{IsReadyWalk, SelectionsAgree};
+ghost use Rattle.juniper_execute.specs.Questions.{IsQuestion};
+ghost use Rattle.juniper_execute.specs.Meanings.{world_at};
+ghost use Rattle.juniper_execute.specs.Walkings.{Lists, TellsQuery, collector_of, starts_by};
+
+use crate::node_resolver::NodeResolver;
+use crate::question::Question;
+use crate::service::{Service, first_of};
+use juniper_collect::{Collector, FragmentMap};
+use juniper_lookahead::{Enclosing, Occurrence};
+use juniper_plan::{GroupNo, GroupRange, Plan, root_groups};
+use juniper_syntax::{ScalarValue, Selection, SourcePosition};
+use juniper_types::FieldPath;
+use juniper_walk::{Asked, Group, Resolver, Walk, Walked};
+use std::alloc::{AllocError, Global};
+use std::rc::Rc;
+
+/// How the occurrences of one response key are walked (6.4.3).
+#[derive(Clone, Copy)]
+pub enum Walking {
+    /// All at once: each response key is resolved once for each object, for what all of its occurrences select.
+    Grouped,
+    /// One after the other: each occurrence is resolved for what it selects, and the values of one response key are joined.
+    Joined,
+}
+
+impl Walking {
+    /// The data of selections on a root node as an object of this type, and the errors in their order; the operation starts at this
+    /// place (6.2.1).
+    fn answer<'d, 'a, S: ScalarValue, R: Resolver<S>>(
+        self,
+        walk: &Walk<'_, 'd, 'a, S, R>,
+        concrete: &str,
+        root: &R::Node,
+        start: SourcePosition,
+        selections: &'d [Selection<'a, S>],
+    ) -> Result<Walked<S>, AllocError>
+        requires ready { IsReadyWalk S.shown R.possible R.values (R.world walk.now.collector.possible) walk.now }
+        requires agree { SelectionsAgree (R.world walk.now.collector.possible) concrete.now
+            (expansion S.shown walk.now.collector (view_selections S.shown selections.now)) }
+        ensures answers { IfOk result (λ r. IsAnswerFor whole (R.world walk.now.collector.possible) concrete.now root.now
+            (expansion S.shown walk.now.collector (view_selections S.shown selections.now))
+            (view_value S.shown r.value) (map (view_listed S.shown) r.errors.items)) }
+        ensures lists { IfOk result (λ r. Lists self (responds (view_value S.shown r.value) (map (view_listed S.shown) r.errors.items))) }
+        ensures firsts { IfOk result (λ r. TellsQuery self (R.world walk.now.collector.possible) concrete.now root.now
+            (expansion S.shown walk.now.collector (view_selections S.shown selections.now)) (map (view_listed S.shown) r.errors.items)) }
+    {
+        match self {
+            Walking::Grouped => juniper_plan::answer(walk, concrete, root, start, selections),
+            Walking::Joined => juniper_walk::answer(walk, concrete, root, start, selections),
+        }
+    }
+
+    /// The value of what a field answers, and the errors of what fails in it, for all occurrences of a group of a plan (6.4.3).
+    fn complete_group<'d, 'a, S: ScalarValue, R: Resolver<S>>(
+        self,
+        walk: &Walk<'_, 'd, 'a, S, R>,
+        plan: &mut Plan<'d, 'a, S, R::Question>,
+        path: &Rc<FieldPath<'a>>,
+        asked: Asked<'_, R::Node, S>,
+        group: GroupNo,
+    ) -> Result<Walked<S>, AllocError>
+        requires ready { IsReadyWalk S.shown R.possible R.values (R.world walk.now.collector.possible) walk.now }
+        requires standing { IsStanding S.shown walk.now.collector (R.asks walk.now.collector.possible)
+            (R.possible walk.now.collector.possible) plan.old }
+        requires bound { group.0 < group_count plan.old }
+        requires some { HasFirst (view_all S.shown walk.now.collector (fields_at plan.old group.0)) }
+        requires merge { Merges (R.world walk.now.collector.possible) (innermost (view_type (λ n. string_bytes n) asked.declared.now))
+            (all_below (view_all S.shown walk.now.collector (fields_at plan.old group.0))) }
+        ensures plan { IfOk result (λ _. IsStep S.shown walk.now.collector (R.asks walk.now.collector.possible)
+            (R.possible walk.now.collector.possible) plan.old plan.new) }
+        ensures told { IfOk result (λ _. IsTold asked.entry.answer) }
+        ensures completed { (reply : _) → Answers S.shown asked.entry.answer reply → IfOk result (λ w. GroupCompleted whole (starts_by self)
+            (R.world walk.now.collector.possible) (path_place path.now.value) [] (view_type (λ n. string_bytes n) asked.entry.declared.now) reply
+            (view_all S.shown walk.now.collector (fields_at plan.old group.0)) (view_value S.shown w.value) (map (view_listed S.shown) w.errors.items)) }
+    {
+        match self {
+            Walking::Grouped => juniper_plan::complete_group(walk, plan, path, asked, group),
+            Walking::Joined => {
+                let group = group_of(plan.fields(group));
+                juniper_walk::complete_group(walk, path, asked, &group)
+            }
+        }
+    }
+}
+
+impl<'c, 's, R: NodeResolver<S>, S: ScalarValue> Service<'c, 's, R, S> {
+    /// The data of selections on a node as an object of this type, and the errors in their order, walked so (6.2.1).
+    pub(crate) fn answer<'d, 'a>(
+        self,
+        alloc: Global,
+        walking: Walking,
+        fragments: &FragmentMap<'d, 'a, S>,
+        concrete: &str,
+        root: &R::Node,
+        start: SourcePosition,
+        selections: &'d [Selection<'a, S>],
+    ) -> Result<Walked<S>, AllocError>
+        requires ready { IsReady S.shown (collector_of fragments self.variables self) }
+        requires agree { SelectionsAgree (world_at (R.meaning self.resolver.now) (view_schema S.shown self.schema.now) (view_variables S.shown self.variables.now)
+            self.context.now) concrete.now
+            (expansion S.shown (collector_of fragments self.variables self) (view_selections S.shown selections.now)) }
+        ensures answers { IfOk result (λ r. IsAnswerFor whole (world_at (R.meaning self.entry.resolver.now) (view_schema S.shown self.entry.schema.now) (view_variables S.shown self.entry.variables.now)
+            self.entry.context.now) concrete.now root.now
+            (expansion S.shown (collector_of fragments.entry self.entry.variables self.entry) (view_selections S.shown selections.now))
+            (view_value S.shown r.value) (map (view_listed S.shown) r.errors.items)) }
+        ensures lists { IfOk result (λ r. Lists walking (responds (view_value S.shown r.value) (map (view_listed S.shown) r.errors.items))) }
+        ensures firsts { IfOk result (λ r. TellsQuery walking (world_at (R.meaning self.entry.resolver.now) (view_schema S.shown self.entry.schema.now) (view_variables S.shown self.entry.variables.now)
+            self.entry.context.now) concrete.now root.now
+            (expansion S.shown (collector_of fragments.entry self.entry.variables self.entry) (view_selections S.shown selections.now))
+            (map (view_listed S.shown) r.errors.items)) }
+    {
+        let walk = Walk {
+            alloc,
+            collector: Collector {
+                fragments,
+                variables: self.variables,
+                possible: self,
+            },
+        };
+        let walked = walking.answer(&walk, concrete, root, start, selections)?;
+        Ok(walked)
+    }
+
+    /// The groups that selections hold for an object type, put into a plan (6.3.2).
+    pub(crate) fn root_groups<'d, 'a>(
+        self,
+        alloc: Global,
+        fragments: &FragmentMap<'d, 'a, S>,
+        plan: &mut Plan<'d, 'a, S, Question<'s, S>>,
+        concrete: &str,
+        enclosing: &[Enclosing<'d, 'a, S>],
+    ) -> Result<GroupRange, AllocError>
+        requires ready { IsReady S.shown (collector_of fragments self.variables self) }
+        requires standing { IsStanding S.shown (collector_of fragments self.variables self)
+            (IsQuestion S.shown (view_schema S.shown self.schema.now) (view_variables S.shown self.variables.now))
+            (is_possible (view_schema S.shown self.schema.now)) plan.old }
+        ensures { IfOk result (λ r. IsMade S.shown (collector_of fragments.entry self.entry.variables self.entry)
+            (IsQuestion S.shown (view_schema S.shown self.entry.schema.now) (view_variables S.shown self.entry.variables.now))
+            (is_possible (view_schema S.shown self.entry.schema.now)) concrete.now
+            (occurrences (is_possible (view_schema S.shown self.entry.schema.now)) concrete.now
+            (all_expanded S.shown (collector_of fragments.entry self.entry.variables self.entry) enclosing.now)) plan.old plan.new r) }
+    {
+        let collector = Collector {
+            fragments,
+            variables: self.variables,
+            possible: self,
+        };
+        let groups = root_groups(alloc, &collector, plan, concrete, enclosing)?;
+        Ok(groups)
+    }
+
+    /// The value of what a field answers, and the errors of what fails in it, for all occurrences of a group of a plan, walked so (6.4.3).
+    pub(crate) fn complete_group<'d, 'a>(
+        self,
+        alloc: Global,
+        walking: Walking,
+        fragments: &FragmentMap<'d, 'a, S>,
+        plan: &mut Plan<'d, 'a, S, Question<'s, S>>,
+        path: &Rc<FieldPath<'a>>,
+        asked: Asked<'_, R::Node, S>,
+        group: GroupNo,
+    ) -> Result<Walked<S>, AllocError>
+        requires ready { IsReady S.shown (collector_of fragments self.variables self) }
+        requires standing { IsStanding S.shown (collector_of fragments self.variables self)
+            (IsQuestion S.shown (view_schema S.shown self.schema.now) (view_variables S.shown self.variables.now))
+            (is_possible (view_schema S.shown self.schema.now)) plan.old }
+        requires bound { group.0 < group_count plan.old }
+        requires some { HasFirst (view_all S.shown (collector_of fragments self.variables self) (fields_at plan.old group.0)) }
+        requires merge { Merges (world_at (R.meaning self.resolver.now) (view_schema S.shown self.schema.now) (view_variables S.shown self.variables.now)
+            self.context.now) (innermost (view_type (λ n. string_bytes n) asked.declared.now))
+            (all_below (view_all S.shown (collector_of fragments self.variables self) (fields_at plan.old group.0))) }
+        ensures plan { IfOk result (λ _. IsStep S.shown (collector_of fragments.entry self.entry.variables self.entry)
+            (IsQuestion S.shown (view_schema S.shown self.entry.schema.now) (view_variables S.shown self.entry.variables.now))
+            (is_possible (view_schema S.shown self.entry.schema.now)) plan.old plan.new) }
+        ensures told { IfOk result (λ _. IsTold asked.entry.answer) }
+        ensures completed { (reply : _) → Answers S.shown asked.entry.answer reply → IfOk result (λ w. GroupCompleted whole (starts_by walking)
+            (world_at (R.meaning self.entry.resolver.now) (view_schema S.shown self.entry.schema.now) (view_variables S.shown self.entry.variables.now)
+            self.entry.context.now) (path_place path.now.value) [] (view_type (λ n. string_bytes n) asked.entry.declared.now) reply
+            (view_all S.shown (collector_of fragments.entry self.entry.variables self.entry) (fields_at plan.old group.0))
+            (view_value S.shown w.value) (map (view_listed S.shown) w.errors.items)) }
+    {
+        let walk = Walk {
+            alloc,
+            collector: Collector {
+                fragments,
+                variables: self.variables,
+                possible: self,
+            },
+        };
+        let walked = walking.complete_group(&walk, plan, path, asked, group)?;
+        Ok(walked)
+    }
+}
+
+/// The fields of one response key, of which there is one at least.
+fn group_of<'g, 'd, 'a, S>(fields: &'g [Occurrence<'d, 'a, S>]) -> Group<'g, 'd, 'a, S>
+    requires { 0 < length fields.now }
+    ensures first { IsFirstOf result.first.now fields.now }
+    ensures others { result.others.now ≡ drop 1 fields.now }
+{
+    Group {
+        first: first_of(fields),
+        others: &fields[1..],
+    }
+}
