@@ -14,7 +14,7 @@ ghost use Rattle.juniper_execute.specs.Validity.{IsValid};
 ghost use Rattle.juniper.specs.Answering.{AnswersAs, AreCoercible, outcome_of};
 ghost use Rattle.juniper.specs.Promised.{IsFullOutcomeOf};
 ghost use Rattle.juniper.specs.RootView.{service_of};
-ghost use Rattle.juniper.specs.Services.{meaning_of, service_at};
+ghost use Rattle.juniper.specs.Services.{meaning_of, rooted_steps, service_at};
 ghost use Rattle.juniper.specs.WalkedOutcomes.{IsWalkedOutcome};
 
 use crate::error::GraphQLError;
@@ -23,8 +23,8 @@ use crate::variables::coerce_variables;
 use juniper_execute::{
     MutationSteps, NodeResolver, Served, Walking, execute_mutation, execute_query, undeclared_type,
 };
-use juniper_intro::RootNode;
 use juniper_intro::laws::root_replies;
+use juniper_intro::{RootNode, RootedNode};
 use juniper_language::{
     Document, Operation, OperationType, ScalarValue, Span, Spanning, Value, Variables,
 };
@@ -113,12 +113,47 @@ pub(crate) fn execute_walked<
         info: root_node.mutation_info(),
     };
     let schema = root_node.schema();
-    execute_resolved(
+    execute_root(
         alloc, walking, document, operation, &resolver, &steps, schema, variables, context,
     )
 }
 
-/// The same with the resolvers of a root over its schema; apart, since the check of a call grows with the types of the resolvers.
+/// The same with the resolvers of a root over its schema. This and the next stand apart, since the check of a call grows with the types
+/// whose methods it brings in.
+fn execute_root<
+    'd,
+    'a,
+    Q: GraphQLValue<S, Node = RootedNode<N>>,
+    M: GraphQLMutationValue<S, Context = Q::Context, Node = N>,
+    N: Drop,
+    S: ScalarValue,
+>(
+    alloc: Global,
+    walking: Walking,
+    document: &'d Document<'a, S>,
+    operation: &'d Spanning<Operation<'a, S>, Span>,
+    resolver: &QueryResolver<'_, Q, S>,
+    steps: &MutationResolver<'_, M, S>,
+    schema: &SchemaType<S>,
+    variables: &Variables<S>,
+    context: &mut Q::Context,
+) -> Result<(Value<S>, Vec<ExecutionError<S>>), GraphQLError>
+    requires executable { IsTrue (is_executable (view_schema S.shown schema.now)) }
+    requires valid { IsValid (view_schema S.shown schema.now) (view_document S.shown document.now) }
+    requires member { In (documents.operation (view_operation S.shown operation.now)) (view_document S.shown document.now) }
+    requires coercible { AreCoercible (view_schema S.shown schema.now) (view_operation S.shown operation.now) (view_variables S.shown variables.now) }
+    ensures { (disabled : _) → AnswersAs S.shown (λ r. IsWalkedOutcome
+        (service_at (meaning_of Q.concrete Q.answer resolver.now.query.now resolver.now.info.now)
+        (rooted_steps M.step M.torn steps.now.mutation.now steps.now.info.now) (Q.root resolver.now.query.now) (view_schema S.shown schema.now) disabled)
+        walking (outcome_of (view_schema S.shown schema.now) (view_document S.shown document.now) (view_operation S.shown operation.now)
+        (view_variables S.shown variables.now)) context.old r context.new) result }
+{
+    execute_resolved(
+        alloc, walking, document, operation, resolver, steps, schema, variables, context,
+    )
+}
+
+/// The same with any steps of mutations.
 fn execute_resolved<
     'd,
     'a,

@@ -6,7 +6,6 @@ ghost use Rattle.graphql_spec.specs.Rules.{rule_errors};
 ghost use Rattle.juniper_syntax.specs.DocumentView.{view_document};
 ghost use Rattle.juniper_schema.specs.SchemaView.{view_schema};
 ghost use Rattle.juniper_intro.specs.RootView.{is_disabled, schema_of};
-ghost use Rattle.juniper.specs.PreparedView.{document_of};
 
 use crate::error::GraphQLError;
 use juniper_intro::RootNode;
@@ -81,20 +80,4 @@ pub struct Prepared<
     pub(crate) document: Document<'a, S>,
     ghost reads: { ∥ Reads text.now (Some (view_document S.shown document)) ∥₁ },
     ghost valid: { rule_errors (view_schema S.shown (schema_of root.now)) (is_disabled root.now) (view_document S.shown document) ≡ [] },
-}
-
-impl<'a, Q: GraphQLValue<S>, M: GraphQLType<S>, Sub: GraphQLType<S>, S: ScalarValue> Prepared<
-    '_,
-    'a,
-    Q,
-    M,
-    Sub,
-    S,
-> {
-    /// The document, as [`crate::request::get_operation`] takes it.
-    pub fn document(&self) -> &Document<'a, S>
-        ensures { view_document S.shown result.now ≡ document_of S.shown self.now }
-    {
-        &self.document
-    }
 }

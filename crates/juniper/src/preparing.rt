@@ -115,6 +115,22 @@ pub fn prepare<'r, 'a, Q: GraphQLValue<S>, M: GraphQLType<S>, Sub: GraphQLType<S
     }
 }
 
+impl<'a, Q: GraphQLValue<S>, M: GraphQLType<S>, Sub: GraphQLType<S>, S: ScalarValue> Prepared<
+    '_,
+    'a,
+    Q,
+    M,
+    Sub,
+    S,
+> {
+    /// The document, as [`crate::request::get_operation`] takes it.
+    pub fn document(&self) -> &Document<'a, S>
+        ensures { view_document S.shown result.now ≡ document_of S.shown self.now }
+    {
+        &self.document
+    }
+}
+
 /// Executes an operation of a prepared document, with these values of its variables: answers what [`crate::request::execute_sync`]
 /// answers to its text on its root, without reading or validating anew, and leaves the context as that does.
 pub fn execute_prepared<

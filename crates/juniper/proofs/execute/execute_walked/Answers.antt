@@ -10,12 +10,12 @@ use Rattle.juniper.proofs.Composing.{answers-then}
 use Rattle.juniper.proofs.RootOutcomes.{outcome-moved}
 use Rattle.juniper.proofs.execute.execute_walked.Goals as goal
 
-pub execute_resolved-requires-clause-executable : goal.execute_resolved-requires-clause-executable
-execute_resolved-requires-clause-executable g c =
+pub execute_root-requires-clause-executable : goal.execute_root-requires-clause-executable
+execute_root-requires-clause-executable g c =
     subst (λ s. IsTrue (is_executable s)) (sym (ap (view_schema g.S.ScalarValue.shown) c.schema-schema.ensures)) c.root_replies.ensures.executable
 
-pub execute_resolved-requires-clause-valid : goal.execute_resolved-requires-clause-valid
-execute_resolved-requires-clause-valid g c =
+pub execute_root-requires-clause-valid : goal.execute_root-requires-clause-valid
+execute_root-requires-clause-valid g c =
     let shown = g.S.ScalarValue.shown in
     let disabled = is_disabled c.args.root_node.now in (
       disabled,
@@ -30,8 +30,8 @@ returns g c =
     let o = view_operation shown c.args.operation.now in
     let given = view_variables shown c.args.variables.now in
     let law = c.root_replies.ensures in
-    answers-then shown _ c.execute_resolved.result (c.execute_resolved.ensures (is_disabled root)) _
+    answers-then shown _ c.execute_root.result (c.execute_root.ensures (is_disabled root)) _
     (λ r p. outcome-moved g.Q.GraphQLValue.concrete g.Q.GraphQLValue.answer g.Q.GraphQLValue.root g.M.GraphQLMutationValue.step g.M.GraphQLMutationValue.torn
     _ _ _ (view_node_of shown root) (resolver_of root) _ law.types law.replies law.top law.users c.args.walking (is_disabled root) _ _ _ _ _ _ _ _
     (ap (view_schema shown) c.schema-schema.ensures) c.query_info.ensures c.mutation.ensures c.mutation_info.ensures refl
-    (λ x. outcome_of x d o given) c.args.context.now r c.execute_resolved.new.context p)
+    (λ x. outcome_of x d o given) c.args.context.now r c.execute_root.new.context p)
