@@ -40,7 +40,7 @@ module _ {A : Type 0} (view : A → Definition) (f : List Definition → Definit
 
 -- ## Phases
 
-none-has : {A : Type 0} (xs : List A) → has_any xs ≡ false → xs ≡ []
+pub none-has : {A : Type 0} (xs : List A) → has_any xs ≡ false → xs ≡ []
 unfolding has_any
 none-has [] is = refl
 none-has (x ∷ xs) is = cc is

@@ -11,4 +11,5 @@ mod Repeating
 mod SiteCalls
 mod Telling
 mod Undefining
+pub mod Valid
 mod WordNames
