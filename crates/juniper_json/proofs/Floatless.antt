@@ -8,7 +8,7 @@ use Rattle.serde_json.specs.Data.{Data}
 use Rattle.serde_json.specs.Written.{has_float, items_have_float, members_have_float}
 use Rattle.juniper_json.specs.AnswerText.{scalar_data, value_data, values_data, entries_data, items_data, step_data, location_data, extensions_data}
 use Rattle.juniper_json.specs.AnswerText.{error_data, errors_data, answer_data}
-use Rattle.juniper_json.specs.RefusalText.{Refusal, placed_data, refusal_data, refusals_data}
+use Rattle.juniper_json.specs.RefusalText.{Refusal, explained_data, explained_members, explanations_data, placed_data, refusal_data}
 
 scalar_has_none : (x : Shown) → has_float (scalar_data x) ≡ false
 unfolding scalar_data
@@ -81,6 +81,11 @@ refusal_has_none : (r : Refusal) → has_float (refusal_data r) ≡ false
 unfolding refusal_data
 refusal_has_none r = placed_has_none r.place
 
-pub refusals_have_none : (rs : List Refusal) → has_float (refusals_data rs) ≡ false
-unfolding refusals_data
-refusals_have_none rs = rw (list_has_none refusal_data refusal_has_none rs) refl
+explanations_have_none : (es : List Refusal) → members_have_float (explained_members es) ≡ false
+unfolding explained_members explanations_data
+explanations_have_none [] = refl
+explanations_have_none (e ∷ es) = rw (list_has_none refusal_data refusal_has_none (e ∷ es)) refl
+
+pub refusals_have_none : (rs es : List Refusal) → has_float (explained_data rs es) ≡ false
+unfolding explained_data
+refusals_have_none rs es = rw (list_has_none refusal_data refusal_has_none rs) (explanations_have_none es)

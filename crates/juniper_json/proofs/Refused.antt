@@ -1,14 +1,14 @@
 -- Sending the errors of a request, and how they are made.
-use Rattle.std.proofs.Common.{◌≡◌, List, [], ◌∷◌, Option, Some, None, map, option_map, slice_get, codes, refl, sym, subst}
+use Rattle.std.proofs.Common.{◌≡◌, ℕ, ◌+◌, List, [], ◌∷◌, Option, Some, None, map, option_map, slice_get, codes, refl, sym, subst, arith}
 use Rattle.graphql_spec.specs.Shown.{Text}
 use Rattle.graphql_spec.specs.Positions.{Position}
 use Rattle.graphql_spec.specs.Rules.{RuleError}
 use Rattle.serde.specs.Event.{Log, Logs, map_begins, map_ends, field_key, text}
 use Rattle.serde.specs.declared.name.Case.TheVariants.{AsIs}
 use Rattle.serde_json.specs.Data.{Members, array, string, object, no_members, member}
-use Rattle.serde_json.specs.Events.{SendsValue}
+use Rattle.serde_json.specs.Events.{SendsMembers, SendsValue, members_len}
 use Rattle.juniper_json.specs.AnswerText.{items_data, location_data}
-use Rattle.juniper_json.specs.RefusalText.{Refusal, placed_data, refusal_data, refusals_data}
+use Rattle.juniper_json.specs.RefusalText.{Refusal, explained_data, explained_members, placed_data, refusal_data}
 use Rattle.juniper_json.specs.Refusals.{rule_refusal}
 
 -- ## An error
@@ -42,10 +42,12 @@ placed_sent r p m a b c d f g new is_message some begun named sent named_locatio
 
 -- ## The errors
 
-pub refusals_sent : (rs : List Refusal) (a b c d new : Log) → Logs a b (map_begins (Some 1)) → Logs b c (field_key (codes "errors") AsIs) →
-    SendsValue (array (items_data refusal_data rs)) c d → Logs d new map_ends → SendsValue (refusals_data rs) a new
-unfolding refusals_data
-refusals_sent rs a b c d new begun named sent ended = (b, begun, (c, d, named, sent, ended))
+pub refusals_sent : (rs es : List Refusal) (n : ℕ) (a b c d new : Log) → n ≡ 1 + members_len (explained_members es) → Logs a b (map_begins (Some n)) →
+    Logs b c (field_key (codes "errors") AsIs) → SendsValue (array (items_data refusal_data rs)) c d → SendsMembers (explained_members es) d new →
+    SendsValue (explained_data rs es) a new
+unfolding explained_data
+refusals_sent rs es n a b c d new is_count begun named sent ended =
+    (b, subst (λ k. Logs a b (map_begins (Some k))) (omega arith) begun, (c, d, named, sent, ended))
 
 -- ## The error of a rule
 

@@ -14,4 +14,5 @@ mod tests;
 pub use given::{GivenVariables, RefusedVariable, given_variables};
 pub use line::answer_line;
 pub use read::{VariablesError, read_variables};
-pub use response::response_line;
+pub use refusals::Refusal;
+pub use response::{explained_line, response_line};

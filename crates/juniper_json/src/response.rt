@@ -7,7 +7,7 @@ ghost use Rattle.juniper_position.specs.RuleView.{view_rule_error};
 ghost use Rattle.juniper_syntax.specs.ValueView.{view_value};
 ghost use Rattle.juniper.specs.RequestErrors.{view_request_error};
 ghost use Rattle.juniper_json.specs.AnswerText.{answer_text};
-ghost use Rattle.juniper_json.specs.RefusalText.{refusals_text, view_refusal};
+ghost use Rattle.juniper_json.specs.RefusalText.{explained_text, refusals_text, view_refusal};
 ghost use Rattle.juniper_json.specs.Refusals.{refusals_of, rule_refusal, unplaced};
 
 use crate::line::answer_line;
@@ -30,16 +30,22 @@ pub fn response_line<S: ScalarValue>(
 {
     match outcome {
         Ok((data, errors)) => answer_line(alloc, data, errors.as_slice()),
-        Err(error) => refused_line(alloc, error),
+        Err(error) => explained_line(alloc, error, &[]),
     }
 }
 
-/// The line of a response to a request that has no answer.
-fn refused_line(alloc: Global, error: &GraphQLError) -> Result<String, AllocError>
-    ensures { IfOk result (λ line. string_bytes line ≡ refusals_text (refusals_of (view_request_error error.now))) }
+/// The line of a response to a request that has no answer, as [`response_line`] writes it, but that these explanations stand beside the
+/// errors, as the member `explanations` of the response's `extensions`. Where there are none it is that line, byte for byte. An error where
+/// memory is refused.
+pub fn explained_line(
+    alloc: Global,
+    error: &GraphQLError,
+    explanations: &[Refusal],
+) -> Result<String, AllocError>
+    ensures { IfOk result (λ line. string_bytes line ≡ explained_text (refusals_of (view_request_error error.now)) (map view_refusal explanations.now)) }
 {
     let refusals = refusals_of(alloc, error)?;
-    refusal_line(alloc, refusals.as_slice())
+    refusal_line(alloc, refusals.as_slice(), explanations)
 }
 
 /// The errors of a request that has no answer.
