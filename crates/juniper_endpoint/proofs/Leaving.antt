@@ -27,7 +27,7 @@ use Rattle.juniper_request.specs.Requests.{Asked}
 use Rattle.juniper_endpoint.proofs.Chosen.{chosen-of}
 use Rattle.juniper_endpoint.specs.Replied.{MayRun, Replies, request_asked}
 
-module _ {C N : Type 0} (S : Service C N) (b : Bounds) (a : Asked) (c : C) where
+module _ {C N : Type 0} (S : Service C N) (b : Bounds) (a : Asked) (most : ℕ) (c : C) where
   -- what runs is no mutation
   no-mutation : MayRun S b a false → (e : Document) (o : Operation) (v : Variables) → Becomes S (request_asked a) (runs e o v) → o.kind ≢ mutation
   no-mutation (d, taken, free) e o v becomes =
@@ -50,7 +50,7 @@ module _ {C N : Type 0} (S : Service C N) (b : Bounds) (a : Asked) (c : C) where
   outcome-leaves may out_of_memory after (inl same) = same
   outcome-leaves may out_of_memory after (inr (e, o, v, becomes, kind, left)) = absurd (no-mutation may e o v becomes kind)
 
-  pub reads-leave : (outcome : Outcome) (line : Text) (after : C) → Replies S b a false c outcome line after → after ≡ c
+  pub reads-leave : (outcome : Outcome) (line : Text) (after : C) → Replies S b a most false c outcome line after → after ≡ c
   reads-leave Executed line after (may, (value, es, full, is)) = outcome-leaves may (responds value es) after full.0.0
   reads-leave Refused line after (inl (e, r, is, full, told)) = full.0.0.1
   reads-leave Refused line after (inr (same, why)) = same

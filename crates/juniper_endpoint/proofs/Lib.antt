@@ -1,4 +1,5 @@
 pub mod Chosen
+pub mod Explaining
 pub mod Leaving
 pub mod Looking
 pub mod Telling

@@ -1,5 +1,5 @@
 -- What is told of a request, over plain variables.
-use Rattle.std.proofs.Common.{◌≡◌, Bool, List, [], map, Option, Result, Ok, Err, Vec, Global, string_bytes, refl, sym, ap, subst}
+use Rattle.std.proofs.Common.{◌≡◌, ℕ, Bool, List, [], map, Option, Some, None, Result, Ok, Err, Vec, Global, string_bytes, refl, sym, ap, subst}
 use Rattle.std.proofs.Common.{◌∙◌, inl, inr}
 use Rattle.graphql_spec.specs.Documents.{Document}
 use Rattle.graphql_spec.specs.Inputs.{Variables}
@@ -8,7 +8,7 @@ use Rattle.graphql_spec.specs.Outcomes.{Request, Service, Response, refuses, res
 use Rattle.graphql_spec.specs.Requests.{Refusal, refused}
 use Rattle.graphql_spec.specs.Shown.{Name, Text}
 use Rattle.graphql_spec.proofs.Deciding.{steps-decide}
-use Rattle.juniper.specs.Answering.{AnswersAs, Responds, StandsFor}
+use Rattle.juniper.specs.Answering.{AnswersAs, Responds, StandsFor, refusal_of}
 use Rattle.juniper.specs.Objections.{IsRefusal, Objects}
 use Rattle.juniper.specs.Promised.{IsFullOutcome}
 use Rattle.juniper.specs.RequestErrors.{RequestError, view_request_error, not_parsed, not_valid, no_operation, multiple_operations, unknown_operation}
@@ -31,6 +31,8 @@ use Rattle.juniper_syntax.specs.Scalars.{default_shown}
 use Rattle.juniper_syntax.specs.ValueView.{view_value}
 use Rattle.juniper_syntax.specs.declared.scalar.DefaultScalarValue.{DefaultScalarValue}
 use Rattle.juniper_syntax.specs.declared.value.Value.{Value}
+use Rattle.juniper_endpoint.proofs.Explaining.{objected-line, taken-line}
+use Rattle.juniper_endpoint.specs.Explained.{TellsRefusal}
 use Rattle.juniper_endpoint.specs.Lines.{IsTold, bare_line, outcome_of, outcome_text, refused_outcome, writes_text}
 use Rattle.juniper_endpoint.specs.Looks.{IsObjected, IsSeen}
 use Rattle.juniper_endpoint.specs.Replied.{IsTaken, MayRun, Replies, given_among, refused_among, request_asked}
@@ -68,44 +70,55 @@ pub seen-so : (among rs : List (Name × VariablesError)) (w : Bool) (name : Opti
     IsSeen rs w name d x → IsSeen among w name d y
 seen-so among rs w name d x y e f i = subst (IsSeen among w name d) f (subst (λ r. IsSeen r w name d x) e i)
 
-module _ {C N : Type 0} (S : Service C N) (b : Bounds) (a : Asked) (w : Bool) (c : C) where
+module _ {C N : Type 0} (S : Service C N) (b : Bounds) (a : Asked) (most : ℕ) (w : Bool) (c : C) where
   -- that memory is refused may be told
   abbrev Left : C → Type 0
-  Left after = Replies S b a w c OutOfMemory [] after
+  Left after = Replies S b a most w c OutOfMemory [] after
+
+  -- the line tells an error that stands for a refusal
+  abbrev TellsError : RequestError → Text → Type 0
+  TellsError e line = (r : Refusal) → refusal_of e ≡ Some r → TellsRefusal S.schema S.introspection_disabled most a.query e line
 
   -- an error of the executor
   error-told : (after : C) → Left after → (e : RequestError) → Responds (λ r. IsFullOutcome S (request_asked a) c r after) e → (line : Text) →
-      line ≡ refusals_text (refusals_of e) → Replies S b a w c (refused_outcome e) line after
-  error-told after left out_of_memory p line is = left
-  error-told after left (not_parsed e) (r, x, p) line is = inl (not_parsed e, r, x, p, is)
-  error-told after left (not_valid es) (r, x, p) line is = inl (not_valid es, r, x, p, is)
-  error-told after left no_operation (r, x, p) line is = inl (no_operation, r, x, p, is)
-  error-told after left multiple_operations (r, x, p) line is = inl (multiple_operations, r, x, p, is)
-  error-told after left unknown_operation (r, x, p) line is = inl (unknown_operation, r, x, p, is)
-  error-told after left is_subscription (r, x, p) line is = inl (is_subscription, r, x, p, is)
-  error-told after left not_subscription (r, x, p) line is = inl (not_subscription, r, x, p, is)
-  error-told after left no_mutation_type (r, x, p) line is = inl (no_mutation_type, r, x, p, is)
-  error-told after left (variable_not_constant n) (r, x, p) line is = inl (variable_not_constant n, r, x, p, is)
+      TellsError e line → Replies S b a most w c (refused_outcome e) line after
+  error-told after left out_of_memory p line tells = left
+  error-told after left (not_parsed e) (r, x, p) line tells = inl (not_parsed e, r, x, p, tells r x)
+  error-told after left (not_valid es) (r, x, p) line tells = inl (not_valid es, r, x, p, tells r x)
+  error-told after left no_operation (r, x, p) line tells = inl (no_operation, r, x, p, tells r x)
+  error-told after left multiple_operations (r, x, p) line tells = inl (multiple_operations, r, x, p, tells r x)
+  error-told after left unknown_operation (r, x, p) line tells = inl (unknown_operation, r, x, p, tells r x)
+  error-told after left is_subscription (r, x, p) line tells = inl (is_subscription, r, x, p, tells r x)
+  error-told after left not_subscription (r, x, p) line tells = inl (not_subscription, r, x, p, tells r x)
+  error-told after left no_mutation_type (r, x, p) line tells = inl (no_mutation_type, r, x, p, tells r x)
+  error-told after left (variable_not_constant n) (r, x, p) line tells = inl (variable_not_constant n, r, x, p, tells r x)
 
   -- a reply that says so, or that memory is refused
-  told : (after : C) → Left after → (o : Outcome) (line : Text) (reply : Reply) → IsTold o line reply → ((l : Text) → l ≡ line → Replies S b a w c o l after) →
-      Replies S b a w c reply.outcome (string_bytes reply.line) after
-  told after left o line reply (inl (is, says)) f = subst (λ x. Replies S b a w c x (string_bytes reply.line) after) (sym is) (f (string_bytes reply.line) says)
-  told after left o line reply (inr is) f = subst (λ x. Replies S b a w c x (string_bytes reply.line) after) (sym is) left
+  told : (after : C) → Left after → (o : Outcome) (line : Text) (reply : Reply) → IsTold o line reply →
+      ((l : Text) → l ≡ line → Replies S b a most w c o l after) → Replies S b a most w c reply.outcome (string_bytes reply.line) after
+  told after left o line reply (inl (is, says)) f =
+      subst (λ x. Replies S b a most w c x (string_bytes reply.line) after) (sym is) (f (string_bytes reply.line) says)
+  told after left o line reply (inr is) f = subst (λ x. Replies S b a most w c x (string_bytes reply.line) after) (sym is) left
 
-  pub memory-told : (after : C) → after ≡ c → (reply : Reply) → reply.outcome ≡ OutOfMemory → Replies S b a w c reply.outcome (string_bytes reply.line) after
-  memory-told after same reply is = subst (λ x. Replies S b a w c x (string_bytes reply.line) after) (sym is) (inl same)
+  pub memory-told : (after : C) → after ≡ c → (reply : Reply) → reply.outcome ≡ OutOfMemory →
+      Replies S b a most w c reply.outcome (string_bytes reply.line) after
+  memory-told after same reply is = subst (λ x. Replies S b a most w c x (string_bytes reply.line) after) (sym is) (inl same)
 
   -- ## A request that is executed
 
+  plain-line : MayRun S b a w → (e : RequestError) (line : Text) → line ≡ refusals_text (refusals_of e) →
+      TellsRefusal S.schema S.introspection_disabled most a.query e line
+  plain-line (d, taken, free) e line is = taken-line S.schema S.introspection_disabled most a.query d taken.0.0.1 taken.1 e line is
+
   answered-line : MayRun S b a w → (after : C) (r : Answered) → AnswersAs default_shown (λ x. IsFullOutcome S (request_asked a) c x after) r →
-      (l : Text) → l ≡ outcome_text r → Replies S b a w c (outcome_of r) l after
+      (l : Text) → l ≡ outcome_text r → Replies S b a most w c (outcome_of r) l after
   answered-line may after (Ok p) full l is = (may, (view_value default_shown p.0, map (view_listed default_shown) p.1.items, full, is))
   answered-line may after (Err e) full l is =
-      error-told after (inr (may, some-response (λ x. IsFullOutcome S (request_asked a) c x after) (Err e) full)) (view_request_error e) full l is
+      error-told after (inr (may, some-response (λ x. IsFullOutcome S (request_asked a) c x after) (Err e) full)) (view_request_error e) full l
+      (λ r stands. plain-line may (view_request_error e) l is)
 
   pub answered-told : MayRun S b a w → (after : C) (r : Answered) → AnswersAs default_shown (λ x. IsFullOutcome S (request_asked a) c x after) r →
-      (reply : Reply) → IsTold (outcome_of r) (outcome_text r) reply → Replies S b a w c reply.outcome (string_bytes reply.line) after
+      (reply : Reply) → IsTold (outcome_of r) (outcome_text r) reply → Replies S b a most w c reply.outcome (string_bytes reply.line) after
   answered-told may after r full reply t =
       told after (inr (may, some-response (λ x. IsFullOutcome S (request_asked a) c x after) r full)) (outcome_of r) (outcome_text r) reply t
       (answered-line may after r full)
@@ -130,24 +143,26 @@ module _ {C N : Type 0} (S : Service C N) (b : Bounds) (a : Asked) (w : Bool) (c
   refusal-full no_mutation_type (r, is, p) = (r, is, (((refusal-becomes r p, refl), tt), tt))
   refusal-full (variable_not_constant n) (r, is, p) = (r, is, (((refusal-becomes r p, refl), tt), tt))
 
-  pub objection-told : (e : Objection) → Objects b a.query S.schema S.introspection_disabled e → (reply : Reply) → IsObjected e reply →
-      Replies S b a w c reply.outcome (string_bytes reply.line) c
+  pub objection-told : (e : Objection) → Objects b a.query S.schema S.introspection_disabled e → (reply : Reply) →
+      IsObjected S.schema S.introspection_disabled most a.query e reply → Replies S b a most w c reply.outcome (string_bytes reply.line) c
   objection-told objection.TooLong o reply t = told c (inl refl) Refused _ reply t (λ l is. inr (refl, inl (objection.TooLong, tt, o, is)))
   objection-told objection.TooManyFields o reply t = told c (inl refl) Refused _ reply t (λ l is. inr (refl, inl (objection.TooManyFields, tt, o, is)))
   objection-told objection.TooDeep o reply t = told c (inl refl) Refused _ reply t (λ l is. inr (refl, inl (objection.TooDeep, tt, o, is)))
-  objection-told (objection.Refused e) o reply t = told c (inl refl) _ _ reply t
-      (error-told c (inl refl) (view_request_error e) (refusal-full (view_request_error e) o.1))
+  objection-told (objection.Refused e) o reply (inl (es, explained, t)) = told c (inl refl) _ _ reply t (λ l is.
+      error-told c (inl refl) (view_request_error e) (refusal-full (view_request_error e) o.1) l
+      (objected-line S.schema S.introspection_disabled most a.query b (view_request_error e) o.1 es explained l is))
+  objection-told (objection.Refused e) o reply (inr is) = memory-told c refl reply is
 
   -- ## What a look shows
 
   module _ (d : Document) (taken : IsTaken S b a d) where
     pub seen-writes : IsSeen (refused_among a.variables) w a.operation_name d look.Writes → (reply : Reply) → IsTold Writes (bare_line writes_text) reply →
-        Replies S b a w c reply.outcome (string_bytes reply.line) c
+        Replies S b a most w c reply.outcome (string_bytes reply.line) c
     seen-writes (o, choice, (reads, kind)) reply t = told c (inl refl) Writes _ reply t (λ l is. (refl, reads, (d, o, (taken, choice), kind), is))
 
     pub seen-unfitting : (errors : Vec _ Global) → IsSeen (refused_among a.variables) w a.operation_name d (look.Unfitting errors) → (reply : Reply) →
         IsTold Refused (refusals_text (refusals_of (not_valid (map view_rule_error errors.items)))) reply →
-        Replies S b a w c reply.outcome (string_bytes reply.line) c
+        Replies S b a most w c reply.outcome (string_bytes reply.line) c
     seen-unfitting errors (o, choice, (some, same)) reply t = told c (inl refl) Refused _ reply t
         (λ l is. inr (refl, inr (d, o, (taken, choice), some, is ∙ ap (λ es. refusals_text (refusals_of (not_valid es))) same)))
 

@@ -1,3 +1,4 @@
+pub mod Explained
 pub mod Lines
 pub mod Looks
 pub mod Replied

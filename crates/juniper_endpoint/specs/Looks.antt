@@ -1,23 +1,26 @@
 -- What a look at a request shows, and what its values and its text are found to be. Only private clauses cite these words.
-use Rattle.std.specs.Prelude.{◌≡◌, ◌≢◌, Bool, false, List, [], map, Option}
+use Rattle.std.specs.Prelude.{◌≡◌, ◌≢◌, ◌⊎◌, ℕ, Bool, false, List, [], map, Option, Some}
 use Rattle.graphql_spec.specs.Documents.{Document, Operation, mutation, variables_of}
+use Rattle.graphql_spec.specs.Outcomes.{Reads}
 use Rattle.graphql_spec.specs.Requests.{choose, chosen}
-use Rattle.graphql_spec.specs.Shown.{Name}
+use Rattle.graphql_spec.specs.Schema.{Schema}
+use Rattle.graphql_spec.specs.Shown.{Name, Text}
 use Rattle.juniper.specs.Objections.{objection_text}
-use Rattle.juniper.specs.RequestErrors.{view_request_error}
+use Rattle.juniper.specs.RequestErrors.{RequestError, not_valid, view_request_error}
 use Rattle.juniper.specs.declared.prepared.Objection.{Objection}
 use Rattle.juniper.specs.declared.prepared.Objection.TheVariants as objection
 use Rattle.juniper_http.specs.declared.endpoint.Reply.{Reply}
 use Rattle.juniper_http.specs.declared.outcome.Outcome.TheVariants as outcome
 use Rattle.juniper_json.specs.Each.{view_refused}
 use Rattle.juniper_json.specs.Refusals.{refusals_of}
-use Rattle.juniper_json.specs.RefusalText.{refusals_text}
+use Rattle.juniper_json.specs.RefusalText.{Refusal, explained_text}
 use Rattle.juniper_json.specs.declared.given.GivenVariables.{GivenVariables}
 use Rattle.juniper_json.specs.declared.read.VariablesError.{VariablesError}
 use Rattle.juniper_position.specs.RuleView.{view_rule_error}
 use Rattle.juniper_syntax.specs.InputView.{view_variables}
 use Rattle.juniper_syntax.specs.Scalars.{default_shown}
 use Rattle.serde_json.specs.Data.{Members}
+use Rattle.juniper_endpoint.specs.Explained.{explained_as}
 use Rattle.juniper_endpoint.specs.Lines.{IsTold, bare_line, refused_outcome}
 use Rattle.juniper_endpoint.specs.Replied.{IsFree, given_among, refused_among, refused_errors}
 use Rattle.juniper_endpoint.specs.declared.look.Finding.{Finding}
@@ -41,9 +44,20 @@ module _ (refused : List (Name × VariablesError)) (may_write : Bool) where
   IsSeen name d Writes = (o : Operation) × (choose d name ≡ chosen o) × IsSeenIn o Writes
   IsSeen name d (Unfitting errors) = (o : Operation) × (choose d name ≡ chosen o) × IsSeenIn o (Unfitting errors)
 
--- what is told of an objection
-abbrev pub IsObjected : Objection → Reply → Type 0
-IsObjected objection.TooLong reply = IsTold outcome.Refused (bare_line (objection_text objection.TooLong)) reply
-IsObjected objection.TooManyFields reply = IsTold outcome.Refused (bare_line (objection_text objection.TooManyFields)) reply
-IsObjected objection.TooDeep reply = IsTold outcome.Refused (bare_line (objection_text objection.TooDeep)) reply
-IsObjected (objection.Refused e) reply = IsTold (refused_outcome (view_request_error e)) (refusals_text (refusals_of (view_request_error e))) reply
+module _ (s : Schema) (disabled : Bool) (most : ℕ) (text : Text) where
+  -- what is found that explains an error of the text: that it is not valid, its nodes
+  abbrev pub IsExplained : RequestError → List Refusal → Type 0
+  IsExplained (not_valid errors) es = (d : Document) → Reads text (Some d) → es ≡ explained_as s disabled most text (Some d)
+  IsExplained e es = es ≡ []
+
+  -- what is told of an error of the text, or that memory is refused
+  abbrev pub IsErrorTold : RequestError → Reply → Type 0
+  IsErrorTold e reply =
+      ((es : List Refusal) × IsExplained e es × IsTold (refused_outcome e) (explained_text (refusals_of e) es) reply) ⊎ (reply.outcome ≡ outcome.OutOfMemory)
+
+  -- what is told of an objection
+  abbrev pub IsObjected : Objection → Reply → Type 0
+  IsObjected objection.TooLong reply = IsTold outcome.Refused (bare_line (objection_text objection.TooLong)) reply
+  IsObjected objection.TooManyFields reply = IsTold outcome.Refused (bare_line (objection_text objection.TooManyFields)) reply
+  IsObjected objection.TooDeep reply = IsTold outcome.Refused (bare_line (objection_text objection.TooDeep)) reply
+  IsObjected (objection.Refused e) reply = IsErrorTold (view_request_error e) reply

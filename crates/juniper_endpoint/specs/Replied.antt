@@ -1,5 +1,5 @@
 -- What is replied to a request over a root, within bounds (6.1, 7.1; "GraphQL over HTTP", status codes).
-use Rattle.std.specs.Prelude.{◌≡◌, ◌≢◌, ◌⊎◌, Bool, false, List, [], map, filter, Option, Some, None}
+use Rattle.std.specs.Prelude.{◌≡◌, ◌≢◌, ◌⊎◌, ℕ, Bool, false, List, [], map, filter, Option, Some, None}
 use Rattle.std.specs.List.{list_any}
 use Rattle.std.specs.Str.{bytes_eq}
 use Rattle.graphql_spec.specs.Documents.{Document, Operation, VariableDefinition, mutation, variables_of}
@@ -26,6 +26,7 @@ use Rattle.juniper_json.specs.RefusalText.{refusals_text}
 use Rattle.juniper_json.specs.declared.read.VariablesError.{VariablesError}
 use Rattle.juniper_request.specs.Requests.{Asked}
 use Rattle.serde_json.specs.Data.{Members}
+use Rattle.juniper_endpoint.specs.Explained.{TellsRefusal}
 use Rattle.juniper_endpoint.specs.Lines.{bare_line, writes_text}
 
 -- ## The values of variables (6.1.2)
@@ -96,11 +97,12 @@ module _ {C N : Type 0} (S : Service C N) (b : Bounds) (a : Asked) where
   abbrev pub IsMutation : Type 0
   IsMutation = (d : Document) × (o : Operation) × Chooses d o × (o.kind ≡ mutation)
 
-  module _ (may_write : Bool) (c : C) where
-    -- the executor refuses the request by its first step that fails, and the line tells its errors (6.1, 7.1)
+  -- of texts with more bytes than `most` nothing is explained
+  module _ (most : ℕ) (may_write : Bool) (c : C) where
+    -- the executor refuses the request by its first step that fails, and the line tells its errors and what explains them (6.1, 7.1)
     abbrev pub IsRefused : Text → C → Type 0
     IsRefused line after = (e : RequestError) × (r : Refusal) × (refusal_of e ≡ Some r)
-        × IsFullOutcome S (request_asked a) c (refuses r) after × (line ≡ refusals_text (refusals_of e))
+        × IsFullOutcome S (request_asked a) c (refuses r) after × TellsRefusal S.schema S.introspection_disabled most a.query e line
 
     -- What is replied, and the context after. Where it is executed, the line is the text of the response that the Specification's execution
     -- has (7.1). Else the context is as it was, but for want of memory, which may stand in place of each and leave what it leaves.

@@ -7,8 +7,9 @@ ghost use Rattle.juniper.specs.RootView.{service_of};
 ghost use Rattle.juniper_endpoint.specs.Looks.{IsGivenBy};
 ghost use Rattle.juniper_endpoint.specs.Replied.{Replies};
 
+use crate::explained::{Explainer, objection_reply};
 use crate::given::given_by;
-use crate::lines::{objection_reply, without_memory};
+use crate::lines::without_memory;
 use crate::replied::reply_prepared;
 use juniper::{
     Bounds, DefaultScalarValue, GraphQLMutationValue, GraphQLType, GraphQLValue, RootNode, prepare,
@@ -32,6 +33,9 @@ pub struct RootEndpoint<
     pub context: Q::Context,
     /// What is taken of a text.
     pub bounds: Bounds,
+    /// The most bytes of a text that is explained where it is no valid document: what explains it may grow with the square of its length.
+    /// Nothing is explained where introspection is disabled, since explanations name what the schema has.
+    pub explained_bytes: usize,
 }
 
 impl<
@@ -40,7 +44,7 @@ impl<
     Sub: GraphQLType<DefaultScalarValue>,
 > Endpoint for RootEndpoint<'_, Q, M, Sub> {
     ghost replies = { λ old asked may_write reply new. (new ≡ record old { context = new.context })
-        × Replies (service_of Q.concrete Q.answer Q.root M.step M.torn default_shown old.root.now) old.bounds asked may_write old.context
+        × Replies (service_of Q.concrete Q.answer Q.root M.step M.torn default_shown old.root.now) old.bounds asked old.explained_bytes may_write old.context
         reply.outcome (string_bytes reply.line) new.context };
 
     fn reply(&mut self, alloc: Global, request: &GraphQLRequest<'_>, may_write: bool) -> Reply {
@@ -67,10 +71,17 @@ impl<
         requires { IsGivenBy (view_request request.now).variables given.now }
         ensures rest { self.new ≡ record self.old { context = self.new.context } }
         ensures said { Replies (service_of Q.concrete Q.answer Q.root M.step M.torn default_shown self.old.root.now) self.old.bounds (view_request request.now)
-            may_write self.old.context result.outcome (string_bytes result.line) self.new.context }
+            self.old.explained_bytes may_write self.old.context result.outcome (string_bytes result.line) self.new.context }
     {
         match prepare(alloc, self.root, request.query, &self.bounds) {
-            Err(objection) => objection_reply(alloc, objection),
+            Err(objection) => {
+                let explainer = Explainer {
+                    schema: self.root.schema(),
+                    is_introspection_disabled: self.root.is_introspection_disabled(),
+                    most_bytes: self.explained_bytes,
+                };
+                objection_reply(alloc, &explainer, request.query, objection)
+            }
             Ok(prepared) => reply_prepared(
                 alloc,
                 &prepared,

@@ -1,10 +1,11 @@
 //! What stands behind HTTP: a root whose requests are executed in one context, within bounds (section 6.1 of the Specification).
 //!
 //! [`RootEndpoint`] is an `Endpoint` of `juniper_http`: each reply is the text of the outcome that `juniper::execute_sync` promises, or
-//! says why the request is not executed.
+//! says why the request is not executed. Why a document is not valid is explained beside the errors, node by node.
 #![tactic(auto)]
 
 mod endpoint;
+mod explained;
 mod given;
 pub mod laws;
 mod lines;

@@ -1,14 +1,15 @@
 //! The lines of replies (sections 7.1 and 7.2.2 of the Specification).
 
-ghost use Rattle.std.specs.Prelude.{◌≡◌, IfErr, IfOk, string_bytes};
+ghost use Rattle.std.specs.Prelude.{◌≡◌, IfErr, IfOk, map, string_bytes};
 ghost use Rattle.juniper.specs.RequestErrors.{view_request_error};
 ghost use Rattle.juniper_http.specs.declared.outcome.Outcome.TheVariants.{OutOfMemory};
+ghost use Rattle.juniper_json.specs.Refusals.{refusals_of};
+ghost use Rattle.juniper_json.specs.RefusalText.{explained_text, view_refusal};
 ghost use Rattle.juniper_endpoint.specs.Lines.{IsTold, bare_line, outcome_of, outcome_text, refused_outcome};
-ghost use Rattle.juniper_endpoint.specs.Looks.{IsObjected};
 
-use juniper::{DefaultScalarValue, ExecutionError, GraphQLError, Objection, Value};
+use juniper::{DefaultScalarValue, ExecutionError, GraphQLError, Value};
 use juniper_http::{Outcome, Reply};
-use juniper_json::response_line;
+use juniper_json::{Refusal, explained_line, response_line};
 use std::alloc::{AllocError, Global};
 
 /// What a call of the executor answers.
@@ -86,18 +87,11 @@ fn refused_outcome(error: &GraphQLError) -> Outcome
     }
 }
 
-/// The reply that tells what is against a text.
-pub fn objection_reply(alloc: Global, objection: Objection) -> Reply
-    ensures { IsObjected objection result }
+/// The reply that tells an error and these explanations of it.
+pub fn explained_reply(alloc: Global, error: &GraphQLError, explanations: &[Refusal]) -> Reply
+    ensures { IsTold (refused_outcome (view_request_error error.now))
+        (explained_text (refusals_of (view_request_error error.now)) (map view_refusal explanations.now)) result }
 {
-    match objection {
-        Objection::TooLong => bare_reply(alloc, Outcome::Refused, "The text is too long"),
-        Objection::TooManyFields => bare_reply(
-            alloc,
-            Outcome::Refused,
-            "An operation selects too many fields",
-        ),
-        Objection::TooDeep => bare_reply(alloc, Outcome::Refused, "An operation nests too deep"),
-        Objection::Refused(error) => answered_reply(alloc, Err(error)),
-    }
+    let outcome = refused_outcome(error);
+    told(alloc, outcome, explained_line(alloc, error, explanations))
 }

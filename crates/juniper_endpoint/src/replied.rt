@@ -1,6 +1,6 @@
 //! Requests whose document is prepared.
 
-ghost use Rattle.std.specs.Prelude.{◌≡◌, string_bytes};
+ghost use Rattle.std.specs.Prelude.{◌≡◌, ℕ, string_bytes};
 ghost use Rattle.juniper.specs.Objections.{IsAccepted};
 ghost use Rattle.juniper.specs.PreparedView.{document_of, root_of, source_of};
 ghost use Rattle.juniper.specs.RootView.{service_of};
@@ -36,10 +36,10 @@ pub fn reply_prepared<
 ) -> Reply
     requires text { source_of prepared.now ≡ request.now.query.now }
     requires given { IsGivenBy (view_request request.now).variables given.now }
-    ensures { (b : Bounds) → IsTaken (service_of Q.concrete Q.answer Q.root M.step M.torn default_shown (root_of prepared.now)) b (view_request request.now)
-        (document_of default_shown prepared.now) →
-        Replies (service_of Q.concrete Q.answer Q.root M.step M.torn default_shown (root_of prepared.now)) b (view_request request.now) may_write context.old
-        result.outcome (string_bytes result.line) context.new }
+    ensures { (b : Bounds) (most : ℕ) → IsTaken (service_of Q.concrete Q.answer Q.root M.step M.torn default_shown (root_of prepared.now)) b
+        (view_request request.now) (document_of default_shown prepared.now) →
+        Replies (service_of Q.concrete Q.answer Q.root M.step M.torn default_shown (root_of prepared.now)) b (view_request request.now) most may_write
+        context.old result.outcome (string_bytes result.line) context.new }
 {
     match look(alloc, request, &given.refused, may_write) {
         Err(_) => without_memory(alloc),

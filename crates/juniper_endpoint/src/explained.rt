@@ -1,0 +1,153 @@
+//! What explains that a text is refused (section 5 of the Specification).
+
+ghost use Rattle.std.specs.Prelude.{◌≡◌, IfOk, Some, map};
+ghost use Rattle.graphql_spec.specs.Documents as spec;
+ghost use Rattle.graphql_spec.specs.Outcomes.{Reads};
+ghost use Rattle.juniper.specs.RequestErrors.{view_request_error};
+ghost use Rattle.juniper_explain.specs.Explanations.{view_explanation};
+ghost use Rattle.juniper_explain.specs.Nodes.{explanations};
+ghost use Rattle.juniper_json.specs.RefusalText.{view_refusal};
+ghost use Rattle.juniper_schema.specs.SchemaView.{view_schema};
+ghost use Rattle.juniper_syntax.specs.DocumentView.{view_document};
+ghost use Rattle.juniper_syntax.specs.Scalars.{default_shown};
+ghost use Rattle.juniper_endpoint.specs.Explained.{explained_as, is_left_out, of_explanation};
+ghost use Rattle.juniper_endpoint.specs.Looks.{IsErrorTold, IsExplained, IsObjected};
+
+use crate::lines::{bare_reply, explained_reply, without_memory};
+use juniper::{
+    DefaultScalarValue, Document, GraphQLError, Objection, SchemaType, parse_document_source,
+};
+use juniper_explain::{Explanation, explain};
+use juniper_http::{Outcome, Reply};
+use juniper_json::Refusal;
+use std::alloc::{AllocError, Global};
+
+/// What refused texts are explained by.
+#[derive(Clone, Copy)]
+pub struct Explainer<'s> {
+    /// The schema of the root.
+    pub schema: &'s SchemaType<DefaultScalarValue>,
+    /// Whether introspection is disabled. Then nothing is explained, since explanations name what the schema has.
+    pub is_introspection_disabled: bool,
+    /// The most bytes of a text that is explained.
+    pub most_bytes: usize,
+}
+
+/// The reply that tells what is against a text.
+pub fn objection_reply(
+    alloc: Global,
+    explainer: &Explainer<'_>,
+    text: &str,
+    objection: Objection,
+) -> Reply
+    ensures { IsObjected (view_schema default_shown explainer.now.schema.now) explainer.now.is_introspection_disabled explainer.now.most_bytes text.now
+        objection result }
+{
+    match objection {
+        Objection::TooLong => bare_reply(alloc, Outcome::Refused, "The text is too long"),
+        Objection::TooManyFields => bare_reply(
+            alloc,
+            Outcome::Refused,
+            "An operation selects too many fields",
+        ),
+        Objection::TooDeep => bare_reply(alloc, Outcome::Refused, "An operation nests too deep"),
+        Objection::Refused(error) => refused_reply(alloc, explainer, text, &error),
+    }
+}
+
+/// The reply that tells an error of a text, and what explains it.
+fn refused_reply(
+    alloc: Global,
+    explainer: &Explainer<'_>,
+    text: &str,
+    error: &GraphQLError,
+) -> Reply
+    ensures { IsErrorTold (view_schema default_shown explainer.now.schema.now) explainer.now.is_introspection_disabled explainer.now.most_bytes text.now
+        (view_request_error error.now) result }
+{
+    match explanations_of(alloc, explainer, text, error) {
+        Err(_) => without_memory(alloc),
+        Ok(explanations) => explained_reply(alloc, error, explanations.as_slice()),
+    }
+}
+
+/// What explains an error of a text: where a document is not valid, each node that violates a rule.
+fn explanations_of(
+    alloc: Global,
+    explainer: &Explainer<'_>,
+    text: &str,
+    error: &GraphQLError,
+) -> Result<Vec<Refusal>, AllocError>
+    ensures { IfOk result (λ made. IsExplained (view_schema default_shown explainer.now.schema.now) explainer.now.is_introspection_disabled
+        explainer.now.most_bytes text.now (view_request_error error.now) (map view_refusal made.items)) }
+{
+    match error {
+        GraphQLError::ValidationError(_) => explained(alloc, explainer, text),
+        _ => Ok(Vec::new(alloc)),
+    }
+}
+
+/// What explains that a document is not valid, by its text. It was read before, so that only memory can be wanting.
+fn explained(
+    alloc: Global,
+    explainer: &Explainer<'_>,
+    text: &str,
+) -> Result<Vec<Refusal>, AllocError>
+    ensures { IfOk result (λ made. (d : spec.Document) → Reads text.now (Some d) → map view_refusal made.items ≡ explained_as
+        (view_schema default_shown explainer.now.schema.now) explainer.now.is_introspection_disabled explainer.now.most_bytes text.now (Some d)) }
+{
+    if is_left_out(explainer, text) {
+        return Ok(Vec::new(alloc));
+    }
+    match parse_document_source(alloc, text) {
+        Err(_) => Err(AllocError),
+        Ok(document) => explained_in(alloc, explainer, &document),
+    }
+}
+
+/// Whether nothing of a text is explained.
+fn is_left_out(explainer: &Explainer<'_>, text: &str) -> bool
+    ensures { result ≡ is_left_out explainer.now.is_introspection_disabled explainer.now.most_bytes text.now }
+{
+    explainer.is_introspection_disabled || text.len() > explainer.most_bytes
+}
+
+/// The nodes of a document that violate rules.
+fn explained_in(
+    alloc: Global,
+    explainer: &Explainer<'_>,
+    document: &Document<'_, DefaultScalarValue>,
+) -> Result<Vec<Refusal>, AllocError>
+    ensures { IfOk result (λ made. map view_refusal made.items ≡ map of_explanation (explanations (view_schema default_shown explainer.now.schema.now)
+        explainer.now.is_introspection_disabled (view_document default_shown document.now))) }
+{
+    let explanations = explain(
+        alloc,
+        document,
+        explainer.schema,
+        explainer.is_introspection_disabled,
+    )?;
+    refusals_of(alloc, explanations)
+}
+
+/// Explanations, as they are written.
+fn refusals_of(alloc: Global, explanations: Vec<Explanation>) -> Result<Vec<Refusal>, AllocError>
+    ensures { IfOk result (λ made. map view_refusal made.items ≡ map (λ e. of_explanation (view_explanation e)) explanations.items) }
+{
+    let mut refusals = Vec::with_capacity(alloc, explanations.len())?;
+    for explanation in explanations {
+        let refusal = refusal_of(explanation);
+        refusals.push(refusal)?;
+    }
+    Ok(refusals)
+}
+
+/// An explanation, as it is written.
+fn refusal_of(explanation: Explanation) -> Refusal
+    ensures { view_refusal result ≡ of_explanation (view_explanation explanation) }
+{
+    Refusal {
+        message: explanation.message,
+        place: Some(explanation.location),
+    }
+}
