@@ -2,7 +2,7 @@
 
 use http_server::{Config, Connection, serve};
 use juniper::Bounds;
-use juniper_demo_server::{DemoContext, demo_root};
+use juniper_demo_server::{DemoContext, DemoRoot, demo_root};
 use juniper_endpoint::RootEndpoint;
 use juniper_http::{GraphQLService, Limits};
 use std::alloc::{AllocError, Global};
@@ -10,7 +10,8 @@ use std::hash::RandomState;
 use std::test::Fail;
 
 /// Requests: method and target, fields, body; the status, the media type and the body of the answer; how often the context was added to.
-/// A dash is nothing. Texts of at most 120 bytes, 7 fields and 4 levels are taken, bodies of at most 200 bytes, batches of at most two.
+/// A dash is nothing. Texts of at most 120 bytes, 7 fields and 4 levels are taken, and of at most 100 bytes explained; bodies of at most 200
+/// bytes, batches of at most two.
 const REQUESTS: &str = r#"
 POST / | Content-Type: application/json | {"query":"{ id }"} | 200 | graphql-response+json | {"data":{"id":"q1"}} | 0
 POST /graphql | Content-Type: application/json ;; Accept: application/json | {"query":"{ id fail }"} | 200 | json | {"data":{"id":"q1","fail":null},"errors":[{"message":"failed","locations":[{"line":1,"column":6}],"path":["fail"]}]} | 0
@@ -30,6 +31,11 @@ POST / | Content-Type: application/json | {"query":"query($p: Int) { number(plus
 POST / | Content-Type: application/json | {"query":"query($p: Int) { number(plus: $p) }","variables":{"p":"2"}} | 400 | graphql-response+json | {"errors":[{"message":"Variable `$p` has no fitting value","locations":[{"line":1,"column":7}]}]} | 0
 POST / | Content-Type: application/json | {"query":"query A { id } query B { name }","operationName":"B"} | 200 | graphql-response+json | {"data":{"name":"demo"}} | 0
 POST / | Content-Type: application/json | {"query":"query A { id } query B { name }","operationName":"C"} | 400 | graphql-response+json | {"errors":[{"message":"Unknown operation name"}]} | 0
+POST / | Content-Type: application/json | {"query":"{ hero { nam } }"} | 400 | graphql-response+json | {"errors":[{"message":"Unknown field","locations":[{"line":1,"column":1}]}],"extensions":{"explanations":[{"message":"Unknown field `nam` of `Character`, did you mean `name`?","locations":[{"line":1,"column":10}]}]}} | 0
+POST / | Content-Type: application/json | {"query":"{\n  nam\n  hero\n}"} | 400 | graphql-response+json | {"errors":[{"message":"Unknown field","locations":[{"line":1,"column":1}]},{"message":"Selection set does not fit the field","locations":[{"line":1,"column":1}]}],"extensions":{"explanations":[{"message":"Unknown field `nam` of `Query`, did you mean `name`?","locations":[{"line":2,"column":3}]},{"message":"Field `hero` is of `Character`, so it needs a selection set","locations":[{"line":3,"column":3}]}]}} | 0
+POST / | Content-Type: application/json | {"query":"{ number(plus: \"2\") }"} | 400 | graphql-response+json | {"errors":[{"message":"Argument does not fit its type","locations":[{"line":1,"column":1}]}],"extensions":{"explanations":[{"message":"Value `\"2\"` of `plus` is no `Int`","locations":[{"line":1,"column":16}]}]}} | 0
+POST / | Content-Type: application/json | {"query":"{ nam }                                                                                             "} | 400 | graphql-response+json | {"errors":[{"message":"Unknown field","locations":[{"line":1,"column":1}]}],"extensions":{"explanations":[{"message":"Unknown field `nam` of `Query`, did you mean `name`?","locations":[{"line":1,"column":3}]}]}} | 0
+POST / | Content-Type: application/json | {"query":"{ nam }                                                                                              "} | 400 | graphql-response+json | {"errors":[{"message":"Unknown field","locations":[{"line":1,"column":1}]}]} | 0
 POST / | Content-Type: application/json | {"query":"{ id"} | 400 | graphql-response+json | {"errors":[{"message":"Unexpected end of input","locations":[{"line":1,"column":5}]}]} | 0
 POST / | Content-Type: application/json ;; Accept: application/json | {"query":"{ id"} | 200 | json | {"errors":[{"message":"Unexpected end of input","locations":[{"line":1,"column":5}]}]} | 0
 POST / | Content-Type: application/json | {"query":"{ id }                                                                                                                  "} | 200 | graphql-response+json | {"data":{"id":"q1"}} | 0
@@ -96,14 +102,20 @@ const BOUNDS: Bounds = Bounds {
 
 /// What a new connection to a new demo answers to these bytes, and behind a bar how often the context was added to.
 fn answer(rt: &HostRuntime, received: &[u8]) -> Result<String, Fail> {
+    match demo_root(rt.alloc()) {
+        Ok(root) => answer_on(rt, &root, received),
+        Err(_) => Ok(String::from_str(rt.alloc(), "no root")?),
+    }
+}
+
+/// The same on a root.
+fn answer_on(rt: &HostRuntime, root: &DemoRoot, received: &[u8]) -> Result<String, Fail> {
     let alloc = rt.alloc();
-    let Ok(root) = demo_root(alloc) else {
-        return Ok(String::from_str(alloc, "no root")?);
-    };
     let endpoint = RootEndpoint {
-        root: &root,
+        root,
         context: DemoContext::new(),
         bounds: BOUNDS,
+        explained_bytes: 100,
     };
     let limits = Limits {
         max_body_len: 200,
@@ -230,5 +242,23 @@ fn bytes_are_answered(rt: HostRuntime) -> Result<(), Fail> {
         let told = format!(in alloc; "{} | {count}", shown(alloc, responses)?)?;
         assert_eq!(rt; told.as_str(), wanted, "at {line}");
     }
+    Ok(())
+}
+
+/// A misspelt field, without introspection: the answer names no field of the schema.
+const HIDDEN: &str =
+    r#"{"errors":[{"message":"Unknown field","locations":[{"line":1,"column":1}]}]} | 0"#;
+
+#[test]
+fn nothing_is_explained_without_introspection(rt: HostRuntime) -> Result<(), Fail> {
+    let Ok(root) = demo_root(rt.alloc()) else {
+        assert!(rt; false, "no root");
+        return Ok(());
+    };
+    let hidden = root.disable_introspection();
+    let bytes = bytes_of(rt.alloc(), "GET /?query=%7Bnam%7D HTTP/1.1~Host: x~~")?;
+    let found = answer_on(&rt, &hidden, bytes.as_slice())?;
+    let (_head, body) = found.as_str().split_once("\r\n\r\n").unwrap_or(("", ""));
+    assert_eq!(rt; body, HIDDEN);
     Ok(())
 }

@@ -37,6 +37,9 @@ const MAX_READ: usize = 1024 * 1024;
 /// A batch of more requests is refused.
 const MAX_BATCH: usize = 50;
 
+/// Of a longer text nothing is explained.
+const MAX_EXPLAINED: usize = 4 * 1024;
+
 /// Answers the requests of one connection.
 fn serve_http<E: Endpoint + Drop>(rt: &HostRuntime, endpoint: E) -> io::Result<()> {
     let alloc = rt.alloc();
@@ -80,6 +83,7 @@ fn serve(rt: &HostRuntime, mode: Mode, root: &DemoRoot) -> io::Result<()> {
         root,
         context: DemoContext::new(),
         bounds: Bounds::DEFAULT,
+        explained_bytes: MAX_EXPLAINED,
     };
     match mode {
         Mode::Http => serve_http(rt, endpoint),

@@ -12,7 +12,7 @@ use std::test::Fail;
 const LINES: &str = r#"{"query":"{ id }"} => {"data":{"id":"q1"}}
 {"query":"mutation { add(n: 2) { total } }"} => {"data":{"add":{"total":2}}}
 {"query":"mutation($n: Int!) { add(n: $n) { total count } }","variables":{"n":3}} => {"data":{"add":{"total":5,"count":2}}}
-{"query":"{ nope }"} => {"errors":[{"message":"Unknown field","locations":[{"line":1,"column":1}]}]}
+{"query":"{ nope }"} => {"errors":[{"message":"Unknown field","locations":[{"line":1,"column":1}]}],"extensions":{"explanations":[{"message":"Unknown field `nope` of `Query`, did you mean `name`?","locations":[{"line":1,"column":3}]}]}}
 [{"query":"{ id }"}] => {"errors":[{"message":"a request must be an object"}]}
 {"query":7} => {"errors":[{"message":"query must be a string"}]}
 { => {"errors":[{"message":"not JSON, at line 1 column 1"}]}
@@ -29,6 +29,7 @@ fn lines_are_answered(rt: HostRuntime) -> Result<(), Fail> {
         root: &root,
         context: DemoContext::new(),
         bounds: Bounds::DEFAULT,
+        explained_bytes: 4096,
     };
     for row in LINES.lines() {
         let Some((line, wanted)) = row.split_once(" => ") else {
