@@ -10,11 +10,11 @@ use Rattle.juniper_endpoint.proofs.explained.explained.Goals as goal
 pub returns-then-is_left_out : goal.returns-then-is_left_out
 returns-then-is_left_out c = λ d reads.
     let e = c.args.explainer.now in
-    left-out (view_schema default_shown e.schema.now) e.is_introspection_disabled e.most_bytes c.args.text.now d
+    ap (map view_refusal) c.new.ensures.items ∙ left-out (view_schema default_shown e.schema.now) e.is_introspection_disabled e.most_bytes c.args.text.now d
     (sym c.is_left_out.ensures ∙ c.if-is_left_out.true)
 
-pub returns-in-Ok : goal.returns-in-Ok
-returns-in-Ok c =
+pub returns : goal.returns
+returns c =
     let e = c.args.explainer.now in
     let document = view_document default_shown c.in-Ok.document in
     IfOk-weaker c.explained_in.result _ _ (λ made is d reads. is
