@@ -3,7 +3,7 @@ use Rattle.std.proofs.Common.{◌≡◌, None, Result, Vec, Global, subst}
 use Rattle.graphql_spec.specs.Inputs.{Variables}
 use Rattle.graphql_spec.specs.Outcomes.{Request, Service}
 use Rattle.graphql_spec.specs.Shown.{Shown, Text}
-use Rattle.juniper_errors.specs.declared.execution_error.ExecutionError.{ExecutionError}
+use Rattle.juniper_conversions.specs.declared.execution_error.ExecutionError.{ExecutionError}
 use Rattle.juniper_syntax.specs.declared.value.Value.{Value}
 use Rattle.juniper.specs.Answering.{AnswersAs}
 use Rattle.juniper.specs.Formats.{asking, text_of}

@@ -23,8 +23,8 @@ use Rattle.graphql_spec.specs.Outcomes.{IsReadAsValid, HasMutation, Steps, mutat
 use Rattle.graphql_spec.proofs.Deciding.{known-outcome, steps-decide}
 use Rattle.juniper_syntax.specs.ValueView.{view_value}
 use Rattle.juniper_syntax.specs.declared.value.Value.{Value as Value'}
-use Rattle.juniper_errors.specs.ErrorView.{view_listed}
-use Rattle.juniper_errors.specs.declared.execution_error.ExecutionError.{ExecutionError}
+use Rattle.juniper_conversions.specs.ErrorView.{view_listed}
+use Rattle.juniper_conversions.specs.declared.execution_error.ExecutionError.{ExecutionError}
 use Rattle.juniper.specs.Answering.{AnswersAs, AreCoercible, AreRefused, IsInvalid, IsUnchosen, Responds, StandsFor, outcome_of}
 use Rattle.juniper.specs.Promised.{IsFullOutcome, IsFullOutcomeOf}
 use Rattle.juniper_execute.specs.Stepping.{IsLeftOf}
@@ -33,12 +33,12 @@ use Rattle.juniper.specs.WalkedOutcomes.{ListsBy}
 use Rattle.juniper_execute.specs.declared.walking.Walking.{Walking}
 use Rattle.juniper_execute.specs.declared.walking.Walking.TheVariants.{Grouped, Joined}
 use Rattle.juniper.proofs.ToldFirsts.{firsts-become, mutation-told, query-told, told-of-run}
-use Rattle.juniper_position.specs.RuleView.{view_rule_error}
-use Rattle.juniper_position.specs.declared.rule.RuleError.{RuleError as CodeError}
-use Rattle.juniper_position.specs.declared.error.ParseError.{ParseError}
-use Rattle.juniper_position.specs.declared.error.ParseError.TheVariants as parser
-use Rattle.juniper_position.specs.declared.position.Span.{Span}
-use Rattle.juniper_position.specs.declared.position.Spanning.{Spanning}
+use Rattle.juniper_syntax.specs.RuleView.{view_rule_error}
+use Rattle.juniper_syntax.specs.declared.rule.RuleError.{RuleError as CodeError}
+use Rattle.juniper_syntax.specs.declared.error.ParseError.{ParseError}
+use Rattle.juniper_syntax.specs.declared.error.ParseError.TheVariants as parser
+use Rattle.juniper_syntax.specs.declared.position.Span.{Span}
+use Rattle.juniper_syntax.specs.declared.position.Spanning.{Spanning}
 use Rattle.juniper.specs.declared.error.GraphQLError.{GraphQLError}
 use Rattle.juniper.specs.RequestErrors.{of_parse_error, view_request_error, RequestError, not_parsed, not_valid, no_operation, multiple_operations}
 use Rattle.juniper.specs.RequestErrors.{unknown_operation, is_subscription, not_subscription, no_mutation_type, variable_not_constant, out_of_memory}

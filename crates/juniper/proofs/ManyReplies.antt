@@ -3,9 +3,9 @@ use Rattle.std.proofs.Common.{◌≡◌, Global, List, Ok, Result, Vec, map, sym
 use Rattle.std.specs.Borrow.{Bor}
 use Rattle.graphql_spec.specs.Resolvers.{Reply}
 use Rattle.graphql_spec.specs.Shown.{Shown}
-use Rattle.juniper_errors.specs.declared.field_error.ResolveError.{ResolveError}
-use Rattle.juniper_resolvable.specs.ResolvedView.{AllAnswer}
-use Rattle.juniper_resolvable.specs.declared.resolved.Resolved.{Resolved}
+use Rattle.juniper_conversions.specs.declared.field_error.ResolveError.{ResolveError}
+use Rattle.juniper_values.specs.ResolvedView.{AllAnswer}
+use Rattle.juniper_values.specs.declared.resolved.Resolved.{Resolved}
 use Rattle.juniper_execute.specs.Replied.{AreReplied}
 use Rattle.juniper_execute.specs.declared.node_resolver.Nodes.{Nodes}
 use Rattle.juniper_execute.specs.declared.node_resolver.Nodes.TheVariants as nodes

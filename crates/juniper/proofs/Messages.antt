@@ -1,9 +1,9 @@
 -- The text of several messages: the first, and then each other one after a line feed.
 use Rattle.std.proofs.Common.{◌≡◌, ℕ, ◌<◌, List, [], ◌∷◌, ◌++◌, map, length, get_or, take, drop, ◌-◌, sym, ap, append-nil, take_all, arith}
 use Rattle.std.specs.List.{flat_map}
-use Rattle.juniper_position.specs.RuleView.{view_rule_error}
+use Rattle.juniper_syntax.specs.RuleView.{view_rule_error}
 use Rattle.juniper.specs.RequestErrors.{messages_text}
-use Rattle.juniper_position.specs.declared.rule.RuleError.{RuleError}
+use Rattle.juniper_syntax.specs.declared.rule.RuleError.{RuleError}
 
 abbrev pub more_text : List RuleError → List ℕ
 more_text es = flat_map (λ e. 10 ∷ (view_rule_error e).message) es

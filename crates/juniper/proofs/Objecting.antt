@@ -8,11 +8,11 @@ use Rattle.graphql_spec.specs.Requests as refused
 use Rattle.graphql_spec.specs.Requests.{Refusal}
 use Rattle.graphql_spec.specs.Rules.{rule_errors}
 use Rattle.graphql_spec.specs.Schema.{Schema}
-use Rattle.juniper_expanded_fields.specs.ExpandedFields.{expanded_fields}
-use Rattle.juniper_expanded_fields.specs.ExpandedLevels.{expanded_levels}
-use Rattle.juniper_expanded_fields.specs.declared.counts.Counts.{Counts}
-use Rattle.juniper_position.specs.RuleView.{view_rule_error}
-use Rattle.juniper_position.specs.declared.rule.RuleError.{RuleError as CodeError}
+use Rattle.juniper_written.specs.ExpandedFields.{expanded_fields}
+use Rattle.juniper_written.specs.ExpandedLevels.{expanded_levels}
+use Rattle.juniper_written.specs.declared.counts.Counts.{Counts}
+use Rattle.juniper_syntax.specs.RuleView.{view_rule_error}
+use Rattle.juniper_syntax.specs.declared.rule.RuleError.{RuleError as CodeError}
 use Rattle.juniper.specs.Answering.{StandsFor}
 use Rattle.juniper.specs.Objections.{IsRefusal, IsWithin, has_more_fields, has_more_levels}
 use Rattle.juniper.specs.RequestErrors.{RequestError, is_subscription, multiple_operations, no_mutation_type, no_operation, not_parsed, not_subscription}

@@ -6,15 +6,15 @@ use Rattle.graphql_spec.specs.Positions.{Spanned, same_position}
 use Rattle.graphql_spec.specs.Rules as rule_views
 use Rattle.graphql_spec.proofs.Equality.{same_position-refl, same_position-true}
 use Rattle.graphql_spec.proofs.Lists.{same_true, same_refl}
-use Rattle.juniper_position.specs.Positions.{view_position, view_spanning}
-use Rattle.juniper_position.specs.Refusals.{Refusal, view_refusal}
-use Rattle.juniper_position.specs.declared.error.ParseError.{ParseError}
-use Rattle.juniper_position.specs.declared.position.Span.{Span}
-use Rattle.juniper_position.specs.declared.position.Spanning.{Spanning}
-use Rattle.juniper_position.specs.contracts.error.ParseErrorPartialEq.TheImpl as refusal
-use Rattle.juniper_position.specs.RuleView.{view_rule_error}
-use Rattle.juniper_position.specs.declared.rule.RuleError.{RuleError}
-use Rattle.juniper_position.specs.contracts.rule.RuleErrorPartialEq.TheImpl as rule
+use Rattle.juniper_syntax.specs.Positions.{view_position, view_spanning}
+use Rattle.juniper_syntax.specs.Refusals.{Refusal, view_refusal}
+use Rattle.juniper_syntax.specs.declared.error.ParseError.{ParseError}
+use Rattle.juniper_syntax.specs.declared.position.Span.{Span}
+use Rattle.juniper_syntax.specs.declared.position.Spanning.{Spanning}
+use Rattle.juniper_syntax.specs.contracts.error.ParseErrorPartialEq.TheImpl as refusal
+use Rattle.juniper_syntax.specs.RuleView.{view_rule_error}
+use Rattle.juniper_syntax.specs.declared.rule.RuleError.{RuleError}
+use Rattle.juniper_syntax.specs.contracts.rule.RuleErrorPartialEq.TheImpl as rule
 use Rattle.juniper.specs.RequestErrors.{view_request_error}
 use Rattle.juniper.specs.declared.error.GraphQLError.{GraphQLError}
 use Rattle.juniper.specs.declared.error.GraphQLError.TheVariants as code

@@ -1,7 +1,7 @@
 -- What a step leaves, whose answer has a root's nodes in place of the user's (6.2.2).
 use Rattle.std.proofs.Common.{Bool, Result, Ok, Err, inl, inr}
-use Rattle.juniper_errors.specs.declared.field_error.ResolveError.{ResolveError}
-use Rattle.juniper_errors.specs.declared.field_error.ResolveError.TheVariants.{Field, Memory}
+use Rattle.juniper_conversions.specs.declared.field_error.ResolveError.{ResolveError}
+use Rattle.juniper_conversions.specs.declared.field_error.ResolveError.TheVariants.{Field, Memory}
 use Rattle.juniper_execute.specs.Stepping.{MayLeave}
 use Rattle.juniper_intro.specs.Wants.{KeepsWant}
 use Rattle.juniper_types.specs.Stepping.{Leaves}

@@ -19,10 +19,10 @@ use Rattle.juniper_syntax.specs.InputView.{view_variables}
 use Rattle.juniper_syntax.specs.ValueView.{view_value}
 use Rattle.juniper_syntax.specs.declared.input.InputValue.{InputValue}
 use Rattle.juniper_syntax.specs.declared.value.Value.{Value}
-use Rattle.juniper_errors.specs.ErrorView.{view_listed}
-use Rattle.juniper_position.specs.Refusals as parser
-use Rattle.juniper_position.specs.Refusals.{Refusal as ParseRefusal}
-use Rattle.juniper_errors.specs.declared.execution_error.ExecutionError.{ExecutionError}
+use Rattle.juniper_conversions.specs.ErrorView.{view_listed}
+use Rattle.juniper_syntax.specs.Refusals as parser
+use Rattle.juniper_syntax.specs.Refusals.{Refusal as ParseRefusal}
+use Rattle.juniper_conversions.specs.declared.execution_error.ExecutionError.{ExecutionError}
 use Rattle.juniper.specs.declared.error.GraphQLError.{GraphQLError}
 use Rattle.juniper.specs.RequestErrors.{RequestError, view_request_error, not_parsed, not_valid, no_operation, multiple_operations, unknown_operation}
 use Rattle.juniper.specs.RequestErrors.{is_subscription, not_subscription, no_mutation_type, variable_not_constant, out_of_memory}

@@ -10,7 +10,7 @@ use Rattle.graphql_spec.specs.Fields.{declared_arguments, field_of, is_possible}
 use Rattle.graphql_spec.specs.Schema.{FieldDeclaration}
 use Rattle.graphql_spec.specs.Shown.{Name, Shown}
 use Rattle.graphql_spec.specs.Types.{innermost}
-use Rattle.juniper_errors.specs.PathView.{path_place}
+use Rattle.juniper_conversions.specs.PathView.{path_place}
 use Rattle.juniper_lookahead.specs.Sites.{IsFirstOf, IsWholeGroup}
 use Rattle.juniper_meta.specs.MetaView.{Meta}
 use Rattle.juniper_schema.specs.MadeTypes.{around, view_made}

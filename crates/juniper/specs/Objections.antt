@@ -7,8 +7,8 @@ use Rattle.graphql_spec.specs.Outcomes.{Reads}
 use Rattle.graphql_spec.specs.Requests.{Refusal, not_parsed}
 use Rattle.graphql_spec.specs.Rules.{rule_errors}
 use Rattle.graphql_spec.specs.Schema.{Schema}
-use Rattle.juniper_expanded_fields.specs.ExpandedFields.{expanded_fields}
-use Rattle.juniper_expanded_fields.specs.ExpandedLevels.{expanded_levels}
+use Rattle.juniper_written.specs.ExpandedFields.{expanded_fields}
+use Rattle.juniper_written.specs.ExpandedLevels.{expanded_levels}
 use Rattle.juniper.specs.Answering.{IsInvalid, StandsFor}
 use Rattle.juniper.specs.RequestErrors.{request_error_text, view_request_error}
 use Rattle.juniper.specs.declared.prepared.Bounds.{Bounds}

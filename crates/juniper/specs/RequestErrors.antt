@@ -4,15 +4,15 @@ use Rattle.std.specs.List.{join_with_byte}
 use Rattle.graphql_spec.specs.Shown.{Text, Name}
 use Rattle.graphql_spec.specs.Positions.{Spanned}
 use Rattle.graphql_spec.specs.Rules.{RuleError}
-use Rattle.juniper_position.specs.Positions.{view_spanning}
-use Rattle.juniper_position.specs.Refusals.{Refusal, view_refusal, refusal_text}
-use Rattle.juniper_position.specs.declared.error.ParseError.{ParseError}
-use Rattle.juniper_position.specs.declared.error.ParseError.TheVariants as parser
-use Rattle.juniper_position.specs.declared.position.Span.{Span}
-use Rattle.juniper_position.specs.declared.position.Spanning.{Spanning}
+use Rattle.juniper_syntax.specs.Positions.{view_spanning}
+use Rattle.juniper_syntax.specs.Refusals.{Refusal, view_refusal, refusal_text}
+use Rattle.juniper_syntax.specs.declared.error.ParseError.{ParseError}
+use Rattle.juniper_syntax.specs.declared.error.ParseError.TheVariants as parser
+use Rattle.juniper_syntax.specs.declared.position.Span.{Span}
+use Rattle.juniper_syntax.specs.declared.position.Spanning.{Spanning}
 use Rattle.juniper.specs.declared.error.GraphQLError.{GraphQLError}
 use Rattle.juniper.specs.declared.error.GraphQLError.TheVariants as code
-use Rattle.juniper_position.specs.RuleView.{view_rule_error}
+use Rattle.juniper_syntax.specs.RuleView.{view_rule_error}
 
 pub data RequestError : Type 0 where
   not_parsed : Spanned Refusal → RequestError

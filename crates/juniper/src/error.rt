@@ -3,7 +3,7 @@
 ghost use Rattle.std.specs.Prelude.{◌≡◌, IfOk, [], ◌∷◌, map, Some};
 ghost use Rattle.std.specs.List.{flat_map};
 ghost use Rattle.std.specs.Fmt.{WritesOnOk};
-ghost use Rattle.juniper_position.specs.RuleView.{view_rule_error};
+ghost use Rattle.juniper_syntax.specs.RuleView.{view_rule_error};
 ghost use Rattle.juniper.specs.RequestErrors.{view_request_error, not_valid, request_error_text, messages_text, of_parse_error};
 ghost use Rattle.juniper.specs.declared.error.GraphQLError.TheVariants as gives;
 

@@ -19,9 +19,9 @@ use std::fmt;
 pub struct Bounds {
     /// The most bytes of a text.
     pub bytes: usize,
-    /// The most fields of each operation, as [`juniper_expanded_fields::expanded_fields`] counts them.
+    /// The most fields of each operation, as [`juniper_written::expanded_fields`] counts them.
     pub fields: u64,
-    /// The most levels of each operation, as [`juniper_expanded_fields::expanded_levels`] counts them.
+    /// The most levels of each operation, as [`juniper_written::expanded_levels`] counts them.
     pub levels: u64,
 }
 

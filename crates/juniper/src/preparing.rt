@@ -17,12 +17,12 @@ use crate::error::GraphQLError;
 use crate::execute::execute_validated_query;
 use crate::prepared::{Bounds, Objection, Prepared};
 use crate::request::{check_variables, get_operation};
-use juniper_expanded_fields::{Counts, expanded_counts};
 use juniper_intro::RootNode;
 use juniper_language::{Document, ScalarValue, Value, Variables, parse_document_source};
 use juniper_rules::validate;
 use juniper_types::{GraphQLMutationValue, GraphQLType, GraphQLValue};
 use juniper_values::ExecutionError;
+use juniper_written::{Counts, expanded_counts};
 use std::alloc::Global;
 
 /// Reads a text within bounds.

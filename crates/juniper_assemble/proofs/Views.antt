@@ -3,9 +3,9 @@ use Rattle.std.proofs.Common.{◌≡◌, Bool, List, [], ◌∷◌, ◌++◌, ma
 use Rattle.std.proofs.lemmas.List.{map-append}
 use Rattle.graphql_spec.specs.Errors.{Place}
 use Rattle.graphql_spec.specs.Shown.{Shown}
-use Rattle.juniper_completion.specs.Skeletons as plain
+use Rattle.graphql_spec.specs.Skeletons as plain
 use Rattle.juniper_assemble.specs.SkeletonView.{skeletons_of, view_skeleton}
-use Rattle.juniper_errors.specs.PathView.{path_place}
+use Rattle.juniper_conversions.specs.PathView.{path_place}
 use Rattle.juniper_assemble.specs.SpotView.{view_spot}
 use Rattle.juniper_assemble.specs.declared.spot.Spot.{Spot}
 use Rattle.juniper_assemble.specs.declared.skeleton.Skeleton.{Skeleton, Absent, Filled, Several, Hole, the_lemmas as skeleton_lemmas}

@@ -4,8 +4,8 @@ use Rattle.graphql_spec.specs.Shown.{Shown}
 use Rattle.graphql_spec.specs.Values.{Value, Values, no_items, item}
 use Rattle.graphql_spec.specs.Errors.{wrong_shape, null_at_non_null}
 use Rattle.graphql_spec.specs.Resolvers.{Error}
-use Rattle.juniper_completion.specs.Skeletons as plain
-use Rattle.juniper_completion.specs.Skeletons.{Skeletons, no_skeletons, Filled, AllFilled, fill_all}
+use Rattle.graphql_spec.specs.Skeletons as plain
+use Rattle.graphql_spec.specs.Skeletons.{Skeletons, no_skeletons, Filled, AllFilled, fill_all}
 use Rattle.juniper_assemble.specs.declared.skeleton.Skeleton.{Skeleton, fold-Skeleton}
 use Rattle.juniper_assemble.specs.declared.skeleton.Skeleton.TheOpen.{Skeleton-F}
 use Rattle.juniper_assemble.specs.declared.apart.Fault.{Fault}

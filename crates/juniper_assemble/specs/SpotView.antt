@@ -1,8 +1,8 @@
 -- How what stands at a place of an answer is seen (7.1.2).
 use Rattle.std.specs.Prelude.{List, map}
 use Rattle.graphql_spec.specs.Resolvers.{Error}
-use Rattle.juniper_completion.specs.Skeletons as plain
-use Rattle.juniper_errors.specs.PathView.{path_place}
+use Rattle.graphql_spec.specs.Skeletons as plain
+use Rattle.juniper_conversions.specs.PathView.{path_place}
 use Rattle.juniper_assemble.specs.SkeletonView.{view_fault}
 use Rattle.juniper_assemble.specs.declared.apart.Fault.{Fault}
 use Rattle.juniper_assemble.specs.declared.spot.Spot.{Spot}

@@ -5,17 +5,17 @@ ghost use Rattle.graphql_spec.specs.Errors.{index};
 ghost use Rattle.graphql_spec.specs.Shown.{Name, Shown};
 ghost use Rattle.graphql_spec.specs.Resolvers.{World, leaf, node as node_of};
 ghost use Rattle.juniper_syntax.specs.TypeView.{view_type};
-ghost use Rattle.juniper_errors.specs.PathView.{path_place};
-ghost use Rattle.juniper_resolvable.specs.ResolvedView.{view_resolved};
+ghost use Rattle.juniper_conversions.specs.PathView.{path_place};
+ghost use Rattle.juniper_values.specs.ResolvedView.{view_resolved};
 ghost use Rattle.juniper_assemble.specs.SkeletonView.{view_fault, view_skeleton};
 ghost use Rattle.juniper_assemble.specs.SpotView.{view_nodes, view_faults};
 ghost use Rattle.juniper_assemble.specs.Apart.{IsApart, IsNullApart, IsWrong};
 
 use crate::skeleton::Skeleton;
 use crate::spot::{Spot, path_within};
-use juniper_errors::FieldPath;
-use juniper_resolvable::Resolved;
+use juniper_conversions::FieldPath;
 use juniper_syntax::{ScalarValue, Type};
+use juniper_values::Resolved;
 use std::alloc::{AllocError, Global};
 use std::rc::Rc;
 

@@ -2,9 +2,9 @@
 
 ghost use Rattle.std.specs.Prelude.{◌≡◌, ◌++◌, IfOk, map};
 ghost use Rattle.graphql_spec.specs.Errors.{index};
-ghost use Rattle.juniper_errors.specs.PathView.{path_place};
+ghost use Rattle.juniper_conversions.specs.PathView.{path_place};
 
-use juniper_errors::FieldPath;
+use juniper_conversions::FieldPath;
 use std::alloc::{AllocError, Global};
 use std::rc::Rc;
 

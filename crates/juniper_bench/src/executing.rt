@@ -1,7 +1,7 @@
 //! What is measured of execution: requests to the demo.
 
+use crate::answers::Answer;
 use juniper::execute_sync;
-use juniper_bench_tasks::Answer;
 use juniper_demo_server::{DemoContext, DemoRoot, Outcome, demo_root, show};
 use juniper_language::Variables;
 use std::alloc::{AllocError, Global};

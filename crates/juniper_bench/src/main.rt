@@ -9,15 +9,21 @@
 
 ghost use Rattle.std.specs.Prelude.{◌≡◌, ◌++◌, IfOk, codes, string_bytes};
 
+mod answers;
+mod collide;
+mod command;
+mod count;
 mod executing;
+mod make;
+mod schema;
 #[cfg(test)]
 mod tests;
 
-use executing::execute_answer;
-use juniper_bench_tasks::{
-    Answer, Command, colliding_text, made_text, parse_answer, read_command, scan_answer,
-    schema_answer, validate_answer,
-};
+use crate::answers::{Answer, parse_answer, scan_answer, schema_answer, validate_answer};
+use crate::collide::colliding_text;
+use crate::command::{Command, read_command};
+use crate::executing::execute_answer;
+use crate::make::made_text;
 use std::alloc::{AllocError, Global};
 use std::process::ExitCode;
 use std::rt::Files;

@@ -1,10 +1,11 @@
 //! What each command answers.
 
+use crate::answers::{Answer, parse_answer, scan_answer, schema_answer, validate_answer};
+use crate::collide::colliding_text;
+use crate::command::{Command, read_command};
 use crate::executing::execute_answer;
-use juniper_bench_tasks::{
-    Answer, Command, colliding_text, made_text, parse_answer, read_command, scan_answer,
-    schema_answer, validate_answer,
-};
+use crate::make::made_text;
+use juniper_language_tests::tables::{Tells, first_other};
 use std::alloc::{AllocError, Global};
 use std::process::Abort;
 
@@ -72,8 +73,6 @@ print file => nothing";
 /// What a table tells of its cases.
 #[derive(Clone, Copy)]
 enum Told {
-    /// The case itself.
-    Case,
     /// What a document counts.
     Counts,
     /// How many errors are listed.
@@ -86,15 +85,15 @@ enum Told {
     Words,
 }
 
-/// What is told of a case.
-fn told_of(alloc: Global, told: Told, case: &str) -> Result<String, AllocError> {
-    match told {
-        Told::Case => String::from_str(alloc, case),
-        Told::Counts => counted(alloc, case),
-        Told::Errors => said(alloc, &validate_answer(alloc, case, 2)?),
-        Told::Answers => said(alloc, &execute_answer(alloc, case, 2)?),
-        Told::Json => said(alloc, &scan_answer(alloc, case, 2)?),
-        Told::Words => asked(alloc, case),
+impl Tells for Told {
+    fn told_of(self, alloc: Global, case: &str) -> Result<String, AllocError> {
+        match self {
+            Told::Counts => counted(alloc, case),
+            Told::Errors => said(alloc, &validate_answer(alloc, case, 2)?),
+            Told::Answers => said(alloc, &execute_answer(alloc, case, 2)?),
+            Told::Json => said(alloc, &scan_answer(alloc, case, 2)?),
+            Told::Words => asked(alloc, case),
+        }
     }
 }
 
@@ -146,42 +145,6 @@ fn made(alloc: Global, text: &str) -> Result<String, AllocError> {
 /// Ends the test at a row that says something else than what is told of its case.
 fn check(rt: &impl Abort, alloc: Global, told: Told, rows: &str) {
     assert_eq!(rt; first_other(alloc, told, rows), Ok(None));
-}
-
-/// The first row that says something else than what is told; of an empty table its empty row.
-fn first_other<'r>(
-    alloc: Global,
-    told: Told,
-    rows: &'r str,
-) -> Result<Option<&'r str>, AllocError> {
-    for row in rows.split('\n') {
-        if !is_told(alloc, told, row)? {
-            return Ok(Some(row));
-        }
-    }
-    Ok(None)
-}
-
-/// Whether a row, `CASE => TEXT`, says what is told of its case.
-fn is_told(alloc: Global, told: Told, row: &str) -> Result<bool, AllocError> {
-    match row.split_once(" => ") {
-        Some((case, text)) => Ok(told_of(alloc, told, case)?.as_str() == text),
-        None => Ok(false),
-    }
-}
-
-/// Ends the test unless this is the first row that says something else than the case itself.
-fn find(rt: &impl Abort, alloc: Global, rows: &str, row: &str) {
-    assert_eq!(rt; first_other(alloc, Told::Case, rows), Ok(Some(row)));
-}
-
-#[test]
-fn other_rows_are_found(rt: HostRuntime) {
-    let alloc = rt.alloc();
-    find(&rt, alloc, "a => a\nb => c\nd => e", "b => c");
-    find(&rt, alloc, "a => a\nb", "b");
-    find(&rt, alloc, "a => a\n\nb => b", "");
-    find(&rt, alloc, "", "");
 }
 
 #[test]

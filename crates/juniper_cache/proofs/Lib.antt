@@ -1,2 +1,4 @@
 pub mod Answering
+pub mod Executing
 pub mod Keeping
+pub mod Using

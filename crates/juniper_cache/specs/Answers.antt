@@ -10,7 +10,7 @@ use Rattle.juniper.specs.Promised.{IsFullOutcome}
 use Rattle.juniper.specs.declared.prepared.Bounds.{Bounds}
 use Rattle.juniper.specs.declared.prepared.Objection.{Objection}
 use Rattle.juniper.specs.declared.prepared.Objection.TheVariants.{Refused, TooDeep, TooLong, TooManyFields}
-use Rattle.juniper_errors.specs.declared.execution_error.ExecutionError.{ExecutionError}
+use Rattle.juniper_conversions.specs.declared.execution_error.ExecutionError.{ExecutionError}
 use Rattle.juniper_syntax.specs.declared.value.Value.{Value}
 
 module _ {C N S : Type 0} (service : Service C N) (b : Bounds) (shown : S → Shown) (q : Request) (c : C) where

@@ -1,5 +1,9 @@
-//! Tests of a cache of documents, over the demo.
+//! Tests of a cache of documents and of one of texts, over the demo.
 #![tactic(auto)]
 
 #[cfg(test)]
-mod tests;
+mod documents;
+#[cfg(test)]
+mod steps;
+#[cfg(test)]
+mod texts;

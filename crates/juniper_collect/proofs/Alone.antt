@@ -4,8 +4,8 @@ use Rattle.std.proofs.lemmas.List.Elements.{All-push, All-same}
 use Rattle.graphql_spec.specs.Shown.{Shown, Name}
 use Rattle.graphql_spec.specs.Documents.{Selections}
 use Rattle.graphql_spec.specs.Selections.{occurrences}
-use Rattle.juniper_position.specs.declared.position.Spanning.{Spanning}
-use Rattle.juniper_position.specs.declared.position.Span.{Span}
+use Rattle.juniper_syntax.specs.declared.position.Spanning.{Spanning}
+use Rattle.juniper_syntax.specs.declared.position.Span.{Span}
 use Rattle.juniper_syntax.specs.DocumentView.{put_selection, view_selections}
 use Rattle.juniper_syntax.specs.declared.ast.Field.{Field as FieldType}
 use Rattle.juniper_syntax.specs.declared.ast.Selection.{Selection}

@@ -25,7 +25,7 @@ pub struct Collector<'r, 'd, 'a, S, P> {
 pub type Collected<'d, 'a, S> = Vec<Occurrence<'d, 'a, S>>;
 
 /// The fields that selections hold for an object type. An error where memory is refused.
-pub fn collect<'d, 'a, S: ScalarValue, P: Conditions>(
+pub fn collect_fields<'d, 'a, S: ScalarValue, P: Conditions>(
     alloc: Global,
     collector: &Collector<'_, 'd, 'a, S, P>,
     concrete: &str,

@@ -7,7 +7,7 @@ ghost use Rattle.graphql_spec.specs.Directives.{admits as admitted, passes};
 ghost use Rattle.graphql_spec.specs.Selections.{applies as applies_to};
 ghost use Rattle.graphql_spec.specs.Fragments.{asked};
 ghost use Rattle.std.specs.Option.{option_map};
-ghost use Rattle.juniper_position.specs.Positions.{view_span};
+ghost use Rattle.juniper_syntax.specs.Positions.{view_span};
 ghost use Rattle.juniper_syntax.specs.InputView.{view_variables};
 ghost use Rattle.juniper_syntax.specs.DocumentView.{inline_head, put_selection, view_directives, view_head, view_selections, view_set, view_spread, view_word};
 ghost use Rattle.juniper_syntax.specs.declared.ast.Field.{out-Field};

@@ -4,8 +4,8 @@ use Rattle.std.specs.Option.{option_and_then}
 use Rattle.graphql_spec.specs.Shown.{Name}
 use Rattle.graphql_spec.specs.Constants.{Constant, null, scalar, enumerated, variable, list, object, find}
 use Rattle.graphql_spec.specs.Resolvers.{Error}
-use Rattle.juniper_scalars.specs.Conversions.{int_of}
-use Rattle.juniper_errors.specs.Messages.{message_alone}
+use Rattle.juniper_conversions.specs.Conversions.{int_of}
+use Rattle.juniper_conversions.specs.Messages.{message_alone}
 use Rattle.juniper_conversion_tests.specs.declared.cell.Cell.{Cell}
 
 -- the Int that an object has at a name

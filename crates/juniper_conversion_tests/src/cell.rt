@@ -3,13 +3,12 @@
 ghost use Rattle.std.specs.Prelude.{◌≡◌, option_map};
 ghost use Rattle.graphql_spec.specs.Constants.{find, meaning, members};
 ghost use Rattle.juniper_syntax.specs.InputView.{view_fields, view_input};
-ghost use Rattle.juniper_scalars.specs.Conversions.{int_of};
-ghost use Rattle.juniper_errors.specs.ErrorView.{view_error};
+ghost use Rattle.juniper_conversions.specs.Conversions.{int_of};
+ghost use Rattle.juniper_conversions.specs.ErrorView.{view_error};
 ghost use Rattle.juniper_conversion_tests.specs.Cells.{GivesCell};
 ghost use Rattle.juniper_conversion_tests.specs.Cells as cells;
 
-use juniper_position::{Span, Spanning};
-use juniper_syntax::{InputValue, ScalarValue};
+use juniper_syntax::{InputValue, ScalarValue, Span, Spanning};
 use juniper_values::{FieldError, FromInputValue, IntoFieldError};
 use std::alloc::{AllocError, Global};
 

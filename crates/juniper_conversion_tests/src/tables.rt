@@ -4,14 +4,13 @@ use crate::rows::Question;
 use crate::{arguments, both_scalars, field_errors, rows, scalars};
 use juniper_language::DefaultScalarValue;
 use juniper_language_tests::scalar::TestScalar;
+use juniper_language_tests::tables::{Tells, first_other};
 use std::alloc::{AllocError, Global};
 use std::process::Abort;
 
 /// What a table tells of its cases.
 #[derive(Clone, Copy)]
 pub enum Told {
-    /// The case itself.
-    Case,
     /// The answer of a conversion.
     Answer,
     /// The message of the error that the conversion's error becomes.
@@ -52,56 +51,29 @@ pub enum Told {
     Got,
 }
 
-/// What is told of a case.
-fn told_of(alloc: Global, told: Told, case: &str) -> Result<String, AllocError> {
-    match told {
-        Told::Case => String::from_str(alloc, case),
-        Told::Answer => rows::told_of(alloc, Question::Answer, case),
-        Told::Message => rows::told_of(alloc, Question::Message, case),
-        Told::Input => rows::told_of(alloc, Question::Input, case),
-        Told::Cell => rows::cell_of(alloc, case),
-        Told::Scalar => both_scalars::answer_of::<DefaultScalarValue>(alloc, case),
-        Told::OtherScalar => both_scalars::answer_of::<TestScalar>(alloc, case),
-        Told::Back => both_scalars::back_of::<DefaultScalarValue>(alloc, case),
-        Told::OtherBack => both_scalars::back_of::<TestScalar>(alloc, case),
-        Told::Read => scalars::read_of(alloc, case),
-        Told::Made => scalars::made_of(alloc, case),
-        Told::ImplicitNull => scalars::written_implicit(alloc),
-        Told::MadeError => scalars::error_of(alloc, case),
-        Told::FieldError => field_errors::said_of(alloc, case),
-        Told::Refusal => field_errors::refused_of(alloc, case),
-        Told::Place => field_errors::place_of(alloc, case),
-        Told::Order => field_errors::order_of::<DefaultScalarValue>(alloc, case),
-        Told::OtherOrder => field_errors::order_of::<TestScalar>(alloc, case),
-        Told::Copy => field_errors::copy_of(alloc, case),
-        Told::Got => arguments::got_of(alloc, case),
-    }
-}
-
-/// Ends the test at a row that says something else than what is told of its case.
-pub fn check(rt: &impl Abort, alloc: Global, told: Told, rows: &str) {
-    assert_eq!(rt; first_other(alloc, told, rows), Ok(None));
-}
-
-/// The first row that says something else than what is told; of an empty table its empty row.
-fn first_other<'r>(
-    alloc: Global,
-    told: Told,
-    rows: &'r str,
-) -> Result<Option<&'r str>, AllocError> {
-    for row in rows.split('\n') {
-        if !is_told(alloc, told, row)? {
-            return Ok(Some(row));
+impl Tells for Told {
+    fn told_of(self, alloc: Global, case: &str) -> Result<String, AllocError> {
+        match self {
+            Told::Answer => rows::told_of(alloc, Question::Answer, case),
+            Told::Message => rows::told_of(alloc, Question::Message, case),
+            Told::Input => rows::told_of(alloc, Question::Input, case),
+            Told::Cell => rows::cell_of(alloc, case),
+            Told::Scalar => both_scalars::answer_of::<DefaultScalarValue>(alloc, case),
+            Told::OtherScalar => both_scalars::answer_of::<TestScalar>(alloc, case),
+            Told::Back => both_scalars::back_of::<DefaultScalarValue>(alloc, case),
+            Told::OtherBack => both_scalars::back_of::<TestScalar>(alloc, case),
+            Told::Read => scalars::read_of(alloc, case),
+            Told::Made => scalars::made_of(alloc, case),
+            Told::ImplicitNull => scalars::written_implicit(alloc),
+            Told::MadeError => scalars::error_of(alloc, case),
+            Told::FieldError => field_errors::said_of(alloc, case),
+            Told::Refusal => field_errors::refused_of(alloc, case),
+            Told::Place => field_errors::place_of(alloc, case),
+            Told::Order => field_errors::order_of::<DefaultScalarValue>(alloc, case),
+            Told::OtherOrder => field_errors::order_of::<TestScalar>(alloc, case),
+            Told::Copy => field_errors::copy_of(alloc, case),
+            Told::Got => arguments::got_of(alloc, case),
         }
-    }
-    Ok(None)
-}
-
-/// Whether a row, `CASE => TEXT`, says what is told of its case.
-fn is_told(alloc: Global, told: Told, row: &str) -> Result<bool, AllocError> {
-    match row.split_once(" => ") {
-        Some((case, text)) => Ok(told_of(alloc, told, case)?.as_str() == text),
-        None => Ok(false),
     }
 }
 
@@ -110,16 +82,7 @@ pub fn unknown(alloc: Global) -> Result<String, AllocError> {
     String::from_str(alloc, "no such case")
 }
 
-/// Ends the test unless this is the first row that says something else than the case itself.
-fn find(rt: &impl Abort, alloc: Global, rows: &str, row: &str) {
-    assert_eq!(rt; first_other(alloc, Told::Case, rows), Ok(Some(row)));
-}
-
-#[test]
-fn other_rows_are_found(rt: HostRuntime) {
-    let alloc = rt.alloc();
-    find(&rt, alloc, "a => a\nb => c\nd => e", "b => c");
-    find(&rt, alloc, "a => a\nb", "b");
-    find(&rt, alloc, "a => a\n\nb => b", "");
-    find(&rt, alloc, "", "");
+/// Ends the test at a row that says something else than what is told of its case.
+pub fn check(rt: &impl Abort, alloc: Global, told: Told, rows: &str) {
+    assert_eq!(rt; first_other(alloc, told, rows), Ok(None));
 }

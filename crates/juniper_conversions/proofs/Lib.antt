@@ -1,3 +1,7 @@
+pub mod ErrorEquality
+pub mod ErrorOrder
+pub mod IdReads
+pub mod ScalarRoundTrips
 pub mod Counts
 pub mod Items
 pub mod ListRoundTrips

@@ -3,8 +3,8 @@ use Rattle.std.proofs.Common.{◌≡◌, Vec, String, Global, string_bytes, ap}
 use Rattle.graphql_spec.specs.Shown.{Shown}
 use Rattle.graphql_spec.specs.Constants.{meaning, meanings, members, null, scalar, enumerated, variable, list, object}
 use Rattle.juniper_syntax.specs.InputView.{view_input, view_items, view_fields}
-use Rattle.juniper_position.specs.declared.position.Span.{Span}
-use Rattle.juniper_position.specs.declared.position.Spanning.{Spanning}
+use Rattle.juniper_syntax.specs.declared.position.Span.{Span}
+use Rattle.juniper_syntax.specs.declared.position.Spanning.{Spanning}
 use Rattle.juniper_syntax.specs.declared.input.InputValue.{InputValue, Null, Scalar, Enum, Variable, List as ListOf, Object}
 use Rattle.juniper_syntax.proofs.Inputs.{view-Null, view-Scalar, view-Enum, view-Variable, view-List, view-Object}
 

@@ -7,7 +7,7 @@ use Rattle.juniper_nullable.specs.Nullable.{some}
 use Rattle.juniper_nullable.specs.declared.nullable.Nullable.{Nullable}
 use Rattle.juniper_nullable.specs.declared.nullable.Nullable.TheVariants as nullable
 use Rattle.juniper_conversions.specs.RoundTrips.{ComesBack, ComesBackAs}
-use Rattle.juniper_scalars.specs.Conversions.{GivesBox}
+use Rattle.juniper_conversions.specs.Conversions.{GivesBox}
 use Rattle.juniper_conversions.specs.WrappedConversions.{GivesNullable}
 
 module _ {A E : Type 0} (gives : Constant → Result A E → Type 0) where

@@ -2,7 +2,7 @@
 use Rattle.std.specs.Prelude.{codes, ◌++◌}
 use Rattle.std.specs.Fmt.{decimal}
 use Rattle.graphql_spec.specs.Resolvers.{Error}
-use Rattle.juniper_errors.specs.Messages.{message_alone}
+use Rattle.juniper_conversions.specs.Messages.{message_alone}
 use Rattle.juniper_conversions.specs.declared.conversion_errors.FromInputValueVecError.{FromInputValueVecError}
 use Rattle.juniper_conversions.specs.declared.conversion_errors.FromInputValueVecError.TheVariants as vec
 use Rattle.juniper_conversions.specs.declared.conversion_errors.FromInputValueArrayError.{FromInputValueArrayError}

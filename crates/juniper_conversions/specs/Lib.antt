@@ -1,3 +1,9 @@
+pub mod SegmentView
+pub mod ErrorView
+pub mod Messages
+pub mod PathView
+pub mod Conversions
+pub mod Identifiers
 pub mod ConversionErrors
 pub mod ListConversions
 pub mod Options

@@ -3,7 +3,7 @@
 ghost use Rattle.juniper_conversions.specs.ConversionErrors.{vec_error, array_error};
 
 use crate::convert::FromInputValue;
-use juniper_errors::{FieldError, IntoFieldError};
+use crate::{FieldError, IntoFieldError};
 use juniper_syntax::ScalarValue;
 use std::alloc::{AllocError, Global};
 

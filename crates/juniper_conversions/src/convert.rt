@@ -3,12 +3,11 @@
 ghost use Rattle.std.specs.Prelude.{◌≡◌, ◌⊎◌, IfOk, Result, codes, option_map, string_bytes};
 ghost use Rattle.graphql_spec.specs.Constants.{Constant, null, meaning};
 ghost use Rattle.juniper_syntax.specs.InputView.{view_input};
-ghost use Rattle.juniper_scalars.specs.Conversions.{is_null, scalar_of, int_of, boolean_of, text_of, refusal_text};
-ghost use Rattle.juniper_errors.specs.Messages.{message_alone};
-ghost use Rattle.juniper_errors.specs.ErrorView.{view_error};
+ghost use Rattle.juniper_conversions.specs.Conversions.{is_null, scalar_of, int_of, boolean_of, text_of, refusal_text};
+ghost use Rattle.juniper_conversions.specs.Messages.{message_alone};
+ghost use Rattle.juniper_conversions.specs.ErrorView.{view_error};
 
-use juniper_errors::{FieldError, error_of_message};
-use juniper_scalars::another_scalar;
+use crate::{FieldError, another_scalar, error_of_message};
 use juniper_syntax::{InputValue, ScalarValue};
 use std::alloc::{AllocError, Global};
 
@@ -50,7 +49,7 @@ pub trait ToInputValue<S: ScalarValue> {
 
 /// An Int (3.5.1).
 impl<S: ScalarValue> FromInputValue<S> for i32 {
-    ghost use Rattle.juniper_scalars.specs.Conversions.{GivesScalar};
+    ghost use Rattle.juniper_conversions.specs.Conversions.{GivesScalar};
 
     type Error = FieldError<S>;
 
@@ -80,7 +79,7 @@ impl<S: ScalarValue> ToInputValue<S> for i32 {
 
 /// A Boolean (3.5.4).
 impl<S: ScalarValue> FromInputValue<S> for bool {
-    ghost use Rattle.juniper_scalars.specs.Conversions.{GivesScalar};
+    ghost use Rattle.juniper_conversions.specs.Conversions.{GivesScalar};
 
     type Error = FieldError<S>;
 
@@ -110,7 +109,7 @@ impl<S: ScalarValue> ToInputValue<S> for bool {
 
 /// A String (3.5.3).
 impl<S: ScalarValue> FromInputValue<S> for String {
-    ghost use Rattle.juniper_scalars.specs.Conversions.{GivesScalar};
+    ghost use Rattle.juniper_conversions.specs.Conversions.{GivesScalar};
 
     type Error = FieldError<S>;
 
@@ -174,7 +173,7 @@ impl<T: ToInputValue<S>, S: ScalarValue> ToInputValue<S> for Option<T> {
 }
 
 /// Whether a value is null.
-pub(crate) fn is_null<S: ScalarValue>(value: &InputValue<S>) -> bool
+pub fn is_null<S: ScalarValue>(value: &InputValue<S>) -> bool
     ensures { result ≡ is_null (meaning (view_input S.shown value.now)) }
 {
     match value {

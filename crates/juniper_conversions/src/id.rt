@@ -4,19 +4,18 @@ ghost use Rattle.std.specs.Prelude.{◌≡◌, IfOk, codes, option_map};
 ghost use Rattle.graphql_spec.specs.Constants.{meaning};
 ghost use Rattle.juniper_id.specs.Text.{id_text};
 ghost use Rattle.juniper_syntax.specs.InputView.{view_input};
-ghost use Rattle.juniper_scalars.specs.Identifiers.{id_of};
-ghost use Rattle.juniper_errors.specs.ErrorView.{view_error};
+ghost use Rattle.juniper_conversions.specs.Identifiers.{id_of};
+ghost use Rattle.juniper_conversions.specs.ErrorView.{view_error};
 
 use crate::convert::{FromInputValue, ToInputValue, refused, scalar_of};
-use juniper_errors::FieldError;
+use crate::{FieldError, ToScalarValue, shown_id};
 use juniper_id::ID;
-use juniper_scalars::{ToScalarValue, shown_id};
 use juniper_syntax::{InputValue, ScalarValue};
 use std::alloc::{AllocError, Global};
 
 /// An ID (3.5.5): a String, or an Int as its decimal text.
 impl<S: ScalarValue> FromInputValue<S> for ID {
-    ghost use Rattle.juniper_scalars.specs.Conversions.{GivesScalar};
+    ghost use Rattle.juniper_conversions.specs.Conversions.{GivesScalar};
 
     type Error = FieldError<S>;
 

@@ -7,8 +7,7 @@ ghost use Rattle.juniper_conversions.specs.ListConversions.{GivesItems, constant
 
 use crate::conversion_errors::{FromInputValueArrayError, FromInputValueVecError};
 use crate::convert::{FromInputValue, ToInputValue, is_null};
-use juniper_position::{Span, Spanning};
-use juniper_syntax::{InputValue, ScalarValue};
+use juniper_syntax::{InputValue, ScalarValue, Span, Spanning};
 use std::alloc::{AllocError, Global};
 
 /// A list (3.11): null is refused, and a value that is no list is taken for a list of one item.
@@ -90,7 +89,7 @@ impl<T: ToInputValue<S>, S: ScalarValue, const N: usize> ToInputValue<S> for [T;
 }
 
 /// The items of a value that is a list.
-fn list_of<S: ScalarValue>(value: &InputValue<S>) -> Option<&[Spanning<InputValue<S>, Span>]>
+pub fn list_of<S: ScalarValue>(value: &InputValue<S>) -> Option<&[Spanning<InputValue<S>, Span>]>
     ensures { option_map (λ items. map (λ x. meaning (view_input S.shown x.item)) items.now) result ≡ list_of (meaning (view_input S.shown value.now)) }
 {
     match value {

@@ -57,7 +57,7 @@ impl<T: ToInputValue<S>, S: ScalarValue> ToInputValue<S> for Nullable<T> {
 
 /// A box goes as what it holds.
 impl<T: FromInputValue<S>, S: ScalarValue> FromInputValue<S> for Box<T> {
-    ghost use Rattle.juniper_scalars.specs.Conversions.{GivesBox};
+    ghost use Rattle.juniper_conversions.specs.Conversions.{GivesBox};
 
     type Error = T::Error;
 

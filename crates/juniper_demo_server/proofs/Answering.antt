@@ -13,8 +13,8 @@ use Rattle.juniper.specs.Promised.{IsFullOutcome, ListsFirsts}
 use Rattle.juniper.specs.RequestErrors.{RequestError, view_request_error, not_parsed, not_valid, no_operation, multiple_operations, unknown_operation}
 use Rattle.juniper.specs.RequestErrors.{is_subscription, not_subscription, no_mutation_type, variable_not_constant, out_of_memory}
 use Rattle.juniper.specs.declared.error.GraphQLError.{GraphQLError}
-use Rattle.juniper_errors.specs.ErrorView.{view_listed}
-use Rattle.juniper_errors.specs.declared.execution_error.ExecutionError.{ExecutionError}
+use Rattle.juniper_conversions.specs.ErrorView.{view_listed}
+use Rattle.juniper_conversions.specs.declared.execution_error.ExecutionError.{ExecutionError}
 use Rattle.juniper_syntax.specs.Scalars.{default_shown}
 use Rattle.juniper_syntax.specs.ValueView.{view_value}
 use Rattle.juniper_syntax.specs.declared.scalar.DefaultScalarValue.{DefaultScalarValue}

@@ -6,7 +6,7 @@ use Rattle.graphql_spec.specs.Schema.{Entry, plain_field, plain_input}
 use Rattle.graphql_spec.specs.Shown.{Name}
 use Rattle.graphql_spec.specs.Types.{innermost, nullable}
 use Rattle.graphql_spec.proofs.Lists.{same_true}
-use Rattle.juniper_declared.specs.Data.{collide, nowhere, with_all}
+use Rattle.juniper_words.specs.Data.{collide, nowhere, with_all}
 use Rattle.juniper_meta.specs.MetaView.{entry_at, is_placeholder}
 use Rattle.juniper_registry.specs.Entries.{Table, awaited}
 use Rattle.juniper_demo_server.specs.DemoTypes.{demo_declarations}

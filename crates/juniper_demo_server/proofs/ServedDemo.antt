@@ -21,7 +21,7 @@ use Rattle.juniper_meta.specs.MetaView.{is_placeholder}
 use Rattle.juniper_intro.specs.Roots.{IsSchemaOf, Makes}
 use Rattle.juniper_intro.specs.declared.error.RootError.{RootError}
 use Rattle.juniper_intro.specs.declared.error.RootError.TheVariants.{NotExecutable, Memory}
-use Rattle.juniper_declared.specs.Data.{Declarations, collide, nowhere, with_all}
+use Rattle.juniper_words.specs.Data.{Declarations, collide, nowhere, with_all}
 use Rattle.juniper_registry.specs.Entries.{Table}
 use Rattle.juniper_schema.specs.SchemaView.{with_built_ins}
 use Rattle.juniper_words.specs.Served.{Serves}

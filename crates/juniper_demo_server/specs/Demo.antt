@@ -5,9 +5,9 @@ use Rattle.std.specs.Str.{bytes_eq}
 use Rattle.graphql_spec.specs.Shown.{Name, int, text}
 use Rattle.graphql_spec.specs.Constants.{Constant, Members, find}
 use Rattle.graphql_spec.specs.Resolvers.{Error, Reply, answered, failed, nothing, leaf, items, node}
-use Rattle.juniper_resolvable.specs.ResolvedView.{trees_of}
-use Rattle.juniper_resolvable.specs.Answered.{fails_with, int_reply, int_sum, text_reply, trees_reply}
-use Rattle.juniper_scalars.specs.Conversions.{int_of, refusal_text}
+use Rattle.juniper_values.specs.ResolvedView.{trees_of}
+use Rattle.juniper_values.specs.Answered.{fails_with, int_reply, int_sum, text_reply, trees_reply}
+use Rattle.juniper_conversions.specs.Conversions.{int_of, refusal_text}
 use Rattle.juniper_values.specs.ArgumentsRead.{enum_argument, int_argument, or_error, with_read}
 use Rattle.juniper_demo_server.specs.declared.demo.DemoContext.{DemoContext}
 use Rattle.juniper_demo_server.specs.declared.demo.DemoNode.{DemoNode}

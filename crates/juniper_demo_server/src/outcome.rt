@@ -1,7 +1,7 @@
 //! What the program prints for the outcome of a request.
 
 ghost use Rattle.std.specs.Prelude.{IfOk, OnOk, MatchResult, map};
-ghost use Rattle.juniper_errors.specs.ErrorView.{view_listed};
+ghost use Rattle.juniper_conversions.specs.ErrorView.{view_listed};
 ghost use Rattle.juniper.specs.RequestErrors.{view_request_error};
 ghost use Rattle.juniper_syntax.specs.Scalars.{default_shown};
 ghost use Rattle.juniper_syntax.specs.ValueView.{view_value};

@@ -19,7 +19,7 @@ use Rattle.juniper_explain.specs.Nodes.{explanations}
 use Rattle.juniper_json.specs.Refusals.{refusals_of}
 use Rattle.juniper_json.specs.RefusalText as lines
 use Rattle.juniper_json.specs.RefusalText.{explained_text, refusals_text}
-use Rattle.juniper_position.specs.Refusals as parser
+use Rattle.juniper_syntax.specs.Refusals as parser
 use Rattle.juniper_endpoint.specs.Explained.{TellsRefusal, explained_as, is_left_out, of_explanation}
 use Rattle.juniper_endpoint.specs.Looks.{IsExplained}
 

@@ -17,15 +17,15 @@ use Rattle.juniper.specs.declared.error.GraphQLError.{GraphQLError}
 use Rattle.juniper.specs.declared.prepared.Bounds.{Bounds}
 use Rattle.juniper.specs.declared.prepared.Objection.{Objection}
 use Rattle.juniper.specs.declared.prepared.Objection.TheVariants as objection
-use Rattle.juniper_errors.specs.ErrorView.{view_listed}
-use Rattle.juniper_errors.specs.declared.execution_error.ExecutionError.{ExecutionError}
+use Rattle.juniper_conversions.specs.ErrorView.{view_listed}
+use Rattle.juniper_conversions.specs.declared.execution_error.ExecutionError.{ExecutionError}
 use Rattle.juniper_http.specs.declared.endpoint.Reply.{Reply}
 use Rattle.juniper_http.specs.declared.outcome.Outcome.{Outcome}
 use Rattle.juniper_http.specs.declared.outcome.Outcome.TheVariants.{Refused, Writes, OutOfMemory}
 use Rattle.juniper_json.specs.Refusals.{refusals_of}
 use Rattle.juniper_json.specs.declared.read.VariablesError.{VariablesError}
 use Rattle.juniper_json.specs.RefusalText.{refusals_text}
-use Rattle.juniper_position.specs.RuleView.{view_rule_error}
+use Rattle.juniper_syntax.specs.RuleView.{view_rule_error}
 use Rattle.juniper_request.specs.Requests.{Asked}
 use Rattle.juniper_syntax.specs.Scalars.{default_shown}
 use Rattle.juniper_syntax.specs.ValueView.{view_value}

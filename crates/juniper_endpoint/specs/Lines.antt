@@ -5,8 +5,8 @@ use Rattle.graphql_spec.specs.Shown.{Text}
 use Rattle.juniper.specs.RequestErrors as why
 use Rattle.juniper.specs.RequestErrors.{RequestError, view_request_error}
 use Rattle.juniper.specs.declared.error.GraphQLError.{GraphQLError}
-use Rattle.juniper_errors.specs.ErrorView.{view_listed}
-use Rattle.juniper_errors.specs.declared.execution_error.ExecutionError.{ExecutionError}
+use Rattle.juniper_conversions.specs.ErrorView.{view_listed}
+use Rattle.juniper_conversions.specs.declared.execution_error.ExecutionError.{ExecutionError}
 use Rattle.juniper_http.specs.declared.endpoint.Reply.{Reply}
 use Rattle.juniper_http.specs.declared.outcome.Outcome.{Outcome}
 use Rattle.juniper_http.specs.declared.outcome.Outcome.TheVariants.{Executed, Refused, OutOfMemory}

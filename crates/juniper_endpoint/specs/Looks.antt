@@ -16,7 +16,7 @@ use Rattle.juniper_json.specs.Refusals.{refusals_of}
 use Rattle.juniper_json.specs.RefusalText.{Refusal, explained_text}
 use Rattle.juniper_json.specs.declared.given.GivenVariables.{GivenVariables}
 use Rattle.juniper_json.specs.declared.read.VariablesError.{VariablesError}
-use Rattle.juniper_position.specs.RuleView.{view_rule_error}
+use Rattle.juniper_syntax.specs.RuleView.{view_rule_error}
 use Rattle.juniper_syntax.specs.InputView.{view_variables}
 use Rattle.juniper_syntax.specs.Scalars.{default_shown}
 use Rattle.serde_json.specs.Data.{Members}

@@ -7,8 +7,8 @@ ghost use Rattle.graphql_spec.specs.Documents.{Document, mutation, variables_of}
 ghost use Rattle.graphql_spec.specs.Outcomes.{Reads};
 ghost use Rattle.graphql_spec.specs.Requests.{no_fitting_value};
 ghost use Rattle.juniper_json.specs.Each.{view_refused};
-ghost use Rattle.juniper_position.specs.RuleView.{view_rule_error};
-ghost use Rattle.juniper_position.specs.declared.error.ParseError.TheVariants.{Memory};
+ghost use Rattle.juniper_syntax.specs.RuleView.{view_rule_error};
+ghost use Rattle.juniper_syntax.specs.declared.error.ParseError.TheVariants.{Memory};
 ghost use Rattle.juniper_request.specs.Requests.{view_request};
 ghost use Rattle.juniper_syntax.specs.DocumentView.{view_document, view_kind, view_operation, view_variable, view_word};
 ghost use Rattle.juniper_syntax.specs.Scalars.{default_shown};

@@ -8,10 +8,10 @@ use Rattle.graphql_spec.specs.Execution.{reply_to}
 use Rattle.graphql_spec.specs.Fields.{typename}
 use Rattle.graphql_spec.specs.Resolvers.{Reply, World, answered, leaf}
 use Rattle.graphql_spec.specs.Shown.{Name, Shown, text}
-use Rattle.juniper_errors.specs.declared.field_error.ResolveError.{ResolveError}
-use Rattle.juniper_errors.specs.declared.field_error.ResolveError.TheVariants.{Field, Memory}
-use Rattle.juniper_resolvable.specs.ResolvedView.{AllAnswer, Answers}
-use Rattle.juniper_resolvable.specs.declared.resolved.Resolved.{Resolved}
+use Rattle.juniper_conversions.specs.declared.field_error.ResolveError.{ResolveError}
+use Rattle.juniper_conversions.specs.declared.field_error.ResolveError.TheVariants.{Field, Memory}
+use Rattle.juniper_values.specs.ResolvedView.{AllAnswer, Answers}
+use Rattle.juniper_values.specs.declared.resolved.Resolved.{Resolved}
 use Rattle.juniper_execute.specs.Replied.{AreAllReplies, AreReplied, IsOnlyReply}
 use Rattle.juniper_execute.specs.declared.node_resolver.Nodes.{Nodes}
 use Rattle.juniper_execute.specs.declared.node_resolver.Nodes.TheVariants as nodes

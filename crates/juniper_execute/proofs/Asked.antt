@@ -12,8 +12,8 @@ use Rattle.graphql_spec.specs.Selections.{Occurrence}
 use Rattle.graphql_spec.specs.Execution.{reply_of, reply_to, type_of}
 use Rattle.graphql_spec.specs.Fields.{declared_arguments, field_of, is_possible}
 use Rattle.graphql_spec.specs.Resolvers.{World}
-use Rattle.juniper_position.specs.declared.position.Span.{Span}
-use Rattle.juniper_position.specs.declared.position.Spanning.{Spanning}
+use Rattle.juniper_syntax.specs.declared.position.Span.{Span}
+use Rattle.juniper_syntax.specs.declared.position.Spanning.{Spanning}
 use Rattle.juniper_syntax.specs.InputView.{view_variables}
 use Rattle.juniper_syntax.specs.declared.ast.Field.{Field}
 use Rattle.juniper_syntax.specs.declared.scalar.ScalarValue.{Ghosts as Scalars}
@@ -22,8 +22,8 @@ use Rattle.juniper_lookahead.specs.Sites.{IsFirstOf, IsWholeGroup, view_fields}
 use Rattle.juniper_lookahead.specs.declared.occurrences.Enclosing.{Enclosing}
 use Rattle.juniper_lookahead.specs.declared.occurrences.Occurrence.{Occurrence as CodeOccurrence}
 use Rattle.juniper_schema.specs.SchemaView.{view_schema}
-use Rattle.juniper_errors.specs.PathView.{path_place}
-use Rattle.juniper_errors.specs.declared.field_path.FieldPath.{FieldPath}
+use Rattle.juniper_conversions.specs.PathView.{path_place}
+use Rattle.juniper_conversions.specs.declared.field_path.FieldPath.{FieldPath}
 use Rattle.juniper_schema.specs.declared.schema.SchemaType.{SchemaType}
 use Rattle.juniper_schema.specs.declared.type_type.TypeType.{TypeType}
 use Rattle.juniper_types.specs.ExecutorView.{IsAskedFor, IsDeclaredType, IsStepOf, concrete_of, enclosing_of, fragments_of, occurrence_of, occurrences_of}

@@ -31,7 +31,7 @@ use Rattle.graphql_spec.specs.Mutation.{IsLeft, Mutation, root_fields}
 use Rattle.graphql_spec.specs.MutationLaws.{HasRun}
 use Rattle.graphql_spec.proofs.Exact.{runs-exact-answer}
 use Rattle.graphql_spec.proofs.Running.{may-stop-after, run-answers}
-use Rattle.juniper_errors.specs.declared.execution_error.ExecutionError.{ExecutionError}
+use Rattle.juniper_conversions.specs.declared.execution_error.ExecutionError.{ExecutionError}
 use Rattle.juniper_syntax.specs.declared.value.Value.{Value as ValueType}
 use Rattle.juniper_execute.specs.Stepping.{IsLeftOf}
 use Rattle.juniper_execute.specs.Walkings.{Lists, MutationWalked, TellsQuery, TellsRun, starts_by}

@@ -21,11 +21,11 @@ use Rattle.juniper_collect.specs.Collected.{IsReady, expansion, view_all, view_c
 use Rattle.juniper_collect.specs.FragmentView.{ExpandAlike, IsMade, fragments_in}
 use Rattle.juniper_collect.specs.declared.collecting.Collector.{Collector}
 use Rattle.juniper_lookahead.specs.declared.occurrences.Occurrence.{Occurrence as CodeOccurrence}
-use Rattle.juniper_errors.specs.declared.field_error.ResolveError.{ResolveError}
-use Rattle.juniper_errors.specs.declared.field_error.ResolveError.TheVariants.{Field, Memory}
+use Rattle.juniper_conversions.specs.declared.field_error.ResolveError.{ResolveError}
+use Rattle.juniper_conversions.specs.declared.field_error.ResolveError.TheVariants.{Field, Memory}
 use Rattle.juniper_lookahead.specs.Expansion.{FragmentsByName, fragments_among}
-use Rattle.juniper_position.specs.declared.position.Span.{Span}
-use Rattle.juniper_position.specs.declared.position.Spanning.{Spanning}
+use Rattle.juniper_syntax.specs.declared.position.Span.{Span}
+use Rattle.juniper_syntax.specs.declared.position.Spanning.{Spanning}
 use Rattle.juniper_syntax.specs.DocumentView.{view_set}
 use Rattle.juniper_syntax.specs.InputView.{view_variables}
 use Rattle.juniper_syntax.specs.declared.ast.Field.{Field as FieldType, out-Field}
@@ -37,12 +37,12 @@ use Rattle.juniper_walk.specs.FieldWords.{head_of}
 use Rattle.juniper_walk.specs.Walking.{SelectionsAgree}
 use Rattle.juniper_lookahead.specs.Sites.{IsFirstOf, IsWholeGroup}
 use Rattle.juniper_lookahead.specs.declared.occurrences.Enclosing.{Enclosing}
-use Rattle.juniper_plan.specs.PlanWalks.{HasFirst, IsGroupOf}
-use Rattle.juniper_plan.specs.Plans.{IsMade as IsPlanMade, IsStep, StandsFor, all_expanded}
-use Rattle.juniper_plan.proofs.Whole.{first-field, whole-at}
-use Rattle.juniper_plan.specs.declared.plan.GroupRange.{GroupRange}
-use Rattle.juniper_plan.specs.declared.plan.Plan.{Plan}
-use Rattle.juniper_plan.proofs.Elsewhere.{same-all, same-each, standing-elsewhere, stands-elsewhere}
+use Rattle.juniper_walk.specs.PlanWalks.{HasFirst, IsGroupOf}
+use Rattle.juniper_walk.specs.Plans.{IsMade as IsPlanMade, IsStep, StandsFor, all_expanded}
+use Rattle.juniper_walk.proofs.Whole.{first-field, whole-at}
+use Rattle.juniper_walk.specs.declared.plan.GroupRange.{GroupRange}
+use Rattle.juniper_walk.specs.declared.plan.Plan.{Plan}
+use Rattle.juniper_walk.proofs.Elsewhere.{same-all, same-each, standing-elsewhere, stands-elsewhere}
 use Rattle.juniper_execute.specs.RootFields.{IsReadyRoot, collector_in, field_in}
 use Rattle.juniper_execute.specs.Stepping.{GroupRan, GroupStopped, IsGiven, StepLeaves}
 use Rattle.juniper_execute.specs.declared.root_walk.RootWalk.{RootWalk}

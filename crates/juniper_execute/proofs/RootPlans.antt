@@ -15,14 +15,14 @@ use Rattle.graphql_spec.proofs.Running.{may-stop-at, none-ran, one-more-ran}
 use Rattle.juniper_collect.specs.Collected.{expansion, view_all}
 use Rattle.juniper_collect.specs.declared.collecting.Collector.{Collector}
 use Rattle.juniper_lookahead.specs.declared.occurrences.Enclosing.{Enclosing}
-use Rattle.juniper_plan.specs.declared.plan.GroupRange.{GroupRange}
-use Rattle.juniper_plan.specs.declared.plan.Plan.{Plan}
-use Rattle.juniper_plan.specs.PlanWalks.{IsGroupOf}
-use Rattle.juniper_plan.specs.Plans.{IsAskedAt, IsGrown, IsMade, StandsFor, all_expanded, fields_at, key_at}
-use Rattle.juniper_plan.proofs.Elsewhere.{standing-elsewhere, stands-elsewhere}
-use Rattle.juniper_plan.proofs.RootRounds.{round-asked, round-bound, round-group, round-next, round-split, rounds-end}
-use Rattle.juniper_plan.proofs.Sorted.{one-enclosing}
-use Rattle.juniper_plan.proofs.Standing.{stands-still}
+use Rattle.juniper_walk.specs.declared.plan.GroupRange.{GroupRange}
+use Rattle.juniper_walk.specs.declared.plan.Plan.{Plan}
+use Rattle.juniper_walk.specs.PlanWalks.{IsGroupOf}
+use Rattle.juniper_walk.specs.Plans.{IsAskedAt, IsGrown, IsMade, StandsFor, all_expanded, fields_at, key_at}
+use Rattle.juniper_walk.proofs.Elsewhere.{standing-elsewhere, stands-elsewhere}
+use Rattle.juniper_walk.proofs.RootRounds.{round-asked, round-bound, round-group, round-next, round-split, rounds-end}
+use Rattle.juniper_walk.proofs.Sorted.{one-enclosing}
+use Rattle.juniper_walk.proofs.Standing.{stands-still}
 use Rattle.std.proofs.lemmas.List.{append-nil}
 use Rattle.std.specs.Result.{IsErr, MatchResult}
 use Rattle.juniper_execute.specs.RootFields.{IsRootPlan, IsRootStep, all_fields, asks_in, collector_in, selected_in}

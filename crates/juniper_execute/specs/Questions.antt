@@ -9,12 +9,12 @@ use Rattle.graphql_spec.specs.Fields.{declared_arguments, declared_type, field_o
 use Rattle.graphql_spec.specs.Inputs.{Variables}
 use Rattle.graphql_spec.specs.Schema.{Schema}
 use Rattle.graphql_spec.specs.Shown.{Name, Shown}
-use Rattle.juniper_errors.specs.PathView.{path_place}
+use Rattle.juniper_conversions.specs.PathView.{path_place}
 use Rattle.juniper_lookahead.specs.Expansion.{IsAcyclic, VariableMap}
 use Rattle.juniper_lookahead.specs.Sites.{IsFirstOf, IsWholeGroup}
 use Rattle.juniper_meta.specs.MetaView.{view_field}
-use Rattle.juniper_position.specs.declared.position.Span.{Span}
-use Rattle.juniper_position.specs.declared.position.Spanning.{Spanning}
+use Rattle.juniper_syntax.specs.declared.position.Span.{Span}
+use Rattle.juniper_syntax.specs.declared.position.Spanning.{Spanning}
 use Rattle.juniper_schema.specs.SchemaView.{view_schema}
 use Rattle.juniper_schema.specs.declared.schema.SchemaType.{SchemaType}
 use Rattle.juniper_syntax.specs.InputView.{view_variables}

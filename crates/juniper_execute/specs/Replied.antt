@@ -4,10 +4,10 @@ use Rattle.std.specs.declared.alloc.AllocError.{AllocError}
 use Rattle.std.specs.declared.alloc.Global.{Global}
 use Rattle.graphql_spec.specs.Resolvers.{Reply}
 use Rattle.graphql_spec.specs.Shown.{Shown}
-use Rattle.juniper_errors.specs.declared.field_error.ResolveError.{ResolveError}
-use Rattle.juniper_errors.specs.declared.field_error.ResolveError.TheVariants.{Field, Memory}
-use Rattle.juniper_resolvable.specs.ResolvedView.{AllAnswer, Answers}
-use Rattle.juniper_resolvable.specs.declared.resolved.Resolved.{Resolved}
+use Rattle.juniper_conversions.specs.declared.field_error.ResolveError.{ResolveError}
+use Rattle.juniper_conversions.specs.declared.field_error.ResolveError.TheVariants.{Field, Memory}
+use Rattle.juniper_values.specs.ResolvedView.{AllAnswer, Answers}
+use Rattle.juniper_values.specs.declared.resolved.Resolved.{Resolved}
 use Rattle.juniper_execute.specs.declared.node_resolver.Nodes.{Nodes}
 use Rattle.juniper_execute.specs.declared.node_resolver.Nodes.TheVariants as nodes
 use Rattle.juniper_execute.specs.declared.node_resolver.Replies.{Replies}

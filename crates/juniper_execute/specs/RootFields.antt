@@ -10,11 +10,11 @@ use Rattle.graphql_spec.specs.Schema.{Schema}
 use Rattle.graphql_spec.specs.Selections.{Forest, Occurrence, occurrences}
 use Rattle.juniper_collect.specs.FragmentView.{IsMade, fragments_in}
 use Rattle.juniper_collect.specs.declared.collecting.Collector.{Collector}
-use Rattle.juniper_errors.specs.PathView.{path_place}
-use Rattle.juniper_position.specs.declared.position.Span.{Span}
-use Rattle.juniper_position.specs.declared.position.Spanning.{Spanning}
-use Rattle.juniper_plan.specs.Plans.{IsStanding, IsStep}
-use Rattle.juniper_plan.specs.declared.plan.Plan.{Plan}
+use Rattle.juniper_conversions.specs.PathView.{path_place}
+use Rattle.juniper_syntax.specs.declared.position.Span.{Span}
+use Rattle.juniper_syntax.specs.declared.position.Spanning.{Spanning}
+use Rattle.juniper_walk.specs.Plans.{IsStanding, IsStep}
+use Rattle.juniper_walk.specs.declared.plan.Plan.{Plan}
 use Rattle.juniper_syntax.specs.DocumentView.{view_selections, view_set}
 use Rattle.juniper_syntax.specs.InputView.{view_variables}
 use Rattle.juniper_syntax.specs.declared.ast.Field.{Field, out-Field}

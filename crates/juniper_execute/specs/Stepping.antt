@@ -10,8 +10,8 @@ use Rattle.graphql_spec.specs.GroupLaws.{GroupCompleted}
 use Rattle.graphql_spec.specs.Selections.{Forest, Occurrence, keys, with_key}
 use Rattle.graphql_spec.specs.Execution.{type_of}
 use Rattle.graphql_spec.specs.Mutation.{IsLeft, Mutation, root_fields, step_of, torn_of}
-use Rattle.juniper_errors.specs.declared.field_error.ResolveError.{ResolveError}
-use Rattle.juniper_errors.specs.declared.field_error.ResolveError.TheVariants.{Field, Memory}
+use Rattle.juniper_conversions.specs.declared.field_error.ResolveError.{ResolveError}
+use Rattle.juniper_conversions.specs.declared.field_error.ResolveError.TheVariants.{Field, Memory}
 
 -- What a step leaves, if next is what it should: an answer or an error of the field leaves that; want of memory that, or a context that may be
 -- torn from the step.

@@ -19,8 +19,8 @@ use Rattle.graphql_spec.specs.Values.{Value}
 use Rattle.graphql_spec.specs.Walk.{IsAnswerFor, IsMutationAnswerFor}
 use Rattle.juniper_collect.specs.declared.collecting.Collector.{Collector}
 use Rattle.juniper_collect.specs.declared.fragments.FragmentMap.{FragmentMap}
-use Rattle.juniper_errors.specs.ErrorView.{view_listed}
-use Rattle.juniper_errors.specs.declared.execution_error.ExecutionError.{ExecutionError}
+use Rattle.juniper_conversions.specs.ErrorView.{view_listed}
+use Rattle.juniper_conversions.specs.declared.execution_error.ExecutionError.{ExecutionError}
 use Rattle.juniper_lookahead.specs.Expansion.{VariableMap}
 use Rattle.juniper_syntax.specs.ValueView.{view_value}
 use Rattle.juniper_syntax.specs.declared.value.Value.{Value as ValueType}

@@ -7,7 +7,7 @@ ghost use Rattle.graphql_spec.specs.Requests.{selected};
 ghost use Rattle.juniper_syntax.specs.DocumentView.{view_document, view_operation};
 ghost use Rattle.juniper_syntax.specs.InputView.{view_variables};
 ghost use Rattle.juniper_syntax.specs.ValueView.{view_value};
-ghost use Rattle.juniper_errors.specs.ErrorView.{view_listed};
+ghost use Rattle.juniper_conversions.specs.ErrorView.{view_listed};
 ghost use Rattle.juniper_execute.specs.ServedView.{mutation_root, schema_of, served_world};
 ghost use Rattle.juniper_execute.specs.Validity.{IsValid};
 ghost use Rattle.juniper_execute.specs.Walkings.{IsQueryWalked, MutationWalked};

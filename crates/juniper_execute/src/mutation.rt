@@ -11,11 +11,11 @@ ghost use Rattle.graphql_spec.specs.MutationLaws.{HasRun};
 ghost use Rattle.graphql_spec.specs.Selections.{all_below, keys, occurrences, with_key};
 ghost use Rattle.graphql_spec.specs.Types.{innermost};
 ghost use Rattle.juniper_collect.specs.Collected.{view_all};
-ghost use Rattle.juniper_plan.specs.Plans.{IsAskedAt, IsMade, all_expanded, fields_at, key_at};
-ghost use Rattle.juniper_plan.specs.PlanWalks.{HasFirst, IsGroupOf};
-ghost use Rattle.juniper_errors.specs.ErrorView.{view_listed};
-ghost use Rattle.juniper_errors.specs.PathView.{path_place};
-ghost use Rattle.juniper_resolvable.specs.ResolvedView.{Answers};
+ghost use Rattle.juniper_walk.specs.Plans.{IsAskedAt, IsMade, all_expanded, fields_at, key_at};
+ghost use Rattle.juniper_walk.specs.PlanWalks.{HasFirst, IsGroupOf};
+ghost use Rattle.juniper_conversions.specs.ErrorView.{view_listed};
+ghost use Rattle.juniper_conversions.specs.PathView.{path_place};
+ghost use Rattle.juniper_values.specs.ResolvedView.{Answers};
 ghost use Rattle.juniper_syntax.specs.TypeView.{view_type};
 ghost use Rattle.juniper_syntax.specs.ValueView.{view_object, view_value};
 ghost use Rattle.juniper_values.specs.ArgumentView.{view_arguments};
@@ -34,13 +34,12 @@ use crate::question::{Question, arguments_of};
 use crate::replying::type_name;
 use crate::root_walk::RootWalk;
 use crate::served::Served;
-use crate::service::{Service, first_of};
+use crate::service::Service;
 use juniper_lookahead::Enclosing;
-use juniper_plan::{GroupNo, GroupRange, Plan};
 use juniper_syntax::{Field, Object, ScalarValue, Span, Spanning, Value};
-use juniper_types::{Executor, FieldPath, Resolved};
+use juniper_types::{Executor, FieldPath, Resolved, first_of};
 use juniper_values::{Arguments, ExecutionError, ResolveError};
-use juniper_walk::{Asked, Site, Walked, path_below};
+use juniper_walk::{Asked, GroupNo, GroupRange, Plan, Site, Walked, path_below};
 use std::alloc::{AllocError, Global};
 use std::rc::Rc;
 
@@ -159,7 +158,7 @@ fn complete<'s, 'd, 'a, R: NodeResolver<S>, M, S: ScalarValue>(
         query_type: served.query_type(),
         undeclared: served.undeclared,
     };
-    let walked = service.complete_group(
+    let walked = service.complete_value(
         walk.alloc,
         served.walking,
         walk.fragments,

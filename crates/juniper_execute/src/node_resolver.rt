@@ -2,7 +2,7 @@
 //! of the Specification).
 
 ghost use Rattle.std.specs.Prelude.{◌≡◌};
-ghost use Rattle.juniper_resolvable.specs.ResolvedView.{Answers};
+ghost use Rattle.juniper_values.specs.ResolvedView.{Answers};
 ghost use Rattle.juniper_types.specs.ExecutorView.{IsAskedFor, context_of};
 ghost use Rattle.juniper_values.specs.ArgumentView.{view_arguments};
 ghost use Rattle.juniper_execute.specs.Stepping.{MayLeave};

@@ -4,7 +4,7 @@ ghost use Rattle.std.specs.Prelude.{◌≡◌, IfOk, map};
 ghost use Rattle.graphql_spec.specs.Execution.{reply_to};
 ghost use Rattle.graphql_spec.specs.Resolvers.{answered, leaf};
 ghost use Rattle.graphql_spec.specs.Shown.{text};
-ghost use Rattle.juniper_resolvable.specs.ResolvedView.{AllAnswer, Answers};
+ghost use Rattle.juniper_values.specs.ResolvedView.{AllAnswer, Answers};
 ghost use Rattle.juniper_schema.specs.SchemaView.{view_schema};
 ghost use Rattle.juniper_syntax.specs.InputView.{view_variables};
 ghost use Rattle.juniper_values.specs.ArgumentView.{view_arguments};

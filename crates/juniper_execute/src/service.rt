@@ -1,12 +1,11 @@
 //! What a request asks of its schema, its variables and its resolver (section 6.4 of the Specification).
 
-ghost use Rattle.std.specs.Prelude.{◌≡◌, ◌<◌, IsTrue, length, string_bytes};
+ghost use Rattle.std.specs.Prelude.{◌≡◌, IsTrue, string_bytes};
 ghost use Rattle.graphql_spec.specs.Executable.{is_executable};
 ghost use Rattle.graphql_spec.specs.Fields.{is_possible};
 ghost use Rattle.juniper_syntax.specs.InputView.{view_variables};
 ghost use Rattle.juniper_syntax.specs.TypeView.{view_type};
 ghost use Rattle.juniper_schema.specs.SchemaView.{view_schema};
-ghost use Rattle.juniper_lookahead.specs.Sites.{IsFirstOf};
 ghost use Rattle.juniper_execute.specs.Questions.{IsQuestion};
 ghost use Rattle.juniper_execute.specs.Meanings.{is_undeclared, world_at};
 
@@ -15,10 +14,10 @@ use crate::node_resolver::{NodeResolver, NodeTypes, Nodes, all_replies, only_rep
 use crate::question::{Question, arguments_of, declared_type, shown_type};
 use juniper_assemble::Completer;
 use juniper_collect::Conditions;
-use juniper_lookahead::Occurrence;
 use juniper_meta::MetaType;
 use juniper_schema::SchemaType;
 use juniper_syntax::{Field as Written, ScalarValue, Span, Spanning, Type, Variables};
+use juniper_types::first_of;
 use juniper_walk::{Asked, AskedAll, Resolver, Site};
 use std::alloc::{AllocError, Global};
 
@@ -94,7 +93,7 @@ impl<'c, 's, R: NodeResolver<S>, S: ScalarValue> Resolver<S> for Service<'c, 's,
         self.resolver.concrete_type_name(self.context, node)
     }
 
-    fn ask<'t, 'd, 'a>(
+    fn resolve_field_value<'t, 'd, 'a>(
         &'t self,
         alloc: Global,
         question: &'t Question<'s, S>,
@@ -134,15 +133,4 @@ impl<'c, 's, R: NodeResolver<S>, S: ScalarValue> Resolver<S> for Service<'c, 's,
             answers,
         })
     }
-}
-
-/// The first of a field's occurrences.
-pub(crate) fn first_of<'d, 'a, S>(
-    occurrences: &[Occurrence<'d, 'a, S>],
-) -> &'d Spanning<Written<'a, S>, Span>
-    requires { 0 < length occurrences.now }
-    ensures { IsFirstOf result.now occurrences.now }
-{
-    let first = &occurrences[0];
-    first.field
 }

@@ -10,12 +10,12 @@ ghost use Rattle.graphql_spec.specs.Selections.{all_below, occurrences};
 ghost use Rattle.graphql_spec.specs.Types.{innermost};
 ghost use Rattle.graphql_spec.specs.Walk.{IsAnswerFor};
 ghost use Rattle.juniper_collect.specs.Collected.{IsReady, expansion, view_all};
-ghost use Rattle.juniper_errors.specs.ErrorView.{view_listed};
-ghost use Rattle.juniper_errors.specs.PathView.{path_place};
+ghost use Rattle.juniper_conversions.specs.ErrorView.{view_listed};
+ghost use Rattle.juniper_conversions.specs.PathView.{path_place};
 ghost use Rattle.juniper_lookahead.specs.Sites.{IsFirstOf};
-ghost use Rattle.juniper_plan.specs.PlanWalks.{HasFirst};
-ghost use Rattle.juniper_plan.specs.Plans.{IsMade, IsStanding, IsStep, all_expanded, fields_at, group_count};
-ghost use Rattle.juniper_resolvable.specs.ResolvedView.{Answers};
+ghost use Rattle.juniper_walk.specs.PlanWalks.{HasFirst};
+ghost use Rattle.juniper_walk.specs.Plans.{IsMade, IsStanding, IsStep, all_expanded, fields_at, group_count};
+ghost use Rattle.juniper_values.specs.ResolvedView.{Answers};
 ghost use Rattle.juniper_schema.specs.SchemaView.{view_schema};
 ghost use Rattle.juniper_syntax.specs.DocumentView.{view_selections};
 ghost use Rattle.juniper_syntax.specs.InputView.{view_variables};
@@ -29,13 +29,13 @@ ghost use Rattle.juniper_execute.specs.Walkings.{Lists, TellsQuery, collector_of
 
 use crate::node_resolver::NodeResolver;
 use crate::question::Question;
-use crate::service::{Service, first_of};
+use crate::service::Service;
 use juniper_collect::{Collector, FragmentMap};
 use juniper_lookahead::{Enclosing, Occurrence};
-use juniper_plan::{GroupNo, GroupRange, Plan, root_groups};
 use juniper_syntax::{ScalarValue, Selection, SourcePosition};
-use juniper_types::FieldPath;
-use juniper_walk::{Asked, Group, Resolver, Walk, Walked};
+use juniper_twin::Group;
+use juniper_types::{FieldPath, first_of};
+use juniper_walk::{Asked, GroupNo, GroupRange, Plan, Resolver, Walk, Walked, root_groups};
 use std::alloc::{AllocError, Global};
 use std::rc::Rc;
 
@@ -70,13 +70,13 @@ impl Walking {
             (expansion S.shown walk.now.collector (view_selections S.shown selections.now)) (map (view_listed S.shown) r.errors.items)) }
     {
         match self {
-            Walking::Grouped => juniper_plan::answer(walk, concrete, root, start, selections),
-            Walking::Joined => juniper_walk::answer(walk, concrete, root, start, selections),
+            Walking::Grouped => juniper_walk::answer(walk, concrete, root, start, selections),
+            Walking::Joined => juniper_twin::answer(walk, concrete, root, start, selections),
         }
     }
 
     /// The value of what a field answers, and the errors of what fails in it, for all occurrences of a group of a plan (6.4.3).
-    fn complete_group<'d, 'a, S: ScalarValue, R: Resolver<S>>(
+    fn complete_value<'d, 'a, S: ScalarValue, R: Resolver<S>>(
         self,
         walk: &Walk<'_, 'd, 'a, S, R>,
         plan: &mut Plan<'d, 'a, S, R::Question>,
@@ -99,10 +99,10 @@ impl Walking {
             (view_all S.shown walk.now.collector (fields_at plan.old group.0)) (view_value S.shown w.value) (map (view_listed S.shown) w.errors.items)) }
     {
         match self {
-            Walking::Grouped => juniper_plan::complete_group(walk, plan, path, asked, group),
+            Walking::Grouped => juniper_walk::complete_value(walk, plan, path, asked, group),
             Walking::Joined => {
                 let group = group_of(plan.fields(group));
-                juniper_walk::complete_group(walk, path, asked, &group)
+                juniper_twin::complete_value(walk, path, asked, &group)
             }
         }
     }
@@ -121,16 +121,16 @@ impl<'c, 's, R: NodeResolver<S>, S: ScalarValue> Service<'c, 's, R, S> {
         selections: &'d [Selection<'a, S>],
     ) -> Result<Walked<S>, AllocError>
         requires ready { IsReady S.shown (collector_of fragments self.variables self) }
-        requires agree { SelectionsAgree (world_at (R.meaning self.resolver.now) (view_schema S.shown self.schema.now) (view_variables S.shown self.variables.now)
-            self.context.now) concrete.now
+        requires agree { SelectionsAgree (world_at (R.meaning self.resolver.now) (view_schema S.shown self.schema.now)
+            (view_variables S.shown self.variables.now) self.context.now) concrete.now
             (expansion S.shown (collector_of fragments self.variables self) (view_selections S.shown selections.now)) }
-        ensures answers { IfOk result (λ r. IsAnswerFor whole (world_at (R.meaning self.entry.resolver.now) (view_schema S.shown self.entry.schema.now) (view_variables S.shown self.entry.variables.now)
-            self.entry.context.now) concrete.now root.now
+        ensures answers { IfOk result (λ r. IsAnswerFor whole (world_at (R.meaning self.entry.resolver.now) (view_schema S.shown self.entry.schema.now)
+            (view_variables S.shown self.entry.variables.now) self.entry.context.now) concrete.now root.now
             (expansion S.shown (collector_of fragments.entry self.entry.variables self.entry) (view_selections S.shown selections.now))
             (view_value S.shown r.value) (map (view_listed S.shown) r.errors.items)) }
         ensures lists { IfOk result (λ r. Lists walking (responds (view_value S.shown r.value) (map (view_listed S.shown) r.errors.items))) }
-        ensures firsts { IfOk result (λ r. TellsQuery walking (world_at (R.meaning self.entry.resolver.now) (view_schema S.shown self.entry.schema.now) (view_variables S.shown self.entry.variables.now)
-            self.entry.context.now) concrete.now root.now
+        ensures firsts { IfOk result (λ r. TellsQuery walking (world_at (R.meaning self.entry.resolver.now) (view_schema S.shown self.entry.schema.now)
+            (view_variables S.shown self.entry.variables.now) self.entry.context.now) concrete.now root.now
             (expansion S.shown (collector_of fragments.entry self.entry.variables self.entry) (view_selections S.shown selections.now))
             (map (view_listed S.shown) r.errors.items)) }
     {
@@ -175,7 +175,7 @@ impl<'c, 's, R: NodeResolver<S>, S: ScalarValue> Service<'c, 's, R, S> {
     }
 
     /// The value of what a field answers, and the errors of what fails in it, for all occurrences of a group of a plan, walked so (6.4.3).
-    pub(crate) fn complete_group<'d, 'a>(
+    pub(crate) fn complete_value<'d, 'a>(
         self,
         alloc: Global,
         walking: Walking,
@@ -212,7 +212,7 @@ impl<'c, 's, R: NodeResolver<S>, S: ScalarValue> Service<'c, 's, R, S> {
                 possible: self,
             },
         };
-        let walked = walking.complete_group(&walk, plan, path, asked, group)?;
+        let walked = walking.complete_value(&walk, plan, path, asked, group)?;
         Ok(walked)
     }
 }

@@ -11,10 +11,10 @@ use Rattle.graphql_spec.specs.Fits.{has_field}
 use Rattle.std.specs.Str.{bytes_eq}
 use Rattle.std.proofs.lemmas.List.Folds.{list_any-append}
 use Rattle.graphql_spec.specs.Written.{argument_lists, default_values, defined_variables, field_repeats, fields_repeat, item_repeats, repeats, values_in}
-use Rattle.juniper_name_rules.specs.FieldNames.{default_repeats, names_of, value_repeats_in, value_repeats_or, values_repeat}
-use Rattle.juniper_position.specs.Positions.{view_span}
-use Rattle.juniper_position.specs.declared.position.Spanning.{Spanning}
-use Rattle.juniper_position.specs.declared.position.Span.{Span}
+use Rattle.juniper_written.specs.FieldNames.{default_repeats, names_of, value_repeats_in, value_repeats_or, values_repeat}
+use Rattle.juniper_syntax.specs.Positions.{view_span}
+use Rattle.juniper_syntax.specs.declared.position.Spanning.{Spanning}
+use Rattle.juniper_syntax.specs.declared.position.Span.{Span}
 use Rattle.juniper_syntax.specs.InputView.{view_input, view_items, view_fields}
 use Rattle.juniper_syntax.specs.declared.input.InputValue.{InputValue}
 use Rattle.juniper_explain.specs.declared.rule.Rule.TheVariants as rule

@@ -8,7 +8,7 @@ use Rattle.graphql_spec.specs.Rules as rules
 use Rattle.graphql_spec.specs.Rules.{at_each}
 use Rattle.graphql_spec.specs.Schema.{Schema}
 use Rattle.juniper_syntax.proofs.Lists.{left-is}
-use Rattle.juniper_phases.proofs.AtEach.{earlier-is}
+use Rattle.juniper_rules.proofs.AtEach.{earlier-is}
 use Rattle.juniper_explain.specs.Explanations.{Explanation, Judgement, explanations_at, first_judged, has_any, judged}
 use Rattle.juniper_explain.specs.Nodes.{explanations, judgements, name_findings, type_findings, use_findings}
 use Rattle.juniper_explain.proofs.Telling.{errors-has, names-listed}

@@ -4,12 +4,16 @@ mod Joined
 mod Judging
 mod Marking
 mod Misusing
+mod Moved
 mod Nearing
 mod PartWords
 mod Reached
+mod ReasonLoops
+mod Reasoning
 mod Repeating
 mod SiteCalls
 mod Telling
+pub mod TellingValues
 mod Undefining
 pub mod Valid
 mod WordNames

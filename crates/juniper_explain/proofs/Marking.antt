@@ -5,8 +5,8 @@ use Rattle.graphql_spec.specs.Shown.{Shown}
 use Rattle.graphql_spec.specs.Documents as spec
 use Rattle.graphql_spec.specs.Documents.{Word, Selections, end, field, spread, inline}
 use Rattle.graphql_spec.specs.Written.{selections_of}
-use Rattle.juniper_position.specs.declared.position.Spanning.{Spanning}
-use Rattle.juniper_position.specs.declared.position.Span.{Span}
+use Rattle.juniper_syntax.specs.declared.position.Spanning.{Spanning}
+use Rattle.juniper_syntax.specs.declared.position.Span.{Span}
 use Rattle.juniper_syntax.specs.DocumentView.{put_selection, view_selections, view_set}
 use Rattle.juniper_syntax.specs.declared.ast.Field.{Field as FieldType, out-Field}
 use Rattle.juniper_syntax.specs.declared.ast.InlineFragment.{InlineFragment as InlineType, out-InlineFragment}

@@ -18,10 +18,10 @@ use Rattle.graphql_spec.specs.Types.{TypeRef, innermost, type_text}
 use Rattle.graphql_spec.specs.VariableUses.{Use, all_allowed, allowed, at_declared, definition_of, has_real_default, input_fields, item_type, may_stand, parts}
 use Rattle.graphql_spec.specs.VariableUses.{uses}
 use Rattle.graphql_spec.specs.VariableUses.{uses_at, uses_in_call, uses_in_fields, uses_in_items}
-use Rattle.juniper_use_rules.specs.UsesView.{is_null}
-use Rattle.juniper_position.specs.Positions.{view_span}
-use Rattle.juniper_position.specs.declared.position.Spanning.{Spanning}
-use Rattle.juniper_position.specs.declared.position.Span.{Span}
+use Rattle.juniper_type_rules.specs.UsesView.{is_null}
+use Rattle.juniper_syntax.specs.Positions.{view_span}
+use Rattle.juniper_syntax.specs.declared.position.Spanning.{Spanning}
+use Rattle.juniper_syntax.specs.declared.position.Span.{Span}
 use Rattle.juniper_syntax.specs.InputView.{view_input, view_items, view_fields}
 use Rattle.juniper_syntax.specs.declared.input.InputValue.{InputValue}
 use Rattle.juniper_explain.specs.declared.rule.Rule.TheVariants as rule

@@ -5,8 +5,8 @@ use Rattle.std.specs.List.{flat_map}
 use Rattle.graphql_spec.specs.Shown.{Shown}
 use Rattle.graphql_spec.specs.Documents.{Definition, Word}
 use Rattle.graphql_spec.specs.Schema.{Schema}
-use Rattle.juniper_phases.specs.Listing.{PlacedListing, listing_of, placed_listing_of}
-use Rattle.juniper_phases.specs.declared.lists.ListedOnTypes.{ListedOnTypes}
+use Rattle.juniper_rules.specs.Listing.{PlacedListing, listing_of, placed_listing_of}
+use Rattle.juniper_rules.specs.declared.lists.ListedOnTypes.{ListedOnTypes}
 use Rattle.juniper_written.proofs.Lists.{flat-seen}
 use Rattle.juniper_written.specs.WrittenView.{view_list}
 use Rattle.juniper_placed.specs.CallView.{view_calls}

@@ -6,8 +6,8 @@ use Rattle.graphql_spec.specs.Documents.{Definition, operation, fragment, Docume
 use Rattle.graphql_spec.specs.Schema.{Schema}
 use Rattle.graphql_spec.specs.VariableUses.{as_definitions, is_reached, parts, reached}
 use Rattle.graphql_spec.specs.Fragments.{spreads}
-use Rattle.juniper_phases.specs.Listing.{AreListedOnTypes, PlacedListing, definition_of, listing_of, placed_listing_of, view_listed_on_types}
-use Rattle.juniper_phases.specs.declared.lists.ListedOnTypes.{ListedOnTypes}
+use Rattle.juniper_rules.specs.Listing.{AreListedOnTypes, PlacedListing, definition_of, listing_of, placed_listing_of, view_listed_on_types}
+use Rattle.juniper_rules.specs.declared.lists.ListedOnTypes.{ListedOnTypes}
 use Rattle.juniper_written.proofs.Lists.{flat-seen}
 use Rattle.juniper_explain.specs.Parts.{where_reached}
 

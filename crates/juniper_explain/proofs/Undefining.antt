@@ -11,9 +11,9 @@ use Rattle.graphql_spec.specs.Rules as rules
 use Rattle.graphql_spec.specs.Schema.{Schema}
 use Rattle.graphql_spec.specs.VariableUses.{all_defined, definition_of, names_used, parts, variables_in, variables_in_fields, variables_in_items}
 use Rattle.graphql_spec.specs.Written.{argument_lists}
-use Rattle.juniper_position.specs.Positions.{view_span}
-use Rattle.juniper_position.specs.declared.position.Spanning.{Spanning}
-use Rattle.juniper_position.specs.declared.position.Span.{Span}
+use Rattle.juniper_syntax.specs.Positions.{view_span}
+use Rattle.juniper_syntax.specs.declared.position.Spanning.{Spanning}
+use Rattle.juniper_syntax.specs.declared.position.Span.{Span}
 use Rattle.juniper_syntax.specs.InputView.{view_input, view_items, view_fields}
 use Rattle.juniper_syntax.specs.declared.input.InputValue.{InputValue}
 use Rattle.juniper_explain.specs.declared.rule.Rule.TheVariants as rule

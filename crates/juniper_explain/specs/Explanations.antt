@@ -5,7 +5,7 @@ use Rattle.graphql_spec.specs.Shown.{Text}
 use Rattle.graphql_spec.specs.Positions.{Position}
 use Rattle.graphql_spec.specs.Documents.{Definition, Word, span_of_definition}
 use Rattle.graphql_spec.specs.Rules.{RuleError}
-use Rattle.juniper_position.specs.Positions.{view_position}
+use Rattle.juniper_syntax.specs.Positions.{view_position}
 use Rattle.juniper_explain.specs.declared.rule.Rule.{Rule}
 use Rattle.juniper_explain.specs.declared.rule.Rule.TheVariants as rule
 use Rattle.juniper_explain.specs.declared.explanation.Explanation.{Explanation as CodeExplanation}

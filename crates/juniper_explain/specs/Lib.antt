@@ -1,10 +1,13 @@
 pub mod Explanations
+pub mod GivenValues
 pub mod NearView
 pub mod Nearest
 pub mod Nodes
 pub mod Parts
 pub mod Positions
 pub mod PositionsView
+pub mod Reasons
+pub mod ReasonsView
 pub mod Sites
 pub mod SitesView
 pub mod Variables

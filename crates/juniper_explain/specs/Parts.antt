@@ -3,8 +3,8 @@ use Rattle.std.specs.Prelude.{Bool, cond, List, [], ◌∷◌, map}
 use Rattle.std.specs.Borrow.{Bor}
 use Rattle.graphql_spec.specs.Shown.{Name, Shown}
 use Rattle.graphql_spec.specs.Documents.{Definition, operation, fragment}
-use Rattle.juniper_phases.specs.Listing.{PlacedListing, view_listed_on_types}
-use Rattle.juniper_phases.specs.declared.lists.ListedOnTypes.{ListedOnTypes}
+use Rattle.juniper_rules.specs.Listing.{PlacedListing, view_listed_on_types}
+use Rattle.juniper_rules.specs.declared.lists.ListedOnTypes.{ListedOnTypes}
 
 -- what is known of a definition, where it is a fragment of a name that passes the test
 unfoldable pub where_reached : {A : Type 0} → (Name → Bool) → Definition → A → List A

@@ -1,7 +1,7 @@
 -- How variables at positions are seen; only private clauses cite this file.
 use Rattle.std.specs.Prelude.{List, map}
 use Rattle.juniper_meta.specs.MetaView.{view_type}
-use Rattle.juniper_position.specs.Positions.{view_span}
+use Rattle.juniper_syntax.specs.Positions.{view_span}
 use Rattle.juniper_explain.specs.Positions as spec
 use Rattle.juniper_explain.specs.declared.variable_places.Place.{Place}
 

@@ -3,7 +3,7 @@ use Rattle.std.specs.Prelude.{codes, ◌++◌, List, map}
 use Rattle.graphql_spec.specs.Shown.{Shown, Text}
 use Rattle.graphql_spec.specs.Documents.{written}
 use Rattle.juniper_meta.specs.MetaView.{view_argument}
-use Rattle.juniper_position.specs.Positions.{view_position}
+use Rattle.juniper_syntax.specs.Positions.{view_position}
 use Rattle.juniper_syntax.specs.DocumentView.{view_arguments}
 use Rattle.juniper_explain.specs.Sites as spec
 use Rattle.juniper_explain.specs.declared.sites.Owner.{Owner}

@@ -6,8 +6,8 @@ use Rattle.graphql_spec.specs.Inputs.{InputFields, no_fields, input_field}
 use Rattle.graphql_spec.specs.Positions.{Span}
 use Rattle.graphql_spec.specs.Types.{innermost}
 use Rattle.graphql_spec.specs.Written.{selections_of}
-use Rattle.juniper_position.specs.declared.position.Spanning.{Spanning}
-use Rattle.juniper_position.specs.declared.position.Span.{Span as At}
+use Rattle.juniper_syntax.specs.declared.position.Spanning.{Spanning}
+use Rattle.juniper_syntax.specs.declared.position.Span.{Span as At}
 use Rattle.juniper_syntax.specs.DocumentView.{view_word}
 use Rattle.juniper_explain.specs.declared.words.Words.{Words as Marked}
 

@@ -3,9 +3,6 @@
 
 ghost use Rattle.std.specs.Prelude.{◌≡◌, ◌++◌, OnOk};
 ghost use Rattle.std.specs.List.{flat_map};
-ghost use Rattle.std.specs.Option.{is_none};
-ghost use Rattle.graphql_spec.specs.Fields as fields;
-ghost use Rattle.graphql_spec.specs.Fields.{type_named};
 ghost use Rattle.juniper_schema.specs.SchemaView.{view_schema};
 ghost use Rattle.juniper_syntax.specs.DocumentView.{view_word};
 ghost use Rattle.juniper_explain.specs.Explanations.{view_explanations};
@@ -60,18 +57,8 @@ pub(crate) fn explain_type<S: ScalarValue>(
     ensures { OnOk result (view_explanations explanations.new.items ≡ view_explanations explanations.old.items
         ++ unknown_type (view_schema S.shown schema.now) (view_word word.now)) }
 {
-    let is_unknown = is_unknown(schema, word.item);
+    let is_unknown = schema.is_unknown(word.item);
     add_named(alloc, explanations, is_unknown, word, &UNKNOWN_TYPE)
-}
-
-/// Whether nothing is declared at the name.
-fn is_unknown<S: ScalarValue>(schema: &SchemaType<S>, name: &str) -> bool
-    ensures { result ≡ is_none (type_named (view_schema S.shown schema.now) name.now) }
-{
-    match schema.concrete_type_by_name(name) {
-        Some(_) => false,
-        None => true,
-    }
 }
 
 /// Explains the conditions that are no objects, interfaces or unions.
@@ -102,16 +89,6 @@ fn explain_other_condition<S: ScalarValue>(
     ensures { OnOk result (view_explanations explanations.new.items ≡ view_explanations explanations.old.items
         ++ other_condition (view_schema S.shown schema.now) (view_word word.now)) }
 {
-    let is_other = !is_composite(schema, word.item);
+    let is_other = !schema.is_composite(word.item);
     add_named(alloc, explanations, is_other, word, &OTHER_CONDITION)
-}
-
-/// Whether an object, an interface or a union is declared at the name.
-fn is_composite<S: ScalarValue>(schema: &SchemaType<S>, name: &str) -> bool
-    ensures { result ≡ fields.is_composite (type_named (view_schema S.shown schema.now) name.now) }
-{
-    match schema.concrete_type_by_name(name) {
-        Some(meta) => meta.is_composite(),
-        None => false,
-    }
 }

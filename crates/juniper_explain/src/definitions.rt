@@ -3,8 +3,8 @@
 
 ghost use Rattle.std.specs.Prelude.{◌≡◌, ◌++◌, List, OnOk};
 ghost use Rattle.graphql_spec.specs.Documents as documents;
-ghost use Rattle.juniper_name_rules.specs.NamesBefore.{IsEarlier};
-ghost use Rattle.juniper_phases.specs.Operations.{OperationsOf};
+ghost use Rattle.juniper_written.specs.NamesBefore.{IsEarlier};
+ghost use Rattle.juniper_rules.specs.Operations.{OperationsOf};
 ghost use Rattle.juniper_syntax.specs.DocumentView.{view_definition};
 ghost use Rattle.juniper_explain.specs.Explanations.{view_explanations};
 ghost use Rattle.juniper_explain.specs.Nodes.{other_operation, repeated_fragment, repeated_operation};
@@ -12,8 +12,8 @@ ghost use Rattle.juniper_explain.specs.Nodes.{other_operation, repeated_fragment
 use crate::explanation::{Explanation, Wording, add_named, add_whole};
 use crate::rule::Rule;
 use crate::words::word_of;
-use juniper_name_rules::{Earlier, is_not_alone};
 use juniper_syntax::{Definition, ScalarValue};
+use juniper_written::{Earlier, is_not_alone};
 use std::alloc::{AllocError, Global};
 
 /// What is said of an operation's name.

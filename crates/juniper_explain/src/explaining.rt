@@ -2,10 +2,10 @@
 
 ghost use Rattle.std.specs.Prelude.{◌≡◌, IfOk, [], map};
 ghost use Rattle.std.specs.List.{flat_map};
-ghost use Rattle.juniper_phases.specs.Listing.{AreListed};
+ghost use Rattle.juniper_rules.specs.Listing.{AreListed};
 ghost use Rattle.juniper_schema.specs.SchemaView.{view_schema};
 ghost use Rattle.juniper_syntax.specs.DocumentView.{view_definition, view_document};
-ghost use Rattle.juniper_spreads.specs.SpreadsView.{AreFragmentsOf};
+ghost use Rattle.juniper_written.specs.SpreadsView.{AreFragmentsOf};
 ghost use Rattle.juniper_explain.specs.Explanations.{explanations_at, judged, view_explanations};
 ghost use Rattle.juniper_explain.specs.Nodes.{explanations, name_findings};
 
@@ -14,13 +14,13 @@ use crate::names::explain_names;
 use crate::types::explain_types;
 use crate::uses::explain_uses;
 use juniper_field_graph::cannot_merge;
-use juniper_phases::{Listed, listed_in, listed_on_types};
+use juniper_rules::{Listed, listed_in, listed_on_types};
 use juniper_schema::SchemaType;
-use juniper_spreads::{FragmentsByName, fragments_by_name};
 use juniper_syntax::{Definition, Document, ScalarValue};
+use juniper_written::{FragmentsByName, fragments_by_name};
 use std::alloc::{AllocError, Global};
 
-/// Why a document is not valid: for each error that [`validate`](juniper_phases::validate) lists, in the order of that list,
+/// Why a document is not valid: for each error that [`validate`](juniper_rules::validate) lists, in the order of that list,
 /// one explanation or more, each at a node that violates the error's rule. There are none exactly where the document is
 /// valid (section 5). An error where memory is refused.
 pub fn explain<'d, 'a, S: ScalarValue>(

@@ -1,12 +1,12 @@
 //! Explanations, and how they are listed.
 
 ghost use Rattle.std.specs.Prelude.{◌≡◌, ◌++◌, ◌∷◌, [], IfOk, OnOk, string_bytes};
-ghost use Rattle.graphql_spec.specs.Documents.{span_of_definition};
-ghost use Rattle.juniper_position.specs.Positions.{view_position};
+ghost use Rattle.juniper_syntax.specs.Positions.{view_position};
 ghost use Rattle.juniper_syntax.specs.DocumentView.{view_definition, view_word};
 ghost use Rattle.juniper_explain.specs.Explanations.{found, named, view_explanations, whole};
 
 use crate::rule::Rule;
+use juniper_rules::start_of;
 use juniper_syntax::{Definition, ScalarValue, SourcePosition, Span, Spanning};
 use std::alloc::{AllocError, Global};
 
@@ -93,15 +93,4 @@ pub(crate) fn add_whole<S: ScalarValue>(
     }
     let message = String::from_str(alloc, rule.message())?;
     add(explanations, rule, start_of(definition), message)
-}
-
-/// Where a definition starts.
-#[tactic(auto, unfolding(graphql_spec::specs::Documents::span_of_definition))]
-fn start_of<S: ScalarValue>(definition: &Definition<'_, S>) -> SourcePosition
-    ensures { view_position result ≡ (span_of_definition (view_definition S.shown definition.now)).start }
-{
-    match definition {
-        Definition::Operation(operation) => operation.span.start,
-        Definition::Fragment(fragment) => fragment.span.start,
-    }
 }

@@ -3,8 +3,6 @@
 ghost use Rattle.std.specs.Prelude.{◌≡◌, ◌++◌, IfOk, OnOk, codes, map, string_bytes};
 ghost use Rattle.std.specs.List.{flat_map};
 ghost use Rattle.graphql_spec.specs.Fields.{fields_of, type_named};
-ghost use Rattle.graphql_spec.specs.Fields as spec;
-ghost use Rattle.graphql_spec.specs.Rules.{set_is_wrong};
 ghost use Rattle.graphql_spec.specs.Types.{type_text};
 ghost use Rattle.juniper_meta.specs.MetaView as metas;
 ghost use Rattle.juniper_placed.specs.PlacedView.{view_parts, view_placed};
@@ -20,6 +18,7 @@ use crate::rule::Rule;
 use juniper_placed::{Placed, PlacedParts};
 use juniper_schema::{SchemaType, meta};
 use juniper_syntax::{ScalarValue, Type};
+use juniper_type_rules::set_is_wrong;
 use std::alloc::{AllocError, Global};
 
 /// Explains the fields that their parent types lack.
@@ -148,43 +147,6 @@ fn explain_set<'d, 'a, S: ScalarValue>(
             add(explanations, Rule::ScalarLeafs, field.span.start, message)
         }
         None => Ok(()),
-    }
-}
-
-/// Whether a selection set, or that there is none, does not fit the type.
-#[tactic(auto, unfolding(graphql_spec::specs::Rules::set_is_wrong))]
-fn set_is_wrong<S: ScalarValue>(
-    schema: &SchemaType<S>,
-    has_set: bool,
-    reference: &Type<String>,
-) -> bool
-    ensures { result ≡ set_is_wrong (view_schema S.shown schema.now) has_set (metas.view_type reference.now) }
-{
-    let name = reference.innermost_name();
-    if has_set {
-        is_leaf(schema, name)
-    } else {
-        is_composite(schema, name)
-    }
-}
-
-/// Whether a scalar or an enum is declared at the name.
-fn is_leaf<S: ScalarValue>(schema: &SchemaType<S>, name: &str) -> bool
-    ensures { result ≡ spec.is_leaf (type_named (view_schema S.shown schema.now) name.now) }
-{
-    match schema.concrete_type_by_name(name) {
-        Some(meta) => meta.is_leaf(),
-        None => false,
-    }
-}
-
-/// Whether an object, an interface or a union is declared at the name.
-fn is_composite<S: ScalarValue>(schema: &SchemaType<S>, name: &str) -> bool
-    ensures { result ≡ spec.is_composite (type_named (view_schema S.shown schema.now) name.now) }
-{
-    match schema.concrete_type_by_name(name) {
-        Some(meta) => meta.is_composite(),
-        None => false,
     }
 }
 

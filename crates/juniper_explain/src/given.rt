@@ -105,7 +105,7 @@ fn unknown_text<S: ScalarValue>(
 }
 
 /// The names of arguments.
-fn names_of<'s, S: ScalarValue>(
+pub(crate) fn names_of<'s, S: ScalarValue>(
     alloc: Global,
     declared: &'s [Argument<S>],
 ) -> Result<Vec<&'s str>, AllocError>

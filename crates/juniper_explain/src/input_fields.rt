@@ -3,7 +3,7 @@
 ghost use Rattle.std.specs.Prelude.{◌≡◌, ◌++◌, IfOk, OnOk, map, option_map};
 ghost use Rattle.std.specs.List.{flat_map};
 ghost use Rattle.graphql_spec.specs.Documents.{written};
-ghost use Rattle.juniper_position.specs.Positions.{view_spanning};
+ghost use Rattle.juniper_syntax.specs.Positions.{view_spanning};
 ghost use Rattle.juniper_syntax.specs.DocumentView.{view_arguments, view_variable};
 ghost use Rattle.juniper_syntax.specs.InputView.{view_fields, view_input, view_items};
 ghost use Rattle.juniper_written.specs.WrittenView.{view_list};

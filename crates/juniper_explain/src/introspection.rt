@@ -2,7 +2,6 @@
 
 ghost use Rattle.std.specs.Prelude.{◌≡◌, ◌++◌, OnOk};
 ghost use Rattle.std.specs.List.{flat_map};
-ghost use Rattle.graphql_spec.specs.Rules as rules;
 ghost use Rattle.juniper_written.specs.WrittenView.{view_field, view_fields, view_written};
 ghost use Rattle.juniper_explain.specs.Explanations.{view_explanations};
 ghost use Rattle.juniper_explain.specs.Nodes.{introspection_field, where_found};
@@ -10,6 +9,7 @@ ghost use Rattle.juniper_explain.specs.Nodes.{introspection_field, where_found};
 use crate::explanation::{Explanation, Wording, add_named};
 use crate::rule::Rule;
 use juniper_syntax::{Field, ScalarValue, Span, Spanning};
+use juniper_type_rules::is_introspection;
 use juniper_written::Written;
 use std::alloc::{AllocError, Global};
 
@@ -67,12 +67,4 @@ fn explain_field<'a, S: ScalarValue>(
     let word = field.item.name;
     let is_introspection = is_introspection(word.item);
     add_named(alloc, explanations, is_introspection, &word, &INTROSPECTION)
-}
-
-/// Whether it is `__schema` or `__type`.
-#[tactic(auto, unfolding(graphql_spec::specs::Rules::is_introspection))]
-fn is_introspection(name: &str) -> bool
-    ensures { result ≡ rules.is_introspection name.now }
-{
-    name == "__schema" || name == "__type"
 }

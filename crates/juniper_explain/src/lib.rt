@@ -1,9 +1,11 @@
 //! Why a document is not valid, node by node (section 5 of the Specification): [`explain`] gives for each error that
-//! [`validate`](juniper_phases::validate) lists one or more explanations, each with its rule, the place of what violates it,
+//! [`validate`](juniper_rules::validate) lists one or more explanations, each with its rule, the place of what violates it,
 //! and a text with the names.
 //!
 //! Of one rule the whole definition is the node, and the explanation has the place and the text of the listed error: fields
 //! that cannot be merged (5.3.2).
+//!
+//! [`explain_variables`] says the same of given values of variables, part by part (6.1.2).
 #![tactic(auto)]
 
 mod arguments;
@@ -21,6 +23,7 @@ mod misused;
 mod names;
 mod nearest;
 mod parts;
+mod reasons;
 mod repeats;
 mod rule;
 mod sites;
@@ -29,7 +32,9 @@ mod standing;
 mod types;
 mod undefined;
 mod uses;
+mod value_parts;
 mod variable_places;
+mod variable_values;
 mod variable_words;
 mod variables;
 mod words;
@@ -37,3 +42,4 @@ mod words;
 pub use explaining::explain;
 pub use explanation::Explanation;
 pub use rule::Rule;
+pub use variable_values::{VariableExplanation, explain_variables};

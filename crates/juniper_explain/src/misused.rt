@@ -7,9 +7,9 @@ ghost use Rattle.graphql_spec.specs.Documents.{variables_of};
 ghost use Rattle.graphql_spec.specs.Types.{type_text};
 ghost use Rattle.graphql_spec.specs.VariableUses as variable_uses;
 ghost use Rattle.juniper_meta.specs.MetaView as metas;
-ghost use Rattle.juniper_phases.specs.Listing.{AreListedOnTypes, IsListedOnTypes, definition_of};
+ghost use Rattle.juniper_rules.specs.Listing.{AreListedOnTypes, IsListedOnTypes, definition_of};
 ghost use Rattle.juniper_schema.specs.SchemaView.{view_schema};
-ghost use Rattle.juniper_spreads.specs.SpreadsView.{AreFragmentsOf};
+ghost use Rattle.juniper_written.specs.SpreadsView.{AreFragmentsOf};
 ghost use Rattle.juniper_syntax.specs.DocumentView.{view_variable};
 ghost use Rattle.juniper_syntax.specs.TypeView.{view_type};
 ghost use Rattle.juniper_explain.specs.Explanations.{view_explanations};
@@ -22,10 +22,10 @@ use crate::rule::Rule;
 use crate::standing::may_stand;
 use crate::variable_places::{Place, places_used};
 use crate::variables::{Variable, listed};
-use juniper_phases::ListedOnTypes;
+use juniper_rules::ListedOnTypes;
 use juniper_schema::SchemaType;
-use juniper_spreads::FragmentsByName;
 use juniper_syntax::{Definition, ScalarValue, Type};
+use juniper_written::FragmentsByName;
 use std::alloc::{AllocError, Global};
 
 /// Explains the variables that a definition of a document, with these fragments, uses where they may not stand, in itself or

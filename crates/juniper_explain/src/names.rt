@@ -4,9 +4,9 @@ ghost use Rattle.std.specs.Prelude.{◌≡◌, ◌++◌, IfOk, List, OnOk, map, 
 ghost use Rattle.std.specs.List.{flat_map};
 ghost use Rattle.graphql_spec.specs.Documents as documents;
 ghost use Rattle.graphql_spec.specs.Written.{all_directives};
-ghost use Rattle.juniper_phases.specs.Listing.{AreListed, IsListed, definition_of};
+ghost use Rattle.juniper_rules.specs.Listing.{AreListed, IsListed, definition_of};
 ghost use Rattle.juniper_schema.specs.SchemaView.{view_schema};
-ghost use Rattle.juniper_spreads.specs.SpreadsView.{AreFragmentsOf};
+ghost use Rattle.juniper_written.specs.SpreadsView.{AreFragmentsOf};
 ghost use Rattle.juniper_syntax.specs.DocumentView.{view_definition};
 ghost use Rattle.juniper_explain.specs.Explanations.{explanations_at, judged, view_explanations};
 ghost use Rattle.juniper_explain.specs.Nodes.{inside_findings, name_findings, repeated_arguments, repeated_input_fields, repeated_variables};
@@ -22,11 +22,10 @@ use crate::repeats::{explain_repeated_arguments, explain_repeated_variables};
 use crate::spreads::{explain_own_spread, explain_spreads};
 use crate::variables::{explain_unknown_variables, variables_of};
 use crate::words::{Words, words_in};
-use juniper_name_rules::{Earlier, count_operations};
-use juniper_phases::Listed;
+use juniper_rules::Listed;
 use juniper_schema::SchemaType;
-use juniper_spreads::FragmentsByName;
 use juniper_syntax::{Definition, ScalarValue};
+use juniper_written::{Earlier, FragmentsByName, count_operations};
 use std::alloc::{AllocError, Global};
 
 /// Explains what the rules on names find in a document, of whose definitions this is listed, with these fragments. An error

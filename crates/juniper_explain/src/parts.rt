@@ -4,15 +4,14 @@ ghost use Rattle.std.specs.Prelude.{◌≡◌, ◌++◌, IfOk, OnOk, map};
 ghost use Rattle.graphql_spec.specs.Documents as documents;
 ghost use Rattle.graphql_spec.specs.Schema.{Schema};
 ghost use Rattle.graphql_spec.specs.VariableUses.{parts};
-ghost use Rattle.juniper_phases.specs.Listing.{AreListedOnTypes, IsListedOnTypes, definition_of, placed_listing_of, view_listed_on_types};
-ghost use Rattle.juniper_spreads.specs.SpreadsView.{AreFragmentsOf};
+ghost use Rattle.juniper_rules.specs.Listing.{AreListedOnTypes, IsListedOnTypes, definition_of, placed_listing_of, view_listed_on_types};
+ghost use Rattle.juniper_written.specs.SpreadsView.{AreFragmentsOf};
 ghost use Rattle.juniper_written.specs.WrittenView.{has_name};
 ghost use Rattle.juniper_explain.specs.Parts.{view_each, where_reached};
 
-use juniper_phases::ListedOnTypes;
-use juniper_spreads::FragmentsByName;
+use juniper_rules::ListedOnTypes;
 use juniper_syntax::{Definition, ScalarValue};
-use juniper_written::NameSet;
+use juniper_written::{FragmentsByName, NameSet};
 use std::alloc::{AllocError, Global};
 
 /// What is listed of an operation, of which this is listed, and of the fragments that it reaches in a document with these

@@ -54,7 +54,7 @@ pub enum Rule {
 }
 
 impl Rule {
-    /// The text of the error that [`validate`](juniper_phases::validate) lists at a definition that violates the rule.
+    /// The text of the error that [`validate`](juniper_rules::validate) lists at a definition that violates the rule.
     #[tactic(auto, unfolding(crate::specs::Explanations::rule_text))]
     pub fn message(self) -> &'static str
         ensures { result.now ≡ rule_text self }

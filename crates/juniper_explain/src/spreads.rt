@@ -7,7 +7,7 @@ ghost use Rattle.graphql_spec.specs.Documents as documents;
 ghost use Rattle.graphql_spec.specs.Documents.{fragments};
 ghost use Rattle.graphql_spec.specs.Fragments.{fragment_of, spreads};
 ghost use Rattle.graphql_spec.specs.Written.{selections_of};
-ghost use Rattle.juniper_spreads.specs.SpreadsView.{AreFragmentsOf};
+ghost use Rattle.juniper_written.specs.SpreadsView.{AreFragmentsOf};
 ghost use Rattle.juniper_syntax.specs.DocumentView.{view_definition, view_word};
 ghost use Rattle.juniper_written.specs.WrittenView.{view_names};
 ghost use Rattle.juniper_explain.specs.Explanations.{view_explanations};
@@ -17,8 +17,8 @@ ghost use Rattle.juniper_explain.specs.Words.{view_words};
 use crate::explanation::{Explanation, Wording, add_named};
 use crate::rule::Rule;
 use crate::words::word_of;
-use juniper_spreads::FragmentsByName;
 use juniper_syntax::{Definition, ScalarValue, Span, Spanning};
+use juniper_written::FragmentsByName;
 use std::alloc::{AllocError, Global};
 
 /// What is said of a spread.

@@ -8,8 +8,8 @@ ghost use Rattle.graphql_spec.specs.Documents as documents;
 ghost use Rattle.graphql_spec.specs.Documents.{word_name};
 ghost use Rattle.graphql_spec.specs.Schema.{Schema};
 ghost use Rattle.graphql_spec.specs.VariableUses as variable_uses;
-ghost use Rattle.juniper_phases.specs.Listing.{AreListedOnTypes, IsListedOnTypes, definition_of};
-ghost use Rattle.juniper_spreads.specs.SpreadsView.{AreFragmentsOf};
+ghost use Rattle.juniper_rules.specs.Listing.{AreListedOnTypes, IsListedOnTypes, definition_of};
+ghost use Rattle.juniper_written.specs.SpreadsView.{AreFragmentsOf};
 ghost use Rattle.juniper_syntax.specs.DocumentView.{view_operation, view_variable, view_word};
 ghost use Rattle.juniper_explain.specs.Explanations.{named, view_explanations};
 ghost use Rattle.juniper_explain.specs.Nodes.{undefined_name, undefined_text, undefined_variables, where_found};
@@ -20,9 +20,9 @@ use crate::parts::parts_of;
 use crate::rule::Rule;
 use crate::variable_words::words_used;
 use crate::variables::{Variable, listed};
-use juniper_phases::ListedOnTypes;
-use juniper_spreads::FragmentsByName;
+use juniper_rules::ListedOnTypes;
 use juniper_syntax::{Definition, Operation, ScalarValue, Span, Spanning};
+use juniper_written::FragmentsByName;
 use std::alloc::{AllocError, Global};
 
 /// Explains the variables that a definition of a document, with these fragments, uses and does not define, in itself or in

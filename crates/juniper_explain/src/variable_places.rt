@@ -6,7 +6,7 @@ ghost use Rattle.std.specs.List.{flat_map};
 ghost use Rattle.graphql_spec.specs.Fields.{type_named};
 ghost use Rattle.graphql_spec.specs.Types.{innermost};
 ghost use Rattle.graphql_spec.specs.VariableUses.{at_declared, input_fields, item_type};
-ghost use Rattle.juniper_position.specs.Positions.{view_span};
+ghost use Rattle.juniper_syntax.specs.Positions.{view_span};
 ghost use Rattle.juniper_syntax.specs.InputView.{view_fields, view_input, view_items};
 ghost use Rattle.juniper_meta.specs.MetaView.{view_argument, view_type};
 ghost use Rattle.juniper_schema.specs.SchemaView.{view_schema};
@@ -16,8 +16,8 @@ ghost use Rattle.juniper_explain.specs.Positions.{places_at, places_in_call, pla
 ghost use Rattle.juniper_explain.specs.PositionsView.{view_places};
 
 use juniper_meta::{Argument, find_argument};
-use juniper_phases::ListedOnTypes;
 use juniper_placed::Call;
+use juniper_rules::ListedOnTypes;
 use juniper_schema::SchemaType;
 use juniper_syntax::ast::Arguments;
 use juniper_syntax::{InputValue, ScalarValue, Span, Spanning, Type};
@@ -211,7 +211,7 @@ fn push_place<'u>(
 
 /// The type of a list's items; of what is no list it is the type itself.
 #[tactic(auto, unfolding(graphql_spec::specs::VariableUses::item_type))]
-fn item_type(expected: &Type<String>) -> &Type<String>
+pub(crate) fn item_type(expected: &Type<String>) -> &Type<String>
     ensures { view_type result.now ≡ item_type (view_type expected.now) }
 {
     match expected {
@@ -223,7 +223,7 @@ fn item_type(expected: &Type<String>) -> &Type<String>
 }
 
 /// The fields of the input object that a type names; none where it names none.
-fn input_fields<'u, S: ScalarValue>(
+pub(crate) fn input_fields<'u, S: ScalarValue>(
     schema: &'u SchemaType<S>,
     expected: &Type<String>,
 ) -> &'u [Argument<S>]

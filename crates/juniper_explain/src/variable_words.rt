@@ -3,7 +3,7 @@
 ghost use Rattle.std.specs.Prelude.{◌≡◌, ◌++◌, IfOk, OnOk};
 ghost use Rattle.std.specs.List.{flat_map};
 ghost use Rattle.graphql_spec.specs.Documents.{written};
-ghost use Rattle.juniper_position.specs.Positions.{view_span};
+ghost use Rattle.juniper_syntax.specs.Positions.{view_span};
 ghost use Rattle.juniper_syntax.specs.DocumentView.{view_arguments};
 ghost use Rattle.juniper_syntax.specs.InputView.{view_fields, view_input, view_items};
 ghost use Rattle.juniper_written.specs.WrittenView.{view_list, view_lists};
@@ -11,7 +11,7 @@ ghost use Rattle.juniper_explain.specs.Parts.{view_each};
 ghost use Rattle.juniper_explain.specs.Variables.{variable_words, words_given, words_in_fields, words_in_items};
 ghost use Rattle.juniper_explain.specs.Words.{view_words};
 
-use juniper_phases::ListedOnTypes;
+use juniper_rules::ListedOnTypes;
 use juniper_syntax::ast::Arguments;
 use juniper_syntax::{InputValue, ScalarValue, Span, Spanning};
 use std::alloc::{AllocError, Global};

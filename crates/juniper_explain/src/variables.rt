@@ -4,11 +4,9 @@
 ghost use Rattle.std.specs.Prelude.{◌≡◌, ◌++◌, IfOk, OnOk, [], codes, map, string_bytes};
 ghost use Rattle.std.specs.List.{flat_map};
 ghost use Rattle.graphql_spec.specs.Display.{display};
-ghost use Rattle.graphql_spec.specs.Fields as fields;
-ghost use Rattle.graphql_spec.specs.Fields.{type_named};
 ghost use Rattle.graphql_spec.specs.Types.{type_text};
 ghost use Rattle.graphql_spec.specs.Written.{defined_variables};
-ghost use Rattle.juniper_position.specs.Positions.{view_spanning};
+ghost use Rattle.juniper_syntax.specs.Positions.{view_spanning};
 ghost use Rattle.juniper_schema.specs.SchemaView.{view_schema};
 ghost use Rattle.juniper_syntax.specs.DocumentView.{view_definition, view_variable};
 ghost use Rattle.juniper_syntax.specs.InputView.{view_input};
@@ -132,7 +130,7 @@ fn explain_other_variable<S: ScalarValue>(
         ++ other_variable (view_schema S.shown schema.now) (view_variable S.shown variable.now)) }
 {
     let reference = &variable.1.var_type.item;
-    if is_input(schema, reference.innermost_name()) {
+    if schema.is_input(reference.innermost_name()) {
         return Ok(());
     }
     let message = other_text(alloc, variable.0.item, reference)?;
@@ -150,16 +148,6 @@ fn other_text(alloc: Global, name: &str, reference: &Type<&str>) -> Result<Strin
         ++ (type_text (view_type (λ n. n.now) reference.now) ++ codes "`, which is no input type")))) }
 {
     format!(in alloc; "Variable `${name}` is of `{reference}`, which is no input type")
-}
-
-/// Whether a scalar, an enum or an input object is declared at the name.
-fn is_input<S: ScalarValue>(schema: &SchemaType<S>, name: &str) -> bool
-    ensures { result ≡ fields.is_input (type_named (view_schema S.shown schema.now) name.now) }
-{
-    match schema.concrete_type_by_name(name) {
-        Some(meta) => meta.is_input(),
-        None => false,
-    }
 }
 
 /// Explains the defaults that do not fit their variables' types.
@@ -224,7 +212,7 @@ fn explain_misfit<S: ScalarValue>(
 }
 
 /// What is said of such a default.
-fn default_text<S: ScalarValue>(
+pub(crate) fn default_text<S: ScalarValue>(
     alloc: Global,
     value: &InputValue<S>,
     name: &str,

@@ -11,7 +11,7 @@ use Rattle.graphql_spec.proofs.Lists.{same_refl, same_true}
 use Rattle.juniper_merging.specs.MergingGraph.{FieldAt}
 use Rattle.juniper_merging.specs.Standing.{Grows}
 use Rattle.juniper_merging.specs.Sets.{Extends}
-use Rattle.juniper_spreads.specs.Order.{IsInOrder, StandsBehind}
+use Rattle.juniper_written.specs.Order.{IsInOrder, StandsBehind}
 use Rattle.juniper_field_graph.specs.Gathering.{AreHeld, AreWritten, HoldsFragment, IsKnown, IsReady}
 use Rattle.juniper_field_graph.proofs.Readiness.{holds-more}
 

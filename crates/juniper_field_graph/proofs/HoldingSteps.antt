@@ -5,9 +5,9 @@ use Rattle.graphql_spec.specs.Shown.{Shown, Name}
 use Rattle.graphql_spec.specs.Documents as spec
 use Rattle.graphql_spec.specs.Fragments.{HasNoCycle}
 use Rattle.graphql_spec.specs.Schema.{Schema}
-use Rattle.juniper_position.specs.declared.position.Spanning.{Spanning}
-use Rattle.juniper_position.specs.declared.position.Span.{Span}
-use Rattle.juniper_spreads.specs.Order.{IsInOrder, StandBehind}
+use Rattle.juniper_syntax.specs.declared.position.Spanning.{Spanning}
+use Rattle.juniper_syntax.specs.declared.position.Span.{Span}
+use Rattle.juniper_written.specs.Order.{IsInOrder, StandBehind}
 use Rattle.juniper_syntax.specs.DocumentView.{view_fragment}
 use Rattle.juniper_syntax.specs.declared.ast.Fragment.{Fragment}
 use Rattle.juniper_field_graph.specs.Gathering.{AllKnown, AreHeld, AreWritten, IsHeld, IsMore, IsReadyIn, IsSetGatheredAt}

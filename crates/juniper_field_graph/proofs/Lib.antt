@@ -1,3 +1,9 @@
+pub mod Alike
+mod MemberMaps
+mod NamedValues
+mod SameArguments
+mod SameItems
+pub mod SameMeanings
 pub mod SetTables
 mod Leading
 mod More

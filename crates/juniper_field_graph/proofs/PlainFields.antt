@@ -16,7 +16,7 @@ use Rattle.graphql_spec.specs.Placed.{Placed}
 use Rattle.graphql_spec.specs.Laws.{In}
 use Rattle.graphql_spec.proofs.Lists.{same_true}
 use Rattle.juniper_merging.proofs.Tests.{all-from}
-use Rattle.juniper_overlapping_fields.proofs.Alike.{calls-across, calls-itself, types-across, types-same}
+use Rattle.juniper_field_graph.proofs.Alike.{calls-across, calls-itself, types-across, types-same}
 use Rattle.juniper_field_graph.specs.KindsView.{same_call}
 use Rattle.juniper_field_graph.specs.PlainKeys.{is_like, are_plain, placed_on}
 

@@ -20,8 +20,8 @@ use Rattle.graphql_spec.proofs.Lists.{same_refl, same_true}
 use Rattle.juniper_merging.specs.MergingGraph.{FieldAt}
 use Rattle.juniper_merging.specs.Standing.{AreNumbered, Grows}
 use Rattle.juniper_merging.proofs.Places.{same-truth}
-use Rattle.juniper_overlapping_fields.proofs.Alike.{types-same, types-turned, types-across, calls-itself, calls-turned, calls-across}
-use Rattle.juniper_overlapping_fields.proofs.Alike as alike
+use Rattle.juniper_field_graph.proofs.Alike.{types-same, types-turned, types-across, calls-itself, calls-turned, calls-across}
+use Rattle.juniper_field_graph.proofs.Alike as alike
 use Rattle.juniper_field_graph.specs.GraphView.{head_or_none}
 use Rattle.juniper_field_graph.specs.Keys.{IsNumbered}
 use Rattle.juniper_field_graph.specs.KindsView.{AreKept, HasKind, IsOnce, IsOwn, are_alike, has_call, has_type, number_among}

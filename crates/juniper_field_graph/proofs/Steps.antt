@@ -17,8 +17,8 @@ use Rattle.juniper_merging.specs.declared.sets.Gathering.{Gathering}
 use Rattle.juniper_merging.proofs.Covering.{covers-end, covers-kept, covers-more}
 use Rattle.juniper_merging.proofs.Tables.{set-some}
 use Rattle.graphql_spec.specs.ValidityLaws.{sets_below}
-use Rattle.juniper_position.specs.declared.position.Spanning.{Spanning}
-use Rattle.juniper_position.specs.declared.position.Span.{Span}
+use Rattle.juniper_syntax.specs.declared.position.Spanning.{Spanning}
+use Rattle.juniper_syntax.specs.declared.position.Span.{Span}
 use Rattle.juniper_syntax.specs.DocumentView.{put_selection, view_selections, view_set}
 use Rattle.juniper_syntax.specs.declared.ast.Field.{Field as FieldType, out-Field}
 use Rattle.juniper_syntax.specs.declared.ast.InlineFragment.{InlineFragment as InlineType, out-InlineFragment}

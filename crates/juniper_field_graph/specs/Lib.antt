@@ -1,3 +1,5 @@
+pub mod NamedValues
+pub mod SameValues
 pub mod GraphView
 pub mod Gathering
 pub mod KindsView

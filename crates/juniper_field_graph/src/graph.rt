@@ -19,8 +19,8 @@ ghost use Rattle.juniper_field_graph.specs.KindsView as kinds_view;
 ghost use Rattle.juniper_field_graph.specs.KindsView.{IsOnce, IsOwn, heads_in, number_among, number_or, types_in};
 
 use crate::keys::{KeyNumbers, number_of_key};
+use crate::{same_call, types_agree};
 use juniper_merging::{FieldSet, Graph, Groups, Vertex, are_same, put_group, take_group};
-use juniper_overlapping_fields::{same_call, types_agree};
 use juniper_schema::SchemaType;
 use juniper_syntax::{Field, ScalarValue, Span, Spanning, Type};
 use std::alloc::{AllocError, Global};
@@ -90,7 +90,7 @@ impl<'d, 'a, S: ScalarValue> FieldGraph<'d, 'a, S> {
         let vertex = Vertex {
             key,
             parent,
-            on_object: names_object(schema, parent),
+            on_object: schema.is_object(parent),
             shape,
             call,
             below,
@@ -127,17 +127,6 @@ pub(crate) fn response_key<'a, S: ScalarValue>(field: &Spanning<Field<'a, S>, Sp
     match field.item.alias {
         Some(alias) => alias.item,
         None => field.item.name.item,
-    }
-}
-
-/// Whether an object type is declared at the name (section 3.6).
-#[tactic(auto, unfolding(graphql_spec::specs::Fields::is_object))]
-fn names_object<S: ScalarValue>(schema: &SchemaType<S>, name: &str) -> bool
-    ensures { result ≡ fields.is_object (fields.type_named (view_schema S.shown schema.now) name.now) }
-{
-    match schema.concrete_type_by_name(name) {
-        Some(meta) => meta.is_object(),
-        None => false,
     }
 }
 

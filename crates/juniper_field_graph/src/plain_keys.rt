@@ -16,7 +16,7 @@ ghost use Rattle.juniper_field_graph.specs.PlainKeys.{AreOnce, placed_on, writte
 
 use crate::gathering::type_inside;
 use crate::graph::response_key;
-use juniper_overlapping_fields::{same_call, types_agree};
+use crate::{same_call, types_agree};
 use juniper_placed::root_name;
 use juniper_schema::SchemaType;
 use juniper_syntax::{Definition, Field, ScalarValue, Selection, Span, Spanning, name_number};

@@ -12,9 +12,9 @@ use Rattle.juniper_intro.specs.Collected.{a_node_each}
 use Rattle.juniper_intro.specs.HandleView.{of_handle}
 use Rattle.juniper_intro.specs.Handles as spec
 use Rattle.juniper_intro.specs.declared.node.RootedNode.{RootedNode}
-use Rattle.juniper_resolvable.proofs.Resolutions.{view-List}
-use Rattle.juniper_resolvable.specs.ResolvedView.{trees_of, view_resolved}
-use Rattle.juniper_resolvable.specs.declared.resolved.Resolved.{Resolved, List as ListOf}
+use Rattle.juniper_values.proofs.Resolutions.{view-List}
+use Rattle.juniper_values.specs.ResolvedView.{trees_of, view_resolved}
+use Rattle.juniper_values.specs.declared.resolved.Resolved.{Resolved, List as ListOf}
 
 -- one more behind those that are seen so
 pub seen-more : {X Y : Type 0} (view : X → Y) (old new : List X) (x : X) (before : List Y) (y : Y) → new ≡ old ++ x ∷ [] → map view old ≡ before → view x ≡ y →

@@ -3,7 +3,7 @@ use Rattle.std.proofs.Common.{◌≡◌, ◌≤◌, ◌<◌, ◌++◌, ℕ, List
 use Rattle.graphql_spec.specs.Resolvers.{Tree, items, tree}
 use Rattle.graphql_spec.specs.SeenNodes.{map_tree, map_trees}
 use Rattle.juniper_intro.specs.Rooting.{layers_of, layers_of_all}
-use Rattle.juniper_resolvable.specs.ResolvedView.{trees_of}
+use Rattle.juniper_values.specs.ResolvedView.{trees_of}
 
 -- a list without length has no items
 pub none_left : {A : Type 0} (xs : List A) (n : ℕ) → n ≡ length xs → n ≡ 0 → xs ≡ []

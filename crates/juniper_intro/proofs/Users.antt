@@ -9,9 +9,9 @@ use Rattle.graphql_spec.specs.Rules.{is_introspection}
 use Rattle.graphql_spec.specs.Schema.{Schema}
 use Rattle.graphql_spec.specs.SeenNodes.{map_reply, map_tree}
 use Rattle.graphql_spec.specs.Shown.{Name, Shown}
-use Rattle.juniper_errors.specs.declared.field_error.ResolveError.{ResolveError}
-use Rattle.juniper_resolvable.specs.ResolvedView.{AllAnswer, Answers}
-use Rattle.juniper_resolvable.specs.declared.resolved.Resolved.{Resolved}
+use Rattle.juniper_conversions.specs.declared.field_error.ResolveError.{ResolveError}
+use Rattle.juniper_values.specs.ResolvedView.{AllAnswer, Answers}
+use Rattle.juniper_values.specs.declared.resolved.Resolved.{Resolved}
 use Rattle.juniper_intro.specs.HandleView.{of_handle, of_user, users_in}
 use Rattle.juniper_intro.specs.Handles.{Handle, held_user_reply, root_held}
 use Rattle.juniper_intro.specs.HeldReplies.{held_answer}

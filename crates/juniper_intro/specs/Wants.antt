@@ -1,7 +1,7 @@
 -- Want of memory, kept through a call.
 use Rattle.std.specs.Prelude.{Result, Ok, Err}
-use Rattle.juniper_errors.specs.declared.field_error.ResolveError.{ResolveError}
-use Rattle.juniper_errors.specs.declared.field_error.ResolveError.TheVariants.{Field, Memory}
+use Rattle.juniper_conversions.specs.declared.field_error.ResolveError.{ResolveError}
+use Rattle.juniper_conversions.specs.declared.field_error.ResolveError.TheVariants.{Field, Memory}
 
 -- where memory was wanting before, that is what is answered
 abbrev pub KeepsWant : {A B S : Type 0} → Result A (ResolveError S) → Result B (ResolveError S) → Type 0

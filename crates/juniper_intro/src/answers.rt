@@ -6,7 +6,7 @@ ghost use Rattle.graphql_spec.specs.Introspection.{answer_at, if_any, says, stan
 ghost use Rattle.graphql_spec.specs.Resolvers.{answered};
 ghost use Rattle.graphql_spec.specs.SeenNodes.{map_tree};
 ghost use Rattle.juniper_meta.specs.MetaView.{view_argument, view_directive, view_enum_value, view_field};
-ghost use Rattle.juniper_resolvable.specs.ResolvedView.{Answers};
+ghost use Rattle.juniper_values.specs.ResolvedView.{Answers};
 ghost use Rattle.juniper_syntax.specs.InputView.{view_input};
 ghost use Rattle.juniper_intro.specs.HandleView.{of_handle, view_input_place};
 ghost use Rattle.juniper_intro.specs.Handles.{directive_held, field_held, input_held, value_held};

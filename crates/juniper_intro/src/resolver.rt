@@ -7,7 +7,7 @@ ghost use Rattle.juniper_intro.specs.HandleView.{of_handle, of_user, users_in, v
 ghost use Rattle.juniper_intro.specs.Handles.{held_reply, held_user_reply};
 ghost use Rattle.juniper_intro.specs.HeldReplies.{held_answer, held_concrete};
 ghost use Rattle.juniper_intro.specs.Introspectors.{names_of, number_of, schema_of};
-ghost use Rattle.juniper_resolvable.specs.ResolvedView.{AllAnswer, Answers};
+ghost use Rattle.juniper_values.specs.ResolvedView.{AllAnswer, Answers};
 ghost use Rattle.juniper_schema.specs.SchemaView.{view_schema};
 ghost use Rattle.juniper_types.specs.ExecutorView.{IsAskedFor, context_of};
 ghost use Rattle.juniper_values.specs.ArgumentView.{view_arguments};
@@ -21,10 +21,9 @@ use crate::rooted::{rooted_answer, rooted_answers};
 use crate::words::Answer;
 use juniper_meta::MetaType;
 use juniper_registry::{GraphQLReference, GraphQLType, Registry};
-use juniper_resolvable::Resolved;
 use juniper_syntax::{ScalarValue, Type};
 use juniper_types::{Executor, GraphQLValue};
-use juniper_values::{Arguments, ResolveError};
+use juniper_values::{Arguments, ResolveError, Resolved};
 use std::alloc::{AllocError, Global};
 
 impl<S: ScalarValue> Introspector<S> {

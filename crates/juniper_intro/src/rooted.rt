@@ -3,15 +3,14 @@
 ghost use Rattle.std.specs.Prelude.{◌≡◌, IfOk, List};
 ghost use Rattle.graphql_spec.specs.Resolvers.{Reply};
 ghost use Rattle.graphql_spec.specs.SeenNodes.{map_reply, map_tree};
-ghost use Rattle.juniper_resolvable.specs.ResolvedView.{AllAnswer, Answers, view_resolved};
+ghost use Rattle.juniper_values.specs.ResolvedView.{AllAnswer, Answers, view_resolved};
 ghost use Rattle.juniper_intro.specs.HandleView.{of_user};
 ghost use Rattle.juniper_intro.specs.Wants.{KeepsWant};
 
 use crate::node::RootedNode;
 use crate::words::Answer;
-use juniper_resolvable::Resolved;
 use juniper_syntax::ScalarValue;
-use juniper_values::ResolveError;
+use juniper_values::{ResolveError, Resolved};
 use std::alloc::{AllocError, Global};
 
 /// The same answer with the root's nodes in place of the user's; an error where memory is refused.

@@ -9,7 +9,7 @@ ghost use Rattle.graphql_spec.specs.Introspection.{all_of, answer_at, if_any};
 ghost use Rattle.graphql_spec.specs.Resolvers.{answered, node, nothing};
 ghost use Rattle.graphql_spec.specs.SeenNodes.{map_tree};
 ghost use Rattle.juniper_meta.specs.MetaView.{view_meta};
-ghost use Rattle.juniper_resolvable.specs.ResolvedView.{Answers};
+ghost use Rattle.juniper_values.specs.ResolvedView.{Answers};
 ghost use Rattle.juniper_values.specs.ArgumentView.{view_arguments};
 ghost use Rattle.juniper_intro.specs.HandleView.{of_handle, view_type_place};
 ghost use Rattle.juniper_intro.specs.Handles.{called, field_handle, held_answers, inputs_at, numbered, of_input_object, root_held, schema_held, type_handle};

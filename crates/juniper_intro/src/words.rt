@@ -4,14 +4,13 @@ ghost use Rattle.std.specs.Prelude.{option_map};
 ghost use Rattle.graphql_spec.specs.Introspection.{if_any, says, tells};
 ghost use Rattle.graphql_spec.specs.Resolvers.{answered, node, nothing};
 ghost use Rattle.graphql_spec.specs.SeenNodes.{map_tree};
-ghost use Rattle.juniper_resolvable.specs.ResolvedView.{Answers};
+ghost use Rattle.juniper_values.specs.ResolvedView.{Answers};
 ghost use Rattle.juniper_intro.specs.HandleView.{of_handle, view_handle};
 
 use crate::handle::Handle;
 use crate::node::RootedNode;
-use juniper_resolvable::Resolved;
 use juniper_syntax::ScalarValue;
-use juniper_values::ResolveError;
+use juniper_values::{ResolveError, Resolved};
 use std::alloc::Global;
 
 /// What a node of introspection answers to a field.

@@ -3,8 +3,8 @@ use Rattle.std.proofs.Common.{◌≡◌, ℕ, ◌+◌, ◌<◌, ◌≤◌, List,
 use Rattle.std.proofs.lemmas.List.{drop_all}
 use Rattle.graphql_spec.specs.Inputs.{Input, InputItems, no_items, item, InputFields, no_fields, input_field}
 use Rattle.graphql_spec.specs.Positions.{origin}
-use Rattle.juniper_position.specs.Positions.{view_position, view_span}
-use Rattle.juniper_position.specs.declared.position.Span.{Span}
+use Rattle.juniper_syntax.specs.Positions.{view_position, view_span}
+use Rattle.juniper_syntax.specs.declared.position.Span.{Span}
 use Rattle.juniper_syntax.proofs.InputLists.{Item, Field, append_items, append_fields}
 use Rattle.juniper_syntax.proofs.Lists.{left-is}
 use Rattle.juniper_syntax.specs.InputView.{view_input, view_items, view_fields}

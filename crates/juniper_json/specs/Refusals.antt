@@ -1,7 +1,7 @@
 -- The errors that a response shows of a request that has no answer (7.1.2).
 use Rattle.std.specs.Prelude.{List, [], ◌∷◌, map, Some, None}
 use Rattle.graphql_spec.specs.Rules.{RuleError}
-use Rattle.juniper_position.specs.Refusals as parser
+use Rattle.juniper_syntax.specs.Refusals as parser
 use Rattle.juniper.specs.RequestErrors.{RequestError, request_error_text, not_parsed, not_valid, no_operation, multiple_operations, unknown_operation}
 use Rattle.juniper.specs.RequestErrors.{is_subscription, not_subscription, no_mutation_type, variable_not_constant, out_of_memory}
 use Rattle.juniper_json.specs.RefusalText.{Refusal}

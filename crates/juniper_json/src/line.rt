@@ -1,9 +1,9 @@
 //! Responses as lines of JSON (sections 7.1 and 7.2.2 of the Specification).
 
 ghost use Rattle.std.specs.Prelude.{◌≡◌, ◌+◌, IfOk, OnOk, map, string_bytes, [], ◌∷◌};
-ghost use Rattle.juniper_errors.specs.ErrorView.{view_listed};
-ghost use Rattle.juniper_errors.specs.SegmentView.{view_segment};
-ghost use Rattle.juniper_position.specs.Positions.{view_position};
+ghost use Rattle.juniper_conversions.specs.ErrorView.{view_listed};
+ghost use Rattle.juniper_conversions.specs.SegmentView.{view_segment};
+ghost use Rattle.juniper_syntax.specs.Positions.{view_position};
 ghost use Rattle.juniper_syntax.specs.ValueView.{view_value, view_object, view_values};
 ghost use Rattle.serde_json.specs.Data.{array, object};
 ghost use Rattle.serde_json.specs.Events.{SendsValue, SendsMembers, members_len};

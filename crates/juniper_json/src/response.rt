@@ -1,9 +1,9 @@
 //! Responses as lines of JSON, whatever came of a request (sections 7.1 and 7.2.2 of the Specification).
 
 ghost use Rattle.std.specs.Prelude.{◌≡◌, ◌∷◌, [], IfOk, MatchResult, map, option_map, string_bytes};
-ghost use Rattle.juniper_errors.specs.ErrorView.{view_listed};
-ghost use Rattle.juniper_position.specs.Positions.{view_position};
-ghost use Rattle.juniper_position.specs.RuleView.{view_rule_error};
+ghost use Rattle.juniper_conversions.specs.ErrorView.{view_listed};
+ghost use Rattle.juniper_syntax.specs.Positions.{view_position};
+ghost use Rattle.juniper_syntax.specs.RuleView.{view_rule_error};
 ghost use Rattle.juniper_syntax.specs.ValueView.{view_value};
 ghost use Rattle.juniper.specs.RequestErrors.{view_request_error};
 ghost use Rattle.juniper_json.specs.AnswerText.{answer_text};

@@ -5,13 +5,13 @@ use Rattle.graphql_spec.specs.Shown.{Shown, Text, int, text, boolean}
 use Rattle.graphql_spec.specs.Inputs as spec
 use Rattle.graphql_spec.specs.Documents.{Selections}
 use Rattle.juniper_syntax.specs.InputView.{view_input, view_items, view_fields}
-use Rattle.juniper_position.specs.Positions.{view_span, view_spanning}
+use Rattle.juniper_syntax.specs.Positions.{view_span, view_spanning}
 use Rattle.juniper_syntax.specs.DocumentView.{put_selection, view_word, view_arguments, view_directives, view_selections}
 use Rattle.juniper_language.specs.ParserViews.{view_member}
 use Rattle.juniper_language.specs.Reading.{items_of, fields_of, field_node, spread_node, inline_node, put, head_of, below_of}
 use Rattle.juniper_syntax.specs.declared.input.InputValue.{InputValue, Scalar, List as ListOf, Object}
-use Rattle.juniper_position.specs.declared.position.Spanning.{Spanning}
-use Rattle.juniper_position.specs.declared.position.Span.{Span}
+use Rattle.juniper_syntax.specs.declared.position.Spanning.{Spanning}
+use Rattle.juniper_syntax.specs.declared.position.Span.{Span}
 use Rattle.juniper_syntax.specs.declared.ast.Arguments.{Arguments}
 use Rattle.juniper_syntax.specs.declared.ast.Directive.{Directive}
 use Rattle.juniper_syntax.specs.declared.ast.Field.{roll-Field}

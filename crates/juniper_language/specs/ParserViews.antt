@@ -5,11 +5,11 @@ use Rattle.std.specs.Borrow.{Bor}
 use Rattle.graphql_spec.specs.Shown.{Shown}
 use Rattle.graphql_spec.specs.Positions.{Spanned}
 use Rattle.graphql_spec.specs.Documents.{Word, Argument, VariableDefinition}
-use Rattle.juniper_position.specs.Positions.{view_spanning}
+use Rattle.juniper_syntax.specs.Positions.{view_spanning}
 use Rattle.juniper_syntax.specs.InputView.{view_input}
 use Rattle.juniper_syntax.specs.DocumentView.{view_word, view_argument, view_variable}
-use Rattle.juniper_position.specs.declared.position.Spanning.{Spanning}
-use Rattle.juniper_position.specs.declared.position.Span.{Span}
+use Rattle.juniper_syntax.specs.declared.position.Spanning.{Spanning}
+use Rattle.juniper_syntax.specs.declared.position.Span.{Span}
 use Rattle.juniper_syntax.specs.declared.ast.Arguments.{Arguments}
 use Rattle.juniper_syntax.specs.declared.ast.VariableDefinitions.{VariableDefinitions}
 use Rattle.juniper_syntax.specs.declared.input.InputValue.{InputValue}

@@ -5,10 +5,10 @@ use Rattle.graphql_spec.specs.Tokens as token
 use Rattle.graphql_spec.specs.Tokens.{Lexeme, Token}
 use Rattle.graphql_spec.specs.Documents.{Word}
 use Rattle.graphql_spec.specs.Grammar.{At, span_of}
-use Rattle.juniper_position.specs.declared.error.ParseError.{ParseError}
-use Rattle.juniper_position.specs.declared.error.ParseError.TheVariants.{Memory}
-use Rattle.juniper_position.specs.declared.position.Span as code
-use Rattle.juniper_position.specs.declared.position.Spanning.{Spanning}
+use Rattle.juniper_syntax.specs.declared.error.ParseError.{ParseError}
+use Rattle.juniper_syntax.specs.declared.error.ParseError.TheVariants.{Memory}
+use Rattle.juniper_syntax.specs.declared.position.Span as code
+use Rattle.juniper_syntax.specs.declared.position.Spanning.{Spanning}
 
 -- what is read and where a reader stands after it, if anything is read
 abbrev pub Outcome : Type 0 → Type 0

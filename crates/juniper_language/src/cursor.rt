@@ -3,13 +3,13 @@
 ghost use Rattle.std.specs.Prelude.{◌≡◌, ◌≢◌, length, map, option_map, IfOk};
 ghost use Rattle.graphql_spec.specs.Grammar.{before_all, begin_of};
 ghost use Rattle.graphql_spec.specs.Positions.{origin};
-ghost use Rattle.juniper_position.specs.Positions.{view_position, view_span};
+ghost use Rattle.juniper_syntax.specs.Positions.{view_position, view_span};
 ghost use Rattle.juniper_syntax.specs.DocumentView.{view_word};
 ghost use Rattle.juniper_language.specs.Readers as read;
 ghost use Rattle.juniper_language.specs.Readers.{Gives};
 ghost use Rattle.juniper_language.specs.Reading as rule;
 ghost use Rattle.juniper_tokens.specs.TokenViews.{view_token};
-ghost use Rattle.juniper_position.specs.declared.error.ParseError.TheVariants.{Memory, TooDeep, UnexpectedToken};
+ghost use Rattle.juniper_syntax.specs.declared.error.ParseError.TheVariants.{Memory, TooDeep, UnexpectedToken};
 
 use juniper_syntax::{ParseError, SourcePosition, Span, Spanning};
 use juniper_tokens::{Ending, Lexeme, ScalarToken, Token};

@@ -4,7 +4,7 @@ ghost use Rattle.std.specs.Prelude.{◌≡◌, length, map, option_map};
 ghost use Rattle.graphql_spec.specs.Grammar.{most_brackets};
 ghost use Rattle.juniper_syntax.specs.DocumentView.{view_definition, view_kind, view_variable, view_word};
 ghost use Rattle.juniper_syntax.specs.InputView.{view_input};
-ghost use Rattle.juniper_position.specs.Positions.{view_position, view_spanning};
+ghost use Rattle.juniper_syntax.specs.Positions.{view_position, view_spanning};
 ghost use Rattle.juniper_syntax.specs.TypeView.{view_type};
 ghost use Rattle.juniper_language.specs.ParserViews.{view_variables};
 ghost use Rattle.juniper_language.specs.Readers as read;

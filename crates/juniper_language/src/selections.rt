@@ -2,7 +2,7 @@
 
 ghost use Rattle.std.specs.Prelude.{option_map};
 ghost use Rattle.juniper_syntax.specs.DocumentView.{put_selection, view_selections, view_word};
-ghost use Rattle.juniper_position.specs.Positions.{view_position};
+ghost use Rattle.juniper_syntax.specs.Positions.{view_position};
 ghost use Rattle.juniper_language.specs.ParserViews.{view_label};
 ghost use Rattle.juniper_language.specs.Readers as read;
 ghost use Rattle.juniper_language.specs.Readers.{Gives};

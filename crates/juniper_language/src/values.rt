@@ -3,8 +3,8 @@
 ghost use Rattle.std.specs.Prelude.{◌≡◌, ◌≢◌, Some, None, length, map, IfOk, IfErr, IsFalse, IsTrue, MatchResult};
 ghost use Rattle.juniper_syntax.specs.DocumentView.{view_argument, view_word};
 ghost use Rattle.juniper_syntax.specs.InputView.{view_input};
-ghost use Rattle.juniper_position.specs.Positions.{view_spanning};
-ghost use Rattle.juniper_position.specs.declared.error.ParseError.TheVariants.{Memory};
+ghost use Rattle.juniper_syntax.specs.Positions.{view_spanning};
+ghost use Rattle.juniper_syntax.specs.declared.error.ParseError.TheVariants.{Memory};
 ghost use Rattle.juniper_language.specs.ParserViews.{view_member, view_owned};
 ghost use Rattle.juniper_language.specs.Readers as read;
 ghost use Rattle.juniper_language.specs.Readers.{Gives};

@@ -1,6 +1,6 @@
 //! How errors are shown, and their copies.
 
-use juniper_position::{LexerError, ParseError};
+use juniper_syntax::{LexerError, ParseError};
 use std::alloc::{AllocError, Global};
 use std::test::Fail;
 

@@ -1,9 +1,11 @@
-//! Tests of the data that the language layer reads: strings, Ints and refusals, input values, types and values, and how
-//! they are written. A scalar type of the tests' own.
+//! Tests of the language layer: the whole grammar, the data that it reads (strings, Ints and refusals, input values, types and
+//! values), and how it is written. What other tests take from here: a scalar type of their own, and tables of rows.
 #![tactic(auto)]
 
 #[cfg(test)]
 mod errors;
+#[cfg(test)]
+mod grammar;
 #[cfg(test)]
 mod inputs;
 #[cfg(test)]
@@ -11,6 +13,7 @@ mod rows;
 pub mod scalar;
 #[cfg(test)]
 mod strings;
+pub mod tables;
 #[cfg(test)]
 mod types;
 #[cfg(test)]

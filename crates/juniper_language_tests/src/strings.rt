@@ -1,7 +1,7 @@
 //! Strings and Ints, and what they stand for.
 
 use crate::rows::unmarked;
-use juniper_position::ParseError;
+use juniper_syntax::ParseError;
 use juniper_tokens::{decode_int, decode_string};
 use std::alloc::{AllocError, Global};
 

@@ -12,9 +12,9 @@ use Rattle.graphql_spec.specs.Fragments.{Contents, asked, deep, deep_in, filled,
 use Rattle.graphql_spec.specs.Selections.{Condition, Child, Forest, field, under, children, nearest}
 use Rattle.graphql_spec.proofs.Fragments.{expand-field, expand-inline, expand-spread}
 use Rattle.juniper_syntax.specs.InputView.{view_variables}
-use Rattle.juniper_position.specs.Positions.{view_span}
-use Rattle.juniper_position.specs.declared.position.Spanning.{Spanning}
-use Rattle.juniper_position.specs.declared.position.Span.{Span}
+use Rattle.juniper_syntax.specs.Positions.{view_span}
+use Rattle.juniper_syntax.specs.declared.position.Spanning.{Spanning}
+use Rattle.juniper_syntax.specs.declared.position.Span.{Span}
 use Rattle.juniper_syntax.specs.DocumentView.{inline_head, put_selection, view_head, view_selections, view_set, view_spread}
 use Rattle.juniper_syntax.specs.declared.ast.Field.{Field as FieldType, out-Field}
 use Rattle.juniper_syntax.specs.declared.ast.FragmentSpread.{FragmentSpread as SpreadType}

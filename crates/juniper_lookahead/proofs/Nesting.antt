@@ -3,8 +3,8 @@ use Rattle.std.proofs.Common.{◌≡◌, ℕ, zero, suc, ◌≤◌, ◌<◌, ◌
 use Rattle.std.specs.List.{IsAmong}
 use Rattle.std.specs.Map.{values_of}
 use denote.Param.Weighed.{at_most, most}
-use Rattle.juniper_position.specs.declared.position.Spanning.{Spanning}
-use Rattle.juniper_position.specs.declared.position.Span.{Span}
+use Rattle.juniper_syntax.specs.declared.position.Spanning.{Spanning}
+use Rattle.juniper_syntax.specs.declared.position.Span.{Span}
 use Rattle.juniper_syntax.specs.declared.ast.Fragment.{Fragment}
 use Rattle.juniper_syntax.specs.declared.ast.InlineFragment.{InlineFragment as InlineType, out-InlineFragment}
 use Rattle.juniper_syntax.specs.declared.ast.Selection.{Selection, InlineFragment, size-Selection}

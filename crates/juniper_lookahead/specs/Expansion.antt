@@ -13,9 +13,9 @@ use Rattle.graphql_spec.specs.Documents.{Head, Selections}
 use Rattle.graphql_spec.specs.Directives.{passes}
 use Rattle.graphql_spec.specs.Fragments.{expand, HasNoCycle}
 use Rattle.graphql_spec.specs.Selections.{Forest, Occurrence, Child}
-use Rattle.juniper_position.specs.Positions.{view_span}
-use Rattle.juniper_position.specs.declared.position.Spanning.{Spanning}
-use Rattle.juniper_position.specs.declared.position.Span.{Span}
+use Rattle.juniper_syntax.specs.Positions.{view_span}
+use Rattle.juniper_syntax.specs.declared.position.Spanning.{Spanning}
+use Rattle.juniper_syntax.specs.declared.position.Span.{Span}
 use Rattle.juniper_syntax.specs.InputView.{view_variables}
 use Rattle.juniper_syntax.specs.DocumentView.{view_directives, view_head, view_selections, view_set, view_word}
 use Rattle.juniper_syntax.specs.declared.ast.Field.{Field, out-Field}

@@ -3,8 +3,8 @@ use Rattle.std.specs.Prelude.{Bool, List}
 use Rattle.graphql_spec.specs.Shown.{Shown, Name}
 use Rattle.graphql_spec.specs.Selections.{occurrences}
 use Rattle.graphql_spec.specs.Laws.{In}
-use Rattle.juniper_position.specs.declared.position.Spanning.{Spanning}
-use Rattle.juniper_position.specs.declared.position.Span.{Span}
+use Rattle.juniper_syntax.specs.declared.position.Spanning.{Spanning}
+use Rattle.juniper_syntax.specs.declared.position.Span.{Span}
 use Rattle.juniper_syntax.specs.DocumentView.{view_selections}
 use Rattle.juniper_syntax.specs.declared.ast.Field.{Field}
 use Rattle.juniper_syntax.specs.declared.ast.Selection.{Selection}

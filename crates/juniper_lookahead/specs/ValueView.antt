@@ -6,9 +6,9 @@ use Rattle.graphql_spec.specs.Shown.{Shown}
 use Rattle.graphql_spec.specs.Positions.{Spanned}
 use Rattle.graphql_spec.specs.Inputs.{Input, Variables, null, scalar, enumerated, list, object}
 use Rattle.graphql_spec.specs.Documents.{Argument, Word, written}
-use Rattle.juniper_position.specs.Positions.{view_span, view_spanning}
-use Rattle.juniper_position.specs.declared.position.Spanning.{Spanning}
-use Rattle.juniper_position.specs.declared.position.Span.{Span}
+use Rattle.juniper_syntax.specs.Positions.{view_span, view_spanning}
+use Rattle.juniper_syntax.specs.declared.position.Spanning.{Spanning}
+use Rattle.juniper_syntax.specs.declared.position.Span.{Span}
 use Rattle.juniper_syntax.specs.InputView.{view_input, view_variables}
 use Rattle.juniper_syntax.specs.DocumentView.{view_word, view_argument}
 use Rattle.juniper_syntax.specs.declared.input.InputValue.{InputValue}

@@ -6,7 +6,7 @@ ghost use Rattle.std.specs.Iterator.SizeHint.{IsWithinCount};
 ghost use Rattle.std.specs.Str.{bytes_eq};
 ghost use Rattle.std.specs.Slice.Iter.{iter_rest};
 ghost use Rattle.graphql_spec.specs.Documents.{written};
-ghost use Rattle.juniper_position.specs.Positions.{view_span};
+ghost use Rattle.juniper_syntax.specs.Positions.{view_span};
 ghost use Rattle.juniper_syntax.specs.DocumentView.{view_argument, view_arguments};
 ghost use Rattle.juniper_lookahead.specs.ShownValues.{first_named};
 ghost use Rattle.juniper_lookahead.specs.SelectionView.{view_selection};

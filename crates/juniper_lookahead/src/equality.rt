@@ -1,7 +1,7 @@
 //! When values that look-ahead shows are equal: where they are written the same, at the same places, with values for their variables.
 
 ghost use Rattle.std.specs.Prelude.{◌≡◌};
-ghost use Rattle.juniper_position.specs.Positions.{view_span};
+ghost use Rattle.juniper_syntax.specs.Positions.{view_span};
 ghost use Rattle.juniper_lookahead.specs.ShownValues.{listed, fields_listed};
 ghost use Rattle.juniper_lookahead.specs.InputEquality.{same_span, same_word, same_field_head, same_input, same_input_items, same_input_fields};
 ghost use Rattle.juniper_lookahead.specs.ValueView.{view_look, view_list, view_object, view_lent_word, view_shown_field};

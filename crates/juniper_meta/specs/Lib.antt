@@ -1,1 +1,3 @@
 pub mod MetaView
+pub mod BuiltInScalars
+pub mod Rows

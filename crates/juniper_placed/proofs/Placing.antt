@@ -10,8 +10,8 @@ use Rattle.graphql_spec.specs.Fields.{field_of, type_named, is_composite}
 use Rattle.graphql_spec.specs.Placed.{Placed, placed, placed_directives, placed_in, directives_placed, if_declared, if_composite, root_type}
 use Rattle.graphql_spec.specs.Written.{own_directives}
 use Rattle.std.specs.List.{flat_map}
-use Rattle.juniper_position.specs.declared.position.Spanning.{Spanning}
-use Rattle.juniper_position.specs.declared.position.Span.{Span}
+use Rattle.juniper_syntax.specs.declared.position.Spanning.{Spanning}
+use Rattle.juniper_syntax.specs.declared.position.Span.{Span}
 use Rattle.juniper_syntax.specs.DocumentView.{put_selection, view_selections, view_set}
 use Rattle.juniper_syntax.specs.declared.ast.Field.{Field as FieldType, out-Field}
 use Rattle.juniper_syntax.specs.declared.ast.InlineFragment.{InlineFragment as InlineType, out-InlineFragment}

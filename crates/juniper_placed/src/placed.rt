@@ -97,7 +97,7 @@ fn placed_in_fragment<'d, 'a, S: ScalarValue>(
     let mut placed = nothing_placed(alloc)?;
     write_directives(&fragment.item.directives, &mut placed.directives)?;
     let condition = fragment.item.type_condition.item;
-    if is_composite(schema, condition) {
+    if schema.is_composite(condition) {
         place_selections(
             schema,
             condition,
@@ -237,22 +237,12 @@ fn type_inside<'d, 'a, S: ScalarValue>(
 {
     match &inline.item.type_condition {
         Some(condition) => {
-            if is_composite(schema, condition.item) {
+            if schema.is_composite(condition.item) {
                 Some(condition.item)
             } else {
                 None
             }
         }
         None => Some(parent),
-    }
-}
-
-/// Whether an object, an interface or a union is declared at this name (3.6, 3.7, 3.8).
-fn is_composite<S: ScalarValue>(schema: &SchemaType<S>, name: &str) -> bool
-    ensures { result ≡ is_composite (type_named (view_schema S.shown schema.now) name.now) }
-{
-    match schema.concrete_type_by_name(name) {
-        Some(meta) => meta.is_composite(),
-        None => false,
     }
 }

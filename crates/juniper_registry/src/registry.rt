@@ -14,9 +14,8 @@ use crate::graphql_type::{GraphQLReference, GraphQLType};
 use crate::names::{declares, put, stands};
 use juniper_meta::meta::Field;
 use juniper_meta::{Argument, MetaType, PlaceholderMeta};
-use juniper_resolvable::IntoResolvable;
 use juniper_syntax::{ScalarValue, Type};
-use juniper_values::ToInputValue;
+use juniper_values::{IntoResolvable, ToInputValue};
 use std::alloc::{AllocError, Global};
 use std::collections::HashMap;
 

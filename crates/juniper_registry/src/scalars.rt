@@ -2,13 +2,12 @@
 
 ghost use Rattle.std.specs.Prelude.{Some, codes, true};
 ghost use Rattle.graphql_spec.specs.Types.{named as named_type};
-ghost use Rattle.juniper_builtins.specs.BuiltInScalars.{booleans, ids, ints, scalar_of, texts};
+ghost use Rattle.juniper_meta.specs.BuiltInScalars.{booleans, ids, ints, scalar_of, texts};
 
 use crate::graphql_type::{GraphQLReference, GraphQLType};
 use crate::registry::Registry;
-use juniper_builtins::{boolean_scalar, id_scalar, int_scalar, string_scalar};
 use juniper_id::ID;
-use juniper_meta::MetaType;
+use juniper_meta::{MetaType, boolean_scalar, id_scalar, int_scalar, string_scalar};
 use juniper_syntax::{ScalarValue, Type};
 use std::alloc::{AllocError, Global};
 

@@ -1,7 +1,7 @@
 //! A log, and the steps that write in it.
 
 ghost use Rattle.std.specs.Prelude.{◌≡◌, [], ◌∷◌, ◌++◌, MatchResult, codes, string_bytes};
-ghost use Rattle.juniper_resolvable.specs.ResolvedView.{Answers};
+ghost use Rattle.juniper_values.specs.ResolvedView.{Answers};
 ghost use Rattle.juniper_types.specs.Stepping.{Leaves};
 ghost use Rattle.juniper_request_refusal_tests.specs.Logs.{after_step, query_reply, step_reply, torn, with_entry};
 

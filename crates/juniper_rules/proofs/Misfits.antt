@@ -8,8 +8,8 @@ use Rattle.graphql_spec.specs.Requests.{no_fitting_value, variable_errors, varia
 use Rattle.graphql_spec.specs.Rules.{RuleError}
 use Rattle.graphql_spec.specs.Schema.{Schema}
 use Rattle.graphql_spec.specs.Shown.{Shown}
-use Rattle.juniper_position.specs.declared.position.Span.{Span}
-use Rattle.juniper_position.specs.declared.position.Spanning.{Spanning}
+use Rattle.juniper_syntax.specs.declared.position.Span.{Span}
+use Rattle.juniper_syntax.specs.declared.position.Spanning.{Spanning}
 use Rattle.juniper_syntax.specs.DocumentView.{view_operation, view_variable}
 use Rattle.juniper_syntax.specs.declared.ast.Operation.{Operation}
 use Rattle.juniper_syntax.specs.declared.ast.VariableDefinitions.{VariableDefinitions}

@@ -2,6 +2,8 @@
 #![tactic(auto)]
 
 #[cfg(test)]
+mod expanded_fields;
+#[cfg(test)]
 mod input_values;
 #[cfg(test)]
 mod lists;

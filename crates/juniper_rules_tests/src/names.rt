@@ -3,12 +3,11 @@
 use crate::looks::{Look, Scalar, StaticDocument, check, first_other};
 use crate::schemas::SMALL;
 use juniper_language::Definition;
-use juniper_name_rules::{
-    Earlier, count_operations, has_unknown_directive, is_not_alone, repeats_argument,
-    repeats_input_field, repeats_variable,
-};
 use juniper_schema_text::{Line, kept, placed};
-use juniper_written::{argument_lists, written_in};
+use juniper_written::{
+    Earlier, argument_lists, count_operations, has_unknown_directive, is_not_alone,
+    repeats_argument, repeats_input_field, repeats_variable, written_in,
+};
 use std::alloc::Global;
 
 const ROWS: &str = "\

@@ -3,11 +3,10 @@
 use crate::looks::{Look, Scalar, StaticDocument, check, first_other};
 use crate::schemas::SMALL;
 use juniper_language::{RuleError, SourcePosition};
-use juniper_phases::{listed_in, listed_on_types, name_errors, type_errors};
-use juniper_rules::validate;
+use juniper_rules::{listed_in, listed_on_types, name_errors, type_errors, validate};
 use juniper_schema::SchemaType;
 use juniper_schema_text::{Line, kept};
-use juniper_spreads::fragments_by_name;
+use juniper_written::fragments_by_name;
 use std::alloc::Global;
 
 /// A text, `=>`, and its errors, each a message, `@` and a place in bytes.

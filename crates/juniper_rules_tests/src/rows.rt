@@ -1,5 +1,5 @@
 //! For each rule of validation a document that violates it alone, and one that just does not: the whole lists that
-//! [`validate`](juniper_phases::validate) answers, worked out by hand, over the schema of the demo.
+//! [`validate`](juniper_rules::validate) answers, worked out by hand, over the schema of the demo.
 
 use crate::looks::{Look, check, first_other};
 use crate::schemas::DEMO;

@@ -4,8 +4,7 @@ use crate::looks::{Look, Scalar, StaticDocument, check, first_other};
 use crate::schemas::SMALL;
 use juniper_language::Definition;
 use juniper_schema_text::{Line, kept};
-use juniper_spreads::{FragmentsByName, fragments_by_name};
-use juniper_written::written_in;
+use juniper_written::{FragmentsByName, fragments_by_name, written_in};
 use std::alloc::Global;
 
 /// A text; of each definition `u` where it spreads what is unknown, `i` where it spreads itself, `f` where it is the

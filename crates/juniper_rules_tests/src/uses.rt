@@ -7,12 +7,11 @@ use juniper_language::Definition;
 use juniper_placed::{calls, placed_in};
 use juniper_schema::SchemaType;
 use juniper_schema_text::{Line, kept, placed};
-use juniper_spreads::fragments_by_name;
-use juniper_use_rules::{
+use juniper_type_rules::{
     Used, UsesOfFragments, looks_at_schema, misuses_variable, used_in, uses_of_fragments,
     uses_undefined,
 };
-use juniper_written::{argument_lists, written_in};
+use juniper_written::{argument_lists, fragments_by_name, written_in};
 use std::alloc::Global;
 
 const ROWS: &str = "\

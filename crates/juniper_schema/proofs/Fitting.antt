@@ -15,8 +15,8 @@ use Rattle.juniper_syntax.specs.InputView.{view_input, view_items, view_fields}
 use Rattle.juniper_syntax.proofs.InputLists.{Item, Field}
 use Rattle.juniper_syntax.proofs.Lists.{left-is}
 use Rattle.juniper_syntax.specs.declared.input.InputValue.{InputValue}
-use Rattle.juniper_position.specs.declared.position.Span.{Span}
-use Rattle.juniper_position.specs.declared.position.Spanning.{Spanning}
+use Rattle.juniper_syntax.specs.declared.position.Span.{Span}
+use Rattle.juniper_syntax.specs.declared.position.Spanning.{Spanning}
 use Rattle.juniper_meta.specs.MetaView.{kinds_of}
 use Rattle.juniper_schema.specs.Fitting.{declared_fields, each_fits, fits_some, keys_differ, list_fits, object_by, takes_one}
 

@@ -7,3 +7,9 @@ pub mod Sorting
 pub mod Pushing
 pub mod Tested
 pub mod MetaFields
+pub mod Faulty
+pub mod Listing
+pub mod BuiltNames
+pub mod Pushed
+pub mod Counting
+pub mod Searched

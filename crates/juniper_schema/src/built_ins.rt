@@ -8,8 +8,7 @@ ghost use Rattle.juniper_meta.specs.MetaView.{entry_at, view_meta};
 ghost use Rattle.juniper_schema.specs.SchemaView.{AreCompleted, awaits, lacks, view_entries};
 
 use crate::names::{Types, entry};
-use juniper_builtins::{boolean_scalar, id_scalar, int_scalar, string_scalar};
-use juniper_meta::MetaType;
+use juniper_meta::{MetaType, boolean_scalar, id_scalar, int_scalar, string_scalar};
 use juniper_syntax::ScalarValue;
 use std::alloc::{AllocError, Global};
 

@@ -1,12 +1,12 @@
 //! Schemas that can be executed (sections 3.3.1 and 3.5 to 3.11 of the Specification).
 
-mod defaults;
-mod distinct_names;
-mod entry_names;
-mod interfaces;
-mod known_types;
-mod roots;
-mod scalars;
+pub(crate) mod defaults;
+pub(crate) mod distinct_names;
+pub(crate) mod entry_names;
+pub(crate) mod interfaces;
+pub(crate) mod known_types;
+pub(crate) mod roots;
+pub(crate) mod scalars;
 
 ghost use Rattle.std.specs.Prelude.{◌≡◌};
 ghost use Rattle.graphql_spec.specs.Executable as spec;

@@ -3,15 +3,18 @@
 
 mod built_ins;
 mod executable;
+mod faults;
 mod fields;
 mod fits;
 mod lists;
+mod named_types;
 mod names;
 mod schema;
 mod subtypes;
 mod type_type;
 
 pub use executable::{is_reserved, schema_is_executable};
+pub use faults::{Demand, SchemaFault, schema_fault};
 pub use juniper_meta::{
     Argument, DeprecationStatus, DirectiveLocation, DirectiveType, EnumMeta, EnumValue,
     InputObjectMeta, InterfaceMeta, ListMeta, MetaType, NullableMeta, ObjectMeta, PlaceholderMeta,

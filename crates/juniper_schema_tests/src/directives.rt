@@ -1,8 +1,7 @@
 //! Directives: where they may stand, and those that every schema has (section 3.13 of the Specification).
 
 use crate::outline::put_directive;
-use juniper_builtins::directives;
-use juniper_meta::DirectiveLocation;
+use juniper_meta::{DirectiveLocation, directives};
 use juniper_schema_text::{Line, Scalar};
 
 /// Where a directive may stand (3.13), in the order of the Specification's ExecutableDirectiveLocation and

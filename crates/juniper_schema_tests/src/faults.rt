@@ -1,8 +1,7 @@
 //! Why requests cannot be executed on a schema: the first clause that fails, and where.
 
 use crate::questions::{ANY, Question, check, first_other};
-use juniper_faults::schema_fault;
-use juniper_schema::SchemaType;
+use juniper_schema::{SchemaType, schema_fault};
 use juniper_schema_text::{Line, Scalar};
 use std::alloc::Global;
 

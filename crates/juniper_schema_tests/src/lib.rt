@@ -1,5 +1,5 @@
-//! Tests of schemas: which can be executed and why others cannot, which values fit, what look-ups find, what is listed, and what declarations
-//! tell. Schemas are written as texts.
+//! Tests of schemas: which can be executed and why others cannot, which values fit, what look-ups find, what is listed, what declarations
+//! tell, their texts, and the registry of types. Schemas are written as texts.
 #![tactic(auto)]
 
 #[cfg(test)]
@@ -19,4 +19,12 @@ mod outline;
 #[cfg(test)]
 mod questions;
 #[cfg(test)]
+mod registry;
+#[cfg(test)]
 mod rows;
+#[cfg(test)]
+mod samples;
+#[cfg(test)]
+mod sdl;
+#[cfg(test)]
+mod tables;

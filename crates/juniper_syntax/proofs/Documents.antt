@@ -4,11 +4,11 @@ use Rattle.graphql_spec.specs.Shown.{Shown}
 use Rattle.graphql_spec.specs.Positions as place
 use Rattle.graphql_spec.specs.Documents as spec
 use Rattle.graphql_spec.specs.Documents.{Selections}
-use Rattle.juniper_position.specs.Positions.{view_span}
+use Rattle.juniper_syntax.specs.Positions.{view_span}
 use Rattle.juniper_syntax.specs.DocumentView.{below_of, view_head, inline_head, view_spread, view_set, view_selections, put_selection, put_field, put_inline}
 use Rattle.juniper_syntax.specs.DocumentView.{field_step, inline_step, selection_step, Placed}
-use Rattle.juniper_position.specs.declared.position.Spanning.{Spanning}
-use Rattle.juniper_position.specs.declared.position.Span.{Span}
+use Rattle.juniper_syntax.specs.declared.position.Spanning.{Spanning}
+use Rattle.juniper_syntax.specs.declared.position.Span.{Span}
 use Rattle.juniper_syntax.specs.declared.ast.Field.{Field as FieldType, fold_out-Field, out-Field}
 use Rattle.juniper_syntax.specs.declared.ast.InlineFragment.{InlineFragment as InlineType, fold_out-InlineFragment, out-InlineFragment}
 use Rattle.juniper_syntax.specs.declared.ast.FragmentSpread.{FragmentSpread as SpreadType}

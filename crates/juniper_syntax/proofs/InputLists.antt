@@ -4,9 +4,9 @@ use Rattle.std.proofs.lemmas.List.{drop_more, drop_all}
 use Rattle.graphql_spec.specs.Shown.{Shown}
 use Rattle.graphql_spec.specs.Inputs.{InputItems, no_items, item, InputFields, no_fields, input_field}
 use Rattle.juniper_syntax.specs.InputView.{view_input, view_items, view_fields}
-use Rattle.juniper_position.specs.Positions.{view_span}
-use Rattle.juniper_position.specs.declared.position.Span.{Span}
-use Rattle.juniper_position.specs.declared.position.Spanning.{Spanning}
+use Rattle.juniper_syntax.specs.Positions.{view_span}
+use Rattle.juniper_syntax.specs.declared.position.Span.{Span}
+use Rattle.juniper_syntax.specs.declared.position.Spanning.{Spanning}
 use Rattle.juniper_syntax.specs.declared.input.InputValue.{InputValue}
 
 abbrev pub Item : Type 0 → Type 0

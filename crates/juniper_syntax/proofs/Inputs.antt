@@ -3,8 +3,8 @@ use Rattle.std.proofs.Common.{◌≡◌, Vec, String, Global, string_bytes, rule
 use Rattle.graphql_spec.specs.Shown.{Shown}
 use Rattle.graphql_spec.specs.Inputs as spec
 use Rattle.juniper_syntax.specs.InputView.{view_input, view_items, view_fields}
-use Rattle.juniper_position.specs.declared.position.Span.{Span}
-use Rattle.juniper_position.specs.declared.position.Spanning.{Spanning}
+use Rattle.juniper_syntax.specs.declared.position.Span.{Span}
+use Rattle.juniper_syntax.specs.declared.position.Spanning.{Spanning}
 use Rattle.juniper_syntax.specs.declared.input.InputValue.{InputValue, Null, Scalar, Enum, Variable, List as ListOf, Object, the_lemmas}
 
 module _ {S : Type 0} (shown : S → Shown) where

@@ -5,11 +5,11 @@ use Rattle.std.specs.HashMap.{HashMap, get_by_text}
 use Rattle.graphql_spec.specs.Shown.{Shown}
 use Rattle.graphql_spec.specs.Inputs as spec
 use Rattle.graphql_spec.specs.Inputs.{Input, InputItems, InputFields, no_items, item, no_fields, input_field}
-use Rattle.juniper_position.specs.declared.position.Span.{Span}
-use Rattle.juniper_position.specs.declared.position.Spanning.{Spanning}
+use Rattle.juniper_syntax.specs.declared.position.Span.{Span}
+use Rattle.juniper_syntax.specs.declared.position.Spanning.{Spanning}
 use Rattle.juniper_syntax.specs.declared.input.InputValue.{InputValue, fold-InputValue}
 use Rattle.juniper_syntax.specs.declared.input.InputValue.TheOpen.{InputValue-F}
-use Rattle.juniper_position.specs.Positions.{view_span}
+use Rattle.juniper_syntax.specs.Positions.{view_span}
 
 abbrev pub items_of : List (Spanning Input Span) → InputItems
 items_of [] = no_items

@@ -1,3 +1,6 @@
+pub mod Positions
+pub mod Refusals
+pub mod RuleView
 pub mod Scalars
 pub mod InputView
 pub mod Escapes

@@ -2,7 +2,7 @@
 
 use crate::input::InputValue;
 use crate::types::Type;
-use juniper_position::{Span, Spanning};
+use crate::{Span, Spanning};
 use std::collections::HashMap;
 
 /// The arguments of a field or a directive, in the order in which they are written (2.6).

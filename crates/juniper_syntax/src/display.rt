@@ -9,7 +9,7 @@ ghost use Rattle.juniper_syntax.specs.Escapes.{is_escaped};
 
 use crate::input::{InputField, InputValue, value_of};
 use crate::scalar::ScalarValue;
-use juniper_position::{Span, Spanning};
+use crate::{Span, Spanning};
 use std::fmt;
 
 /// As it is written: `{name: "Han", friends: [$first, null], episode: JEDI}`. A text is written between quotes, with

@@ -2,10 +2,11 @@
 
 ghost use Rattle.std.specs.Prelude.{◌≡◌, IfOk, option_map, unwrap_or};
 ghost use Rattle.graphql_spec.specs.Inputs.{null, is_const, items_are_const, fields_are_const, const, const_items, const_fields};
+ghost use Rattle.graphql_spec.specs.Inputs as inputs;
 ghost use Rattle.juniper_syntax.specs.InputView.{view_input, view_items, view_fields, view_variables};
 
 use crate::scalar::ScalarValue;
-use juniper_position::{Span, Spanning};
+use crate::{Span, Spanning};
 use std::alloc::{AllocError, Global};
 use std::collections::HashMap;
 
@@ -33,6 +34,36 @@ pub type Variables<S> = HashMap<String, InputValue<S>>;
 pub(crate) type InputField<S> = (Spanning<String, Span>, Spanning<InputValue<S>, Span>);
 
 impl<S: ScalarValue> InputValue<S> {
+    /// Null.
+    pub fn null() -> InputValue<S>
+        ensures { view_input S.shown result ≡ null }
+    {
+        InputValue::Null
+    }
+
+    /// This scalar.
+    pub fn scalar(scalar: S) -> InputValue<S>
+        ensures { view_input S.shown result ≡ inputs.scalar (S.shown scalar) }
+    {
+        InputValue::Scalar(scalar)
+    }
+
+    /// The list of these, each with its place.
+    pub fn parsed_list(items: Vec<Spanning<InputValue<S>, Span>>) -> InputValue<S>
+        ensures { view_input S.shown result ≡ inputs.list (view_items S.shown items.items) }
+    {
+        InputValue::List(items)
+    }
+
+    /// The object of these fields, each name and each value with its place.
+    pub fn parsed_object(
+        fields: Vec<(Spanning<String, Span>, Spanning<InputValue<S>, Span>)>,
+    ) -> InputValue<S>
+        ensures { view_input S.shown result ≡ inputs.object (view_fields S.shown fields.items) }
+    {
+        InputValue::Object(fields)
+    }
+
     /// Whether no variable stands in it (2.10).
     #[cycle(is_const)]
     #[tactic(auto, unfolding(graphql_spec::specs::Inputs::is_const))]

@@ -1,7 +1,9 @@
 //! Values of answers (section 7.1 of the Specification).
 
 ghost use Rattle.std.specs.Prelude.{◌≡◌, IfOk, IfSome, OnOk, OnErr, None, option_map, string_bytes};
-ghost use Rattle.graphql_spec.specs.Values.{no_entries, look_up, has_entry, put, count_entries, is_null, null};
+ghost use Rattle.graphql_spec.specs.Shown.{shown_text};
+ghost use Rattle.graphql_spec.specs.Values.{no_entries, look_up, has_entry, put, count_entries, entries_in, is_null, items_in, null, scalar_in};
+ghost use Rattle.graphql_spec.specs.Values as values;
 ghost use Rattle.juniper_syntax.specs.ValueView.{view_value, view_object, view_values, view_entries};
 
 use crate::entries::{Entries, IntoEntries};
@@ -24,6 +26,73 @@ pub enum Value<S> {
 }
 
 impl<S: ScalarValue> Value<S> {
+    /// Null.
+    pub fn null() -> Value<S>
+        ensures { view_value S.shown result ≡ null }
+    {
+        Value::Null
+    }
+
+    /// This scalar, or this enum's value.
+    pub fn scalar(scalar: S) -> Value<S>
+        ensures { view_value S.shown result ≡ values.scalar (S.shown scalar) }
+    {
+        Value::Scalar(scalar)
+    }
+
+    /// The list of these.
+    pub fn list(items: Vec<Value<S>>) -> Value<S>
+        ensures { view_value S.shown result ≡ values.list (view_values S.shown items.items) }
+    {
+        Value::List(items)
+    }
+
+    /// This object.
+    pub fn object(object: Object<S>) -> Value<S>
+        ensures { view_value S.shown result ≡ values.object (view_object S.shown object) }
+    {
+        Value::Object(object)
+    }
+
+    /// The scalar or the enum's value that it is.
+    #[tactic(auto, unfolding(graphql_spec::specs::Values::scalar_in))]
+    pub fn as_scalar(&self) -> Option<&S>
+        ensures { option_map (λ s. S.shown s.now) result ≡ scalar_in (view_value S.shown self.now) }
+    {
+        match self {
+            Value::Scalar(scalar) => Some(scalar),
+            Value::Null => None,
+            Value::List(_) => None,
+            Value::Object(_) => None,
+        }
+    }
+
+    /// The list that it is.
+    #[tactic(auto, unfolding(graphql_spec::specs::Values::items_in))]
+    pub fn as_list_value(&self) -> Option<&Vec<Value<S>>>
+        ensures { option_map (λ items. view_values S.shown items.now.items) result ≡ items_in (view_value S.shown self.now) }
+    {
+        match self {
+            Value::List(items) => Some(items),
+            Value::Null => None,
+            Value::Scalar(_) => None,
+            Value::Object(_) => None,
+        }
+    }
+
+    /// The object that it is.
+    #[tactic(auto, unfolding(graphql_spec::specs::Values::entries_in))]
+    pub fn as_object_value(&self) -> Option<&Object<S>>
+        ensures { option_map (λ o. view_object S.shown o.now) result ≡ entries_in (view_value S.shown self.now) }
+    {
+        match self {
+            Value::Object(object) => Some(object),
+            Value::Null => None,
+            Value::Scalar(_) => None,
+            Value::List(_) => None,
+        }
+    }
+
     /// Whether it is null.
     #[tactic(auto, unfolding(graphql_spec::specs::Values::is_null))]
     pub fn is_null(&self) -> bool

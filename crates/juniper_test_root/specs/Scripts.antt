@@ -6,8 +6,8 @@ use Rattle.graphql_spec.specs.Shown.{Name, int, text, boolean}
 use Rattle.graphql_spec.specs.Constants.{Constant, Members, find, null, scalar, enumerated, variable, list, object}
 use Rattle.graphql_spec.specs.Resolvers as spec
 use Rattle.graphql_spec.specs.Resolvers.{Reply, answered, failed, nothing, leaf, items, node}
-use Rattle.juniper_errors.specs.Messages.{message_alone}
-use Rattle.juniper_resolvable.specs.ResolvedView.{trees_of}
+use Rattle.juniper_conversions.specs.Messages.{message_alone}
+use Rattle.juniper_values.specs.ResolvedView.{trees_of}
 use Rattle.juniper_test_root.specs.declared.script.Node.{Node}
 use Rattle.juniper_test_root.specs.declared.script.Line.{Line}
 use Rattle.juniper_test_root.specs.declared.script.Notes.{Notes}

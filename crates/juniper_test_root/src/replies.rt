@@ -4,17 +4,16 @@ ghost use Rattle.std.specs.Prelude.{◌≡◌, IfOk, map, option_map};
 ghost use Rattle.graphql_spec.specs.Constants.{meaning};
 ghost use Rattle.graphql_spec.specs.Resolvers.{failed, leaf};
 ghost use Rattle.graphql_spec.specs.Shown.{text as text_of};
-ghost use Rattle.juniper_errors.specs.Messages.{message_alone};
+ghost use Rattle.juniper_conversions.specs.Messages.{message_alone};
 ghost use Rattle.juniper_syntax.specs.InputView.{view_input};
 ghost use Rattle.juniper_values.specs.ArgumentView.{view_arguments};
-ghost use Rattle.juniper_resolvable.specs.ResolvedView.{Answers, view_resolved};
+ghost use Rattle.juniper_values.specs.ResolvedView.{Answers, view_resolved};
 ghost use Rattle.juniper_test_root.specs.Scripts.{argument_reply, constant_tree, line_reply, view_tree};
 
 use crate::script::{Answer, Node, Tree};
-use juniper_errors::{FieldError, ResolveError};
-use juniper_resolvable::Resolved;
+use juniper_conversions::{FieldError, ResolveError};
 use juniper_syntax::{InputValue, ScalarValue, Span, Spanning, Value};
-use juniper_values::Arguments;
+use juniper_values::{Arguments, Resolved};
 use std::alloc::{AllocError, Global};
 
 /// A value of a script as a resolver answers it.

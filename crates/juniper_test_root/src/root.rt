@@ -8,12 +8,11 @@ use crate::replies::reply;
 use crate::script::{Node, Notes, RootType, Script};
 use crate::sights::record;
 use juniper_meta::MetaType;
-use juniper_resolvable::Resolved;
 use juniper_syntax::{ScalarValue, Type};
 use juniper_types::{
     Executor, GraphQLMutationValue, GraphQLReference, GraphQLType, GraphQLValue, Registry,
 };
-use juniper_values::{Arguments, ResolveError};
+use juniper_values::{Arguments, ResolveError, Resolved};
 use std::alloc::{AllocError, Global};
 
 impl<S: ScalarValue> GraphQLReference<S> for Script {

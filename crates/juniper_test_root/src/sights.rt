@@ -18,7 +18,7 @@ use juniper::{
     LookAheadArgument, LookAheadChildren, LookAheadSelection, LookAheadValue, PathSegment,
     ScalarValue, TypeType,
 };
-use juniper_errors::error_of_message;
+use juniper_conversions::error_of_message;
 use juniper_types::Executor;
 use std::alloc::{AllocError, Global};
 

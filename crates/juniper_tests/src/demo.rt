@@ -219,7 +219,7 @@ fn joined(alloc: Global, text: &str) -> Result<String, AllocError> {
 }
 
 /// The demo's root.
-fn made_root(alloc: Global) -> Result<DemoRoot, AllocError> {
+pub fn made_root(alloc: Global) -> Result<DemoRoot, AllocError> {
     match demo_root(alloc) {
         Ok(root) => Ok(root),
         Err(_) => Err(AllocError),

@@ -1,7 +1,8 @@
 //! Requests that are deep, wide, cyclic or wrong: what they are answered, or why they are refused.
 
+use crate::demo::made_root;
 use juniper::{DefaultScalarValue, InputValue, Spanning, Variables, execute_sync};
-use juniper_demo_server::{DemoContext, DemoRoot, demo_root, show};
+use juniper_demo_server::{DemoContext, show};
 use juniper_test_root::report;
 use std::alloc::{AllocError, Global};
 use std::test::Fail;
@@ -80,14 +81,6 @@ rows:
 fn hostile_requests_are_answered(rt: HostRuntime) -> Result<(), Fail> {
     assert_eq!(rt; report(rt.alloc(), HOSTILE)?.as_str(), "17 rows, 0 differ");
     Ok(())
-}
-
-/// The demo's root.
-fn made_root(alloc: Global) -> Result<DemoRoot, AllocError> {
-    match demo_root(alloc) {
-        Ok(root) => Ok(root),
-        Err(_) => Err(AllocError),
-    }
 }
 
 /// What the demo answers to this text with these values of variables.

@@ -1,4 +1,4 @@
-//! A server that prepares texts within bounds, as docs/SERVING.md shows it.
+//! A server that prepares texts within bounds.
 
 use juniper::{Bounds, DefaultScalarValue, InputValue, Variables, execute_prepared, prepare};
 use juniper_demo_server::{DemoContext, DemoRoot, demo_root, show};

@@ -2,7 +2,7 @@
 use Rattle.std.specs.Prelude.{ℕ, Bool, false, List, [], ◌∷◌, ◌+◌, ◌≤◌, ◌<◌, ◌^◌, ◌==◌, ◌&&◌, ◌||◌, nat_le, nat_lt}
 use Rattle.graphql_spec.specs.Tokens.{quote}
 use Rattle.graphql_spec.specs.Positions as spec
-use Rattle.juniper_position.specs.Positions.{view_position}
+use Rattle.juniper_syntax.specs.Positions.{view_position}
 use Rattle.juniper_tokens.specs.Lexing.{Front}
 use Rattle.juniper_tokens.specs.declared.lexer.Spot.{Spot}
 use Rattle.juniper_tokens.specs.declared.lexer.Lexer.TheInside.{Inside}

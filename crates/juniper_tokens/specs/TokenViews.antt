@@ -3,7 +3,7 @@ use Rattle.std.specs.Prelude.{map}
 use Rattle.std.specs.Char.{encode_utf8}
 use Rattle.graphql_spec.specs.Shown.{Text}
 use Rattle.graphql_spec.specs.Tokens as spec
-use Rattle.juniper_position.specs.Positions.{view_position, view_span}
+use Rattle.juniper_syntax.specs.Positions.{view_position, view_span}
 use Rattle.juniper_tokens.specs.Lexing as read
 use Rattle.juniper_tokens.specs.declared.token.ScalarToken.{ScalarToken}
 use Rattle.juniper_tokens.specs.declared.token.ScalarToken.TheVariants as scalar

@@ -9,13 +9,13 @@ ghost use Rattle.graphql_spec.specs.Positions.{beginning};
 ghost use Rattle.graphql_spec.specs.Tokens as tokens;
 ghost use Rattle.juniper_tokens.specs.Spots.{HasRoom, begins_quoted, is_plain, is_space, view_spot};
 ghost use Rattle.juniper_tokens.specs.Lexing as read;
-ghost use Rattle.juniper_position.specs.Positions.{view_position, view_span};
+ghost use Rattle.juniper_syntax.specs.Positions.{view_position, view_span};
 ghost use Rattle.juniper_tokens.specs.TokenViews.{view_lexeme, view_lexed, view_token};
 
 use crate::number::{int_len, number_fault, starts_int};
 use crate::string::{string_fault, string_len, without_quotes};
 use crate::token::{Ending, Fault, Lexed, Lexeme, ScalarToken, Token};
-use juniper_position::{SourcePosition, Span, Spanning};
+use juniper_syntax::{SourcePosition, Span, Spanning};
 use std::alloc::{AllocError, Global};
 use std::marker::Model;
 

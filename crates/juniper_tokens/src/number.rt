@@ -6,11 +6,11 @@ ghost use Rattle.std.specs.List.{list_all, prefix_len};
 ghost use Rattle.graphql_spec.specs.Tokens as tokens;
 ghost use Rattle.graphql_spec.specs.Tokens.{decoded_int};
 ghost use Rattle.juniper_tokens.specs.Lexing as read;
-ghost use Rattle.juniper_position.specs.declared.error.ParseError.TheVariants.{UnexpectedToken};
+ghost use Rattle.juniper_syntax.specs.declared.error.ParseError.TheVariants.{UnexpectedToken};
 
 use crate::lexer::continues_name;
 use crate::token::Fault;
-use juniper_position::ParseError;
+use juniper_syntax::ParseError;
 
 /// That each byte is a digit.
 fn are_digits(word: &[u8]) -> bool

@@ -9,11 +9,11 @@ ghost use Rattle.graphql_spec.specs.Tokens as tokens;
 ghost use Rattle.graphql_spec.specs.Tokens.{after_backslash, characters, decoded_string, hex_digits};
 ghost use Rattle.juniper_tokens.specs.Strings as read;
 ghost use Rattle.juniper_tokens.specs.TokenViews.{view_part};
-ghost use Rattle.juniper_position.specs.declared.error.ParseError.TheVariants.{Memory};
+ghost use Rattle.juniper_syntax.specs.declared.error.ParseError.TheVariants.{Memory};
 
 use crate::lexer::is_source_byte;
 use crate::token::Fault;
-use juniper_position::{LexerError, ParseError};
+use juniper_syntax::{LexerError, ParseError};
 use std::alloc::{AllocError, Global};
 
 /// A byte of a character that stands for itself: tab, and any from the space up but a quote and a backslash.

@@ -1,10 +1,10 @@
 //! Tokens (section 2.1.6 of the Specification).
 
 ghost use Rattle.std.specs.Prelude.{◌≢◌, IfOk};
-ghost use Rattle.juniper_position.specs.declared.error.ParseError.TheVariants.{Memory};
+ghost use Rattle.juniper_syntax.specs.declared.error.ParseError.TheVariants.{Memory};
 
 use crate::string::string_error;
-use juniper_position::{LexerError, ParseError, SourcePosition, Span, Spanning};
+use juniper_syntax::{LexerError, ParseError, SourcePosition, Span, Spanning};
 use std::alloc::{AllocError, Global};
 
 /// What a scalar is written as.

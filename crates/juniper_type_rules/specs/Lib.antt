@@ -1,1 +1,3 @@
 pub mod SetTests
+pub mod Numbers
+pub mod UsesView

@@ -6,7 +6,6 @@ ghost use Rattle.graphql_spec.specs.Fields.{is_composite, type_named};
 ghost use Rattle.juniper_schema.specs.SchemaView.{view_schema};
 ghost use Rattle.juniper_written.specs.WrittenView.{view_written};
 
-use crate::named_types::is_composite;
 use juniper_schema::SchemaType;
 use juniper_syntax::ScalarValue;
 use juniper_written::Written;
@@ -20,7 +19,7 @@ pub fn has_other_condition<S: ScalarValue>(
 {
     for index in 0..written.conditions.len() {
         let condition = written.conditions[index];
-        if !is_composite(schema, condition) {
+        if !schema.is_composite(condition) {
             return true;
         }
     }

@@ -10,7 +10,6 @@ ghost use Rattle.juniper_schema.specs.SchemaView.{view_schema};
 ghost use Rattle.juniper_syntax.specs.DocumentView.{view_definition};
 ghost use Rattle.juniper_written.specs.WrittenView.{view_variables, view_written};
 
-use crate::named_types::is_unknown;
 use juniper_schema::SchemaType;
 use juniper_syntax::{Definition, ScalarValue, Span, Spanning, VariableDefinitions};
 use juniper_written::Written;
@@ -45,7 +44,7 @@ fn has_unknown_condition<S: ScalarValue>(
 {
     for index in 0..written.conditions.len() {
         let condition = written.conditions[index];
-        if is_unknown(schema, condition) {
+        if schema.is_unknown(condition) {
             return true;
         }
     }
@@ -64,7 +63,7 @@ fn has_unknown_variable<S: ScalarValue>(
         Some(variables) => {
             for variable in &variables.item.items {
                 let name = variable.1.var_type.item.innermost_name();
-                if is_unknown(schema, name) {
+                if schema.is_unknown(name) {
                     return true;
                 }
             }

@@ -40,7 +40,7 @@ fn gives_too_few<S: ScalarValue>(call: &Call<'_, '_, '_, S>) -> bool
 }
 
 /// Whether the argument must be written, and is not given.
-fn is_left_out<S: ScalarValue>(
+pub fn is_left_out<S: ScalarValue>(
     argument: &Argument<S>,
     given: &Option<Spanning<Arguments<'_, S>, Span>>,
 ) -> bool

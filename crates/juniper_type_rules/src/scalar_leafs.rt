@@ -8,7 +8,6 @@ ghost use Rattle.juniper_placed.specs.PlacedView.{view_parts, view_placed};
 ghost use Rattle.juniper_schema.specs.SchemaView.{view_schema};
 ghost use Rattle.juniper_type_rules.specs.SetTests.{has_wrong_set};
 
-use crate::named_types::{is_composite, is_leaf};
 use juniper_placed::{Placed, PlacedParts};
 use juniper_schema::SchemaType;
 use juniper_syntax::{ScalarValue, Type};
@@ -43,7 +42,7 @@ fn is_wrong_at<S: ScalarValue>(schema: &SchemaType<S>, placed: &Placed<'_, '_, S
 
 /// Whether a selection set, or that there is none, does not fit the type.
 #[tactic(auto, unfolding(graphql_spec::specs::Rules::set_is_wrong))]
-fn set_is_wrong<S: ScalarValue>(
+pub fn set_is_wrong<S: ScalarValue>(
     schema: &SchemaType<S>,
     has_set: bool,
     reference: &Type<String>,
@@ -52,8 +51,8 @@ fn set_is_wrong<S: ScalarValue>(
 {
     let name = reference.innermost_name();
     if has_set {
-        is_leaf(schema, name)
+        schema.is_leaf(name)
     } else {
-        is_composite(schema, name)
+        schema.is_composite(name)
     }
 }

@@ -9,7 +9,6 @@ ghost use Rattle.juniper_schema.specs.SchemaView.{view_schema};
 ghost use Rattle.juniper_syntax.specs.DocumentView.{view_definition};
 ghost use Rattle.juniper_written.specs.WrittenView.{view_variables};
 
-use crate::named_types::is_input;
 use juniper_schema::SchemaType;
 use juniper_syntax::{Definition, ScalarValue, Span, Spanning, VariableDefinitions};
 
@@ -40,7 +39,7 @@ fn has_other_type<S: ScalarValue>(
         Some(variables) => {
             for variable in &variables.item.items {
                 let name = variable.1.var_type.item.innermost_name();
-                if !is_input(schema, name) {
+                if !schema.is_input(name) {
                     return true;
                 }
             }

@@ -4,9 +4,9 @@ use Rattle.std.proofs.lemmas.List.{map-append, take_all, take_more}
 use Rattle.std.specs.Prelude.{Result}
 use Rattle.graphql_spec.specs.Resolvers.{Reply}
 use Rattle.graphql_spec.specs.Shown.{Shown}
-use Rattle.juniper_errors.specs.declared.field_error.ResolveError.{ResolveError}
-use Rattle.juniper_resolvable.specs.ResolvedView.{AllAnswer, Answers}
-use Rattle.juniper_resolvable.specs.declared.resolved.Resolved.{Resolved}
+use Rattle.juniper_conversions.specs.declared.field_error.ResolveError.{ResolveError}
+use Rattle.juniper_values.specs.ResolvedView.{AllAnswer, Answers}
+use Rattle.juniper_values.specs.declared.resolved.Resolved.{Resolved}
 
 module _ {M N S : Type 0} (shown : S → Shown) (reply : M → Reply N) where
   answers-behind : (ms : List M) (answers : List (Result (Resolved N S) (ResolveError S))) (m : M) (a : Result (Resolved N S) (ResolveError S)) →

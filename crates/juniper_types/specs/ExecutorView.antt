@@ -19,9 +19,9 @@ use Rattle.graphql_spec.specs.Fields.{declared_arguments, field_of, is_possible}
 use Rattle.graphql_spec.specs.Schema.{FieldDeclaration, Schema}
 use Rattle.graphql_spec.specs.Selections.{Occurrence}
 use Rattle.graphql_spec.specs.Types.{innermost}
-use Rattle.juniper_position.specs.Positions.{view_position}
-use Rattle.juniper_position.specs.declared.position.Span.{Span}
-use Rattle.juniper_position.specs.declared.position.Spanning.{Spanning}
+use Rattle.juniper_syntax.specs.Positions.{view_position}
+use Rattle.juniper_syntax.specs.declared.position.Span.{Span}
+use Rattle.juniper_syntax.specs.declared.position.Spanning.{Spanning}
 use Rattle.juniper_syntax.specs.declared.ast.Field.{Field}
 use Rattle.juniper_syntax.specs.declared.ast.Fragment.{Fragment}
 use Rattle.juniper_syntax.specs.declared.input.InputValue.{InputValue}
@@ -31,11 +31,11 @@ use Rattle.juniper_lookahead.specs.Expansion.{occurrence_at}
 use Rattle.juniper_lookahead.specs.Sites.{IsFirstOf, IsWholeGroup, view_fields}
 use Rattle.juniper_lookahead.specs.declared.occurrences.Enclosing.{Enclosing}
 use Rattle.juniper_lookahead.specs.declared.occurrences.Occurrence.{Occurrence as CodeOccurrence}
-use Rattle.juniper_errors.specs.PathView.{path_place}
+use Rattle.juniper_conversions.specs.PathView.{path_place}
 use Rattle.juniper_meta.specs.MetaView.{Meta}
 use Rattle.juniper_schema.specs.MadeTypes.{around, view_made}
 use Rattle.juniper_schema.specs.SchemaView.{meta_named, view_schema}
-use Rattle.juniper_errors.specs.declared.field_path.FieldPath.{FieldPath}
+use Rattle.juniper_conversions.specs.declared.field_path.FieldPath.{FieldPath}
 use Rattle.juniper_schema.specs.declared.schema.SchemaType.{SchemaType}
 use Rattle.juniper_schema.specs.declared.type_type.TypeType.{TypeType}
 use Rattle.juniper_types.specs.declared.executor.Executor.{Executor}

@@ -1,7 +1,7 @@
 -- What a step of a mutation leaves (6.2.2).
 use Rattle.std.specs.Prelude.{◌≡◌, Bool, IsTrue, Result, Ok, Err}
-use Rattle.juniper_errors.specs.declared.field_error.ResolveError.{ResolveError}
-use Rattle.juniper_errors.specs.declared.field_error.ResolveError.TheVariants.{Field, Memory}
+use Rattle.juniper_conversions.specs.declared.field_error.ResolveError.{ResolveError}
+use Rattle.juniper_conversions.specs.declared.field_error.ResolveError.TheVariants.{Field, Memory}
 
 -- an answer or an error of the field leaves this context; want of memory one that may be torn from a step (6.2.2)
 abbrev pub Leaves : {A S C : Type 0} → C → (C → Bool) → Result A (ResolveError S) → C → Type 0

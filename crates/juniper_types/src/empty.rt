@@ -8,9 +8,8 @@ use crate::executor::Executor;
 use crate::mutation::GraphQLMutationValue;
 use juniper_meta::MetaType;
 use juniper_registry::{GraphQLReference, GraphQLType, Registry};
-use juniper_resolvable::Resolved;
 use juniper_syntax::{ScalarValue, Type};
-use juniper_values::{Arguments, ResolveError};
+use juniper_values::{Arguments, ResolveError, Resolved};
 use std::alloc::{AllocError, Global};
 use std::marker::PhantomData;
 

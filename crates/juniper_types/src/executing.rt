@@ -3,18 +3,18 @@
 ghost use Rattle.std.specs.Prelude.{◌≡◌, ◌<◌, IfOk, length, map, option_map};
 ghost use Rattle.graphql_spec.specs.Constants.{Members};
 ghost use Rattle.graphql_spec.specs.Shown.{Name};
-ghost use Rattle.juniper_position.specs.Positions.{view_position};
+ghost use Rattle.juniper_syntax.specs.Positions.{view_position};
 ghost use Rattle.juniper_lookahead.specs.Expansion.{IsAcyclic, seen_ahead};
 ghost use Rattle.juniper_lookahead.specs.OccurrencesView.{occurrences_left};
 ghost use Rattle.juniper_lookahead.specs.SelectionView.{view_selection};
 ghost use Rattle.juniper_lookahead.specs.Sites.{IsFirstOf};
-ghost use Rattle.juniper_errors.specs.ErrorView.{view_error, view_listed};
-ghost use Rattle.juniper_errors.specs.PathView.{path_place};
+ghost use Rattle.juniper_conversions.specs.ErrorView.{view_error, view_listed};
+ghost use Rattle.juniper_conversions.specs.PathView.{path_place};
 ghost use Rattle.juniper_types.specs.ExecutorView.{IsAskedFor, concrete_of, context_of, enclosing_of, fragment_at, fragments_of, occurrence_of, occurrences_of};
 ghost use Rattle.juniper_types.specs.ExecutorView.{path_of, schema_of, start_of, type_of, variables_of, view_occurrence, view_occurrences};
 
 use crate::executor::Executor;
-use juniper_errors::{ExecutionError, FieldError, FieldPath};
+use juniper_conversions::{ExecutionError, FieldError, FieldPath};
 use juniper_lookahead::{Enclosing, LookAheadSelection, Occurrence, OccurrencesIter};
 use juniper_schema::{SchemaType, TypeType};
 use juniper_syntax::{
@@ -171,7 +171,9 @@ impl<'r, 's, 'd, 'a, CtxT, S: ScalarValue> Executor<'r, 's, 'd, 'a, CtxT, S> {
 }
 
 /// The first of a field's occurrences.
-fn first_of<'d, 'a, S>(occurrences: &[Occurrence<'d, 'a, S>]) -> &'d Spanning<Field<'a, S>, Span>
+pub fn first_of<'d, 'a, S>(
+    occurrences: &[Occurrence<'d, 'a, S>],
+) -> &'d Spanning<Field<'a, S>, Span>
     requires { 0 < length occurrences.now }
     ensures { IsFirstOf result.now occurrences.now }
 {

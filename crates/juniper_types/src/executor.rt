@@ -2,7 +2,7 @@
 
 ghost use Rattle.juniper_lookahead.specs.Expansion.{IsAcyclic};
 
-use juniper_errors::FieldPath;
+use juniper_conversions::FieldPath;
 use juniper_lookahead::{Enclosing, Occurrence};
 use juniper_schema::{SchemaType, TypeType};
 use juniper_syntax::{Field, Fragments, ScalarValue, Span, Spanning, Variables};

@@ -16,9 +16,10 @@ mod tests;
 
 pub use context::{Context, FromContext};
 pub use empty::{EmptyMutation, EmptySubscription};
+pub use executing::first_of;
 pub use executor::Executor;
-pub use juniper_errors::FieldPath;
+pub use juniper_conversions::FieldPath;
 pub use juniper_registry::{GraphQLReference, GraphQLType, Registry, RegistryError, TypeKind};
-pub use juniper_resolvable::{IntoResolvable, OfNode, Resolved};
+pub use juniper_values::{IntoResolvable, OfNode, Resolved};
 pub use mutation::GraphQLMutationValue;
 pub use resolver::GraphQLValue;

@@ -7,13 +7,12 @@ ghost use Rattle.graphql_spec.specs.Resolvers.{Reply};
 ghost use Rattle.juniper_values.specs.ArgumentView.{view_arguments};
 ghost use Rattle.juniper_types.specs.ExecutorView.{IsAskedFor};
 ghost use Rattle.juniper_types.specs.Stepping.{Leaves};
-ghost use Rattle.juniper_resolvable.specs.ResolvedView.{Answers};
+ghost use Rattle.juniper_values.specs.ResolvedView.{Answers};
 
 use crate::executor::Executor;
 use juniper_registry::GraphQLType;
-use juniper_resolvable::Resolved;
 use juniper_syntax::ScalarValue;
-use juniper_values::{Arguments, ResolveError};
+use juniper_values::{Arguments, ResolveError, Resolved};
 use std::alloc::Global;
 
 /// The resolver of a mutation by its meaning: its root fields are steps, each of which leaves a context and a reply. What is

@@ -2,9 +2,8 @@
 
 use crate::executor::Executor;
 use crate::resolver::GraphQLValue;
-use juniper_resolvable::Resolved;
 use juniper_syntax::ScalarValue;
-use juniper_values::{Arguments, ResolveError};
+use juniper_values::{Arguments, ResolveError, Resolved};
 use std::alloc::{AllocError, Global};
 
 /// The resolver that is referred to.

@@ -6,13 +6,12 @@ ghost use Rattle.graphql_spec.specs.Constants.{Members};
 ghost use Rattle.graphql_spec.specs.Resolvers.{Reply};
 ghost use Rattle.juniper_values.specs.ArgumentView.{view_arguments};
 ghost use Rattle.juniper_types.specs.ExecutorView.{IsAskedFor, context_of};
-ghost use Rattle.juniper_resolvable.specs.ResolvedView.{AllAnswer, Answers};
+ghost use Rattle.juniper_values.specs.ResolvedView.{AllAnswer, Answers};
 
 use crate::executor::Executor;
 use juniper_registry::GraphQLType;
-use juniper_resolvable::Resolved;
 use juniper_syntax::ScalarValue;
-use juniper_values::{Arguments, ResolveError};
+use juniper_values::{Arguments, ResolveError, Resolved};
 use std::alloc::{AllocError, Global};
 
 /// A resolver by its meaning: two definitions, which each implementation writes and which its calls answer, memory aside.

@@ -8,15 +8,14 @@ ghost use Rattle.juniper_registry.specs.DeclaredTypes.{object, type_named};
 use crate::context::Context;
 use crate::executor::Executor;
 use crate::resolver::GraphQLValue;
-use juniper_errors::FieldPath;
+use juniper_conversions::FieldPath;
 use juniper_meta::MetaType;
 use juniper_registry::{GraphQLReference, GraphQLType, Registry};
-use juniper_resolvable::Resolved;
 use juniper_syntax::{
     DefaultScalarValue, Field, InputValue, ScalarValue, SourcePosition, Span, Spanning, Type,
     Variables,
 };
-use juniper_values::{Arguments, ResolveError};
+use juniper_values::{Arguments, ResolveError, Resolved};
 use std::alloc::{AllocError, Global};
 use std::collections::HashMap;
 use std::rc::Rc;

@@ -4,7 +4,7 @@ use crate::context::FromContext;
 use crate::executor::Executor;
 use crate::resolver::GraphQLValue;
 use crate::samples::{Counter, Requests, occurrence, path, variables};
-use juniper_errors::{FieldError, PathPart, PathSegment};
+use juniper_conversions::{FieldError, PathPart, PathSegment};
 use juniper_lookahead::Occurrence;
 use juniper_schema::{SchemaType, TypeType};
 use juniper_syntax::{DefaultScalarValue, Field, InputValue, Span, Spanning, Value};

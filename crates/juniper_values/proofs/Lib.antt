@@ -1,1 +1,4 @@
 pub mod ArgumentMembers
+mod ListReplies
+pub mod Resolutions
+mod Sums

@@ -8,11 +8,11 @@ use Rattle.graphql_spec.specs.Resolvers.{Error}
 use Rattle.graphql_spec.specs.Schema.{InputDeclaration}
 use Rattle.juniper_syntax.specs.InputView.{view_input}
 use Rattle.juniper_syntax.specs.declared.input.InputValue.{InputValue}
-use Rattle.juniper_position.specs.declared.position.Span.{Span}
-use Rattle.juniper_position.specs.declared.position.Spanning.{Spanning}
-use Rattle.juniper_errors.specs.ErrorView.{view_error}
-use Rattle.juniper_errors.specs.declared.field_error.ResolveError.{ResolveError}
-use Rattle.juniper_errors.specs.declared.field_error.ResolveError.TheVariants.{Field, Memory}
+use Rattle.juniper_syntax.specs.declared.position.Span.{Span}
+use Rattle.juniper_syntax.specs.declared.position.Spanning.{Spanning}
+use Rattle.juniper_conversions.specs.ErrorView.{view_error}
+use Rattle.juniper_conversions.specs.declared.field_error.ResolveError.{ResolveError}
+use Rattle.juniper_conversions.specs.declared.field_error.ResolveError.TheVariants.{Field, Memory}
 use Rattle.juniper_meta.specs.MetaView.{view_argument}
 use Rattle.juniper_values.specs.declared.arguments.Arguments.{Arguments}
 use Rattle.juniper_meta.specs.declared.declaration.Argument.{Argument}

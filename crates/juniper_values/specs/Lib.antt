@@ -1,2 +1,5 @@
 pub mod ArgumentView
 pub mod ArgumentsRead
+pub mod Answered
+pub mod Replies
+pub mod ResolvedView

@@ -8,8 +8,7 @@ ghost use Rattle.juniper_values.specs.ArgumentView.{members_of, view_arguments, 
 ghost use Rattle.juniper_meta.specs.MetaView.{view_argument};
 
 use indexmap::IndexMap;
-use juniper_conversions::FromInputValue;
-use juniper_errors::{IntoFieldError, ResolveError};
+use juniper_conversions::{FromInputValue, IntoFieldError, ResolveError};
 use juniper_meta::meta::Argument;
 use juniper_syntax::{InputValue, ScalarValue, Span, Spanning};
 use std::alloc::{AllocError, Global};

@@ -1,18 +1,25 @@
-//! Values between a server and its resolvers: arguments, conversions of input values, and the errors of execution.
+//! Values between a server and its resolvers: arguments, and what is answered. Conversions and errors are passed on.
 #![tactic(auto)]
 
+mod answers;
 mod arguments;
+mod into_resolvable;
 mod reading;
+mod resolved;
+mod scalars;
+#[cfg(test)]
+mod tests;
+mod wrappers;
 
+pub use answers::{add, fails, int, list, null, object, text};
 pub use arguments::Arguments;
+pub use into_resolvable::{IntoResolvable, OfNode};
 pub use juniper_conversions::{
-    FromInputValue, FromInputValueArrayError, FromInputValueVecError, ToInputValue,
-};
-pub use juniper_errors::{
-    ExecutionError, ExecutionResult, FieldError, FieldResult, IntoFieldError, PathPart,
-    PathSegment, ResolveError,
+    ExecutionError, ExecutionResult, FieldError, FieldResult, FromInputValue,
+    FromInputValueArrayError, FromInputValueVecError, FromScalarValue, IntoFieldError, PathPart,
+    PathSegment, ResolveError, ToInputValue, ToScalarValue,
 };
 pub use juniper_id::ID;
 pub use juniper_nullable::Nullable;
-pub use juniper_scalars::{FromScalarValue, ToScalarValue};
 pub use reading::{EnumName, NamedValue, enum_argument, int_argument};
+pub use resolved::Resolved;

@@ -5,15 +5,14 @@ ghost use Rattle.std.specs.Option.{option_and_then};
 ghost use Rattle.std.specs.Prelude.{◌≡◌, Option};
 ghost use Rattle.graphql_spec.specs.Constants.{find, meaning};
 ghost use Rattle.graphql_spec.specs.Shown.{Name, shown_text};
-ghost use Rattle.juniper_errors.specs.ErrorView.{view_error};
+ghost use Rattle.juniper_conversions.specs.ErrorView.{view_error};
 ghost use Rattle.juniper_syntax.specs.InputView.{view_input};
 ghost use Rattle.juniper_values.specs.ArgumentView.{view_arguments};
 ghost use Rattle.juniper_values.specs.ArgumentsRead.{GivesNamed, Reads};
 ghost use Rattle.juniper_values.specs.ArgumentsRead as read;
 
 use crate::arguments::Arguments;
-use juniper_conversions::FromInputValue;
-use juniper_errors::{FieldError, IntoFieldError, ResolveError};
+use juniper_conversions::{FieldError, FromInputValue, IntoFieldError, ResolveError};
 use juniper_syntax::{InputValue, ScalarValue};
 use std::alloc::{AllocError, Global};
 

@@ -13,10 +13,10 @@ use Rattle.graphql_spec.proofs.Lists.{same_refl}
 use Rattle.graphql_spec.proofs.Parts.{chain-end}
 use Rattle.graphql_spec.specs.Resolvers.{Error, World}
 use Rattle.graphql_spec.specs.Execution.{type_of, reply_of}
-use Rattle.juniper_completion.specs.Skeletons.{Spot, Skeleton, listed_spots}
-use Rattle.juniper_position.specs.declared.position.Spanning.{Spanning}
-use Rattle.juniper_position.specs.declared.position.Span.{Span}
-use Rattle.juniper_position.specs.Positions.{view_span}
+use Rattle.graphql_spec.specs.Skeletons.{Spot, Skeleton, listed_spots}
+use Rattle.juniper_syntax.specs.declared.position.Spanning.{Spanning}
+use Rattle.juniper_syntax.specs.declared.position.Span.{Span}
+use Rattle.juniper_syntax.specs.Positions.{view_span}
 use Rattle.juniper_syntax.specs.InputView.{view_variables}
 use Rattle.juniper_syntax.specs.DocumentView.{view_head, view_selections, view_set}
 use Rattle.juniper_syntax.specs.declared.ast.Field.{Field as FieldType, out-Field}
@@ -28,23 +28,6 @@ use Rattle.juniper_collect.specs.Collected.{expansion, view_collected}
 use Rattle.juniper_collect.specs.declared.collecting.Collector.{Collector}
 use Rattle.juniper_walk.specs.FieldWords.{head_of}
 use Rattle.juniper_walk.specs.Completing.{IsParted}
-use Rattle.juniper_walk.specs.Walking.{IsPrepared}
-
-module _ {N : Type 0} (W : World N) (at : Place) (T : Name) (m : N) (o : Occurrence) (r : Bool) (s : Skeleton) (ns : List (Spot N))
-    (es : List Listed) where
-  pub prepared-reply : (place : Place) (t : TypeRef) (errors : List (Spot Error)) → place ≡ at ++ key (response_key o.head) ∷ [] → r ≡ required t →
-      t ≡ type_of W T (o ∷ []) →
-      IsParted W place t (reply_of W T m (o ∷ [])) s ns errors → es ≡ listed_spots whole o.head.span.start errors → IsPrepared W at T m o r s ns es
-  prepared-reply place t errors is q typed parted listed =
-      let here : IsParted W (at ++ key (response_key o.head) ∷ []) (type_of W T (o ∷ [])) (reply_of W T m (o ∷ [])) s ns errors =
-      subst (λ p. IsParted W p (type_of W T (o ∷ [])) (reply_of W T m (o ∷ [])) s ns errors) is
-      (subst (λ u. IsParted W place u (reply_of W T m (o ∷ [])) s ns errors) typed parted) in
-      record {
-        non_null = q ∙ ap required typed;
-        skeleton = here.skeleton;
-        nodes = here.nodes;
-        errors = listed ∙ ap (listed_spots whole o.head.span.start) here.errors;
-      }
 
 pub same-head : {S P : Type 0} (shown : S → Shown) (c : Collector S P) (f : Spanning (FieldType S) Span) → (view_collected shown c f).head ≡ head_of shown f
 unfolding view_collected

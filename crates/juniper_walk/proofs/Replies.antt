@@ -8,14 +8,14 @@ use Rattle.graphql_spec.specs.Positions.{Position}
 use Rattle.graphql_spec.specs.Types.{TypeRef}
 use Rattle.graphql_spec.specs.Resolvers.{Error, World, Tree, nothing, Reply, answered, failed}
 use Rattle.juniper_assemble.specs.Apart.{IsApart}
-use Rattle.juniper_completion.specs.Skeletons.{Spot, Skeleton, absent, listed_spots, reply_skeleton, reply_node_spots, reply_error_spots}
-use Rattle.juniper_errors.specs.ErrorView.{view_error, view_listed}
-use Rattle.juniper_errors.specs.declared.execution_error.ExecutionError.{ExecutionError}
-use Rattle.juniper_errors.specs.declared.field_error.FieldError.{FieldError}
-use Rattle.juniper_errors.specs.declared.field_error.ResolveError.{ResolveError}
-use Rattle.juniper_errors.specs.declared.field_error.ResolveError.TheVariants as error
-use Rattle.juniper_resolvable.specs.ResolvedView.{Answers, FailsWith, view_resolved}
-use Rattle.juniper_resolvable.specs.declared.resolved.Resolved.{Resolved}
+use Rattle.graphql_spec.specs.Skeletons.{Spot, Skeleton, absent, listed_spots, reply_skeleton, reply_node_spots, reply_error_spots}
+use Rattle.juniper_conversions.specs.ErrorView.{view_error, view_listed}
+use Rattle.juniper_conversions.specs.declared.execution_error.ExecutionError.{ExecutionError}
+use Rattle.juniper_conversions.specs.declared.field_error.FieldError.{FieldError}
+use Rattle.juniper_conversions.specs.declared.field_error.ResolveError.{ResolveError}
+use Rattle.juniper_conversions.specs.declared.field_error.ResolveError.TheVariants as error
+use Rattle.juniper_values.specs.ResolvedView.{Answers, FailsWith, view_resolved}
+use Rattle.juniper_values.specs.declared.resolved.Resolved.{Resolved}
 use Rattle.juniper_syntax.proofs.Lists.{seen-push}
 use Rattle.juniper_assemble.specs.SpotView.{view_spot}
 use Rattle.juniper_assemble.specs.declared.spot.Spot.{Spot as CodeSpot}

@@ -8,9 +8,9 @@ use Rattle.std.specs.Ordering.{nat_cmp}
 use Rattle.std.specs.declared.alloc.Global.{Global}
 use Rattle.graphql_spec.specs.Shown.{Shown, Name}
 use Rattle.graphql_spec.specs.Documents.{Head}
-use Rattle.juniper_position.specs.Positions.{view_span}
-use Rattle.juniper_position.specs.declared.position.Spanning.{Spanning}
-use Rattle.juniper_position.specs.declared.position.Span.{Span}
+use Rattle.juniper_syntax.specs.Positions.{view_span}
+use Rattle.juniper_syntax.specs.declared.position.Spanning.{Spanning}
+use Rattle.juniper_syntax.specs.declared.position.Span.{Span}
 use Rattle.juniper_syntax.specs.DocumentView.{view_head}
 use Rattle.juniper_syntax.specs.declared.ast.Field.{Field, out-Field}
 

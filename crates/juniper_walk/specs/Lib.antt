@@ -1,4 +1,11 @@
 pub mod Asking
 pub mod Completing
 pub mod FieldWords
+pub mod Holes
+pub mod Leaves
+pub mod Lists
+pub mod PlanLists
+pub mod PlanWalks
+pub mod Plans
+pub mod Rows
 pub mod Walking

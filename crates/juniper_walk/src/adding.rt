@@ -1,54 +1,65 @@
-//! What was walked of a field is added to its object (section 6.4.4 of the Specification).
+//! What was walked of a group is added to its object (section 6.4.4 of the Specification).
 
-ghost use Rattle.std.specs.Prelude.{◌≡◌, ◌++◌, ◌∷◌, [], ◌&&◌, IfOk, OnOk, IsTrue, map};
-ghost use Rattle.graphql_spec.specs.Documents.{response_key as key_of};
-ghost use Rattle.graphql_spec.specs.Values.{is_null, object};
-ghost use Rattle.juniper_syntax.specs.DocumentView.{view_selections, view_set};
+ghost use Rattle.std.specs.Prelude.{◌≡◌, ◌++◌, ◌&&◌, IfOk, OnOk, drop, map, take};
+ghost use Rattle.std.specs.Vec.Iter.{into_iter_items};
+ghost use Rattle.graphql_spec.specs.Values.{is_null, put, scalar as leaf};
 ghost use Rattle.juniper_syntax.specs.ValueView.{view_object, view_value};
-ghost use Rattle.juniper_syntax.specs.declared.ast.Field.{out-Field};
-ghost use Rattle.juniper_errors.specs.ErrorView.{view_listed};
-ghost use Rattle.juniper_assemble.specs.Keyed.{is_keyed};
+ghost use Rattle.juniper_conversions.specs.ErrorView.{view_listed};
 ghost use Rattle.juniper_assemble.specs.SkeletonView.{view_skeleton};
-ghost use Rattle.juniper_walk.specs.FieldWords.{head_of};
-ghost use Rattle.juniper_walk.specs.Walking.{IsAdded, all_keyed};
+ghost use Rattle.graphql_spec.specs.CompletionLaws.{all_listed};
+ghost use Rattle.juniper_walk.specs.Holes.{holes_of};
+ghost use Rattle.juniper_walk.specs.PlanWalks.{IsPut};
+ghost use Rattle.juniper_walk.specs.Rows.{listed_of, values_of};
 
-use crate::preparing::{Prepared, response_key};
-use crate::walking::{AllWalked, Walked};
-use juniper_assemble::{fill, settle};
-use juniper_errors::ExecutionError;
-use juniper_syntax::{Field, Object, ScalarValue, Selection, Span, Spanning, Value};
+use crate::filling::fill_walked;
+use crate::preparing::Prepared;
+use crate::walked::Walked;
+use juniper_conversions::ExecutionError;
+use juniper_syntax::{Object, ScalarValue, Value};
 use std::alloc::{AllocError, Global};
+use std::vec;
 
-/// Adds a field's answer, with the objects of its nodes, to the object; whether its null rises past it (6.4.4).
-pub(crate) fn add_field<'a, N: Drop, S: ScalarValue>(
+/// Puts a group's answer, with the first of these objects, those of its nodes, into the object, unless its null rises past it (6.4.4); whether it
+/// rises. What failed in the objects is listed.
+pub(crate) fn add_value<'a, N: Drop, S: ScalarValue>(
     alloc: Global,
     entries: &mut Object<S>,
     errors: &mut Vec<ExecutionError<S>>,
-    field: &Spanning<Field<'a, S>, Span>,
     prepared: Prepared<'a, N, S>,
-    walked: AllWalked<S>,
+    objects: &mut vec::IntoIter<Walked<S>>,
 ) -> Result<bool, AllocError>
-    requires entries { IsTrue (is_keyed (object (view_object S.shown entries.old))) }
-    requires walked { IsTrue (all_keyed (map (view_value S.shown) walked.values.items)) }
-    ensures { IfOk result (λ rises. IsAdded (key_of (head_of S.shown field.now)) prepared.entry.is_non_null (view_skeleton S.shown prepared.entry.skeleton)
-        (map (view_value S.shown) walked.values.items)
-        (map (view_listed S.shown) prepared.entry.errors.items ++ map (view_listed S.shown) walked.errors.items) rises
+    ensures put_in { IfOk result (λ rises. IsPut prepared.entry.key.now prepared.entry.is_non_null (view_skeleton S.shown prepared.entry.skeleton)
+        (take (holes_of (view_skeleton S.shown prepared.entry.skeleton)) (values_of S.shown (into_iter_items objects.old)))
+        (map (view_listed S.shown) prepared.entry.errors.items
+        ++ all_listed (take (holes_of (view_skeleton S.shown prepared.entry.skeleton)) (listed_of S.shown (into_iter_items objects.old)))) rises
         (view_object S.shown entries.old) (view_object S.shown entries.new) (map (view_listed S.shown) errors.old.items)
         (map (view_listed S.shown) errors.new.items)) }
+    ensures left { IfOk result (λ _. into_iter_items objects.new
+        ≡ drop (holes_of (view_skeleton S.shown prepared.entry.skeleton)) (into_iter_items objects.old)) }
 {
+    let key = prepared.key;
+    let is_non_null = prepared.is_non_null;
     let mut listed = prepared.errors;
     errors.append(&mut listed)?;
-    let mut below = walked.errors;
-    errors.append(&mut below)?;
-    let mut values = walked.values.into_iter();
-    let value = fill(alloc, prepared.skeleton, &mut values)?;
-    let rises = does_rise(&value, prepared.is_non_null);
+    let value = fill_walked(alloc, prepared.skeleton, objects, errors)?;
+    let rises = does_rise(&value, is_non_null);
     if rises {
         return Ok(true);
     }
-    let key = String::from_str(alloc, response_key(field))?;
-    settle(alloc, entries, key, value)?;
+    entries.put_field(alloc, key, value)?;
     Ok(false)
+}
+
+/// Puts a scalar at a key.
+pub(crate) fn put_leaf<S: ScalarValue>(
+    alloc: Global,
+    entries: &mut Object<S>,
+    key: &str,
+    scalar: S,
+) -> Result<(), AllocError>
+    ensures { OnOk result (view_object S.shown entries.new ≡ put key.now (leaf (S.shown scalar)) (view_object S.shown entries.old)) }
+{
+    entries.put_field(alloc, key, Value::Scalar(scalar))
 }
 
 /// Whether a null rises past its field: the value is null at a non-null type (6.4.4).
@@ -56,33 +67,4 @@ pub fn does_rise<S: ScalarValue>(value: &Value<S>, is_non_null: bool) -> bool
     ensures { result ≡ (is_null (view_value S.shown value.now) && is_non_null) }
 {
     value.is_null() && is_non_null
-}
-
-/// Adds the object of a node, and what fails in it, to those before it.
-pub fn add_object<S: ScalarValue>(
-    values: &mut Vec<Value<S>>,
-    errors: &mut Vec<ExecutionError<S>>,
-    walked: Walked<S>,
-) -> Result<(), AllocError>
-    ensures values { OnOk result (map (view_value S.shown) values.new.items
-        ≡ map (view_value S.shown) values.old.items ++ view_value S.shown walked.value ∷ []) }
-    ensures errors { OnOk result (map (view_listed S.shown) errors.new.items
-        ≡ map (view_listed S.shown) errors.old.items ++ map (view_listed S.shown) walked.errors.items) }
-{
-    let mut listed = walked.errors;
-    errors.append(&mut listed)?;
-    values.push(walked.value)?;
-    Ok(())
-}
-
-/// What a field selects; nothing where it has no selections (2.4).
-pub fn selections_of<'d, 'a, S: ScalarValue>(
-    field: &'d Spanning<Field<'a, S>, Span>,
-) -> &'d [Selection<'a, S>]
-    ensures { view_selections S.shown result.now ≡ view_set S.shown (out-Field S field.now.item).selection_set }
-{
-    match &field.item.selection_set {
-        Some(selections) => selections.as_slice(),
-        None => &[],
-    }
 }

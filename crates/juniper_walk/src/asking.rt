@@ -5,17 +5,17 @@ ghost use Rattle.graphql_spec.specs.Execution.{reply_of, type_of};
 ghost use Rattle.juniper_syntax.specs.TypeView.{view_type};
 ghost use Rattle.juniper_lookahead.specs.Expansion.{IsAcyclic};
 ghost use Rattle.juniper_lookahead.specs.Sites.{IsWholeGroup, view_fields};
-ghost use Rattle.juniper_errors.specs.PathView.{path_place};
-ghost use Rattle.juniper_resolvable.specs.ResolvedView.{AllAnswer, Answers};
+ghost use Rattle.juniper_conversions.specs.PathView.{path_place};
+ghost use Rattle.juniper_values.specs.ResolvedView.{AllAnswer, Answers};
 ghost use Rattle.juniper_walk.specs.Asking.{IsAskedOf, IsPathOf};
 ghost use Rattle.juniper_walk.specs.FieldWords.{head_of};
 
 use juniper_assemble::Completer;
 use juniper_collect::{Collector, Conditions};
-use juniper_errors::{FieldPath, ResolveError};
+use juniper_conversions::{FieldPath, ResolveError};
 use juniper_lookahead::{Enclosing, Occurrence};
-use juniper_resolvable::Resolved;
 use juniper_syntax::{Field, Fragments, ScalarValue, Span, Spanning, Type};
+use juniper_values::Resolved;
 use std::alloc::{AllocError, Global};
 
 /// Where a field is asked for.
@@ -80,7 +80,7 @@ pub trait Resolver<S: ScalarValue>: Completer<S> + Conditions {
 
     /// What the first occurrence of a field of a node answers, `__typename` too (ResolveFieldValue, 6.4.2), with its declared type. The
     /// occurrences are all that the selections around them hold of one response key for the object type (6.3.2), and the question is theirs.
-    fn ask<'t, 'd, 'a>(
+    fn resolve_field_value<'t, 'd, 'a>(
         &'t self,
         alloc: Global,
         question: &'t Self::Question,
@@ -102,7 +102,7 @@ pub trait Resolver<S: ScalarValue>: Completer<S> + Conditions {
     /// For how many nodes of an object type a field is asked at once, at most; where it is one or zero, each node is asked for itself.
     fn nodes_at_once(&self, concrete: &str) -> usize;
 
-    /// What the first occurrence of a field answers of each of these nodes, in order, as [`Resolver::ask`] would; the path is that of one of
+    /// What the first occurrence of a field answers of each of these nodes, in order, as [`Resolver::resolve_field_value`] would; the path is that of one of
     /// them. An error where memory is refused. (A `Vec`, since the borrow checker's part of a proof covers no slice of references to what holds references.)
     fn ask_all<'t, 'd, 'a>(
         &'t self,

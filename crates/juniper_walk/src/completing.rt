@@ -1,107 +1,60 @@
-//! A reply is completed for all occurrences of a response key (CompleteValue and MergeSelectionSets, section 6.4.3 of the
-//! Specification).
+//! A reply is completed for all fields of a group at once (CompleteValue and MergeSelectionSets, section 6.4.3 of the Specification).
 
-ghost use Rattle.std.specs.Prelude.{◌≡◌, [], IfOk, map, string_bytes, true};
+ghost use Rattle.std.specs.Prelude.{◌≡◌, ◌<◌, [], IfOk, map, string_bytes};
 ghost use Rattle.graphql_spec.specs.ExactAnswers.{whole};
-ghost use Rattle.graphql_spec.specs.GroupLaws.{GroupCompleted, all_starts};
-ghost use Rattle.graphql_spec.specs.Laws.{In, Merges};
-ghost use Rattle.graphql_spec.specs.Selections as spec;
-ghost use Rattle.graphql_spec.specs.Selections.{all_below};
-ghost use Rattle.graphql_spec.specs.Types.{innermost};
-ghost use Rattle.juniper_assemble.specs.Keyed.{is_keyed};
-ghost use Rattle.juniper_assemble.specs.SkeletonView.{view_skeleton};
-ghost use Rattle.juniper_assemble.specs.SpotView.{view_nodes};
-ghost use Rattle.juniper_collect.specs.Collected.{view_collected};
-ghost use Rattle.juniper_errors.specs.ErrorView.{view_listed};
-ghost use Rattle.juniper_errors.specs.PathView.{path_place};
-ghost use Rattle.juniper_resolvable.specs.ResolvedView.{Answers};
+ghost use Rattle.graphql_spec.specs.GroupLaws.{GroupCompleted, first_start};
+ghost use Rattle.juniper_collect.specs.Collected.{view_all};
+ghost use Rattle.juniper_conversions.specs.ErrorView.{view_listed};
+ghost use Rattle.juniper_conversions.specs.PathView.{path_place};
+ghost use Rattle.juniper_values.specs.ResolvedView.{Answers};
 ghost use Rattle.juniper_syntax.specs.TypeView.{view_type};
 ghost use Rattle.juniper_syntax.specs.ValueView.{view_value};
-ghost use Rattle.juniper_walk.specs.Completing.{AreSome, IsOne, IsTold, view_errors, view_group};
-ghost use Rattle.juniper_walk.specs.Walking.{AreReached, IsReadyWalk};
+ghost use Rattle.juniper_walk.specs.Completing.{IsTold};
+ghost use Rattle.juniper_walk.specs.Walking.{IsReadyWalk};
+ghost use Rattle.juniper_walk.specs.Plans.{IsStanding, IsStep, fields_at, group_count};
+ghost use Rattle.juniper_walk.specs.PlanWalks.{HasFirst};
 
-use crate::asking::{Asked, Resolver, Walk};
-use crate::grouping::Group;
-use crate::parting::{Parted, list_errors, part_reply};
-use crate::walking::{Walked, objects_of};
-use juniper_assemble::{fill, join};
-use juniper_errors::FieldPath;
-use juniper_syntax::{Field, ScalarValue, Span, Spanning};
+use crate::filling::fill_walked;
+use crate::plan::{GroupNo, Plan};
+use crate::walking::objects_of;
+use crate::{Asked, Parted, Resolver, Walk, Walked, list_errors, part_reply};
+use juniper_conversions::FieldPath;
+use juniper_syntax::ScalarValue;
 use std::alloc::AllocError;
 use std::rc::Rc;
 
-/// The value of what a field answers, and the errors of what fails in it, for all of its occurrences: the nodes are walked for
-/// what each selects, one occurrence after the other, and the values are joined. An error where memory was refused to the
-/// answer, or is refused here.
-pub fn complete_group<'d, 'a, S: ScalarValue, R: Resolver<S>>(
+/// The value of what the fields of a group answer, and the errors of what fails in it, for what all of them select. An error where memory
+/// was refused to the answer, or is refused here.
+pub fn complete_value<'d, 'a, S: ScalarValue, R: Resolver<S>>(
     walk: &Walk<'_, 'd, 'a, S, R>,
+    plan: &mut Plan<'d, 'a, S, R::Question>,
     path: &Rc<FieldPath<'a>>,
     asked: Asked<'_, R::Node, S>,
-    group: &Group<'_, 'd, 'a, S>,
+    group: GroupNo,
 ) -> Result<Walked<S>, AllocError>
     requires ready { IsReadyWalk S.shown R.possible R.values (R.world walk.now.collector.possible) walk.now }
-    requires merge { Merges (R.world walk.now.collector.possible) (innermost (view_type (λ n. string_bytes n) asked.declared.now))
-        (all_below (view_group S.shown walk.now.collector group.now)) }
-    ensures keyed { IfOk result (λ w. is_keyed (view_value S.shown w.value) ≡ true) }
+    requires standing { IsStanding S.shown walk.now.collector (R.asks walk.now.collector.possible) (R.possible walk.now.collector.possible) plan.old }
+    requires bound { group.0 < group_count plan.old }
+    requires some { HasFirst (view_all S.shown walk.now.collector (fields_at plan.old group.0)) }
+    ensures plan { IfOk result (λ _. IsStep S.shown walk.now.collector (R.asks walk.now.collector.possible) (R.possible walk.now.collector.possible) plan.old
+        plan.new) }
     ensures told { IfOk result (λ _. IsTold asked.entry.answer) }
-    ensures completed { (reply : _) → Answers S.shown asked.entry.answer reply → IfOk result (λ w. GroupCompleted whole all_starts
+    ensures completed { (reply : _) → Answers S.shown asked.entry.answer reply → IfOk result (λ w. GroupCompleted whole first_start
         (R.world walk.now.collector.possible) (path_place path.now.value) [] (view_type (λ n. string_bytes n) asked.entry.declared.now) reply
-        (view_group S.shown walk.now.collector group.now)
-        (view_value S.shown w.value) (map (view_listed S.shown) w.errors.items)) }
+        (view_all S.shown walk.now.collector (fields_at plan.old group.0)) (view_value S.shown w.value) (map (view_listed S.shown) w.errors.items)) }
 {
     let Asked { declared, answer } = asked;
-    let parted = part_reply(walk.alloc, &walk.collector.possible, declared, answer, path)?;
-    let walked = complete_all(walk, &parted, group)?;
-    Ok(walked)
-}
-
-/// A reply that was taken apart, for the first occurrence and then for the others.
-fn complete_all<'d, 'a, S: ScalarValue, R: Resolver<S>>(
-    walk: &Walk<'_, 'd, 'a, S, R>,
-    parted: &Parted<'a, R::Node, S>,
-    group: &Group<'_, 'd, 'a, S>,
-) -> Result<Walked<S>, AllocError>
-    requires ready { IsReadyWalk S.shown R.possible R.values (R.world walk.now.collector.possible) walk.now }
-    requires reached { (o : spec.Occurrence) → In o (view_group S.shown walk.now.collector group.now) →
-        AreReached (R.world walk.now.collector.possible) (view_nodes parted.now.nodes.items) o.below }
-    ensures { IfOk result (λ w. AreSome (R.world walk.now.collector.possible) (view_skeleton S.shown parted.now.skeleton)
-        (view_nodes parted.now.nodes.items) (view_errors S.shown parted.now.errors.items)
-        (view_group S.shown walk.now.collector group.now)
-        (view_group S.shown walk.now.collector group.now)
-        (view_value S.shown w.value) (map (view_listed S.shown) w.errors.items)) }
-{
-    let Walked {
-        mut value,
-        mut errors,
-    } = complete_one(walk, parted, group.first)?;
-    for occurrence in group.others {
-        let more = complete_one(walk, parted, occurrence.field)?;
-        let mut listed = more.errors;
-        errors.append(&mut listed)?;
-        value = join(walk.alloc, value, more.value)?;
-    }
-    Ok(Walked { value, errors })
-}
-
-/// A reply that was taken apart, for one occurrence: the nodes are walked for what it selects.
-fn complete_one<'d, 'a, S: ScalarValue, R: Resolver<S>>(
-    walk: &Walk<'_, 'd, 'a, S, R>,
-    parted: &Parted<'a, R::Node, S>,
-    field: &'d Spanning<Field<'a, S>, Span>,
-) -> Result<Walked<S>, AllocError>
-    requires ready { IsReadyWalk S.shown R.possible R.values (R.world walk.now.collector.possible) walk.now }
-    requires reached { AreReached (R.world walk.now.collector.possible) (view_nodes parted.now.nodes.items)
-        (view_collected S.shown walk.now.collector field.now).below }
-    ensures { IfOk result (λ w. IsOne (R.world walk.now.collector.possible) (view_skeleton S.shown parted.now.skeleton)
-        (view_nodes parted.now.nodes.items) (view_errors S.shown parted.now.errors.items) (view_collected S.shown walk.now.collector field.now)
-        (view_value S.shown w.value) (map (view_listed S.shown) w.errors.items)) }
-{
-    let mut errors = list_errors(walk.alloc, field.span.start, &parted.errors)?;
-    let walked = objects_of(walk, &parted.nodes, field)?;
-    let mut below = walked.errors;
-    errors.append(&mut below)?;
-    let skeleton = parted.skeleton.try_clone(walk.alloc)?;
-    let mut values = walked.values.into_iter();
-    let value = fill(walk.alloc, skeleton, &mut values)?;
-    Ok(Walked { value, errors })
+    let Parted {
+        skeleton,
+        nodes,
+        errors,
+    } = part_reply(walk.alloc, &walk.collector.possible, declared, answer, path)?;
+    let start = plan.fields(group)[0].field.span.start;
+    let mut listed = list_errors(walk.alloc, start, &errors)?;
+    let mut objects = objects_of(walk, plan, &nodes, group)?.into_iter();
+    let value = fill_walked(walk.alloc, skeleton, &mut objects, &mut listed)?;
+    Ok(Walked {
+        value,
+        errors: listed,
+    })
 }

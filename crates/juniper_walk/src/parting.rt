@@ -4,18 +4,18 @@ ghost use Rattle.std.specs.Prelude.{◌≡◌, IfOk, map, string_bytes};
 ghost use Rattle.juniper_assemble.specs.SkeletonView.{view_fault, view_skeleton};
 ghost use Rattle.juniper_assemble.specs.SpotView.{view_faults, view_nodes};
 ghost use Rattle.graphql_spec.specs.ExactAnswers.{whole};
-ghost use Rattle.juniper_completion.specs.Skeletons.{listed_spots};
-ghost use Rattle.juniper_errors.specs.ErrorView.{view_error, view_listed};
-ghost use Rattle.juniper_errors.specs.PathView.{path_place};
-ghost use Rattle.juniper_position.specs.Positions.{view_position};
-ghost use Rattle.juniper_resolvable.specs.ResolvedView.{Answers};
+ghost use Rattle.graphql_spec.specs.Skeletons.{listed_spots};
+ghost use Rattle.juniper_conversions.specs.ErrorView.{view_error, view_listed};
+ghost use Rattle.juniper_conversions.specs.PathView.{path_place};
+ghost use Rattle.juniper_syntax.specs.Positions.{view_position};
+ghost use Rattle.juniper_values.specs.ResolvedView.{Answers};
 ghost use Rattle.juniper_syntax.specs.TypeView.{view_type};
 ghost use Rattle.juniper_walk.specs.Completing.{IsParted, IsTold, view_errors};
 
 use juniper_assemble::{Completer, Fault, Skeleton, Spot, take_apart};
-use juniper_errors::{ExecutionError, FieldError, FieldPath, ResolveError};
-use juniper_resolvable::Resolved;
+use juniper_conversions::{ExecutionError, FieldError, FieldPath, ResolveError};
 use juniper_syntax::{ScalarValue, SourcePosition, Type, Value};
+use juniper_values::Resolved;
 use std::alloc::{AllocError, Global};
 use std::rc::Rc;
 
@@ -116,7 +116,7 @@ fn fault_error<S: ScalarValue>(alloc: Global, fault: Fault) -> Result<FieldError
 }
 
 /// The errors of one field, each listed at its path, where the field starts.
-#[tactic(auto, unfolding(juniper_completion::specs::Skeletons::listed_spots))]
+#[tactic(auto, unfolding(graphql_spec::specs::Skeletons::listed_spots))]
 pub fn list_errors<S: ScalarValue>(
     alloc: Global,
     start: SourcePosition,

@@ -1,30 +1,45 @@
-//! A field is resolved, and its answer taken apart from its nodes (sections 6.4.2 and 6.4.3 of the Specification).
+//! The fields of a response key are resolved once, and the answer taken apart from its nodes (sections 6.4.2 and 6.4.3 of the
+//! Specification).
 
-ghost use Rattle.std.specs.Prelude.{◌≡◌, ◌++◌, ◌∷◌, [], IfOk, map};
+ghost use Rattle.std.specs.Prelude.{◌≡◌, ◌<◌, ◌++◌, ◌∷◌, [], IfOk, List};
+ghost use Rattle.graphql_spec.specs.Execution.{reply_of, type_of};
+ghost use Rattle.graphql_spec.specs.Selections.{Occurrence as Held, occurrences};
+ghost use Rattle.graphql_spec.specs.Shown.{Name};
 ghost use Rattle.graphql_spec.specs.Documents.{response_key};
 ghost use Rattle.graphql_spec.specs.Errors.{key};
-ghost use Rattle.juniper_errors.specs.ErrorView.{view_listed};
-ghost use Rattle.juniper_errors.specs.PathView.{path_place};
-ghost use Rattle.juniper_assemble.specs.SkeletonView.{view_skeleton};
-ghost use Rattle.juniper_assemble.specs.SpotView.{view_nodes};
-ghost use Rattle.juniper_collect.specs.Collected.{view_collected};
-ghost use Rattle.juniper_collect.specs.Singles.{IsAlone};
+ghost use Rattle.juniper_collect.specs.Collected.{view_all};
+ghost use Rattle.juniper_conversions.specs.PathView.{path_place};
+ghost use Rattle.juniper_walk.specs.Plans.{IsAskedAt, IsStanding, all_expanded, fields_at, group_count, key_at};
+ghost use Rattle.juniper_walk.specs.Leaves.{IsTaken};
+ghost use Rattle.juniper_walk.specs.Lists.{IsAskedAbout};
+ghost use Rattle.juniper_walk.specs.PlanWalks.{HasFirst, IsGroupOf};
 ghost use Rattle.juniper_walk.specs.FieldWords.{head_of};
-ghost use Rattle.juniper_walk.specs.Walking.{IsPrepared, IsReadyWalk};
+ghost use Rattle.juniper_walk.specs.Walking.{IsReadyWalk};
 
-use crate::asking::{Asked, Resolver, Site, Walk};
-use crate::parting::{Parted, list_errors, part_reply};
+use crate::leaf::{Reply, leaf_of};
+use crate::plan::{GroupNo, Plan};
+use crate::{Asked, Parted, Resolver, Site, Walk, list_errors, part_reply, response_key};
 use juniper_assemble::{Skeleton, Spot};
-use juniper_collect::Single;
-use juniper_errors::{ExecutionError, FieldPath};
-use juniper_lookahead::{Enclosing, Occurrence};
-use juniper_syntax::{Field, ScalarValue, SourcePosition, Span, Spanning};
-use std::alloc::{AllocError, Global};
+use juniper_conversions::{ExecutionError, FieldPath};
+use juniper_lookahead::Enclosing;
+use juniper_syntax::{Field, ScalarValue, Span, Spanning};
+use std::alloc::AllocError;
 use std::rc::Rc;
 
-/// A field's answer without the objects of its nodes.
+/// What a group of a node answers.
+#[derive(Drop)]
+pub(crate) enum Taken<'a, N, S> {
+    /// A scalar that its type takes, with the response key.
+    Leaf(&'a str, S),
+    /// Any other answer, taken apart.
+    Apart(Prepared<'a, N, S>),
+}
+
+/// A group's answer without the objects of its nodes.
 #[derive(Drop)]
 pub(crate) struct Prepared<'a, N, S> {
+    /// The response key.
+    pub(crate) key: &'a str,
     /// Whether its type is non-null.
     pub(crate) is_non_null: bool,
     /// The answer, with a hole for each node.
@@ -35,81 +50,97 @@ pub(crate) struct Prepared<'a, N, S> {
     pub(crate) errors: Vec<ExecutionError<S>>,
 }
 
-/// The response key of a field: its alias, else its name (2.7).
-#[tactic(auto, unfolding(graphql_spec::specs::Documents::response_key, graphql_spec::specs::Documents::name_or))]
-pub fn response_key<'a, S: ScalarValue>(field: &Spanning<Field<'a, S>, Span>) -> &'a str
-    ensures { result.now ≡ response_key (head_of S.shown field.now) }
-{
-    match field.item.alias {
-        Some(alias) => alias.item,
-        None => field.item.name.item,
-    }
-}
-
-/// The path of the root: no steps.
-pub fn root_path<'a>(alloc: Global, start: SourcePosition) -> Result<Rc<FieldPath<'a>>, AllocError>
-    ensures { IfOk result (λ made. path_place made.value ≡ []) }
-{
-    let made = Rc::new(alloc, FieldPath::Root(start))?;
-    Ok(made)
-}
-
-/// The path to a field below this path.
-pub fn path_below<'a, S: ScalarValue>(
-    alloc: Global,
+/// The path to a field below this path. It is shared only where a node or an error keeps it.
+pub(crate) fn step_below<'a, S: ScalarValue>(
     path: &Rc<FieldPath<'a>>,
     field: &Spanning<Field<'a, S>, Span>,
-) -> Result<Rc<FieldPath<'a>>, AllocError>
-    ensures { IfOk result (λ made. path_place made.value ≡ path_place path.now.value ++ key (response_key (head_of S.shown field.now)) ∷ []) }
+) -> Result<FieldPath<'a>, AllocError>
+    ensures { IfOk result (λ made. path_place made ≡ path_place path.now.value ++ key (response_key (head_of S.shown field.now)) ∷ []) }
 {
     let parent = path.clone()?;
-    let made = Rc::new(
-        alloc,
-        FieldPath::Field(response_key(field), field.span.start, parent),
-    )?;
-    Ok(made)
+    let key = response_key(field);
+    Ok(FieldPath::Field(key, field.span.start, parent))
 }
 
-/// A field of a node, asked for as the one occurrence that its selection alone holds: its answer, taken apart.
-pub(crate) fn prepare<'d, 'a, S: ScalarValue, R: Resolver<S>>(
+/// A group of a node: its answer, taken apart where it is more than a scalar that fits. What fails is listed where the first of its fields starts.
+pub(crate) fn execute_field<'d, 'a, S: ScalarValue, R: Resolver<S>>(
     walk: &Walk<'_, 'd, 'a, S, R>,
+    plan: &Plan<'d, 'a, S, R::Question>,
     path: &Rc<FieldPath<'a>>,
     concrete: &str,
     node: &R::Node,
-    single: &Single<'d, 'a, S>,
-) -> Result<Prepared<'a, R::Node, S>, AllocError>
+    enclosing: &[Enclosing<'d, 'a, S>],
+    group: GroupNo,
+) -> Result<Taken<'a, R::Node, S>, AllocError>
     requires ready { IsReadyWalk S.shown R.possible R.values (R.world walk.now.collector.possible) walk.now }
-    requires alone { IsAlone S.shown walk.now.collector (R.possible walk.now.collector.possible) concrete.now single.now }
-    ensures { IfOk result (λ p. IsPrepared (R.world walk.now.collector.possible) (path_place path.now.value) concrete.now node.now
-        (view_collected S.shown walk.now.collector single.now.field.now)
-        p.is_non_null (view_skeleton S.shown p.skeleton) (view_nodes p.nodes.items) (map (view_listed S.shown) p.errors.items)) }
+    requires standing { IsStanding S.shown walk.now.collector (R.asks walk.now.collector.possible) (R.possible walk.now.collector.possible) plan.now }
+    requires bound { group.0 < group_count plan.now }
+    requires whole { IsGroupOf (key_at plan.now group.0) (occurrences (R.possible walk.now.collector.possible) concrete.now
+        (all_expanded S.shown walk.now.collector enclosing.now)) (view_all S.shown walk.now.collector (fields_at plan.now group.0)) }
+    requires asked { IsAskedAt (R.asks walk.now.collector.possible) concrete.now plan.now group.0
+        (view_all S.shown walk.now.collector (fields_at plan.now group.0)) }
+    ensures { IfOk result (λ a. IsTaken (R.world walk.now.collector.possible) S.shown (path_place path.now.value) concrete.now node.now
+        (key_at plan.now group.0) (view_all S.shown walk.now.collector (fields_at plan.now group.0)) a) }
 {
     let alloc = walk.alloc;
-    let field = single.field;
-    let here = path_below(alloc, path, field)?;
-    let enclosing = [Enclosing {
-        selections: single.alone,
-    }];
-    let occurrences = [Occurrence { field }];
+    let fields = plan.fields(group);
+    let first = fields[0].field;
+    let here = step_below(path, first)?;
     let site = Site {
         fragments: walk.collector.fragments.by_name(),
-        path: here.as_ref(),
-        enclosing: &enclosing,
-        occurrences: &occurrences,
+        path: &here,
+        enclosing,
+        occurrences: fields,
     };
+    let question = plan.question(group);
+    let told = walk
+        .collector
+        .possible
+        .resolve_field_value(alloc, question, concrete, node, &site);
+    let taken = take(walk, plan, path, group, told)?;
+    Ok(taken)
+}
+
+/// What a node answered to a group, taken apart where it is more than a scalar that fits. What fails is listed where the first of its fields starts.
+pub(crate) fn take<'d, 'a, S: ScalarValue, R: Resolver<S>>(
+    walk: &Walk<'_, 'd, 'a, S, R>,
+    plan: &Plan<'d, 'a, S, R::Question>,
+    path: &Rc<FieldPath<'a>>,
+    group: GroupNo,
+    told: Asked<'_, R::Node, S>,
+) -> Result<Taken<'a, R::Node, S>, AllocError>
+    requires standing { IsStanding S.shown walk.now.collector (R.asks walk.now.collector.possible) (R.possible walk.now.collector.possible) plan.now }
+    requires bound { group.0 < group_count plan.now }
+    requires some { HasFirst (view_all S.shown walk.now.collector (fields_at plan.now group.0)) }
+    ensures { (T : Name) → (m : R.Node) → (all : List Held) → IsGroupOf (key_at plan.now group.0) all
+        (view_all S.shown walk.now.collector (fields_at plan.now group.0)) →
+        IsAskedAbout S.shown (type_of (R.world walk.now.collector.possible) T (view_all S.shown walk.now.collector (fields_at plan.now group.0)))
+        (λ n. reply_of (R.world walk.now.collector.possible) T n (view_all S.shown walk.now.collector (fields_at plan.now group.0))) m told.entry →
+        IfOk result (λ a. IsTaken (R.world walk.now.collector.possible) S.shown (path_place path.now.value) T m (key_at plan.now group.0)
+        (view_all S.shown walk.now.collector (fields_at plan.now group.0)) a) }
+{
+    let alloc = walk.alloc;
     let resolver = &walk.collector.possible;
-    let question = resolver.question(alloc, concrete, field)?;
-    let Asked { declared, answer } = resolver.ask(alloc, &question, concrete, node, &site);
-    let Parted {
-        skeleton,
-        nodes,
-        errors,
-    } = part_reply(alloc, resolver, declared, answer, &here)?;
-    let listed = list_errors(alloc, field.span.start, &errors)?;
-    Ok(Prepared {
-        is_non_null: declared.is_non_null(),
-        skeleton,
-        nodes,
-        errors: listed,
-    })
+    match leaf_of(resolver, told) {
+        Reply::Leaf(scalar) => Ok(Taken::Leaf(plan.key(group), scalar)),
+        Reply::Other(asked) => {
+            let first = plan.fields(group)[0].field;
+            let here = step_below(path, first)?;
+            let declared = asked.declared;
+            let place = Rc::new(alloc, here)?;
+            let Parted {
+                skeleton,
+                nodes,
+                errors,
+            } = part_reply(alloc, resolver, declared, asked.answer, &place)?;
+            let listed = list_errors(alloc, first.span.start, &errors)?;
+            Ok(Taken::Apart(Prepared {
+                key: plan.key(group),
+                is_non_null: declared.is_non_null(),
+                skeleton,
+                nodes,
+                errors: listed,
+            }))
+        }
+    }
 }

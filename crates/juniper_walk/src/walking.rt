@@ -1,75 +1,73 @@
-//! The walk: the object of a node, and the objects of the nodes of a field's answer (ExecuteSelectionSet, section 6.3 of the
+//! The walk: the object of a node, and the objects of the nodes of a group's answer (ExecuteSelectionSet, section 6.3 of the
 //! Specification).
 
-ghost use Rattle.std.specs.Prelude.{◌≡◌, IfOk, map};
-ghost use Rattle.juniper_syntax.specs.ValueView.{view_value};
-ghost use Rattle.juniper_errors.specs.ErrorView.{view_listed};
-ghost use Rattle.juniper_errors.specs.PathView.{path_place};
+ghost use Rattle.std.specs.Prelude.{◌<◌, ◌≤◌, ◌+◌, IfOk, length, map, slice_range};
+ghost use Rattle.graphql_spec.specs.ExactAnswers.{whole};
+ghost use Rattle.graphql_spec.specs.GroupLaws.{first_start};
+ghost use Rattle.graphql_spec.specs.Selections.{all_below, keys, occurrences};
 ghost use Rattle.juniper_assemble.specs.SpotView.{view_nodes};
-ghost use Rattle.juniper_collect.specs.Collected.{view_collected};
-ghost use Rattle.juniper_collect.specs.Singles.{AreAlone, view_singles};
-ghost use Rattle.juniper_walk.specs.Walking.{AllAgree, AreAllWalked, AreReached, IsReadyWalk, IsWalkedThrough};
+ghost use Rattle.juniper_collect.specs.Collected.{view_all};
+ghost use Rattle.juniper_conversions.specs.ErrorView.{view_listed};
+ghost use Rattle.juniper_conversions.specs.PathView.{path_place};
+ghost use Rattle.juniper_syntax.specs.ValueView.{view_value};
+ghost use Rattle.juniper_walk.specs.Plans.{IsStanding, IsStep, StandsFor, all_expanded, fields_at, group_count};
+ghost use Rattle.graphql_spec.specs.NodeLaws.{AreWalkedOnce};
+ghost use Rattle.juniper_walk.specs.PlanWalks.{IsObjectWalked};
+ghost use Rattle.juniper_walk.specs.Rows.{AreAdded, AreOfType, AreRows, listed_of, values_of};
+ghost use Rattle.juniper_walk.specs.Walking.{IsReadyWalk};
 
-use crate::adding::{add_field, add_object, selections_of};
-use crate::asking::{Resolver, Walk};
-use crate::preparing::prepare;
+use crate::adding::{add_value, put_leaf};
+use crate::making::{groups_below, merge_selection_sets};
+use crate::plan::{GroupNo, GroupRange, Plan};
+use crate::preparing::{Taken, execute_field};
+use crate::rows::{Row, ask_column, begin_rows, end_rows, fill_rows};
+use crate::{Resolver, Walk, Walked};
 use juniper_assemble::Spot;
-use juniper_collect::{Single, collect_singles};
-use juniper_errors::{ExecutionError, FieldPath};
-use juniper_syntax::{Field, Object, ScalarValue, Span, Spanning, Value};
-use std::alloc::AllocError;
+use juniper_conversions::FieldPath;
+use juniper_lookahead::Enclosing;
+use juniper_syntax::{ScalarValue, Value};
+use std::alloc::{AllocError, Global};
 use std::rc::Rc;
 
-/// The object of a node, and what fails in it.
-#[derive(Drop)]
-pub struct Walked<S> {
-    pub value: Value<S>,
-    pub errors: Vec<ExecutionError<S>>,
-}
-
-/// The objects of nodes, in order, and what fails in them.
-#[derive(Drop)]
-pub(crate) struct AllWalked<S> {
-    pub(crate) values: Vec<Value<S>>,
-    pub(crate) errors: Vec<ExecutionError<S>>,
-}
-
-/// The object of a node of an object type, at this path, for these fields, one after the other, and the errors of those that
-/// fail. A null at a non-null field ends the walk, and the object is null (6.4.4).
+/// The object of a node of an object type, at this path, for these groups, which are those of the enclosing selections, and the errors
+/// of what fails in it. A null at a non-null field ends the walk, and the object is null (6.4.4).
 #[cycle(walking)]
-pub fn object<'d, 'a, S: ScalarValue, R: Resolver<S>>(
+pub fn execute_selection_set<'d, 'a, S: ScalarValue, R: Resolver<S>>(
     walk: &Walk<'_, 'd, 'a, S, R>,
+    plan: &mut Plan<'d, 'a, S, R::Question>,
     path: &Rc<FieldPath<'a>>,
     concrete: &str,
     node: &R::Node,
-    fields: &[Single<'d, 'a, S>],
+    enclosing: &[Enclosing<'d, 'a, S>],
+    groups: GroupRange,
 ) -> Result<Walked<S>, AllocError>
     requires ready { IsReadyWalk S.shown R.possible R.values (R.world walk.now.collector.possible) walk.now }
-    requires agree { AllAgree (R.world walk.now.collector.possible) concrete.now (view_singles S.shown walk.now.collector fields.now) }
-    requires alone { AreAlone S.shown walk.now.collector (R.possible walk.now.collector.possible) concrete.now fields.now }
-    ensures { IfOk result (λ r. IsWalkedThrough (R.world walk.now.collector.possible) (path_place path.now.value) concrete.now node.now
-        (view_singles S.shown walk.now.collector fields.now)
+    requires standing { IsStanding S.shown walk.now.collector (R.asks walk.now.collector.possible) (R.possible walk.now.collector.possible) plan.old }
+    requires groups { StandsFor S.shown walk.now.collector (R.asks walk.now.collector.possible) concrete.now plan.old groups
+        (occurrences (R.possible walk.now.collector.possible) concrete.now (all_expanded S.shown walk.now.collector enclosing.now)) }
+    ensures plan { IfOk result (λ _. IsStep S.shown walk.now.collector (R.asks walk.now.collector.possible) (R.possible walk.now.collector.possible) plan.old
+        plan.new) }
+    ensures walked { IfOk result (λ r. IsObjectWalked (R.world walk.now.collector.possible) (path_place path.now.value)
+        (all_expanded S.shown walk.now.collector enclosing.now) concrete.now node.now
         (view_value S.shown r.value) (map (view_listed S.shown) r.errors.items)) }
 {
-    let mut entries = Object::with_capacity(walk.alloc, fields.len())?;
+    let mut entries = plan.new_object(walk.alloc, groups)?;
     let mut errors = Vec::new(walk.alloc);
-    for single in fields {
-        let field = single.field;
-        let prepared = prepare(walk, path, concrete, node, single)?;
-        let walked = objects_of(walk, &prepared.nodes, field)?;
-        let rises = add_field(
-            walk.alloc,
-            &mut entries,
-            &mut errors,
-            field,
-            prepared,
-            walked,
-        )?;
-        if rises {
-            return Ok(Walked {
-                value: Value::Null,
-                errors,
-            });
+    for number in groups.first.0..groups.end.0 {
+        let group = GroupNo(number);
+        let taken = execute_field(walk, plan, path, concrete, node, enclosing, group)?;
+        match taken {
+            Taken::Leaf(key, scalar) => put_leaf(walk.alloc, &mut entries, key, scalar)?,
+            Taken::Apart(prepared) => {
+                let mut below = objects_of(walk, plan, &prepared.nodes, group)?.into_iter();
+                let rises = add_value(walk.alloc, &mut entries, &mut errors, prepared, &mut below)?;
+                if rises {
+                    return Ok(Walked {
+                        value: Value::Null,
+                        errors,
+                    });
+                }
+            }
         }
     }
     Ok(Walked {
@@ -78,28 +76,162 @@ pub fn object<'d, 'a, S: ScalarValue, R: Resolver<S>>(
     })
 }
 
-/// The objects of nodes, each at its place, for what a field selects, one after the other.
+/// The objects of nodes, each at its place, for what all fields of a group select: those of one object type that stand one behind the other are
+/// walked side by side where their fields are asked at once, and one after the other elsewhere.
 #[cycle(walking)]
 pub(crate) fn objects_of<'d, 'a, S: ScalarValue, R: Resolver<S>>(
     walk: &Walk<'_, 'd, 'a, S, R>,
+    plan: &mut Plan<'d, 'a, S, R::Question>,
     nodes: &[Spot<'a, R::Node>],
-    field: &'d Spanning<Field<'a, S>, Span>,
-) -> Result<AllWalked<S>, AllocError>
+    group: GroupNo,
+) -> Result<Vec<Walked<S>>, AllocError>
     requires ready { IsReadyWalk S.shown R.possible R.values (R.world walk.now.collector.possible) walk.now }
-    requires agree { AreReached (R.world walk.now.collector.possible) (view_nodes nodes.now) (view_collected S.shown walk.now.collector field.now).below }
-    ensures { IfOk result (λ r. AreAllWalked (R.world walk.now.collector.possible)
-        (view_collected S.shown walk.now.collector field.now).below (view_nodes nodes.now)
-        (map (view_value S.shown) r.values.items) (map (view_listed S.shown) r.errors.items)) }
+    requires standing { IsStanding S.shown walk.now.collector (R.asks walk.now.collector.possible) (R.possible walk.now.collector.possible) plan.old }
+    requires bound { group.0 < group_count plan.old }
+    ensures plan { IfOk result (λ _. IsStep S.shown walk.now.collector (R.asks walk.now.collector.possible) (R.possible walk.now.collector.possible) plan.old
+        plan.new) }
+    ensures walked { IfOk result (λ r. AreWalkedOnce whole first_start (R.world walk.now.collector.possible)
+        (all_below (view_all S.shown walk.now.collector (fields_at plan.old group.0))) (view_nodes nodes.now)
+        (values_of S.shown r.items) (listed_of S.shown r.items)) }
 {
-    let selections = selections_of(field);
-    let mut values = Vec::new(walk.alloc);
-    let mut errors = Vec::new(walk.alloc);
-    for spot in nodes {
-        let node = &spot.what;
-        let concrete = walk.collector.possible.concrete_type_name(node);
-        let fields = collect_singles(walk.alloc, &walk.collector, concrete, selections)?;
-        let walked = object(walk, &spot.path, concrete, node, &fields)?;
-        add_object(&mut values, &mut errors, walked)?;
+    let mut done = Vec::with_capacity(walk.alloc, nodes.len())?;
+    if nodes.is_empty() {
+        return Ok(done);
     }
-    Ok(AllWalked { values, errors })
+    let enclosing = merge_selection_sets(walk.alloc, &walk.collector, plan.fields(group))?;
+    let mut start = 0;
+    while start < nodes.len() {
+        let concrete = walk
+            .collector
+            .possible
+            .concrete_type_name(&nodes[start].what);
+        let groups = groups_below(walk, plan, group, concrete, &enclosing)?;
+        let at_once = walk.collector.possible.nodes_at_once(concrete);
+        let end = run_end(walk, concrete, nodes, start, at_once);
+        if is_column(at_once, end - start) {
+            let rows = rows_of(walk, plan, concrete, &nodes[start..end], &enclosing, groups)?;
+            end_rows(rows, &mut done)?;
+        } else {
+            let run = &nodes[start..end];
+            one_by_one(walk, plan, concrete, run, &enclosing, groups, &mut done)?;
+        }
+        start = end;
+    }
+    Ok(done)
+}
+
+/// Whether so many nodes of which so many are asked at once are asked at once.
+fn is_column(at_once: usize, count: usize) -> bool {
+    at_once > 1 && count > 1
+}
+
+/// The objects of nodes of an object type, each at its place, for these groups, which are those of the enclosing selections, one node after
+/// the other; they are put behind those that are there.
+#[cycle(walking)]
+fn one_by_one<'d, 'a, S: ScalarValue, R: Resolver<S>>(
+    walk: &Walk<'_, 'd, 'a, S, R>,
+    plan: &mut Plan<'d, 'a, S, R::Question>,
+    concrete: &str,
+    nodes: &[Spot<'a, R::Node>],
+    enclosing: &[Enclosing<'d, 'a, S>],
+    groups: GroupRange,
+    done: &mut Vec<Walked<S>>,
+) -> Result<(), AllocError>
+    requires ready { IsReadyWalk S.shown R.possible R.values (R.world walk.now.collector.possible) walk.now }
+    requires standing { IsStanding S.shown walk.now.collector (R.asks walk.now.collector.possible) (R.possible walk.now.collector.possible) plan.old }
+    requires groups { StandsFor S.shown walk.now.collector (R.asks walk.now.collector.possible) concrete.now plan.old groups
+        (occurrences (R.possible walk.now.collector.possible) concrete.now (all_expanded S.shown walk.now.collector enclosing.now)) }
+    requires typed { AreOfType (R.world walk.now.collector.possible) concrete.now (view_nodes nodes.now) }
+    ensures plan { IfOk result (λ _. IsStep S.shown walk.now.collector (R.asks walk.now.collector.possible) (R.possible walk.now.collector.possible) plan.old
+        plan.new) }
+    ensures walked { IfOk result (λ _. AreAdded (R.world walk.now.collector.possible) (all_expanded S.shown walk.now.collector enclosing.now) S.shown
+        (view_nodes nodes.now) done.old.items done.new.items) }
+{
+    for spot in nodes {
+        let walked = execute_selection_set(
+            walk, plan, &spot.path, concrete, &spot.what, enclosing, groups,
+        )?;
+        done.push(walked)?;
+    }
+    Ok(())
+}
+
+/// The end of the nodes of an object type that stand one behind the other from this one on, but of no more than so many where they are asked at
+/// once.
+fn run_end<'d, 'a, S: ScalarValue, R: Resolver<S>>(
+    walk: &Walk<'_, 'd, 'a, S, R>,
+    concrete: &str,
+    nodes: &[Spot<'a, R::Node>],
+    start: usize,
+    at_once: usize,
+) -> usize
+    requires bound { start < length nodes.now }
+    requires first { AreOfType (R.world walk.now.collector.possible) concrete.now (view_nodes (slice_range nodes.now start (start + 1))) }
+    ensures some { start < result }
+    ensures inside { result ≤ length nodes.now }
+    ensures typed { AreOfType (R.world walk.now.collector.possible) concrete.now (view_nodes (slice_range nodes.now start result)) }
+{
+    let last = latest_end(nodes.len(), start, at_once);
+    for place in start + 1..last {
+        let named = walk
+            .collector
+            .possible
+            .concrete_type_name(&nodes[place].what);
+        if named != concrete {
+            return place;
+        }
+    }
+    last
+}
+
+/// Where nodes from this one on end that are asked at once, or one by one.
+fn latest_end(count: usize, start: usize, at_once: usize) -> usize
+    requires { start < count }
+    ensures some { start < result }
+    ensures inside { result ≤ count }
+{
+    if at_once > 1 && at_once < count - start {
+        start + at_once
+    } else {
+        count
+    }
+}
+
+/// The objects of nodes of an object type, each at its place, for these groups, which are those of the enclosing selections: group by group,
+/// each asked of all nodes whose null has not risen.
+#[cycle(walking)]
+fn rows_of<'d, 'a, S: ScalarValue, R: Resolver<S>>(
+    walk: &Walk<'_, 'd, 'a, S, R>,
+    plan: &mut Plan<'d, 'a, S, R::Question>,
+    concrete: &str,
+    nodes: &[Spot<'a, R::Node>],
+    enclosing: &[Enclosing<'d, 'a, S>],
+    groups: GroupRange,
+) -> Result<Vec<Row<S>>, AllocError>
+    requires ready { IsReadyWalk S.shown R.possible R.values (R.world walk.now.collector.possible) walk.now }
+    requires standing { IsStanding S.shown walk.now.collector (R.asks walk.now.collector.possible) (R.possible walk.now.collector.possible) plan.old }
+    requires groups { StandsFor S.shown walk.now.collector (R.asks walk.now.collector.possible) concrete.now plan.old groups
+        (occurrences (R.possible walk.now.collector.possible) concrete.now (all_expanded S.shown walk.now.collector enclosing.now)) }
+    requires some { 0 < length nodes.now }
+    ensures plan { IfOk result (λ _. IsStep S.shown walk.now.collector (R.asks walk.now.collector.possible) (R.possible walk.now.collector.possible) plan.old
+        plan.new) }
+    ensures rows { IfOk result (λ r. AreRows (R.world walk.now.collector.possible) (all_expanded S.shown walk.now.collector enclosing.now) concrete.now S.shown
+        (keys (occurrences (R.possible walk.now.collector.possible) concrete.now (all_expanded S.shown walk.now.collector enclosing.now)))
+        (view_nodes nodes.now) r.items) }
+{
+    let mut rows = begin_rows(walk.alloc, plan, groups, nodes.len())?;
+    for number in groups.first.0..groups.end.0 {
+        let column = ask_column(
+            walk,
+            plan,
+            concrete,
+            nodes,
+            enclosing,
+            GroupNo(number),
+            &mut rows,
+        )?;
+        let below = objects_of(walk, plan, &column.nodes, GroupNo(number))?;
+        fill_rows(walk.alloc, column.opened, below, &mut rows)?;
+    }
+    Ok(rows)
 }

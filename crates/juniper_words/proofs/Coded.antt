@@ -3,8 +3,8 @@ use Rattle.std.proofs.Common.{◌≡◌, codes, Result, Ok, Err, IfOk, refl, ap,
 use Rattle.graphql_spec.specs.Shown.{Shown, Text, text}
 use Rattle.graphql_spec.specs.Values as values
 use Rattle.graphql_spec.specs.Values.{put}
-use Rattle.juniper_errors.specs.ErrorView.{view_error}
-use Rattle.juniper_errors.specs.declared.field_error.FieldError.{FieldError}
+use Rattle.juniper_conversions.specs.ErrorView.{view_error}
+use Rattle.juniper_conversions.specs.declared.field_error.FieldError.{FieldError}
 use Rattle.juniper_syntax.proofs.Values.{view-Object, view-Scalar}
 use Rattle.juniper_syntax.specs.ValueView.{view_object, view_value}
 use Rattle.juniper_syntax.specs.declared.value.Object.{Object}

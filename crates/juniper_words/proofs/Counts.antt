@@ -3,7 +3,7 @@ use Rattle.std.proofs.Common.{◌≡◌, ℕ, ℤ, pos, true, codes, refl, inl, 
 use Rattle.std.proofs.lemmas.Bool.{cases_Bool, le-leb, leb-true}
 use Rattle.std.proofs.lemmas.Int.{to_z-of_z}
 use Rattle.graphql_spec.specs.Tokens.{fits_int}
-use Rattle.juniper_resolvable.specs.Answered.{fails_with, int_reply}
+use Rattle.juniper_values.specs.Answered.{fails_with, int_reply}
 use Rattle.juniper_words.specs.Replies.{count_reply}
 
 fits_is : (n : ℕ) → SFits w32 (pos n) → fits_int (pos n) ≡ true

@@ -1,3 +1,6 @@
+mod Declared
+mod Literals
+mod NotedValues
 mod EnumNames
 mod FoundFields
 mod NodesFrom

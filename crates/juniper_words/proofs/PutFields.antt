@@ -2,7 +2,7 @@
 use Rattle.std.proofs.Common.{◌≡◌, ℕ, ◌+◌, ◌<◌, ◌≤◌, List, [], ◌∷◌, ◌++◌, map, length, get_or, drop, take, refl, sym, ap, ap₂, ◌∙◌}
 use Rattle.std.proofs.lemmas.List.{append_assoc, drop_all, drop_more, map-append, take_all, take_more}
 use Rattle.juniper_syntax.proofs.Lists.{seen-push}
-use Rattle.juniper_declared.specs.declared.data.DeclaredType.{DeclaredType}
+use Rattle.juniper_words.specs.declared.data.DeclaredType.{DeclaredType}
 use Rattle.graphql_spec.specs.Shown.{Name}
 use Rattle.juniper_words.specs.Forgotten.{fields_in, object_fields}
 

@@ -6,13 +6,13 @@ use Rattle.graphql_spec.specs.Constants.{Constant, null, scalar, enumerated, var
 use Rattle.graphql_spec.specs.Resolvers.{Error}
 use Rattle.graphql_spec.specs.Shown.{Shown}
 use Rattle.juniper_conversions.specs.ListConversions.{list_of}
-use Rattle.juniper_errors.specs.ErrorView.{view_error}
-use Rattle.juniper_errors.specs.Messages.{message_alone}
-use Rattle.juniper_errors.specs.declared.field_error.ResolveError.{ResolveError}
-use Rattle.juniper_errors.specs.declared.field_error.ResolveError.TheVariants.{Field, Memory}
-use Rattle.juniper_position.specs.declared.position.Span.{Span}
-use Rattle.juniper_position.specs.declared.position.Spanning.{Spanning}
-use Rattle.juniper_scalars.specs.Conversions.{is_null}
+use Rattle.juniper_conversions.specs.ErrorView.{view_error}
+use Rattle.juniper_conversions.specs.Messages.{message_alone}
+use Rattle.juniper_conversions.specs.declared.field_error.ResolveError.{ResolveError}
+use Rattle.juniper_conversions.specs.declared.field_error.ResolveError.TheVariants.{Field, Memory}
+use Rattle.juniper_syntax.specs.declared.position.Span.{Span}
+use Rattle.juniper_syntax.specs.declared.position.Spanning.{Spanning}
+use Rattle.juniper_conversions.specs.Conversions.{is_null}
 use Rattle.juniper_syntax.specs.InputView.{view_input}
 use Rattle.juniper_syntax.specs.declared.input.InputValue.{InputValue}
 use Rattle.juniper_words.specs.InputsRead.{ReadsAs, before_read, items_read, read_items, read_list}

@@ -3,11 +3,11 @@ use Rattle.std.specs.Prelude.{Bool, true, false, not, List, [], ◌∷◌, ◌++
 use Rattle.std.specs.Str.{bytes_eq}
 use Rattle.graphql_spec.specs.Shown.{Name, Text}
 use Rattle.graphql_spec.specs.Resolvers.{Reply}
-use Rattle.juniper_declared.specs.declared.data.DeclaredType.{DeclaredType}
-use Rattle.juniper_declared.specs.declared.data.DeclaredType.TheVariants as kind
-use Rattle.juniper_errors.specs.declared.field_error.ResolveError.{ResolveError}
-use Rattle.juniper_errors.specs.declared.field_error.ResolveError.TheVariants.{Field, Memory}
-use Rattle.juniper_resolvable.specs.Answered.{fails_with}
+use Rattle.juniper_words.specs.declared.data.DeclaredType.{DeclaredType}
+use Rattle.juniper_words.specs.declared.data.DeclaredType.TheVariants as kind
+use Rattle.juniper_conversions.specs.declared.field_error.ResolveError.{ResolveError}
+use Rattle.juniper_conversions.specs.declared.field_error.ResolveError.TheVariants.{Field, Memory}
+use Rattle.juniper_values.specs.Answered.{fails_with}
 use Rattle.juniper_words.specs.declared.forgotten.FieldOf.{FieldOf}
 
 -- the message of a field that no arm answers

@@ -5,12 +5,12 @@ use Rattle.graphql_spec.specs.Shown.{Name, Shown, Text}
 use Rattle.graphql_spec.specs.Constants.{Constant, null, scalar, enumerated, variable, list, object, find}
 use Rattle.graphql_spec.specs.Resolvers.{Error, Reply, failed}
 use Rattle.juniper_conversions.specs.ListConversions.{items_of}
-use Rattle.juniper_errors.specs.ErrorView.{view_error}
-use Rattle.juniper_errors.specs.Messages.{message_alone}
-use Rattle.juniper_errors.specs.declared.field_error.ResolveError.{ResolveError}
-use Rattle.juniper_errors.specs.declared.field_error.ResolveError.TheVariants.{Field, Memory}
-use Rattle.juniper_scalars.specs.Conversions.{boolean_of, int_of, is_null, refusal_text, text_of}
-use Rattle.juniper_scalars.specs.Identifiers.{id_of}
+use Rattle.juniper_conversions.specs.ErrorView.{view_error}
+use Rattle.juniper_conversions.specs.Messages.{message_alone}
+use Rattle.juniper_conversions.specs.declared.field_error.ResolveError.{ResolveError}
+use Rattle.juniper_conversions.specs.declared.field_error.ResolveError.TheVariants.{Field, Memory}
+use Rattle.juniper_conversions.specs.Conversions.{boolean_of, int_of, is_null, refusal_text, text_of}
+use Rattle.juniper_conversions.specs.Identifiers.{id_of}
 use Rattle.juniper_values.specs.ArgumentsRead.{enum_of}
 
 -- what a call reads, as it is seen, is this, but where memory was refused

@@ -1,3 +1,5 @@
+pub mod Data
+pub mod Notes
 pub mod InputsRead
 pub mod Nodes
 pub mod Replies

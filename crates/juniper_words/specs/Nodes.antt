@@ -3,7 +3,7 @@ use Rattle.std.specs.Prelude.{◌≡◌, ◌<◌, ℕ, Bool, List, map, Option, 
 use Rattle.std.specs.Fn.{FnReturns, FnReturnsAt, Shared}
 use Rattle.std.specs.List.{enumerate_from, filter}
 use Rattle.graphql_spec.specs.Resolvers.{Reply, answered, node, nothing}
-use Rattle.juniper_resolvable.specs.Answered.{trees_reply}
+use Rattle.juniper_values.specs.Answered.{trees_reply}
 use denote.Ref.{Bor}
 
 -- the list of the objects of these nodes

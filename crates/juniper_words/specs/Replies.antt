@@ -4,8 +4,8 @@ use Rattle.graphql_spec.specs.Shown.{Name, Text, boolean, text}
 use Rattle.graphql_spec.specs.Tokens.{fits_int}
 use Rattle.graphql_spec.specs.Values as values
 use Rattle.graphql_spec.specs.Resolvers.{Error, Reply, answered, failed, leaf, nothing}
-use Rattle.juniper_errors.specs.Messages.{message_alone}
-use Rattle.juniper_resolvable.specs.Answered.{fails_with, int_reply, text_reply}
+use Rattle.juniper_conversions.specs.Messages.{message_alone}
+use Rattle.juniper_values.specs.Answered.{fails_with, int_reply, text_reply}
 
 -- a Boolean (3.5.4)
 abbrev pub boolean_reply : {N : Type 0} → Bool → Reply N

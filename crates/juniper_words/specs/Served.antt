@@ -2,7 +2,7 @@
 use Rattle.std.specs.Prelude.{◌≡◌, ◌⊎◌, true, false, Some, codes, Result, Ok, Err}
 use Rattle.graphql_spec.specs.Schema.{Schema}
 use Rattle.graphql_spec.specs.Shown.{Name}
-use Rattle.juniper_declared.specs.Data.{Declarations, collide, nowhere, with_all}
+use Rattle.juniper_words.specs.Data.{Declarations, collide, nowhere, with_all}
 use Rattle.juniper_intro.specs.Roots.{Makes}
 use Rattle.juniper_registry.specs.Entries.{Table}
 use Rattle.juniper_intro.specs.declared.error.RootError.{RootError}

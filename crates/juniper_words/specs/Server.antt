@@ -9,12 +9,12 @@ pub use Rattle.graphql_spec.specs.Inputs.{enumerated, scalar}
 pub use Rattle.graphql_spec.specs.Resolvers.{Error, Reply, Tree, answered, failed, items, leaf, node, nothing}
 pub use Rattle.graphql_spec.specs.Schema.{FieldDeclaration, InputDeclaration, plain_field, plain_input}
 pub use Rattle.graphql_spec.specs.Types.{TypeRef}
-pub use Rattle.juniper_declared.specs.Data.{Declarations, declared}
+pub use Rattle.juniper_words.specs.Data.{Declarations, declared}
 pub use Rattle.juniper_id.specs.Text.{id_text}
 pub use Rattle.juniper_meta.specs.MetaView.{Meta, view_argument, view_field, view_meta}
 pub use Rattle.juniper_registry.specs.DeclaredTypes.{enum, input_object, input_with_default, interface, list_type, object, optional, type_named, union}
-pub use Rattle.juniper_resolvable.specs.Answered.{each_reply, fails_with, int_reply, int_sum, text_reply, trees_reply}
-pub use Rattle.juniper_resolvable.specs.ResolvedView.{AllAnswer, Answers, trees_of}
+pub use Rattle.juniper_values.specs.Answered.{each_reply, fails_with, int_reply, int_sum, text_reply, trees_reply}
+pub use Rattle.juniper_values.specs.ResolvedView.{AllAnswer, Answers, trees_of}
 pub use Rattle.juniper_types.specs.Stepping.{Leaves}
 pub use Rattle.juniper_values.specs.ArgumentView.{view_arguments}
 pub use Rattle.juniper_values.specs.ArgumentsRead.{Reads, enum_argument, int_argument, with_read}

@@ -4,16 +4,16 @@
 ghost use Rattle.std.specs.Prelude.{◌≡◌, IfOk, Ok, option_map};
 ghost use Rattle.graphql_spec.specs.Resolvers as resolvers;
 ghost use Rattle.graphql_spec.specs.Resolvers.{answered, nothing};
-ghost use Rattle.juniper_resolvable.specs.ResolvedView.{Answers};
-ghost use Rattle.juniper_resolvable.specs.declared.resolved.Resolved.{Node, Null};
-ghost use Rattle.juniper_errors.specs.ErrorView.{view_error};
+ghost use Rattle.juniper_values.specs.ResolvedView.{Answers};
+ghost use Rattle.juniper_values.specs.declared.resolved.Resolved.{Node, Null};
+ghost use Rattle.juniper_conversions.specs.ErrorView.{view_error};
 ghost use Rattle.juniper_words.specs.Nodes.{object_or_null};
 ghost use Rattle.juniper_words.specs.Replies.{boolean_reply, count_reply, error_with_code, fails_with_code, text_or_null, value_reply};
 
 use crate::enums::EnumType;
-use juniper_errors::{FieldError, ResolveError};
-use juniper_resolvable::{Resolved, fails, int, text};
+use juniper_conversions::{FieldError, ResolveError};
 use juniper_syntax::{Object, ScalarValue, Value};
+use juniper_values::{Resolved, fails, int, text};
 use std::alloc::{AllocError, Global};
 
 /// What a resolver answers about objects that such nodes stand for.

@@ -7,7 +7,7 @@ ghost use Rattle.juniper_values.specs.ArgumentView.{view_arguments};
 ghost use Rattle.juniper_words.specs.InputsRead.{ReadsAs, argument, bool_argument, given, id_argument, text_argument};
 
 use crate::input_type::InputType;
-use juniper_errors::ResolveError;
+use juniper_conversions::ResolveError;
 use juniper_id::ID;
 use juniper_syntax::{InputValue, ScalarValue};
 use juniper_values::Arguments;

@@ -4,7 +4,7 @@ ghost use Rattle.juniper_values.specs.ArgumentsRead.{Reads};
 ghost use Rattle.juniper_words.specs.Replies.{found_or, found_or_code};
 
 use crate::answers::error_with_code;
-use juniper_errors::{ResolveError, error_of_message};
+use juniper_conversions::{ResolveError, error_of_message};
 use juniper_syntax::ScalarValue;
 use std::alloc::Global;
 

@@ -9,7 +9,7 @@ ghost use Rattle.juniper_values.specs.ArgumentsRead.{enum_of};
 ghost use Rattle.juniper_words.specs.InputsRead.{named_among, read_enum};
 
 use crate::input_type::InputType;
-use juniper_errors::{ResolveError, error_of_message};
+use juniper_conversions::{ResolveError, error_of_message};
 use juniper_syntax::{InputValue, ScalarValue};
 use std::alloc::Global;
 

@@ -6,9 +6,8 @@ ghost use Rattle.juniper_syntax.specs.InputView.{view_fields, view_input};
 ghost use Rattle.juniper_words.specs.InputsRead.{ReadsAs, at_field, input_field, input_field_or};
 
 use crate::input_type::InputType;
-use juniper_errors::ResolveError;
-use juniper_position::{Span, Spanning};
-use juniper_syntax::{InputValue, ScalarValue};
+use juniper_conversions::ResolveError;
+use juniper_syntax::{InputValue, ScalarValue, Span, Spanning};
 use std::alloc::Global;
 
 /// The field of this name as a `T`. A field that is missing is read as null: an `Option` is `None` then, and any other type

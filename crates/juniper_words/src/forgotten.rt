@@ -1,14 +1,14 @@
 //! Fields that are declared, and that a resolver does not answer (sections 3.6 and 6.4.2 of the Specification).
 
 ghost use Rattle.std.specs.Prelude.{◌≡◌, ◌++◌, IfOk, OnOk, map};
-ghost use Rattle.juniper_resolvable.specs.ResolvedView.{Answers};
+ghost use Rattle.juniper_values.specs.ResolvedView.{Answers};
 ghost use Rattle.juniper_words.specs.Forgotten.{fields_in, is_answered, object_fields, unanswered_reply, view_field_of};
 
 use crate::answers::Answer;
-use juniper_declared::{DeclaredField, DeclaredType};
-use juniper_errors::ResolveError;
-use juniper_resolvable::fails;
+use crate::{DeclaredField, DeclaredType};
+use juniper_conversions::ResolveError;
 use juniper_syntax::ScalarValue;
+use juniper_values::fails;
 use std::alloc::{AllocError, Global};
 
 /// What a field answers that no arm of its resolver names.

@@ -5,12 +5,10 @@ ghost use Rattle.graphql_spec.specs.Constants.{Constant, meaning};
 ghost use Rattle.graphql_spec.specs.Resolvers.{Error};
 ghost use Rattle.graphql_spec.specs.Shown.{Text};
 ghost use Rattle.juniper_id.specs.Text.{id_text};
-ghost use Rattle.juniper_scalars.specs.Conversions.{is_null};
 ghost use Rattle.juniper_syntax.specs.InputView.{view_input};
 ghost use Rattle.juniper_words.specs.InputsRead.{ReadsAs, read_bool, read_id, read_int, read_option, read_text};
 
-use juniper_conversions::FromInputValue;
-use juniper_errors::ResolveError;
+use juniper_conversions::{FromInputValue, ResolveError, is_null};
 use juniper_id::ID;
 use juniper_syntax::{InputValue, ScalarValue};
 use std::alloc::Global;
@@ -112,19 +110,5 @@ impl<T: InputType<S>, S: ScalarValue> InputType<S> for Option<T> {
             Ok(inner) => Ok(Some(inner)),
             Err(error) => Err(error),
         }
-    }
-}
-
-/// Whether a value is null.
-pub(crate) fn is_null<S: ScalarValue>(value: &InputValue<S>) -> bool
-    ensures { result ≡ is_null (meaning (view_input S.shown value.now)) }
-{
-    match value {
-        InputValue::Null => true,
-        InputValue::Scalar(_) => false,
-        InputValue::Enum(_) => false,
-        InputValue::Variable(_) => false,
-        InputValue::List(_) => false,
-        InputValue::Object(_) => false,
     }
 }

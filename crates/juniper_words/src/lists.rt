@@ -1,15 +1,13 @@
 //! Lists as they are read (section 3.11 of the Specification).
 
-ghost use Rattle.std.specs.Prelude.{◌≡◌, ◌∷◌, [], List, map, option_map};
+ghost use Rattle.std.specs.Prelude.{◌≡◌, ◌∷◌, [], List, map};
 ghost use Rattle.graphql_spec.specs.Constants.{meaning};
-ghost use Rattle.juniper_conversions.specs.ListConversions.{list_of};
 ghost use Rattle.juniper_syntax.specs.InputView.{view_input};
 ghost use Rattle.juniper_words.specs.InputsRead.{ReadsAs, read_items, read_list};
 
-use crate::input_type::{InputType, is_null};
-use juniper_errors::{ResolveError, error_of_message};
-use juniper_position::{Span, Spanning};
-use juniper_syntax::{InputValue, ScalarValue};
+use crate::input_type::InputType;
+use juniper_conversions::{ResolveError, error_of_message, is_null, list_of};
+use juniper_syntax::{InputValue, ScalarValue, Span, Spanning};
 use std::alloc::Global;
 
 /// A list (3.11): null is refused, a list is read item by item, and the first error is the whole list's; any other value is taken
@@ -29,24 +27,10 @@ impl<T: InputType<S>, S: ScalarValue> InputType<S> for Vec<T> {
             )?;
             return Err(ResolveError::Field(error_of_message(message)));
         }
-        match items_of(value) {
+        match list_of(value) {
             Some(items) => read_items(alloc, items),
             None => read_single(alloc, value),
         }
-    }
-}
-
-/// The items of a value that is a list.
-fn items_of<S: ScalarValue>(value: &InputValue<S>) -> Option<&[Spanning<InputValue<S>, Span>]>
-    ensures { option_map (λ items. map (λ x. meaning (view_input S.shown x.item)) items.now) result ≡ list_of (meaning (view_input S.shown value.now)) }
-{
-    match value {
-        InputValue::Null => None,
-        InputValue::Scalar(_) => None,
-        InputValue::Enum(_) => None,
-        InputValue::Variable(_) => None,
-        InputValue::List(items) => Some(items.as_slice()),
-        InputValue::Object(_) => None,
     }
 }
 

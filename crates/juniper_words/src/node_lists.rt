@@ -1,12 +1,12 @@
 //! Lists of objects as answers (section 3.11 of the Specification).
 
 ghost use Rattle.std.specs.Prelude.{◌≡◌, ◌<◌, ℕ, Bool, IfOk, length};
-ghost use Rattle.juniper_resolvable.specs.ResolvedView.{Answers};
+ghost use Rattle.juniper_values.specs.ResolvedView.{Answers};
 ghost use Rattle.juniper_words.specs.Nodes.{Makes, MakesEach, Tests, nodes_at, nodes_reply, nodes_where};
 
-use juniper_errors::ResolveError;
-use juniper_resolvable::Resolved;
+use juniper_conversions::ResolveError;
 use juniper_syntax::ScalarValue;
+use juniper_values::Resolved;
 use std::alloc::{AllocError, Global};
 
 /// The list of the objects that these nodes stand for, in order (3.11).

@@ -6,19 +6,18 @@ ghost use Rattle.graphql_spec.specs.Constants.{Members};
 ghost use Rattle.graphql_spec.specs.Resolvers.{Reply};
 ghost use Rattle.graphql_spec.specs.Shown.{Name};
 ghost use Rattle.juniper_registry.specs.DeclaredTypes.{object, type_named};
-ghost use Rattle.juniper_resolvable.specs.ResolvedView.{AllAnswer, Answers};
+ghost use Rattle.juniper_values.specs.ResolvedView.{AllAnswer, Answers};
 ghost use Rattle.juniper_types.specs.ExecutorView.{IsAskedFor, context_of};
 ghost use Rattle.juniper_types.specs.Stepping.{Leaves};
 ghost use Rattle.juniper_values.specs.ArgumentView.{view_arguments};
 
 use crate::answers::Answer;
-use juniper_errors::ResolveError;
+use juniper_conversions::ResolveError;
 use juniper_meta::MetaType;
 use juniper_registry::{GraphQLReference, GraphQLType, Registry};
-use juniper_resolvable::Resolved;
 use juniper_syntax::{ScalarValue, Type};
 use juniper_types::{Executor, GraphQLMutationValue, GraphQLValue};
-use juniper_values::Arguments;
+use juniper_values::{Arguments, Resolved};
 use std::alloc::{AllocError, Global};
 
 /// The resolver of a server's objects. [`Named`] of it is a [`GraphQLValue`].

@@ -2,14 +2,14 @@
 //! of the Specification).
 
 ghost use Rattle.std.specs.Prelude.{◌≡◌, IfOk, codes, false, map};
-ghost use Rattle.juniper_declared.specs.Data.{declared};
+ghost use Rattle.juniper_words.specs.Data.{declared};
 ghost use Rattle.juniper_intro.specs.RootView.{is_disabled, mutation_of, resolver_of, schema_of};
 ghost use Rattle.juniper_registry.specs.RegistryView.{view_registry};
 ghost use Rattle.juniper_schema.specs.SchemaView.{view_schema};
 ghost use Rattle.juniper_words.specs.Served.{Serves, ServesWith};
 
 use crate::roots::{MutationType, Named, QueryType};
-use juniper_declared::{DeclaredType, register_each, registry_of};
+use crate::{DeclaredType, register_each, registry_of};
 use juniper_intro::{RootError, RootNode};
 use juniper_registry::{Registry, RegistryError};
 use juniper_syntax::ScalarValue;

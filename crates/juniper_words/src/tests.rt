@@ -6,7 +6,7 @@ ghost use Rattle.graphql_spec.specs.Resolvers.{answered, node, nothing};
 ghost use Rattle.graphql_spec.specs.Schema.{scalar_type};
 ghost use Rattle.juniper_meta.specs.MetaView.{named_meta};
 ghost use Rattle.juniper_registry.specs.DeclaredTypes.{type_named};
-ghost use Rattle.juniper_resolvable.specs.ResolvedView.{Answers};
+ghost use Rattle.juniper_values.specs.ResolvedView.{Answers};
 ghost use Rattle.juniper_values.specs.ArgumentsRead.{with_read};
 ghost use Rattle.juniper_words.specs.Forgotten.{unanswered_reply};
 ghost use Rattle.juniper_words.specs.Nodes.{nodes_at, nodes_reply};
@@ -14,15 +14,14 @@ ghost use Rattle.juniper_words.specs.Replies.{count_reply, fails_with_code, foun
 ghost use Rattle.juniper_words.specs.declared.tests.Episode.TheVariants as episodes;
 
 use super::*;
-use juniper_declared::Reference::{List, NonNull, NonNullList, Nullable};
-use juniper_declared::{DeclaredField, DeclaredInput, DeclaredType, Literal, Note};
-use juniper_errors::ResolveError;
+use crate::Reference::{List, NonNull, NonNullList, Nullable};
+use crate::{DeclaredField, DeclaredInput, DeclaredType, Literal, Note};
+use juniper_conversions::ResolveError;
 use juniper_meta::{MetaType, ScalarKinds};
 use juniper_registry::{GraphQLReference, GraphQLType, Registry};
-use juniper_resolvable::Resolved;
 use juniper_syntax::{DefaultScalarValue, InputValue, ScalarValue, Spanning, Type, Value};
 use juniper_types::Executor;
-use juniper_values::Arguments;
+use juniper_values::{Arguments, Resolved};
 use std::alloc::{AllocError, Global};
 use std::test::Fail;
 

@@ -1,13 +1,11 @@
 //! Tests: what types that are told by data declare, part by part.
 
-use juniper_declared::DeclaredType::{
+use crate::DeclaredType::{
     Enum, InputObject, Interface, Noted, Object, Scalar, SubInterface, Union,
 };
-use juniper_declared::Note::{About, AboutArgument, AboutPart, Deprecated};
-use juniper_declared::Reference::{List, NonNull, NonNullList, Nullable};
-use juniper_declared::{
-    DeclaredField as Field, DeclaredInput as Input, DeclaredType, Literal, registry_of,
-};
+use crate::Note::{About, AboutArgument, AboutPart, Deprecated};
+use crate::Reference::{List, NonNull, NonNullList, Nullable};
+use crate::{DeclaredField as Field, DeclaredInput as Input, DeclaredType, Literal, registry_of};
 use juniper_meta::{Argument, DeprecationStatus, MetaType, ScalarKinds};
 use juniper_syntax::DefaultScalarValue;
 use std::alloc::{AllocError, Global};

@@ -7,8 +7,8 @@ use Rattle.graphql_spec.specs.Documents.{Word, Head, Directive, Selections, end,
 use Rattle.graphql_spec.specs.Fragments.{spreads}
 use Rattle.std.specs.List.{flat_map}
 use Rattle.graphql_spec.specs.Written.{heads, conditions, directives_in, selections_of, all_conditions, all_directives, own_directives}
-use Rattle.juniper_position.specs.declared.position.Spanning.{Spanning}
-use Rattle.juniper_position.specs.declared.position.Span.{Span}
+use Rattle.juniper_syntax.specs.declared.position.Spanning.{Spanning}
+use Rattle.juniper_syntax.specs.declared.position.Span.{Span}
 use Rattle.juniper_syntax.specs.DocumentView.{put_selection, view_selections, view_set}
 use Rattle.juniper_syntax.specs.declared.ast.Field.{Field as FieldType, out-Field}
 use Rattle.juniper_syntax.specs.declared.ast.InlineFragment.{InlineFragment as InlineType, out-InlineFragment}

@@ -1,2 +1,11 @@
 pub mod Parts
 pub mod WrittenView
+pub mod SpreadsView
+pub mod Order
+pub mod NamesBefore
+pub mod FieldNames
+pub mod ExpandedFields
+pub mod ExpandedLevels
+pub mod Bounds
+pub mod Measures
+pub mod Kept

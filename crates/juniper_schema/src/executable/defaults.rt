@@ -45,7 +45,7 @@ fn field_defaults_fit<S: ScalarValue>(schema: &SchemaType<S>, fields: &[Field<S>
 }
 
 /// Whether each default value of the arguments or input fields is constant and fits.
-fn input_defaults_fit<S: ScalarValue>(schema: &SchemaType<S>, declared: &[Argument<S>]) -> bool
+pub fn input_defaults_fit<S: ScalarValue>(schema: &SchemaType<S>, declared: &[Argument<S>]) -> bool
     ensures { result ≡ list_all (spec.default_is_right (view_schema S.shown schema.now)) (map (view_argument S.shown) declared.now) }
 {
     for argument in declared {
@@ -58,7 +58,7 @@ fn input_defaults_fit<S: ScalarValue>(schema: &SchemaType<S>, declared: &[Argume
 
 /// Whether the default value, where there is one, is constant and fits.
 #[tactic(auto, unfolding(graphql_spec::specs::Executable::default_is_right))]
-fn default_is_right<S: ScalarValue>(schema: &SchemaType<S>, argument: &Argument<S>) -> bool
+pub fn default_is_right<S: ScalarValue>(schema: &SchemaType<S>, argument: &Argument<S>) -> bool
     ensures { result ≡ spec.default_is_right (view_schema S.shown schema.now) (view_argument S.shown argument.now) }
 {
     match &argument.default_value {

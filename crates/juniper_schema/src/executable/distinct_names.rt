@@ -46,7 +46,7 @@ fn entry_names_differ<S: ScalarValue>(schema: &SchemaType<S>, meta: &MetaType<S>
 
 /// Whether no two of the names are the same.
 #[tactic(auto, unfolding(graphql_spec::specs::Executable::names_differ))]
-fn names_differ(names: &[String]) -> bool
+pub fn names_differ(names: &[String]) -> bool
     ensures { result ≡ spec.names_differ (view_names names.now) }
 {
     let mut left = names;
@@ -61,7 +61,7 @@ fn names_differ(names: &[String]) -> bool
 
 /// Whether no two of the fields have one name (3.6).
 #[tactic(auto, unfolding(graphql_spec::specs::Executable::names_differ))]
-fn field_names_differ<S: ScalarValue>(fields: &[Field<S>]) -> bool
+pub fn field_names_differ<S: ScalarValue>(fields: &[Field<S>]) -> bool
     ensures { result ≡ spec.names_differ (map (λ f. f.name) (map (view_field S.shown) fields.now)) }
 {
     let mut left = fields;
@@ -96,7 +96,7 @@ fn argument_names_differ<S: ScalarValue>(fields: &[Field<S>]) -> bool
 
 /// Whether no two of the arguments or input fields have one name (3.6, 3.10).
 #[tactic(auto, unfolding(graphql_spec::specs::Executable::input_names_differ, graphql_spec::specs::Executable::names_differ))]
-fn input_names_differ<S: ScalarValue>(declared: &[Argument<S>]) -> bool
+pub fn input_names_differ<S: ScalarValue>(declared: &[Argument<S>]) -> bool
     ensures { result ≡ spec.input_names_differ (map (view_argument S.shown) declared.now) }
 {
     let mut left = declared;
@@ -119,7 +119,7 @@ fn has_input<S: ScalarValue>(declared: &[Argument<S>], name: &str) -> bool
 
 /// Whether no two of an enum's values have one name (3.9).
 #[tactic(auto, unfolding(graphql_spec::specs::Executable::names_differ))]
-fn value_names_differ(values: &[EnumValue]) -> bool
+pub fn value_names_differ(values: &[EnumValue]) -> bool
     ensures { result ≡ spec.names_differ (map (λ v. v.name) (map view_enum_value values.now)) }
 {
     let mut left = values;
@@ -154,7 +154,7 @@ fn are_value_names(values: &[EnumValue]) -> bool
 
 /// Whether the name is none of the words `true`, `false`, `null`.
 #[tactic(auto, unfolding(graphql_spec::specs::Executable::is_value_name))]
-fn is_value_name(name: &str) -> bool
+pub fn is_value_name(name: &str) -> bool
     ensures { result ≡ spec.is_value_name name.now }
 {
     !(name == "true" || name == "false" || name == "null")

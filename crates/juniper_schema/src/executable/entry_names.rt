@@ -41,7 +41,7 @@ fn entry_is_named<S: ScalarValue>(key: &str, meta: &MetaType<S>) -> bool
 
 /// Whether it is no placeholder, list or type that also takes null, which stand in a registry alone.
 #[tactic(auto, unfolding(juniper_meta::specs::MetaView::view_meta, graphql_spec::specs::Executable::is_filled))]
-fn is_filled<S: ScalarValue>(meta: &MetaType<S>) -> bool
+pub fn is_filled<S: ScalarValue>(meta: &MetaType<S>) -> bool
     ensures { result ≡ spec.is_filled (view_meta S.shown meta.now).shape }
 {
     match meta {
@@ -57,7 +57,7 @@ fn is_filled<S: ScalarValue>(meta: &MetaType<S>) -> bool
 
 /// Whether the declaration's own name is its key.
 #[tactic(auto, unfolding(graphql_spec::specs::Executable::is_own_name))]
-fn is_own_name<S: ScalarValue>(key: &str, meta: &MetaType<S>) -> bool
+pub fn is_own_name<S: ScalarValue>(key: &str, meta: &MetaType<S>) -> bool
     ensures { result ≡ spec.is_own_name key.now (view_meta S.shown meta.now).name }
 {
     match meta.name() {
@@ -68,7 +68,7 @@ fn is_own_name<S: ScalarValue>(key: &str, meta: &MetaType<S>) -> bool
 
 /// Whether the text is a Name (2.1.9).
 #[tactic(auto, unfolding(graphql_spec::specs::Tokens::is_name))]
-fn is_name(text: &str) -> bool
+pub fn is_name(text: &str) -> bool
     ensures { result ≡ tokens.is_name text.now }
 {
     match text.as_bytes() {
@@ -126,7 +126,7 @@ fn fields_are_free<S: ScalarValue>(fields: &[Field<S>]) -> bool
 
 /// Whether neither the field nor one of its arguments has a reserved name, or it is `__typename: String!` (4.1).
 #[tactic(auto, unfolding(graphql_spec::specs::Executable::field_is_free))]
-fn field_is_free<S: ScalarValue>(field: &Field<S>) -> bool
+pub fn field_is_free<S: ScalarValue>(field: &Field<S>) -> bool
     ensures { result ≡ spec.field_is_free (view_field S.shown field.now) }
 {
     (!is_reserved(field.name.as_str()) || is_typename_field(field))

@@ -47,7 +47,7 @@ fn implements_all<S: ScalarValue>(
 
 /// Whether the entry of the key implements this interface, which it lists.
 #[tactic(auto, unfolding(graphql_spec::specs::Executable::implements, graphql_spec::specs::Executable::shape_fields, graphql_spec::specs::Fields::is_interface))]
-fn implements<S: ScalarValue>(
+pub fn implements<S: ScalarValue>(
     schema: &SchemaType<S>,
     key: &str,
     meta: &MetaType<S>,

@@ -46,7 +46,7 @@ fn fields_are_known<S: ScalarValue>(schema: &SchemaType<S>, fields: &[Field<S>])
 
 /// Whether the types of the field and of its arguments are known.
 #[tactic(auto, unfolding(graphql_spec::specs::Executable::field_is_known))]
-fn field_is_known<S: ScalarValue>(schema: &SchemaType<S>, field: &Field<S>) -> bool
+pub fn field_is_known<S: ScalarValue>(schema: &SchemaType<S>, field: &Field<S>) -> bool
     ensures { result ≡ spec.field_is_known (view_schema S.shown schema.now) (view_field S.shown field.now) }
 {
     ends_in_output(schema, &field.field_type) && end_in_input(schema, field.declared_arguments())
@@ -77,7 +77,7 @@ fn end_in_input<S: ScalarValue>(schema: &SchemaType<S>, declared: &[Argument<S>]
 
 /// Whether inside all lists there is a scalar, enum or input object (IsInputType).
 #[tactic(auto, unfolding(graphql_spec::specs::Executable::ends_in_input, graphql_spec::specs::Fields::is_input))]
-fn ends_in_input<S: ScalarValue>(schema: &SchemaType<S>, argument: &Argument<S>) -> bool
+pub fn ends_in_input<S: ScalarValue>(schema: &SchemaType<S>, argument: &Argument<S>) -> bool
     ensures { result ≡ spec.ends_in_input (view_schema S.shown schema.now) (view_argument S.shown argument.now) }
 {
     match schema.entry(argument.arg_type.innermost_name()) {

@@ -12,28 +12,28 @@ use juniper_meta::{MetaType, ScalarKinds};
 use juniper_syntax::ScalarValue;
 
 /// Ints alone (3.5.1).
-const INTS: ScalarKinds = ScalarKinds {
+pub const INTS: ScalarKinds = ScalarKinds {
     int: true,
     text: false,
     boolean: false,
 };
 
 /// Texts alone (3.5.3).
-const TEXTS: ScalarKinds = ScalarKinds {
+pub const TEXTS: ScalarKinds = ScalarKinds {
     int: false,
     text: true,
     boolean: false,
 };
 
 /// Booleans alone (3.5.4).
-const BOOLEANS: ScalarKinds = ScalarKinds {
+pub const BOOLEANS: ScalarKinds = ScalarKinds {
     int: false,
     text: false,
     boolean: true,
 };
 
 /// Ints and texts (3.5.5).
-const KEYS: ScalarKinds = ScalarKinds {
+pub const KEYS: ScalarKinds = ScalarKinds {
     int: true,
     text: true,
     boolean: false,
@@ -52,7 +52,7 @@ pub fn built_ins_are_right<S: ScalarValue>(schema: &SchemaType<S>) -> bool
 
 /// Whether the entry of this name is a scalar that accepts just these kinds.
 #[tactic(auto, unfolding(graphql_spec::specs::Executable::accepts_just))]
-fn accepts_just<S: ScalarValue>(schema: &SchemaType<S>, name: &str, kinds: ScalarKinds) -> bool
+pub fn accepts_just<S: ScalarValue>(schema: &SchemaType<S>, name: &str, kinds: ScalarKinds) -> bool
     ensures { result ≡ spec.accepts_just kinds.int kinds.text kinds.boolean (entry_named (view_schema S.shown schema.now) name.now) }
 {
     match schema.entry(name) {
@@ -63,7 +63,11 @@ fn accepts_just<S: ScalarValue>(schema: &SchemaType<S>, name: &str, kinds: Scala
 
 /// Whether the entry of this name, where there is one, is a scalar that accepts just these kinds.
 #[tactic(auto, unfolding(graphql_spec::specs::Executable::scalar_if_there))]
-fn scalar_if_there<S: ScalarValue>(schema: &SchemaType<S>, name: &str, kinds: ScalarKinds) -> bool
+pub fn scalar_if_there<S: ScalarValue>(
+    schema: &SchemaType<S>,
+    name: &str,
+    kinds: ScalarKinds,
+) -> bool
     ensures { result ≡ spec.scalar_if_there kinds.int kinds.text kinds.boolean (entry_named (view_schema S.shown schema.now) name.now) }
 {
     match schema.entry(name) {

@@ -1,5 +1,5 @@
 use Rattle.std.proofs.Common.{◌≡◌, map, take}
-use Rattle.juniper_position.specs.RuleView.{view_rule_error}
+use Rattle.juniper_syntax.specs.RuleView.{view_rule_error}
 use Rattle.juniper.proofs.error.clone_rule_errors.Given as goal
 
 abbrev pub invariant-loop-error : goal.invariant-loop-error

@@ -6,7 +6,7 @@ use Rattle.graphql_spec.proofs.ValidRuns.{choice-in}
 use Rattle.juniper_syntax.specs.DocumentView.{view_document, view_operation}
 use Rattle.juniper_syntax.specs.InputView.{view_variables}
 use Rattle.juniper_syntax.specs.ValueView.{view_value}
-use Rattle.juniper_errors.specs.ErrorView.{view_listed}
+use Rattle.juniper_conversions.specs.ErrorView.{view_listed}
 use Rattle.juniper_intro.specs.RootView.{schema_of}
 use Rattle.juniper_schema.specs.SchemaView.{view_schema}
 use Rattle.juniper.specs.Answering.{AreCoercible, AreRefused, StandsFor, outcome_of}

@@ -2,7 +2,7 @@ use Rattle.std.proofs.Common.{◌≡◌, ◌==◌, map, refl, sym, ap, subst, �
 use Rattle.std.proofs.lemmas.Grind.{merely}
 use Rattle.graphql_spec.specs.Rules.{rule_errors}
 use Rattle.juniper_intro.specs.RootView.{is_disabled, schema_of}
-use Rattle.juniper_position.specs.RuleView.{view_rule_error}
+use Rattle.juniper_syntax.specs.RuleView.{view_rule_error}
 use Rattle.juniper_schema.specs.SchemaView.{view_schema}
 use Rattle.juniper_syntax.specs.DocumentView.{view_document}
 use Rattle.juniper.specs.Answering.{StandsFor}

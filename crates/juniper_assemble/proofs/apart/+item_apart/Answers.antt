@@ -2,11 +2,11 @@ use Rattle.std.proofs.Common.{◌≡◌, ◌<◌, ◌++◌, ◌∷◌, [], suc, 
 use Rattle.graphql_spec.specs.Errors.{index}
 use Rattle.graphql_spec.specs.Resolvers.{items}
 use Rattle.std.specs.Vec.Iter.{into_iter_items}
-use Rattle.juniper_completion.specs.Skeletons.{several}
-use Rattle.juniper_errors.specs.PathView.{path_place}
+use Rattle.graphql_spec.specs.Skeletons.{several}
+use Rattle.juniper_conversions.specs.PathView.{path_place}
 use Rattle.juniper_assemble.specs.Apart.{layers_of}
-use Rattle.juniper_resolvable.specs.ResolvedView.{trees_of, view_resolved}
-use Rattle.juniper_resolvable.proofs.Resolutions.{view-Null, view-Scalar, view-List, view-Node}
+use Rattle.juniper_values.specs.ResolvedView.{trees_of, view_resolved}
+use Rattle.juniper_values.proofs.Resolutions.{view-Null, view-Scalar, view-List, view-Node}
 use Rattle.juniper_assemble.specs.SkeletonView.{skeletons_of, view_skeleton}
 use Rattle.juniper_assemble.specs.SpotView.{view_nodes}
 use Rattle.juniper_assemble.proofs.ByKind.{none_left}

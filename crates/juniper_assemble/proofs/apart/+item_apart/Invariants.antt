@@ -1,10 +1,10 @@
 use Rattle.std.proofs.Common.{◌≡◌, ◌++◌, map, string_bytes}
 use Rattle.std.specs.Vec.Iter.{into_iter_items}
 use Rattle.graphql_spec.specs.Errors.{index}
-use Rattle.juniper_errors.specs.PathView.{path_place}
+use Rattle.juniper_conversions.specs.PathView.{path_place}
 use Rattle.juniper_syntax.specs.TypeView.{view_type}
 use Rattle.juniper_assemble.specs.Apart.{AreApart, layers_of}
-use Rattle.juniper_resolvable.specs.ResolvedView.{trees_of, view_resolved}
+use Rattle.juniper_values.specs.ResolvedView.{trees_of, view_resolved}
 use Rattle.juniper_assemble.specs.SkeletonView.{skeletons_of, view_skeleton}
 use Rattle.juniper_assemble.specs.SpotView.{view_faults, view_nodes}
 use Rattle.juniper_assemble.proofs.apart.+item_apart.Given as goal

@@ -2,7 +2,7 @@ use Rattle.std.proofs.Common.{refl, ap, ◌∙◌}
 use Rattle.graphql_spec.specs.Constants.{find, members}
 use Rattle.juniper_syntax.specs.InputView.{view_fields}
 use Rattle.std.specs.Option.{option_and_then}
-use Rattle.juniper_scalars.specs.Conversions.{int_of}
+use Rattle.juniper_conversions.specs.Conversions.{int_of}
 use Rattle.juniper_conversions.proofs.Meanings.{means-Null, means-Scalar, means-Enum, means-Variable, means-List, means-Object}
 use Rattle.juniper_conversion_tests.proofs.cell.int_at.Goals as goal
 

@@ -1,8 +1,8 @@
 use Rattle.std.proofs.Common.{◌≡◌, ap, ◌∙◌, string_bytes}
 use Rattle.graphql_spec.specs.Constants.{meaning}
 use Rattle.juniper_syntax.specs.InputView.{view_input}
-use Rattle.juniper_errors.specs.Messages.{message_alone}
-use Rattle.juniper_scalars.specs.Conversions.{refusal_text}
+use Rattle.juniper_conversions.specs.Messages.{message_alone}
+use Rattle.juniper_conversions.specs.Conversions.{refusal_text}
 use Rattle.juniper_conversions.proofs.Meanings.{means-Null, means-Scalar, means-Enum, means-Variable, means-List, means-Object}
 use Rattle.juniper_conversions.proofs.convert.refused.Goals as goal
 use Rattle.juniper_conversions.proofs.convert.refused.Goals.{in-Null+in_ok-message-in-Null, in-Scalar+in_ok-message-in-Scalar, in-Enum+in_ok-message-in-Enum}

@@ -1,6 +1,6 @@
 use Rattle.std.proofs.Common.{codes, refl}
-use Rattle.juniper_errors.specs.ErrorView.{view_error}
-use Rattle.juniper_scalars.proofs.IdReads.{id_back}
+use Rattle.juniper_conversions.specs.ErrorView.{view_error}
+use Rattle.juniper_conversions.proofs.IdReads.{id_back}
 use Rattle.juniper_conversions.proofs.laws.ids_come_back.Goals as goal
 
 pub returns-clause-given : goal.returns-clause-given

@@ -1,7 +1,7 @@
 use Rattle.std.proofs.Common.{codes, refl}
 use Rattle.graphql_spec.specs.Shown.{shown_int}
-use Rattle.juniper_errors.specs.ErrorView.{view_error}
-use Rattle.juniper_scalars.proofs.RoundTrips.{int_back}
+use Rattle.juniper_conversions.specs.ErrorView.{view_error}
+use Rattle.juniper_conversions.proofs.ScalarRoundTrips.{int_back}
 use Rattle.juniper_conversions.proofs.laws.ints_come_back.Goals as goal
 
 pub returns-clause-given : goal.returns-clause-given

@@ -1,7 +1,7 @@
 use Rattle.std.proofs.Common.{rules, ◌≡◌, ◌++◌, true, false, [], ◌∷◌, map, bytes_eq, sym, ap, ◌∙◌}
 use Rattle.std.proofs.lemmas.List.{map-append}
 use Rattle.juniper_json.specs.Each.{view_refused}
-use Rattle.juniper_position.specs.RuleView.{view_rule_error}
+use Rattle.juniper_syntax.specs.RuleView.{view_rule_error}
 use Rattle.juniper_syntax.specs.DocumentView.{view_variable}
 use Rattle.juniper_syntax.specs.Scalars.{default_shown}
 use Rattle.juniper_endpoint.proofs.Looking.{any_seen, refused_none, refused_one}

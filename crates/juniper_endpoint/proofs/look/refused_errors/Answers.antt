@@ -1,6 +1,6 @@
 use Rattle.std.proofs.Common.{◌++◌, [], ◌∷◌, map, sym, ap, ◌∙◌}
 use Rattle.juniper_json.specs.Each.{view_refused}
-use Rattle.juniper_position.specs.RuleView.{view_rule_error}
+use Rattle.juniper_syntax.specs.RuleView.{view_rule_error}
 use Rattle.juniper_syntax.specs.DocumentView.{view_variable}
 use Rattle.juniper_syntax.specs.Scalars.{default_shown}
 use Rattle.juniper_endpoint.proofs.Looking.{refused_next, refused_nil}

@@ -3,9 +3,9 @@ use Rattle.graphql_spec.specs.Fields.{is_possible}
 use Rattle.graphql_spec.specs.Types.{innermost}
 use Rattle.juniper_schema.specs.SchemaView.{view_schema}
 use Rattle.juniper_syntax.specs.TypeView.{view_type}
-use Rattle.juniper_plan.proofs.Elsewhere.{standing-elsewhere}
-use Rattle.juniper_plan.specs.PlanWalks.{HasFirst}
-use Rattle.juniper_plan.specs.Plans.{fields_at}
+use Rattle.juniper_walk.proofs.Elsewhere.{standing-elsewhere}
+use Rattle.juniper_walk.specs.PlanWalks.{HasFirst}
+use Rattle.juniper_walk.specs.Plans.{fields_at}
 use Rattle.juniper_execute.specs.RootFields.{asks_in, collector_in, values_in}
 use Rattle.juniper_execute.specs.Meanings.{world_at}
 use Rattle.juniper_execute.proofs.RootGroups.{completed-elsewhere, merges-elsewhere, root-ready, same-fields-elsewhere, step-elsewhere}
@@ -14,22 +14,22 @@ use Rattle.juniper_execute.proofs.mutation.complete.Goals as goal
 pub invariant_of-service : goal.invariant_of-service
 invariant_of-service g c = record { executable = c.args.served.now.executable; unnamed = c.args.served.now.unnamed }
 
-pub complete_group-requires-clause-ready : goal.complete_group-requires-clause-ready
-complete_group-requires-clause-ready g c = root-ready g.S.ScalarValue.shown c.args.walk.now _ refl refl c.requires.ready
+pub complete_value-requires-clause-ready : goal.complete_value-requires-clause-ready
+complete_value-requires-clause-ready g c = root-ready g.S.ScalarValue.shown c.args.walk.now _ refl refl c.requires.ready
 
-pub complete_group-requires-clause-standing : goal.complete_group-requires-clause-standing
-complete_group-requires-clause-standing g c =
+pub complete_value-requires-clause-standing : goal.complete_value-requires-clause-standing
+complete_value-requires-clause-standing g c =
     standing-elsewhere g.S.ScalarValue.shown (collector_in g.S.ScalarValue.shown c.args.walk.now) _ refl refl
     (asks_in g.S.ScalarValue.shown c.args.walk.now (view_schema g.S.ScalarValue.shown c.args.served.now.schema.now))
     (is_possible (view_schema g.S.ScalarValue.shown c.args.served.now.schema.now)) c.args.plan.now c.requires.standing
 
-pub complete_group-requires-clause-some : goal.complete_group-requires-clause-some
-complete_group-requires-clause-some g c =
+pub complete_value-requires-clause-some : goal.complete_value-requires-clause-some
+complete_value-requires-clause-some g c =
     subst HasFirst (same-fields-elsewhere g.S.ScalarValue.shown (collector_in g.S.ScalarValue.shown c.args.walk.now) _ refl refl
     (fields_at c.args.plan.now c.args.group.0)) c.requires.some
 
-pub complete_group-requires-clause-merge : goal.complete_group-requires-clause-merge
-complete_group-requires-clause-merge g c =
+pub complete_value-requires-clause-merge : goal.complete_value-requires-clause-merge
+complete_value-requires-clause-merge g c =
     let shown = g.S.ScalarValue.shown in
     let root = c.args.served.now in
     let W = world_at (g.R.NodeTypes.meaning root.resolver.now) (view_schema shown root.schema.now) (values_in shown c.args.walk.now) c.args.context.now in

@@ -1,7 +1,7 @@
 use Rattle.std.proofs.Common.{refl}
 use Rattle.graphql_spec.specs.Fields.{is_possible}
 use Rattle.juniper_schema.specs.SchemaView.{view_schema}
-use Rattle.juniper_plan.proofs.Elsewhere.{standing-elsewhere}
+use Rattle.juniper_walk.proofs.Elsewhere.{standing-elsewhere}
 use Rattle.juniper_execute.specs.RootFields.{asks_in, collector_in}
 use Rattle.juniper_execute.proofs.RootGroups.{made-elsewhere, root-ready}
 use Rattle.juniper_execute.proofs.mutation.plan_root.Goals as goal

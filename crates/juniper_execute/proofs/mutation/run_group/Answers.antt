@@ -3,10 +3,10 @@ use Rattle.graphql_spec.specs.Fields.{is_possible}
 use Rattle.graphql_spec.specs.Mutation.{step_of}
 use Rattle.graphql_spec.specs.Resolvers.{world_of}
 use Rattle.juniper_collect.specs.Collected.{view_all}
-use Rattle.juniper_errors.specs.PathView.{path_place}
-use Rattle.juniper_plan.specs.PlanWalks.{IsGroupOf}
-use Rattle.juniper_plan.specs.Plans.{fields_at, key_at}
-use Rattle.juniper_plan.proofs.Whole.{asked-here, some-field, still-asked}
+use Rattle.juniper_conversions.specs.PathView.{path_place}
+use Rattle.juniper_walk.specs.PlanWalks.{IsGroupOf}
+use Rattle.juniper_walk.specs.Plans.{fields_at, key_at}
+use Rattle.juniper_walk.proofs.Whole.{asked-here, some-field, still-asked}
 use Rattle.juniper_schema.specs.SchemaView.{view_schema}
 use Rattle.juniper_execute.specs.RootFields.{all_fields, asks_in, collector_in, field_in, selected_in, values_in}
 use Rattle.juniper_execute.specs.Meanings.{mutation_at}

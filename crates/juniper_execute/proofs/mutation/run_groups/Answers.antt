@@ -1,8 +1,8 @@
 use Rattle.std.proofs.Common.{map, refl, ap}
 use Rattle.graphql_spec.specs.Fields.{is_possible}
 use Rattle.graphql_spec.specs.Selections.{keys}
-use Rattle.juniper_errors.specs.ErrorView.{view_listed}
-use Rattle.juniper_plan.proofs.Sorted.{bare-stands}
+use Rattle.juniper_conversions.specs.ErrorView.{view_listed}
+use Rattle.juniper_walk.proofs.Sorted.{bare-stands}
 use Rattle.juniper_schema.specs.SchemaView.{view_schema}
 use Rattle.juniper_syntax.specs.ValueView.{view_object}
 use Rattle.juniper_syntax.proofs.Values.{view-Null, view-Object}

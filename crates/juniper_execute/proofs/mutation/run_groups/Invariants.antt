@@ -1,8 +1,8 @@
 use Rattle.std.proofs.Common.{◌≡◌, map}
-use Rattle.juniper_errors.specs.ErrorView.{view_listed}
+use Rattle.juniper_conversions.specs.ErrorView.{view_listed}
 use Rattle.juniper_schema.specs.SchemaView.{view_schema}
 use Rattle.juniper_syntax.specs.ValueView.{view_object}
-use Rattle.juniper_plan.specs.declared.plan.GroupRange.{GroupRange}
+use Rattle.juniper_walk.specs.declared.plan.GroupRange.{GroupRange}
 use Rattle.juniper_execute.specs.RootFields.{values_in}
 use Rattle.juniper_execute.specs.Meanings.{mutation_at}
 use Rattle.juniper_execute.specs.Walkings.{starts_by}

@@ -1,7 +1,7 @@
 use Rattle.std.proofs.Common.{map, take}
 use Rattle.graphql_spec.specs.Resolvers.{answered, leaf}
 use Rattle.graphql_spec.specs.Shown.{text}
-use Rattle.juniper_resolvable.specs.ResolvedView.{AllAnswer}
+use Rattle.juniper_values.specs.ResolvedView.{AllAnswer}
 use Rattle.juniper_execute.proofs.replying.all_type_names.Given as goal
 
 -- the nodes before this one are answered

@@ -1,10 +1,10 @@
 use Rattle.std.proofs.Common.{◌≡◌, [], map, sym, ap, subst, ◌∙◌}
 use Rattle.std.proofs.lemmas.Result.{IfOk-weaker}
 use Rattle.juniper_schema.specs.SchemaView.{view_schema}
-use Rattle.juniper_spreads.specs.SpreadsView.{AreFragmentsOf}
+use Rattle.juniper_written.specs.SpreadsView.{AreFragmentsOf}
 use Rattle.juniper_syntax.specs.DocumentView.{view_definition}
 use Rattle.juniper_syntax.proofs.Lists.{none-seen, some-seen}
-use Rattle.juniper_phases.specs.Listing.{AreListed}
+use Rattle.juniper_rules.specs.Listing.{AreListed}
 use Rattle.juniper_explain.specs.Explanations.{view_explanation, view_explanations}
 use Rattle.juniper_explain.specs.Nodes.{explanations}
 use Rattle.juniper_explain.proofs.Judging.{names-explained}

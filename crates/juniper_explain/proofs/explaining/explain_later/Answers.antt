@@ -3,7 +3,7 @@ use Rattle.std.proofs.lemmas.Result.{IfOk-weaker}
 use Rattle.juniper_schema.specs.SchemaView.{view_schema}
 use Rattle.juniper_syntax.specs.DocumentView.{view_definition}
 use Rattle.juniper_syntax.proofs.Lists.{none-seen, some-seen}
-use Rattle.juniper_phases.specs.Listing.{AreListedOnTypes}
+use Rattle.juniper_rules.specs.Listing.{AreListedOnTypes}
 use Rattle.juniper_explain.specs.Explanations.{view_explanation, view_explanations}
 use Rattle.juniper_explain.proofs.Judging.{no-names, types-explained, uses-explained}
 use Rattle.juniper_explain.proofs.explaining.explain_later.Goals as goal

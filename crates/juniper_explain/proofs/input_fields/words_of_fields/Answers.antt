@@ -1,5 +1,5 @@
 use Rattle.std.proofs.Common.{[], ◌∷◌, ap, map, ◌++◌, ◌∙◌}
-use Rattle.juniper_position.specs.Positions.{view_span}
+use Rattle.juniper_syntax.specs.Positions.{view_span}
 use Rattle.juniper_syntax.specs.DocumentView.{view_word}
 use Rattle.juniper_syntax.proofs.Lists.{seen-push}
 use Rattle.juniper_written.proofs.Lists.{seen-all, seen-next}

@@ -1,11 +1,11 @@
 use Rattle.std.proofs.Common.{[], ap, map, subst, sym, take, ◌++◌, ◌∙◌}
 use Rattle.std.specs.List.{flat_map}
-use Rattle.juniper_name_rules.specs.NamesBefore.{IsEarlier}
+use Rattle.juniper_written.specs.NamesBefore.{IsEarlier}
 use Rattle.juniper_schema.specs.SchemaView.{view_schema}
 use Rattle.juniper_syntax.specs.DocumentView.{view_definition}
-use Rattle.juniper_phases.specs.Listing.{definition_of}
-use Rattle.juniper_phases.proofs.AtEach.{earlier-is}
-use Rattle.juniper_phases.proofs.Listing.{definitions-are, listed-at}
+use Rattle.juniper_rules.specs.Listing.{definition_of}
+use Rattle.juniper_rules.proofs.AtEach.{earlier-is}
+use Rattle.juniper_rules.proofs.Listing.{definitions-are, listed-at}
 use Rattle.juniper_explain.specs.Explanations.{view_explanations}
 use Rattle.juniper_explain.specs.Nodes.{inside_findings, name_findings}
 use Rattle.juniper_explain.proofs.Joined.{behind-three}

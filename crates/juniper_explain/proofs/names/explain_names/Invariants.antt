@@ -1,9 +1,9 @@
 use Rattle.std.proofs.Common.{map, take}
-use Rattle.juniper_name_rules.specs.NamesBefore.{IsEarlier}
+use Rattle.juniper_written.specs.NamesBefore.{IsEarlier}
 use Rattle.juniper_schema.specs.SchemaView.{view_schema}
-use Rattle.juniper_spreads.specs.SpreadsView.{AreFragmentsOf}
+use Rattle.juniper_written.specs.SpreadsView.{AreFragmentsOf}
 use Rattle.juniper_syntax.specs.DocumentView.{view_definition}
-use Rattle.juniper_phases.specs.Listing.{AreListed, definition_of}
+use Rattle.juniper_rules.specs.Listing.{AreListed, definition_of}
 use Rattle.juniper_explain.specs.Explanations.{view_explanations}
 use Rattle.juniper_explain.specs.Nodes.{name_findings}
 use Rattle.juniper_explain.proofs.Judging.{IsToldBefore}

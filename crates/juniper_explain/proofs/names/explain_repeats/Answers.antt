@@ -4,8 +4,8 @@ use Rattle.std.proofs.lemmas.List.{append_assoc}
 use Rattle.std.proofs.lemmas.Result.{on_ok_weaker}
 use Rattle.graphql_spec.specs.Documents.{Argument, VariableDefinition}
 use Rattle.graphql_spec.specs.Written.{argument_lists, defined_variables}
-use Rattle.juniper_phases.specs.Listing.{definition_of}
-use Rattle.juniper_phases.proofs.Listing.{arguments-are}
+use Rattle.juniper_rules.specs.Listing.{definition_of}
+use Rattle.juniper_rules.proofs.Listing.{arguments-are}
 use Rattle.juniper_explain.specs.Explanations.{Explanation, view_explanations}
 use Rattle.juniper_explain.specs.Nodes.{repeated_arguments, repeated_in, repeated_in_default, repeated_input_fields, repeated_of, repeated_variables}
 use Rattle.juniper_explain.specs.Nodes.{repeated_within}

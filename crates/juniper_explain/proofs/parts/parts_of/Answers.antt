@@ -4,8 +4,8 @@ use Rattle.graphql_spec.specs.VariableUses.{is_reached}
 use Rattle.graphql_spec.specs.Documents as documents
 use Rattle.graphql_spec.specs.Written.{selections_of}
 use Rattle.graphql_spec.specs.Fragments.{spreads}
-use Rattle.juniper_phases.specs.Listing.{placed_listing_of, view_listed_on_types}
-use Rattle.juniper_phases.proofs.Listing.{listed-is, written-is}
+use Rattle.juniper_rules.specs.Listing.{placed_listing_of, view_listed_on_types}
+use Rattle.juniper_rules.proofs.Listing.{listed-is, written-is}
 use Rattle.juniper_syntax.proofs.Lists.{seen-push}
 use Rattle.juniper_written.proofs.Lists.{flat-all, flat-next}
 use Rattle.juniper_written.specs.Parts.{parts_of}

@@ -1,5 +1,5 @@
 use Rattle.std.proofs.Common.{[], ◌∷◌}
-use Rattle.juniper_phases.specs.Listing.{view_listed_on_types}
+use Rattle.juniper_rules.specs.Listing.{view_listed_on_types}
 use Rattle.juniper_written.proofs.Lists.{IsFlatSoFar}
 use Rattle.juniper_written.specs.WrittenView.{has_name}
 use Rattle.juniper_explain.specs.Parts.{view_each}

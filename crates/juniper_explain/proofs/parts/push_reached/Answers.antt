@@ -1,6 +1,6 @@
 use Rattle.std.proofs.Common.{ap, sym, ◌∙◌, ◌++◌}
 use Rattle.std.proofs.lemmas.List.{append-nil}
-use Rattle.juniper_phases.specs.Listing.{view_listed_on_types}
+use Rattle.juniper_rules.specs.Listing.{view_listed_on_types}
 use Rattle.juniper_syntax.proofs.Lists.{seen-push}
 use Rattle.juniper_syntax.specs.DocumentView.{view_definition, view_fragment}
 use Rattle.juniper_written.specs.WrittenView.{has_name}

@@ -1,5 +1,5 @@
 use Rattle.graphql_spec.specs.Documents.{Document}
-use Rattle.juniper_spreads.specs.SpreadsView.{AreFragmentsOf}
+use Rattle.juniper_written.specs.SpreadsView.{AreFragmentsOf}
 use Rattle.juniper_syntax.specs.DocumentView.{view_word}
 use Rattle.juniper_explain.specs.Explanations.{view_explanations}
 use Rattle.juniper_explain.specs.Nodes.{unknown_spread}

@@ -3,8 +3,8 @@ use Rattle.std.specs.List.{flat_map}
 use Rattle.std.proofs.lemmas.Result.{on_ok_weaker}
 use Rattle.graphql_spec.specs.Placed.{placed_in}
 use Rattle.graphql_spec.specs.Written.{defined_variables}
-use Rattle.juniper_phases.specs.Listing.{definition_of}
-use Rattle.juniper_phases.proofs.Listing.{placed-is}
+use Rattle.juniper_rules.specs.Listing.{definition_of}
+use Rattle.juniper_rules.proofs.Listing.{placed-is}
 use Rattle.juniper_placed.specs.Placing.{parts_of}
 use Rattle.juniper_schema.specs.SchemaView.{view_schema}
 use Rattle.juniper_explain.specs.Explanations.{view_explanations}

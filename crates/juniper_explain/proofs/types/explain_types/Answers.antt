@@ -1,7 +1,7 @@
 use Rattle.std.proofs.Common.{[], ap, map, take, ◌∙◌}
 use Rattle.juniper_schema.specs.SchemaView.{view_schema}
-use Rattle.juniper_phases.specs.Listing.{definition_of}
-use Rattle.juniper_phases.proofs.Listing.{definitions-on-types, on-types-at}
+use Rattle.juniper_rules.specs.Listing.{definition_of}
+use Rattle.juniper_rules.proofs.Listing.{definitions-on-types, on-types-at}
 use Rattle.juniper_explain.specs.Explanations.{view_explanations}
 use Rattle.juniper_explain.specs.Nodes.{type_findings}
 use Rattle.juniper_explain.proofs.Judging.{told, told-all, told-first, told-next}

@@ -1,6 +1,6 @@
 use Rattle.graphql_spec.specs.Documents.{Document}
 use Rattle.juniper_schema.specs.SchemaView.{view_schema}
-use Rattle.juniper_phases.specs.Listing.{AreListedOnTypes, definition_of}
+use Rattle.juniper_rules.specs.Listing.{AreListedOnTypes, definition_of}
 use Rattle.juniper_explain.specs.Explanations.{view_explanations}
 use Rattle.juniper_explain.specs.Nodes.{type_findings}
 use Rattle.juniper_explain.proofs.Judging.{IsToldBefore}

@@ -3,7 +3,7 @@ use Rattle.std.proofs.lemmas.Result.{on_ok_weaker}
 use Rattle.std.specs.List.{flat_map}
 use Rattle.graphql_spec.specs.Documents as documents
 use Rattle.graphql_spec.specs.VariableUses.{parts}
-use Rattle.juniper_phases.specs.Listing.{definition_of}
+use Rattle.juniper_rules.specs.Listing.{definition_of}
 use Rattle.juniper_syntax.specs.DocumentView.{view_definition, view_operation}
 use Rattle.juniper_explain.specs.Explanations.{view_explanations}
 use Rattle.juniper_explain.specs.Nodes.{undefined_name, undefined_variables}

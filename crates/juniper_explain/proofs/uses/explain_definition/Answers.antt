@@ -3,8 +3,8 @@ use Rattle.std.specs.List.{flat_map}
 use Rattle.std.proofs.lemmas.Result.{on_ok_weaker}
 use Rattle.graphql_spec.specs.Rules as rules
 use Rattle.graphql_spec.specs.Written.{heads, selections_of}
-use Rattle.juniper_phases.specs.Listing.{definition_of}
-use Rattle.juniper_phases.proofs.Listing.{listed-is, written-is}
+use Rattle.juniper_rules.specs.Listing.{definition_of}
+use Rattle.juniper_rules.proofs.Listing.{listed-is, written-is}
 use Rattle.juniper_schema.specs.SchemaView.{view_schema}
 use Rattle.juniper_written.specs.Parts.{parts_of}
 use Rattle.juniper_explain.specs.declared.rule.Rule.TheVariants as rule

@@ -3,11 +3,11 @@ use Rattle.graphql_spec.specs.Rules.{cannot_merge}
 use Rattle.juniper_explain.specs.Explanations.{view_explanations}
 use Rattle.juniper_explain.specs.Nodes.{use_findings}
 use Rattle.juniper_schema.specs.SchemaView.{view_schema}
-use Rattle.juniper_use_rules.specs.UsesView.{usage_of, view_used}
-use Rattle.juniper_phases.specs.Listing.{definition_of}
+use Rattle.juniper_type_rules.specs.UsesView.{usage_of, view_used}
+use Rattle.juniper_rules.specs.Listing.{definition_of}
 use Rattle.juniper_explain.proofs.Judging.{told, told-all, told-first, told-next}
-use Rattle.juniper_phases.proofs.Listing.{definitions-on-types, on-types-at}
-use Rattle.juniper_phases.proofs.SideBySide.{beside-is, mark-is}
+use Rattle.juniper_rules.proofs.Listing.{definitions-on-types, on-types-at}
+use Rattle.juniper_rules.proofs.SideBySide.{beside-is, mark-is}
 use Rattle.juniper_explain.proofs.uses.explain_uses.Goals as goal
 
 pub loop-index-init : goal.loop-index-init

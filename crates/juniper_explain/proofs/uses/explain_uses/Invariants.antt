@@ -4,8 +4,8 @@ use Rattle.graphql_spec.specs.Rules.{cannot_merge}
 use Rattle.juniper_explain.specs.Explanations.{view_explanations}
 use Rattle.juniper_explain.specs.Nodes.{use_findings}
 use Rattle.juniper_schema.specs.SchemaView.{view_schema}
-use Rattle.juniper_spreads.specs.SpreadsView.{AreFragmentsOf}
-use Rattle.juniper_phases.specs.Listing.{AreListedOnTypes, definition_of}
+use Rattle.juniper_written.specs.SpreadsView.{AreFragmentsOf}
+use Rattle.juniper_rules.specs.Listing.{AreListedOnTypes, definition_of}
 use Rattle.juniper_explain.proofs.Judging.{IsToldBefore}
 use Rattle.juniper_explain.proofs.uses.explain_uses.Given as goal
 

@@ -2,7 +2,7 @@ use denote.Param.Weighed.{at_most}
 use Rattle.std.proofs.Common.{◌≡◌, [], ◌∷◌, ◌++◌, get_or, map, option_map, refl, sym, ap, ap₂, ◌∙◌, arith, rules}
 use Rattle.std.proofs.lemmas.List.{append-nil}
 use Rattle.graphql_spec.specs.Fields.{declaration_in}
-use Rattle.juniper_position.specs.Positions.{view_span}
+use Rattle.juniper_syntax.specs.Positions.{view_span}
 use Rattle.graphql_spec.specs.VariableUses.{at_declared, item_type}
 use Rattle.juniper_explain.specs.Positions.{places_at, places_in_fields, places_in_items}
 use Rattle.juniper_syntax.specs.InputView.{view_input, view_items, view_fields}

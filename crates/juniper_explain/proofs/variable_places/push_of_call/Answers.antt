@@ -4,7 +4,7 @@ use Rattle.std.specs.List.{flat_map}
 use Rattle.graphql_spec.specs.Documents.{written}
 use Rattle.graphql_spec.specs.VariableUses.{at_declared}
 use Rattle.juniper_explain.specs.Positions.{places_at, places_in_call}
-use Rattle.juniper_position.specs.Positions.{view_span}
+use Rattle.juniper_syntax.specs.Positions.{view_span}
 use Rattle.juniper_syntax.specs.DocumentView as code
 use Rattle.juniper_syntax.specs.DocumentView.{view_arguments}
 use Rattle.juniper_syntax.specs.InputView.{view_input}

@@ -3,7 +3,7 @@ use Rattle.std.proofs.Common.{◌≡◌, [], ◌∷◌, ◌++◌, get_or, refl, 
 use Rattle.juniper_syntax.proofs.input.InputValue.TheLaws.{the_size}
 use Rattle.juniper_syntax.specs.declared.input.InputValue.TheShapes.{weighed-InputValue-Object-0-at-4}
 use Rattle.std.proofs.lemmas.List.{append-nil}
-use Rattle.juniper_position.specs.Positions.{view_span}
+use Rattle.juniper_syntax.specs.Positions.{view_span}
 use Rattle.juniper_syntax.specs.DocumentView.{view_word}
 use Rattle.juniper_explain.specs.Variables.{variable_words, words_in_items, words_in_fields}
 use Rattle.juniper_syntax.specs.InputView.{view_input, view_items, view_fields}

@@ -1,6 +1,6 @@
 use Rattle.std.proofs.Common.{◌<◌, ◌≤◌, length, [], ◌++◌, ap, ◌∙◌, arith}
 use Rattle.std.specs.List.{flat_map}
-use Rattle.juniper_phases.specs.Listing.{view_listed_on_types}
+use Rattle.juniper_rules.specs.Listing.{view_listed_on_types}
 use Rattle.juniper_written.proofs.Lists.{flat-next, flat-all, flat-seen}
 use Rattle.juniper_explain.specs.Variables.{words_given}
 use Rattle.juniper_explain.specs.Words.{view_words}

@@ -1,7 +1,7 @@
 use Rattle.std.proofs.Common.{ap, sym, option_map, ◌∙◌, ◌++◌}
 use Rattle.std.proofs.lemmas.Result.{on_ok_weaker}
 use Rattle.std.proofs.lemmas.List.{append-nil}
-use Rattle.juniper_position.specs.Positions.{view_spanning}
+use Rattle.juniper_syntax.specs.Positions.{view_spanning}
 use Rattle.juniper_schema.specs.SchemaView.{view_schema}
 use Rattle.juniper_syntax.specs.DocumentView.{view_variable}
 use Rattle.juniper_syntax.specs.InputView.{view_input}

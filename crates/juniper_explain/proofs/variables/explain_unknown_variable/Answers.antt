@@ -1,6 +1,6 @@
 use Rattle.std.proofs.Common.{ap, ◌∙◌, ◌++◌}
 use Rattle.std.proofs.lemmas.Result.{on_ok_weaker}
-use Rattle.juniper_position.specs.Positions.{view_span}
+use Rattle.juniper_syntax.specs.Positions.{view_span}
 use Rattle.juniper_schema.specs.SchemaView.{view_schema}
 use Rattle.juniper_explain.specs.Explanations.{view_explanations}
 use Rattle.juniper_explain.specs.Nodes.{unknown_type}

@@ -5,7 +5,7 @@ use Rattle.graphql_spec.specs.Fields as fields
 use Rattle.graphql_spec.specs.Fragments.{HasNoCycle}
 use Rattle.juniper_meta.specs.MetaView.{view_type}
 use Rattle.juniper_schema.specs.SchemaView.{view_schema}
-use Rattle.juniper_spreads.specs.Order.{IsInOrder}
+use Rattle.juniper_written.specs.Order.{IsInOrder}
 use Rattle.juniper_syntax.specs.DocumentView.{view_fragment}
 use Rattle.juniper_field_graph.specs.Gathering.{AreWritten, set_named}
 use Rattle.juniper_field_graph.specs.GraphView.{IsGraphOf}

@@ -4,7 +4,7 @@ use Rattle.graphql_spec.specs.Merging.{types_agree}
 use Rattle.graphql_spec.proofs.Lists.{same_true}
 use Rattle.juniper_meta.specs.MetaView.{view_field}
 use Rattle.juniper_schema.specs.SchemaView.{view_schema}
-use Rattle.juniper_overlapping_fields.proofs.Alike.{types-same}
+use Rattle.juniper_field_graph.proofs.Alike.{types-same}
 use Rattle.juniper_field_graph.proofs.PlainFields.{agree-on}
 use Rattle.juniper_field_graph.proofs.plain_keys.has_types_that_agree.Goals as goal
 

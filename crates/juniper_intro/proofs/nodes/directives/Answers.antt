@@ -1,7 +1,7 @@
 use Rattle.std.proofs.Common.{◌≡◌, arith, ap, ◌∙◌, length, map}
 use Rattle.std.proofs.lemmas.List.{length-map}
 use Rattle.graphql_spec.specs.Resolvers.{answered, node}
-use Rattle.juniper_resolvable.proofs.Resolutions.{view-Node}
+use Rattle.juniper_values.proofs.Resolutions.{view-Node}
 use Rattle.juniper_intro.specs.HandleView.{of_handle}
 use Rattle.juniper_meta.specs.MetaView.{view_directive}
 use Rattle.juniper_intro.specs.Handles.{directive_handle}

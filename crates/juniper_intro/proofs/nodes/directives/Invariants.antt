@@ -1,7 +1,7 @@
 use Rattle.std.proofs.Common.{◌≡◌, map}
 use Rattle.std.specs.List.{range_with_len}
 use Rattle.graphql_spec.specs.Resolvers.{node}
-use Rattle.juniper_resolvable.specs.ResolvedView.{view_resolved}
+use Rattle.juniper_values.specs.ResolvedView.{view_resolved}
 use Rattle.juniper_intro.specs.HandleView.{of_handle}
 use Rattle.juniper_intro.specs.Handles.{directive_handle}
 use Rattle.juniper_intro.proofs.nodes.directives.Given as goal

@@ -2,7 +2,7 @@ use Rattle.std.proofs.Common.{◌≡◌, ◌++◌, map}
 use Rattle.graphql_spec.specs.Introspected.{lists_field}
 use Rattle.graphql_spec.specs.Resolvers.{node}
 use Rattle.juniper_meta.specs.MetaView.{view_field}
-use Rattle.juniper_resolvable.specs.ResolvedView.{view_resolved}
+use Rattle.juniper_values.specs.ResolvedView.{view_resolved}
 use Rattle.juniper_intro.specs.HandleView.{of_handle}
 use Rattle.juniper_intro.specs.Handles.{field_handle}
 use Rattle.juniper_intro.proofs.Collected.{left}

@@ -5,8 +5,8 @@ use Rattle.graphql_spec.specs.Resolvers.{answered, leaf}
 use Rattle.graphql_spec.specs.Shown.{text}
 use Rattle.juniper_meta.specs.MetaView.{view_location}
 use Rattle.juniper_meta.specs.declared.directive.DirectiveLocation.TheVariants.{Query}
-use Rattle.juniper_resolvable.proofs.Resolutions.{view-Scalar}
-use Rattle.juniper_resolvable.specs.ResolvedView.{view_resolved}
+use Rattle.juniper_values.proofs.Resolutions.{view-Scalar}
+use Rattle.juniper_values.specs.ResolvedView.{view_resolved}
 use Rattle.juniper_intro.proofs.Collected.{says-listed, taken-more}
 use Rattle.juniper_intro.proofs.nodes.locations.Goals as goal
 

@@ -1,6 +1,6 @@
 use Rattle.std.proofs.Common.{◌≡◌, map, take}
 use Rattle.graphql_spec.specs.Resolvers.{node}
-use Rattle.juniper_resolvable.specs.ResolvedView.{view_resolved}
+use Rattle.juniper_values.specs.ResolvedView.{view_resolved}
 use Rattle.juniper_intro.specs.HandleView.{of_handle}
 use Rattle.juniper_intro.specs.Handles.{by_name, type_handle}
 use Rattle.juniper_intro.specs.Naming.{number_of}

@@ -2,7 +2,7 @@ use Rattle.std.proofs.Common.{◌≡◌, arith, sym, ap, ◌∙◌, length}
 use Rattle.graphql_spec.specs.Introspected.{lists_value}
 use Rattle.graphql_spec.specs.Resolvers.{answered}
 use Rattle.juniper_meta.specs.MetaView.{view_enum_value}
-use Rattle.juniper_resolvable.proofs.Resolutions.{view-Node}
+use Rattle.juniper_values.proofs.Resolutions.{view-Node}
 use Rattle.juniper_intro.specs.Handles.{value_handle}
 use Rattle.juniper_intro.proofs.Collected.{kept-more, passed-all, passed-more}
 use Rattle.juniper_intro.proofs.nodes.values.Goals as goal

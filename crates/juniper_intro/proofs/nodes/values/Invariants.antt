@@ -2,7 +2,7 @@ use Rattle.std.proofs.Common.{◌≡◌, ◌++◌, map}
 use Rattle.graphql_spec.specs.Introspected.{lists_value}
 use Rattle.graphql_spec.specs.Resolvers.{node}
 use Rattle.juniper_meta.specs.MetaView.{view_enum_value}
-use Rattle.juniper_resolvable.specs.ResolvedView.{view_resolved}
+use Rattle.juniper_values.specs.ResolvedView.{view_resolved}
 use Rattle.juniper_intro.specs.HandleView.{of_handle}
 use Rattle.juniper_intro.specs.Handles.{value_handle}
 use Rattle.juniper_intro.proofs.Collected.{left}

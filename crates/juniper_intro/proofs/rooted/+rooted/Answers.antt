@@ -6,8 +6,8 @@ use Rattle.juniper_intro.specs.HandleView.{of_user}
 use Rattle.juniper_intro.specs.Rooting.{layers_of}
 use Rattle.juniper_intro.proofs.Collected.{seen-more}
 use Rattle.juniper_intro.proofs.Rooting.{none_left, seen-all, seen-falls, seen-turn}
-use Rattle.juniper_resolvable.specs.ResolvedView.{trees_of, view_resolved}
-use Rattle.juniper_resolvable.proofs.Resolutions.{view-Null, view-Scalar, view-List, view-Node}
+use Rattle.juniper_values.specs.ResolvedView.{trees_of, view_resolved}
+use Rattle.juniper_values.proofs.Resolutions.{view-Null, view-Scalar, view-List, view-Node}
 use Rattle.juniper_intro.proofs.rooted.+rooted.Goals as goal
 
 pub returns-in-Null : goal.returns-in-Null

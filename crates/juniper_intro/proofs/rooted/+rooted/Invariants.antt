@@ -3,7 +3,7 @@ use Rattle.std.specs.Vec.Iter.{into_iter_items}
 use Rattle.juniper_intro.proofs.Rooting.{AreSeen}
 use Rattle.juniper_intro.specs.HandleView.{of_user}
 use Rattle.juniper_intro.specs.Rooting.{layers_of}
-use Rattle.juniper_resolvable.specs.ResolvedView.{view_resolved}
+use Rattle.juniper_values.specs.ResolvedView.{view_resolved}
 use Rattle.juniper_intro.proofs.rooted.+rooted.Given as goal
 
 abbrev pub decreases-rooted : goal.decreases-rooted

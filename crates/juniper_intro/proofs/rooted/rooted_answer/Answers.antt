@@ -1,8 +1,8 @@
 use Rattle.std.proofs.Common.{◌≡◌, subst, sym, ap, ◌∙◌}
 use Rattle.graphql_spec.specs.Resolvers.{answered, leaf}
 use Rattle.graphql_spec.specs.SeenNodes.{map_reply, map_tree}
-use Rattle.juniper_resolvable.specs.ResolvedView.{Answers, view_resolved}
-use Rattle.juniper_resolvable.proofs.Resolutions.{view-Scalar}
+use Rattle.juniper_values.specs.ResolvedView.{Answers, view_resolved}
+use Rattle.juniper_values.proofs.Resolutions.{view-Scalar}
 use Rattle.juniper_intro.specs.HandleView.{of_user}
 use Rattle.juniper_intro.proofs.rooted.rooted_answer.Goals as goal
 

@@ -2,7 +2,7 @@ use Rattle.std.proofs.Common.{arith, option_map, suc, subst, sym, ap, ◌∙◌}
 use Rattle.graphql_spec.specs.Introspection.{if_any}
 use Rattle.graphql_spec.specs.Resolvers.{answered, node}
 use Rattle.graphql_spec.specs.SeenNodes.{map_tree}
-use Rattle.juniper_resolvable.specs.ResolvedView.{Answers}
+use Rattle.juniper_values.specs.ResolvedView.{Answers}
 use Rattle.juniper_intro.specs.HandleView.{of_handle, view_type_place}
 use Rattle.juniper_intro.specs.Handles.{type_handle}
 use Rattle.juniper_intro.specs.References.{view_reference}

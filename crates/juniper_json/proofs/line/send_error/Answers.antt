@@ -1,5 +1,5 @@
 use Rattle.std.proofs.lemmas.Result.{on_ok_weaker}
-use Rattle.juniper_errors.specs.ErrorView.{view_listed}
+use Rattle.juniper_conversions.specs.ErrorView.{view_listed}
 use Rattle.juniper_json.proofs.Members.{error_sent}
 use Rattle.juniper_json.proofs.line.send_error.Goals as goal
 

@@ -1,6 +1,6 @@
 use Rattle.std.proofs.Common.{arith, refl}
 use Rattle.std.proofs.lemmas.Result.{on_ok_weaker}
-use Rattle.juniper_errors.specs.ErrorView.{view_listed}
+use Rattle.juniper_conversions.specs.ErrorView.{view_listed}
 use Rattle.juniper_json.specs.AnswerText.{error_data}
 use Rattle.juniper_json.proofs.Sending.{list_sent}
 use Rattle.juniper_json.proofs.line.send_errors.Goals as goal

@@ -1,5 +1,5 @@
 use Rattle.std.proofs.Common.{map, drop}
-use Rattle.juniper_errors.specs.ErrorView.{view_listed}
+use Rattle.juniper_conversions.specs.ErrorView.{view_listed}
 use Rattle.juniper_json.specs.AnswerText.{items_data, error_data}
 use Rattle.juniper_json.proofs.Sending.{Goes}
 use Rattle.juniper_json.proofs.line.send_errors.Given as goal

@@ -1,6 +1,6 @@
 use Rattle.std.proofs.Common.{arith, refl}
 use Rattle.std.proofs.lemmas.Result.{on_ok_weaker}
-use Rattle.juniper_errors.specs.SegmentView.{view_segment}
+use Rattle.juniper_conversions.specs.SegmentView.{view_segment}
 use Rattle.juniper_json.specs.AnswerText.{step_data}
 use Rattle.juniper_json.proofs.Sending.{list_sent}
 use Rattle.juniper_json.proofs.line.send_path.Goals as goal

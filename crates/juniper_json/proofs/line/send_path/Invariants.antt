@@ -1,5 +1,5 @@
 use Rattle.std.proofs.Common.{map, drop}
-use Rattle.juniper_errors.specs.SegmentView.{view_segment}
+use Rattle.juniper_conversions.specs.SegmentView.{view_segment}
 use Rattle.juniper_json.specs.AnswerText.{items_data, step_data}
 use Rattle.juniper_json.proofs.Sending.{Goes}
 use Rattle.juniper_json.proofs.line.send_path.Given as goal

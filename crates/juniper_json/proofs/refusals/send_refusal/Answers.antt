@@ -1,6 +1,6 @@
 use Rattle.std.proofs.Common.{ap, option_map}
 use Rattle.std.proofs.lemmas.Result.{on_ok_weaker}
-use Rattle.juniper_position.specs.Positions.{view_position}
+use Rattle.juniper_syntax.specs.Positions.{view_position}
 use Rattle.juniper_json.specs.RefusalText.{view_refusal}
 use Rattle.juniper_json.proofs.Refused.{alone_sent, placed_sent}
 use Rattle.juniper_json.proofs.refusals.send_refusal.Goals as goal

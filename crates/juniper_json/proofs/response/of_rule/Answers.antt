@@ -1,6 +1,6 @@
 use Rattle.std.proofs.Common.{◌∙◌, sym}
-use Rattle.juniper_position.specs.Positions.{view_position}
-use Rattle.juniper_position.specs.RuleView.{view_rule_error}
+use Rattle.juniper_syntax.specs.Positions.{view_position}
+use Rattle.juniper_syntax.specs.RuleView.{view_rule_error}
 use Rattle.juniper_json.proofs.Refused.{first_place, rule_shown}
 use Rattle.juniper_json.proofs.response.of_rule.Goals as goal
 

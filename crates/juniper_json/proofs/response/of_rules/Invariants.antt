@@ -1,6 +1,6 @@
 use Rattle.std.proofs.Common.{◌≡◌, map, take}
-use Rattle.juniper_position.specs.RuleView.{view_rule_error}
-use Rattle.juniper_position.specs.declared.rule.RuleError.{RuleError}
+use Rattle.juniper_syntax.specs.RuleView.{view_rule_error}
+use Rattle.juniper_syntax.specs.declared.rule.RuleError.{RuleError}
 use Rattle.juniper_json.specs.RefusalText.{view_refusal}
 use Rattle.juniper_json.specs.Refusals.{rule_refusal}
 use Rattle.juniper_json.proofs.response.of_rules.Given as goal

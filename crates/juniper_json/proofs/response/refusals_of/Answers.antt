@@ -1,8 +1,8 @@
 use Rattle.std.proofs.Common.{◌∙◌, map, ap, sym}
 use Rattle.std.proofs.lemmas.Result.{IfOk-weaker}
 use Rattle.std.proofs.lemmas.Simd.{map-map}
-use Rattle.juniper_position.specs.RuleView.{view_rule_error}
-use Rattle.juniper_position.specs.declared.rule.RuleError.{RuleError}
+use Rattle.juniper_syntax.specs.RuleView.{view_rule_error}
+use Rattle.juniper_syntax.specs.declared.rule.RuleError.{RuleError}
 use Rattle.juniper.specs.RequestErrors.{view_request_error}
 use Rattle.juniper_json.specs.Refusals.{refusals_of, rule_refusal}
 use Rattle.juniper_json.proofs.response.refusals_of.Goals as goal

@@ -1,6 +1,6 @@
 use Rattle.std.proofs.Common.{map, ap, ◌∙◌}
 use Rattle.juniper_syntax.specs.DocumentView.{view_argument}
-use Rattle.juniper_position.specs.Positions.{view_position, view_span}
+use Rattle.juniper_syntax.specs.Positions.{view_position, view_span}
 use Rattle.juniper_language.specs.ParserViews.{view_given}
 use Rattle.juniper_language.specs.Reading.{argument}
 use Rattle.juniper_language.proofs.RuleSteps.{brackets_found, brackets_deep}

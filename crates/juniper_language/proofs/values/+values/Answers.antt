@@ -1,7 +1,7 @@
 use Rattle.std.proofs.Common.{length, map, Some, ap, sym, ◌∙◌}
 use Rattle.graphql_spec.specs.Documents.{Argument, Word}
 use Rattle.juniper_syntax.specs.InputView.{view_input}
-use Rattle.juniper_position.specs.Positions.{view_spanning}
+use Rattle.juniper_syntax.specs.Positions.{view_spanning}
 use Rattle.juniper_language.specs.ParserViews.{view_member, view_owned}
 use Rattle.juniper_language.specs.Readers.{spanned, until}
 use Rattle.juniper_language.specs.Reading.{value, argument}

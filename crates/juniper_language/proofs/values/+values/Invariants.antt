@@ -3,7 +3,7 @@ use Rattle.juniper_language.specs.Readers as read
 use Rattle.juniper_language.specs.Reading.{value, argument}
 use Rattle.juniper_language.specs.ParserViews.{view_member}
 use Rattle.juniper_syntax.specs.InputView.{view_input}
-use Rattle.juniper_position.specs.Positions.{view_spanning}
+use Rattle.juniper_syntax.specs.Positions.{view_spanning}
 use Rattle.juniper_language.proofs.values.+values.Given as goal
 
 abbrev pub decreases-bracketed : goal.decreases-bracketed

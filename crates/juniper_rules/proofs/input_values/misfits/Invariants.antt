@@ -1,5 +1,5 @@
 use Rattle.std.proofs.Common.{map}
-use Rattle.juniper_position.specs.RuleView.{view_rule_error}
+use Rattle.juniper_syntax.specs.RuleView.{view_rule_error}
 use Rattle.juniper_schema.specs.SchemaView.{view_schema}
 use Rattle.juniper_syntax.specs.DocumentView.{view_variable}
 use Rattle.juniper_rules.specs.GivenView.{view_given_values}

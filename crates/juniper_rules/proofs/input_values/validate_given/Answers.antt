@@ -2,7 +2,7 @@ use Rattle.std.proofs.Common.{ap, ◌∙◌, List, map}
 use Rattle.graphql_spec.specs.Documents.{VariableDefinition}
 use Rattle.graphql_spec.specs.Requests.{variable_errors}
 use Rattle.graphql_spec.specs.Rules.{RuleError}
-use Rattle.juniper_position.specs.RuleView.{view_rule_error}
+use Rattle.juniper_syntax.specs.RuleView.{view_rule_error}
 use Rattle.juniper_schema.specs.SchemaView.{view_schema}
 use Rattle.juniper_syntax.specs.DocumentView.{view_variable}
 use Rattle.juniper_rules.specs.GivenView.{view_given_values}

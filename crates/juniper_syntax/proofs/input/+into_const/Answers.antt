@@ -1,7 +1,7 @@
 use Rattle.std.proofs.Common.{◌≡◌, ◌+◌, ◌≤◌, Some, option_map, unwrap_or, string_bytes, get_or, drop, sym, ap, ap₂, refl, ◌∙◌, arith, rules}
 use denote.Param.Weighed.{at_most}
 use Rattle.graphql_spec.specs.Inputs.{null, item, field_if, const, const_items, const_fields, object, list}
-use Rattle.juniper_position.specs.Positions.{view_span}
+use Rattle.juniper_syntax.specs.Positions.{view_span}
 use Rattle.juniper_syntax.specs.InputView.{view_input, view_items, view_fields, view_variables}
 use Rattle.juniper_syntax.proofs.Inputs.{view-Variable, view-List, view-Object}
 use Rattle.juniper_syntax.proofs.InputLists.{append_items, append_fields, items_turn, items_end, fields_turn, fields_skip, fields_end}

@@ -4,7 +4,7 @@ use Rattle.std.proofs.Common.{◌≤◌, get_or}
 use Rattle.juniper_syntax.proofs.input.InputValue.TheLaws.{the_size}
 use Rattle.juniper_syntax.specs.declared.input.InputValue.TheShapes.{weighed-InputValue-Object-0-at-4}
 use Rattle.graphql_spec.specs.Inputs.{item, input_field, scalar, enumerated, variable, list}
-use Rattle.juniper_position.specs.Positions.{view_span}
+use Rattle.juniper_syntax.specs.Positions.{view_span}
 use Rattle.juniper_syntax.specs.InputView.{view_input, view_items, view_fields}
 use Rattle.juniper_syntax.proofs.Inputs.{view-Scalar, view-Enum, view-Variable, view-List, view-Object}
 use Rattle.juniper_syntax.proofs.InputLists.{append_items, append_fields, items_turn, items_end, fields_turn, fields_end}

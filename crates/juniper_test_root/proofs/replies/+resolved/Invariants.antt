@@ -1,5 +1,5 @@
 use Rattle.std.proofs.Common.{◌≡◌, map, take}
-use Rattle.juniper_resolvable.specs.ResolvedView.{view_resolved}
+use Rattle.juniper_values.specs.ResolvedView.{view_resolved}
 use Rattle.juniper_test_root.specs.Scripts.{view_tree}
 use Rattle.juniper_test_root.proofs.replies.+resolved.Given as goal
 

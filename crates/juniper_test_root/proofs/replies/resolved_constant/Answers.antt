@@ -1,7 +1,7 @@
 use Rattle.std.proofs.Common.{ap, ◌∙◌}
 use Rattle.graphql_spec.specs.Resolvers.{leaf}
 use Rattle.juniper_conversions.proofs.Meanings.{means-Null, means-Scalar, means-Enum, means-Variable, means-List, means-Object}
-use Rattle.juniper_resolvable.proofs.Resolutions.{view-Null, view-Scalar}
+use Rattle.juniper_values.proofs.Resolutions.{view-Null, view-Scalar}
 use Rattle.juniper_test_root.proofs.replies.resolved_constant.Goals as goal
 
 pub returns-in-Null : goal.returns-in-Null

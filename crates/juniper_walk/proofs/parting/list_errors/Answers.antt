@@ -1,8 +1,8 @@
 use Rattle.std.proofs.Common.{map, ap, ◌∙◌}
-use Rattle.juniper_errors.specs.ErrorView.{view_error}
-use Rattle.juniper_errors.specs.PathView.{path_place}
-use Rattle.juniper_errors.specs.SegmentView.{view_part}
-use Rattle.juniper_position.specs.Positions.{view_position}
+use Rattle.juniper_conversions.specs.ErrorView.{view_error}
+use Rattle.juniper_conversions.specs.PathView.{path_place}
+use Rattle.juniper_conversions.specs.SegmentView.{view_part}
+use Rattle.juniper_syntax.specs.Positions.{view_position}
 use Rattle.juniper_walk.proofs.Replies.{listed-more}
 use Rattle.juniper_walk.proofs.parting.list_errors.Goals as goal
 

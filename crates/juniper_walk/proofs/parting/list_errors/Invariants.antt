@@ -1,9 +1,9 @@
 use Rattle.std.proofs.Common.{◌≡◌, map, take}
 use Rattle.graphql_spec.specs.ExactAnswers.{whole}
 use Rattle.juniper_walk.specs.Completing.{view_errors}
-use Rattle.juniper_completion.specs.Skeletons.{listed_spots}
-use Rattle.juniper_errors.specs.ErrorView.{view_listed}
-use Rattle.juniper_position.specs.Positions.{view_position}
+use Rattle.graphql_spec.specs.Skeletons.{listed_spots}
+use Rattle.juniper_conversions.specs.ErrorView.{view_listed}
+use Rattle.juniper_syntax.specs.Positions.{view_position}
 use Rattle.juniper_walk.proofs.parting.list_errors.Given as goal
 
 abbrev pub invariant-loop-error : goal.invariant-loop-error

@@ -1,8 +1,8 @@
 use Rattle.std.proofs.Common.{◌≡◌, [], ◌∷◌, ◌++◌, ap, ◌∙◌, rules}
 use Rattle.juniper_assemble.proofs.Views.{skeleton-Absent, spots-push}
 use Rattle.juniper_assemble.specs.SpotView.{view_faults, view_nodes}
-use Rattle.juniper_errors.specs.ErrorView.{view_error}
-use Rattle.juniper_errors.specs.PathView.{path_place}
+use Rattle.juniper_conversions.specs.ErrorView.{view_error}
+use Rattle.juniper_conversions.specs.PathView.{path_place}
 use Rattle.juniper_walk.specs.Completing.{view_errors}
 use Rattle.juniper_walk.proofs.Replies.{parted-answer, parted-failure, reply-answers, reply-fails}
 use Rattle.juniper_walk.proofs.parting.part_reply.Goals as goal

@@ -1,33 +1,26 @@
-use Rattle.std.proofs.Common.{sym, ap, ◌∙◌, subst}
-use Rattle.graphql_spec.specs.Selections.{occurrences}
-use Rattle.juniper_syntax.specs.DocumentView.{view_selections}
-use Rattle.juniper_collect.specs.Collected.{expansion}
-use Rattle.juniper_collect.specs.Singles.{AreAlone, view_singles}
-use Rattle.juniper_walk.proofs.Answering.{root-agrees, walk-is-answer}
+use Rattle.juniper_walk.proofs.Sorted.{bare-stands, one-enclosing, walk-is-exact, walk-is-of-firsts}
 use Rattle.juniper_walk.proofs.root.answer.Goals as goal
 
-pub object-requires-clause-agree : goal.object-requires-clause-agree
-object-requires-clause-agree g c =
-    let shown = g.S.ScalarValue.shown in
-    let W = g.R.Completer.world c.args.walk.now.collector.possible in
-    let s = expansion shown c.args.walk.now.collector (view_selections shown c.args.selections.now) in
-    let T = c.args.concrete.now in
-    let fields = ap (view_singles shown c.args.walk.now.collector) c.deref.ensures.value
-    ∙ (c.in_ok-fields.ensures.fields ∙ ap (λ p. occurrences p T s) c.requires.ready.same) in
-    root-agrees W s c.args.root.now T _ fields c.requires.agree
+pub root_groups-requires-clause-standing : goal.root_groups-requires-clause-standing
+root_groups-requires-clause-standing g c =
+    bare-stands g.S.ScalarValue.shown c.args.walk.now.collector (g.R.Resolver.asks c.args.walk.now.collector.possible)
+    (g.R.Conditions.possible c.args.walk.now.collector.possible) c.in_ok-plan.plan
+    c.in_ok-plan.ensures
 
-pub object-requires-clause-alone : goal.object-requires-clause-alone
-object-requires-clause-alone g c =
-    subst (λ fs. AreAlone g.S.ScalarValue.shown c.args.walk.now.collector (g.R.Conditions.possible c.args.walk.now.collector.possible) c.args.concrete.now fs)
-    (sym c.deref.ensures.value) c.in_ok-fields.ensures.alone
+pub execute_selection_set-requires-clause-standing : goal.execute_selection_set-requires-clause-standing
+execute_selection_set-requires-clause-standing g c = c.in_ok-groups.ensures.standing
 
-pub returns : goal.returns
-returns g c =
-    let shown = g.S.ScalarValue.shown in
-    let W = g.R.Completer.world c.args.walk.now.collector.possible in
-    let s = expansion shown c.args.walk.now.collector (view_selections shown c.args.selections.now) in
-    let T = c.args.concrete.now in
-    let fields = ap (view_singles shown c.args.walk.now.collector) c.deref.ensures.value
-    ∙ (c.in_ok-fields.ensures.fields ∙ ap (λ p. occurrences p T s) c.requires.ready.same) in
-    walk-is-answer W s c.args.root.now T _ _ _ _ _ c.in_ok-path.ensures fields c.in_ok-walked.ensures c.in_ok-sort_errors.ensures.counted
-    c.in_ok-sort_errors.ensures.sorted
+pub execute_selection_set-requires-clause-groups : goal.execute_selection_set-requires-clause-groups
+execute_selection_set-requires-clause-groups g c = c.in_ok-groups.ensures.stands
+
+pub returns-clause-exact : goal.returns-clause-exact
+returns-clause-exact g c =
+    walk-is-exact (g.R.Completer.world c.args.walk.now.collector.possible) c.args.concrete.now c.args.root.now _ _
+    (one-enclosing g.S.ScalarValue.shown c.args.walk.now.collector (record { selections = c.args.selections })) _ c.in_ok-path.ensures _ _ _
+    c.in_ok-walked.ensures.walked c.in_ok-sort_errors.ensures.counted c.in_ok-sort_errors.ensures.sorted
+
+pub returns-clause-firsts : goal.returns-clause-firsts
+returns-clause-firsts g c =
+    walk-is-of-firsts (g.R.Completer.world c.args.walk.now.collector.possible) c.args.concrete.now c.args.root.now _ _
+    (one-enclosing g.S.ScalarValue.shown c.args.walk.now.collector (record { selections = c.args.selections })) _ c.in_ok-path.ensures _ _ _
+    c.in_ok-walked.ensures.walked c.in_ok-sort_errors.ensures.counted

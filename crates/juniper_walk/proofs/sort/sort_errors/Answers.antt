@@ -2,7 +2,7 @@ use Rattle.std.proofs.Common.{rules}
 use Rattle.std.proofs.lemmas.Result.{on_ok_weaker}
 use Rattle.std.proofs.lemmas.List.MinMax.{ranks_by}
 use Rattle.std.proofs.lemmas.List.Sorted.{answers_always}
-use Rattle.juniper_errors.specs.ErrorView.{view_listed}
+use Rattle.juniper_conversions.specs.ErrorView.{view_listed}
 use Rattle.graphql_spec.proofs.ErrorOrder.{compare_total}
 use Rattle.juniper_walk.proofs.ErrorSorting.{is_sorted_by, counts_stay}
 use Rattle.juniper_walk.proofs.sort.sort_errors.Goals as goal

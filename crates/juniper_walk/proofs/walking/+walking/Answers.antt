@@ -1,136 +1,505 @@
-use Rattle.std.proofs.Common.{◌≡◌, ◌<◌, ◌≤◌, ◌+◌, map, take, drop, refl, sym, ap, ◌∙◌, subst, arith, rules}
-use Rattle.graphql_spec.specs.Documents.{response_key}
-use Rattle.graphql_spec.specs.Selections.{depth, occurrences}
-use Rattle.juniper_syntax.specs.ValueView.{view_value}
+use Rattle.std.proofs.Common.{◌≡◌, ◌<◌, ◌≤◌, ◌+◌, ◌-◌, ◌*◌, [], false, length, map, take, refl, sym, ap, ◌∙◌, subst, arith, rules}
+use Rattle.std.proofs.lemmas.List.{length-map}
+use Rattle.std.specs.Vec.Iter.{into_iter_items}
+use Rattle.graphql_spec.specs.ExactAnswers.{whole}
+use Rattle.graphql_spec.specs.GroupLaws.{first_start}
+use Rattle.graphql_spec.specs.Selections.{all_below, depth, keys, occurrences}
+use Rattle.juniper_syntax.specs.ValueView.{view_object}
 use Rattle.juniper_syntax.proofs.Values.{view-Null, view-Object}
-use Rattle.juniper_errors.specs.ErrorView.{view_listed}
+use Rattle.juniper_conversions.specs.ErrorView.{view_listed}
 use Rattle.juniper_assemble.specs.SpotView.{view_nodes, view_spot}
-use Rattle.juniper_collect.specs.Collected.{view_collected}
-use Rattle.juniper_collect.specs.Singles.{AreAlone, IsAlone, view_singles}
-use Rattle.juniper_collect.specs.declared.singles.Single.{Single}
-use Rattle.juniper_walk.specs.Walking.{AllAgree, AreReached, deepest}
-use Rattle.juniper_walk.proofs.Additions.{collected-below}
-use Rattle.juniper_walk.proofs.Preparation.{same-head}
-use Rattle.juniper_walk.proofs.Depths.{shallower-than}
-use Rattle.juniper_walk.proofs.Slices.{added-for, agree-at, nodes-at, reached-at, seen-in, shallow-at, split-one, taken-all, taken-one}
-use Rattle.juniper_walk.proofs.Turns.{none-yet, one-more, reached-agree, start-walking, walked-at, walking-ends, through-null, walking-on, walking-stops}
+use Rattle.juniper_collect.specs.Collected.{view_all}
+use Rattle.graphql_spec.specs.NodeLaws.{AreWalkedOnce}
+use Rattle.juniper_walk.proofs.Slices.{taken-all, taken-one}
+use Rattle.juniper_walk.specs.Plans.{IsStanding, IsStep, StandsFor, all_expanded, fields_at, key_at}
+use Rattle.juniper_walk.specs.Leaves.{IsTaken}
+use Rattle.juniper_walk.specs.Rows.{AreAdded, AreOfType, AreRows, listed_of, values_of}
+use Rattle.juniper_walk.proofs.Leaves.{leaf-put}
+use Rattle.juniper_walk.proofs.Nodes.{none-yet}
+use Rattle.juniper_walk.proofs.Rounds.{all-keys, group-asked, group-bound, group-falls, group-is, group-next, group-stops, group-walked, groups-walked, more-steps}
+use Rattle.juniper_walk.proofs.Rounds.{next-keys, no-step, node-falls, run-walked, step-made, still-selected, still-stands, take-none}
+use Rattle.juniper_walk.proofs.Turns.{start-walking}
+use Rattle.juniper_walk.proofs.Holes.{prepared-holes}
+use Rattle.juniper_walk.proofs.Waiting.{added-more, none-added, objects-handed, rows-counted, rows-end, rows-fresh, seen-slice, typed-at, typed-one}
+use Rattle.juniper_walk.specs.Walking.{IsReadyWalk}
 use Rattle.juniper_walk.proofs.walking.+walking.Goals as goal
+use Rattle.juniper_walk.proofs.walking.+walking.Goals.{execute_selection_set-in-Leaf+in_ok-put_leaf-in-Leaf}
+use Rattle.juniper_walk.proofs.walking.+walking.Goals.{execute_selection_set-in-Apart+in_ok-objects_of-in-Apart+in_ok-rises-in-Apart+else-rises}
 
-pub object-loop-single-init : goal.object-loop-single-init
-object-loop-single-init g t c =
-    start-walking _ _ _ _ _ _ _ _ refl c.in_ok-entries.ensures (ap (map (view_listed g.S.ScalarValue.shown)) c.new-errors.ensures.items)
-
-pub object-prepare-requires-clause-alone : goal.object-prepare-requires-clause-alone
-object-prepare-requires-clause-alone g t c =
-    let x = c.single-item.result in
-    let alone : AreAlone g.S.ScalarValue.shown c.args.walk.now.collector (g.R.Conditions.possible c.args.walk.now.collector.possible) c.args.concrete.now
-    c.args.fields.now = c.requires.1.1.1.1.1.1.1.1 in
-    subst (λ s. IsAlone g.S.ScalarValue.shown c.args.walk.now.collector (g.R.Conditions.possible c.args.walk.now.collector.possible) c.args.concrete.now s)
-    (sym c.single-item.is) (alone c.loop-single.single-index x c.loop-single-test.true)
-
-pub object-objects_of-requires : goal.object-objects_of-requires
-object-objects_of-requires g t c κs within =
+pub execute_selection_set-loop-number-init : goal.execute_selection_set-loop-number-init
+execute_selection_set-loop-number-init g t c =
     let shown = g.S.ScalarValue.shown in
+    let collector = c.args.walk.now.collector in
+    let asks = g.R.Resolver.asks c.args.walk.now.collector.possible in
+    let possible = g.R.Conditions.possible c.args.walk.now.collector.possible in
     let W = g.R.Completer.world c.args.walk.now.collector.possible in
-    let T = c.args.concrete.now in
-    let view = λ (x : Single g.row.S.Denot). view_collected shown c.args.walk.now.collector x.field.now in
-    let i = c.loop-single.single-index in
-    let os = c.args.fields.now in
-    let x = c.single-item.result in
-    let split = split-one view os i x c.loop-single-test.true c.single-item.is in
-    let less : depth (view x).below < deepest (map view os) = shallower-than (map view os) (map view (take i os)) (map view (drop (i + 1) os)) (view x) split in
-    let agree : AllAgree W T (map view os) = c.requires.1.1.1.1.1.1.1.0 in
-    let reached : AreReached W (view_nodes c.deref.result.now) (view x).below =
-    reached-at W (view x).below _ _ (ap view_nodes c.deref.ensures.value) (reached-agree W _ T c.args.node.now (map view os) agree _ _
-    (view x) split _ _ _ _ c.in_ok-prepared.ensures) in
-    (omega (arith, less), search (rules, reached))
+    let standing : IsStanding shown collector asks possible c.args.plan.now = c.requires.1.1.1.1.1.1.1.0 in
+    record {
+      step = no-step shown collector asks possible c.args.plan.now standing;
+      walked = start-walking W _ c.args.concrete.now c.args.node.now _ _ _ _ (take-none _ (c.args.groups.first.0 - c.args.groups.first.0) (omega arith))
+          c.in_ok-entries.ensures (ap (map (view_listed shown)) c.new-errors.ensures.items);
+    }
 
-pub object-add_field-requires : goal.object-add_field-requires
-object-add_field-requires g t c = record { entries = c.loop-single.invariant.keyed; walked = c.in_ok-walked.ensures.keyed }
-
-pub object-loop-single-preserved : goal.object-loop-single-preserved
-object-loop-single-preserved g t c =
+pub execute_selection_set-execute_field-requires-clause-bound : goal.execute_selection_set-execute_field-requires-clause-bound
+execute_selection_set-execute_field-requires-clause-bound g t c =
     let shown = g.S.ScalarValue.shown in
+    let collector = c.args.walk.now.collector in
+    let asks = g.R.Resolver.asks c.args.walk.now.collector.possible in
+    let possible = g.R.Conditions.possible c.args.walk.now.collector.possible in
+    let s = all_expanded shown collector c.args.enclosing.now in
+    let standing : IsStanding shown collector asks possible c.args.plan.now = c.requires.1.1.1.1.1.1.1.0 in
+    let stands : StandsFor shown collector asks c.args.concrete.now c.args.plan.now c.args.groups (occurrences possible c.args.concrete.now s)
+    = c.requires.1.1.1.1.1.1.1.1 in
+    group-bound shown collector asks possible c.args.plan.now c.loop-number.plan c.args.groups c.args.concrete.now s standing stands
+    c.loop-number.invariant.step
+    c.loop-number.number c.loop-number.auto.number c.loop-number-test.true
+
+pub execute_selection_set-execute_field-requires-clause-whole : goal.execute_selection_set-execute_field-requires-clause-whole
+execute_selection_set-execute_field-requires-clause-whole g t c =
+    let shown = g.S.ScalarValue.shown in
+    let collector = c.args.walk.now.collector in
+    let asks = g.R.Resolver.asks c.args.walk.now.collector.possible in
+    let possible = g.R.Conditions.possible c.args.walk.now.collector.possible in
+    let s = all_expanded shown collector c.args.enclosing.now in
+    let standing : IsStanding shown collector asks possible c.args.plan.now = c.requires.1.1.1.1.1.1.1.0 in
+    let stands : StandsFor shown collector asks c.args.concrete.now c.args.plan.now c.args.groups (occurrences possible c.args.concrete.now s)
+    = c.requires.1.1.1.1.1.1.1.1 in
+    group-is shown collector asks possible c.args.plan.now c.loop-number.plan c.args.groups c.args.concrete.now s standing stands c.loop-number.invariant.step
+    c.loop-number.number c.loop-number.auto.number c.loop-number-test.true
+
+pub execute_selection_set-execute_field-requires-clause-asked : goal.execute_selection_set-execute_field-requires-clause-asked
+execute_selection_set-execute_field-requires-clause-asked g t c =
+    let shown = g.S.ScalarValue.shown in
+    let collector = c.args.walk.now.collector in
+    let asks = g.R.Resolver.asks c.args.walk.now.collector.possible in
+    let possible = g.R.Conditions.possible c.args.walk.now.collector.possible in
+    let s = all_expanded shown collector c.args.enclosing.now in
+    let standing : IsStanding shown collector asks possible c.args.plan.now = c.requires.1.1.1.1.1.1.1.0 in
+    let stands : StandsFor shown collector asks c.args.concrete.now c.args.plan.now c.args.groups (occurrences possible c.args.concrete.now s) =
+    c.requires.1.1.1.1.1.1.1.1 in
+    group-asked shown collector asks possible c.args.plan.now c.loop-number.plan c.args.groups c.args.concrete.now s standing stands
+    c.loop-number.invariant.step c.loop-number.number c.loop-number.auto.number c.loop-number-test.true
+
+pub execute_selection_set-objects_of-requires : goal.execute_selection_set-objects_of-requires
+execute_selection_set-objects_of-requires g t c κs within =
+    let shown = g.S.ScalarValue.shown in
+    let collector = c.args.walk.now.collector in
+    let asks = g.R.Resolver.asks c.args.walk.now.collector.possible in
+    let possible = g.R.Conditions.possible c.args.walk.now.collector.possible in
+    let s = all_expanded shown collector c.args.enclosing.now in
+    let standing : IsStanding shown collector asks possible c.args.plan.now = c.requires.1.1.1.1.1.1.1.0 in
+    let stands : StandsFor shown collector asks c.args.concrete.now c.args.plan.now c.args.groups (occurrences possible c.args.concrete.now s)
+    = c.requires.1.1.1.1.1.1.1.1 in
+    let bound : c.loop-number.number < length c.loop-number.plan.groups.items =
+    group-bound shown collector asks possible c.args.plan.now c.loop-number.plan c.args.groups c.args.concrete.now s standing stands
+    c.loop-number.invariant.step
+    c.loop-number.number c.loop-number.auto.number c.loop-number-test.true in
+    let falls : 3 * depth (all_below (view_all shown collector (fields_at c.loop-number.plan c.loop-number.number))) + 2 < 3 * depth s =
+    group-falls shown collector asks possible c.args.plan.now c.loop-number.plan c.args.groups c.args.concrete.now s standing stands
+    c.loop-number.invariant.step
+    c.loop-number.number c.loop-number.auto.number c.loop-number-test.true in
+    let still : IsStanding shown collector asks possible c.loop-number.plan = c.loop-number.invariant.step.standing in
+    (omega (arith, falls), search (rules, bound, still))
+
+pub execute_selection_set-loop-number-preserved : goal.execute_selection_set-loop-number-preserved
+execute_selection_set-loop-number-preserved g t c =
+    let shown = g.S.ScalarValue.shown in
+    let collector = c.args.walk.now.collector in
+    let asks = g.R.Resolver.asks c.args.walk.now.collector.possible in
+    let possible = g.R.Conditions.possible c.args.walk.now.collector.possible in
     let W = g.R.Completer.world c.args.walk.now.collector.possible in
-    let T = c.args.concrete.now in
-    let view = λ (x : Single g.row.S.Denot). view_collected shown c.args.walk.now.collector x.field.now in
-    let i = c.loop-single.single-index in
-    let os = c.args.fields.now in
-    let x = c.single-item.result in
-    let split = split-one view os i x c.loop-single-test.true c.single-item.is in
-    let agree : AllAgree W T (map view os) = c.requires.1.1.1.1.1.1.1.0 in
-    let nodes = nodes-at W _ _ _ _ _ (ap view_nodes c.deref.ensures.value) c.in_ok-walked.ensures in
-    let head = same-head shown c.args.walk.now.collector x.field.now in
-    let added = added-for _ _ _ _ _ _ _ _ _ _ _ (ap response_key (sym head)) c.in_ok-rises.ensures in
-    walking-on W _ T c.args.node.now (map view os) agree _ _ (view x) split _ _ _ _ c.loop-single.invariant _ _ _ _ _ _ c.in_ok-prepared.ensures nodes _
-    added _ (taken-one view os i x c.loop-single-test.true c.single-item.is) c.if-rises.false
+    let s = all_expanded shown collector c.args.enclosing.now in
+    let standing : IsStanding shown collector asks possible c.args.plan.now = c.requires.1.1.1.1.1.1.1.0 in
+    let stands : StandsFor shown collector asks c.args.concrete.now c.args.plan.now c.args.groups (occurrences possible c.args.concrete.now s)
+    = c.requires.1.1.1.1.1.1.1.1 in
+    let ready : IsReadyWalk shown g.R.Conditions.possible g.R.Resolver.values W c.args.walk.now = c.requires.1.1.1.1.1.1.0 in
+    let same : possible ≡ W.possible = ready.same in
+    elim c.match-taken.branch [
+      | execute_selection_set-in-Leaf+in_ok-put_leaf-in-Leaf w ↦
+          let leaf = subst (IsTaken W shown _ c.args.concrete.now c.args.node.now _ _) w.in-Leaf.is c.in_ok-taken.ensures in
+          record {
+            step = subst (IsStep shown collector asks possible c.args.plan.now) (sym w.plan-is) c.loop-number.invariant.step;
+            walked = group-walked shown collector asks possible c.args.plan.now c.loop-number.plan c.args.groups c.args.concrete.now s standing stands
+                c.loop-number.invariant.step c.loop-number.number c.loop-number.auto.number c.loop-number-test.true W same _ c.args.node.now _ _ _ _
+                c.loop-number.invariant.walked _ _ _ [] [] [] [] [] leaf refl (none-yet W _ [] [] [] refl refl refl) false
+                (leaf-put _ _ _ _ _ _ _ (ap (view_object shown) w.entries-is ∙ w.in_ok-put_leaf-in-Leaf.ensures)
+                (ap (λ l. map (view_listed shown) l.items) w.errors-is)) refl;
+          }
+      | execute_selection_set-in-Apart+in_ok-objects_of-in-Apart+in_ok-rises-in-Apart+else-rises w ↦
+          let apart = subst (IsTaken W shown _ c.args.concrete.now c.args.node.now _ _) w.in-Apart.is c.in_ok-taken.ensures in
+          let same_nodes = ap view_nodes w.deref.ensures.value in
+          let nodes = objects-handed W _ _ (view_nodes w.deref.result.now) shown w.in_ok-objects_of-in-Apart.field-0.items
+          (into_iter_items w.into_iter-below.result) _ _ w.into_iter-below.ensures.rest w.in_ok-objects_of-in-Apart.ensures.walked
+          (prepared-holes W _ c.args.concrete.now c.args.node.now _ _ _ _ _ _ _ apart ∙ ap length (sym same_nodes)) refl refl in
+          rw (w.plan-is, w.entries-is, w.errors-is) (record {
+            step = more-steps shown collector asks possible c.args.plan.now c.loop-number.plan w.objects_of.new.plan c.loop-number.invariant.step
+                w.in_ok-objects_of-in-Apart.ensures.plan;
+            walked = group-walked shown collector asks possible c.args.plan.now c.loop-number.plan c.args.groups c.args.concrete.now s standing stands
+                c.loop-number.invariant.step c.loop-number.number c.loop-number.auto.number c.loop-number-test.true W same _ c.args.node.now _ _ _ _
+                c.loop-number.invariant.walked _ _ _ _ _ _ _ _ apart same_nodes nodes _
+                w.in_ok-rises-in-Apart.ensures.put_in w.if-rises.false;
+          })
+    ]
 
-pub object-returns-then-rises : goal.object-returns-then-rises
-object-returns-then-rises g t c =
+pub execute_selection_set-returns-then-rises : goal.execute_selection_set-returns-then-rises
+execute_selection_set-returns-then-rises g t c =
     let shown = g.S.ScalarValue.shown in
+    let collector = c.args.walk.now.collector in
+    let asks = g.R.Resolver.asks c.args.walk.now.collector.possible in
+    let possible = g.R.Conditions.possible c.args.walk.now.collector.possible in
     let W = g.R.Completer.world c.args.walk.now.collector.possible in
-    let T = c.args.concrete.now in
-    let view = λ (x : Single g.row.S.Denot). view_collected shown c.args.walk.now.collector x.field.now in
-    let i = c.loop-single.single-index in
-    let os = c.args.fields.now in
-    let x = c.single-item.result in
-    let split = split-one view os i x c.loop-single-test.true c.single-item.is in
-    let agree : AllAgree W T (map view os) = c.requires.1.1.1.1.1.1.1.0 in
-    let nodes = nodes-at W _ _ _ _ _ (ap view_nodes c.deref.ensures.value) c.in_ok-walked.ensures in
-    let head = same-head shown c.args.walk.now.collector x.field.now in
-    let added = added-for _ _ _ _ _ _ _ _ _ _ _ (ap response_key (sym head)) c.in_ok-rises.ensures in
-    through-null W _ _ _ _ _ _ (view-Null shown)
-    (walking-stops W _ T c.args.node.now (map view os) agree _ _ (view x) split _ _ _ _ c.loop-single.invariant _ _ _ _ _ _ c.in_ok-prepared.ensures nodes
-    _ added c.if-rises.true)
+    let s = all_expanded shown collector c.args.enclosing.now in
+    let standing : IsStanding shown collector asks possible c.args.plan.now = c.requires.1.1.1.1.1.1.1.0 in
+    let stands : StandsFor shown collector asks c.args.concrete.now c.args.plan.now c.args.groups (occurrences possible c.args.concrete.now s)
+    = c.requires.1.1.1.1.1.1.1.1 in
+    let ready : IsReadyWalk shown g.R.Conditions.possible g.R.Resolver.values W c.args.walk.now = c.requires.1.1.1.1.1.1.0 in
+    let same : possible ≡ W.possible = ready.same in
+    let apart = subst (IsTaken W shown _ c.args.concrete.now c.args.node.now _ _) c.in-Apart.is c.in_ok-taken.ensures in
+    let same_nodes = ap view_nodes c.deref.ensures.value in
+    let nodes = objects-handed W _ _ (view_nodes c.deref.result.now) shown c.in_ok-objects_of-in-Apart.field-0.items
+    (into_iter_items c.into_iter-below.result) _ _ c.into_iter-below.ensures.rest c.in_ok-objects_of-in-Apart.ensures.walked
+    (prepared-holes W _ c.args.concrete.now c.args.node.now _ _ _ _ _ _ _ apart ∙ ap length (sym same_nodes)) refl refl in
+    record {
+      plan = more-steps shown collector asks possible c.args.plan.now c.loop-number.plan c.objects_of.new.plan c.loop-number.invariant.step
+          c.in_ok-objects_of-in-Apart.ensures.plan;
+      walked = group-stops shown collector asks possible c.args.plan.now c.loop-number.plan c.args.groups c.args.concrete.now s standing stands
+          c.loop-number.invariant.step c.loop-number.number c.loop-number.auto.number c.loop-number-test.true W same _ c.args.node.now _ _ _ _
+          c.loop-number.invariant.walked _ _ _ _ _ _ _ _ apart same_nodes nodes _
+          c.in_ok-rises-in-Apart.ensures.put_in _ (view-Null shown) c.if-rises.true;
+    }
 
-pub object-returns : goal.object-returns
-object-returns g t c =
+pub execute_selection_set-returns : goal.execute_selection_set-returns
+execute_selection_set-returns g t c =
     let shown = g.S.ScalarValue.shown in
-    walking-ends _ _ _ _ _ _ _ _ _ (taken-all (λ o. view_collected shown c.args.walk.now.collector o.field.now) c.args.fields.now
-    c.loop-single.single-index c.loop-single-test.false)
-    (view-Object shown c.loop-single.entries) c.loop-single.invariant
-
-pub objects_of-loop-spot-init : goal.objects_of-loop-spot-init
-objects_of-loop-spot-init g t c =
-    let shown = g.S.ScalarValue.shown in
-    none-yet _ _ _ _ _ refl (ap (map (view_value shown)) c.new-values.ensures.items) (ap (map (view_listed shown)) c.new-errors.ensures.items)
-
-pub objects_of-object-requires : goal.objects_of-object-requires
-objects_of-object-requires g t c κs within =
-    let shown = g.S.ScalarValue.shown in
+    let collector = c.args.walk.now.collector in
+    let asks = g.R.Resolver.asks c.args.walk.now.collector.possible in
+    let possible = g.R.Conditions.possible c.args.walk.now.collector.possible in
     let W = g.R.Completer.world c.args.walk.now.collector.possible in
-    let below = (view_collected shown c.args.walk.now.collector c.args.field.now).below in
+    let s = all_expanded shown collector c.args.enclosing.now in
+    let stands : StandsFor shown collector asks c.args.concrete.now c.args.plan.now c.args.groups (occurrences possible c.args.concrete.now s)
+    = c.requires.1.1.1.1.1.1.1.1 in
+    let ready : IsReadyWalk shown g.R.Conditions.possible g.R.Resolver.values W c.args.walk.now = c.requires.1.1.1.1.1.1.0 in
+    let same : possible ≡ W.possible = ready.same in
+    record {
+      plan = c.loop-number.invariant.step;
+      walked = groups-walked shown collector asks possible c.args.plan.now c.args.groups c.args.concrete.now s stands c.loop-number.number
+          c.loop-number-test.false W same _ c.args.node.now _ _ _ (view-Object shown c.loop-number.entries) c.loop-number.invariant.walked;
+    }
+
+pub objects_of-returns-then-is_empty-clause-plan : goal.objects_of-returns-then-is_empty-clause-plan
+objects_of-returns-then-is_empty-clause-plan g t c =
+    no-step g.S.ScalarValue.shown c.args.walk.now.collector (g.R.Resolver.asks c.args.walk.now.collector.possible)
+    (g.R.Conditions.possible c.args.walk.now.collector.possible) c.args.plan.now c.requires.standing
+
+pub objects_of-loop-start-init : goal.objects_of-loop-start-init
+objects_of-loop-start-init g t c =
+    let shown = g.S.ScalarValue.shown in
+    let collector = c.args.walk.now.collector in
+    let asks = g.R.Resolver.asks c.args.walk.now.collector.possible in
+    let possible = g.R.Conditions.possible c.args.walk.now.collector.possible in
+    let W = g.R.Completer.world c.args.walk.now.collector.possible in
+    record {
+      step = no-step shown collector asks possible c.args.plan.now c.requires.standing;
+      inside = omega arith;
+      walked = subst (λ l. AreWalkedOnce whole first_start W (all_below (view_all shown collector (fields_at c.args.plan.now c.args.group.0))) []
+          (values_of shown l) (listed_of shown l)) (sym c.in_ok-done.ensures.items) tt;
+    }
+
+pub objects_of-groups_below-requires-clause-selected : goal.objects_of-groups_below-requires-clause-selected
+objects_of-groups_below-requires-clause-selected g t c =
+    let shown = g.S.ScalarValue.shown in
+    let collector = c.args.walk.now.collector in
+    let asks = g.R.Resolver.asks c.args.walk.now.collector.possible in
+    let possible = g.R.Conditions.possible c.args.walk.now.collector.possible in
+    let selected = ap (all_expanded shown collector) c.deref.ensures.value ∙ (c.in_ok-enclosing.ensures
+    ∙ ap (λ l. all_below (view_all shown collector l)) c.fields.ensures) in
+    still-selected shown collector asks possible c.args.plan.now c.loop-start.plan c.args.group.0 c.requires.standing c.requires.bound
+    c.loop-start.invariant.step _ selected
+
+pub objects_of-run_end-end-requires-clause-first : goal.objects_of-run_end-end-requires-clause-first
+objects_of-run_end-end-requires-clause-first g t c =
+    let W = g.R.Completer.world c.args.walk.now.collector.possible in
+    typed-one W c.concrete_type_name-concrete.result.now c.args.nodes.now c.loop-start.start c.index-nodes-start.result c.loop-start-test.true
+    c.index-nodes-start.is (c.concrete_type_name-concrete.ensures ∙ ap (λ n. W.concrete n.what) (sym c.index-nodes-start.is))
+
+pub objects_of-one_by_one-requires : goal.objects_of-one_by_one-requires
+objects_of-one_by_one-requires g t c κs within =
+    let shown = g.S.ScalarValue.shown in
+    let collector = c.args.walk.now.collector in
+    let asks = g.R.Resolver.asks c.args.walk.now.collector.possible in
+    let possible = g.R.Conditions.possible c.args.walk.now.collector.possible in
+    let W = g.R.Completer.world c.args.walk.now.collector.possible in
     let T = c.concrete_type_name-concrete.result.now in
-    let fields : view_singles shown c.args.walk.now.collector c.deref.result.now ≡ occurrences W.possible T below =
-    ap (view_singles shown c.args.walk.now.collector) c.deref.ensures.value
-    ∙ collected-below shown c.args.walk.now.collector c.args.field.now _ _ W.possible T _ c.requires.ready.same c.selections_of-selections.ensures
-    c.in_ok-fields.ensures.fields in
-    let shallow : deepest (view_singles shown c.args.walk.now.collector c.deref.result.now) ≤ depth below = shallow-at W below T _ fields in
-    let agree : AllAgree W T (view_singles shown c.args.walk.now.collector c.deref.result.now) =
-    agree-at W below (view_nodes c.args.nodes.now) (view_spot (λ n. n) c.spot-item.result) T _ c.requires.agree
-    (seen-in (view_spot (λ n. n)) c.args.nodes.now c.loop-spot.spot-index c.spot-item.result c.loop-spot-test.true c.spot-item.is)
-    c.concrete_type_name-concrete.ensures fields in
-    let alone : AreAlone shown c.args.walk.now.collector (g.R.Conditions.possible c.args.walk.now.collector.possible) T c.deref.result.now =
-    subst (λ fs. AreAlone shown c.args.walk.now.collector (g.R.Conditions.possible c.args.walk.now.collector.possible) T fs) (sym c.deref.ensures.value)
-    c.in_ok-fields.ensures.alone in
-    (omega (arith, c.decreases, shallow), search (rules, agree, alone))
+    let selected = ap (all_expanded shown collector) c.deref-else-is_column.ensures.value ∙ (c.in_ok-enclosing.ensures
+    ∙ ap (λ l. all_below (view_all shown collector l)) c.fields.ensures) in
+    let falls : 3 * depth (all_expanded shown collector c.deref-else-is_column.result.now) + 1
+    < 3 * depth (all_below (view_all shown collector (fields_at c.args.plan.now c.args.group.0))) + 2 =
+    node-falls shown collector asks possible c.args.plan.now c.loop-start.plan c.args.group.0 c.requires.standing c.requires.bound c.loop-start.invariant.step _
+    selected in
+    let same : all_expanded shown collector c.deref.result.now ≡ all_expanded shown collector c.deref-else-is_column.result.now =
+    ap (all_expanded shown collector) (c.deref.ensures.value ∙ sym c.deref-else-is_column.ensures.value) in
+    let standing : IsStanding shown collector asks possible c.groups_below.new.plan = c.in_ok-groups.ensures.standing in
+    let groups : StandsFor shown collector asks T c.groups_below.new.plan c.in_ok-groups.groups
+    (occurrences possible T (all_expanded shown collector c.deref-else-is_column.result.now)) =
+    subst (λ s. StandsFor shown collector asks T c.groups_below.new.plan c.in_ok-groups.groups (occurrences possible T s)) same c.in_ok-groups.ensures.stands in
+    let typed = c.run_end-end.ensures.typed in
+    (omega (arith, c.decreases, falls), search (rules, standing, groups, typed))
 
-pub objects_of-loop-spot-preserved : goal.objects_of-loop-spot-preserved
-objects_of-loop-spot-preserved g t c =
+pub objects_of-rows_of-requires : goal.objects_of-rows_of-requires
+objects_of-rows_of-requires g t c κs within =
+    let shown = g.S.ScalarValue.shown in
+    let collector = c.args.walk.now.collector in
+    let asks = g.R.Resolver.asks c.args.walk.now.collector.possible in
+    let possible = g.R.Conditions.possible c.args.walk.now.collector.possible in
+    let W = g.R.Completer.world c.args.walk.now.collector.possible in
+    let T = c.concrete_type_name-concrete.result.now in
+    let selected = ap (all_expanded shown collector) c.deref-then-is_column.ensures.value ∙ (c.in_ok-enclosing.ensures
+    ∙ ap (λ l. all_below (view_all shown collector l)) c.fields.ensures) in
+    let falls : 3 * depth (all_expanded shown collector c.deref-then-is_column.result.now) + 1
+    < 3 * depth (all_below (view_all shown collector (fields_at c.args.plan.now c.args.group.0))) + 2 =
+    node-falls shown collector asks possible c.args.plan.now c.loop-start.plan c.args.group.0 c.requires.standing c.requires.bound c.loop-start.invariant.step _
+    selected in
+    let same : all_expanded shown collector c.deref.result.now ≡ all_expanded shown collector c.deref-then-is_column.result.now =
+    ap (all_expanded shown collector) (c.deref.ensures.value ∙ sym c.deref-then-is_column.ensures.value) in
+    let standing : IsStanding shown collector asks possible c.groups_below.new.plan = c.in_ok-groups.ensures.standing in
+    let groups : StandsFor shown collector asks T c.groups_below.new.plan c.in_ok-groups.groups
+    (occurrences possible T (all_expanded shown collector c.deref-then-is_column.result.now)) =
+    subst (λ s. StandsFor shown collector asks T c.groups_below.new.plan c.in_ok-groups.groups (occurrences possible T s)) same c.in_ok-groups.ensures.stands in
+    (omega (arith, c.decreases, falls), search (rules, standing, groups))
+
+pub objects_of-loop-start-preserved-in_ok-end_rows : goal.objects_of-loop-start-preserved-in_ok-end_rows
+objects_of-loop-start-preserved-in_ok-end_rows g t c =
+    let shown = g.S.ScalarValue.shown in
+    let collector = c.args.walk.now.collector in
+    let asks = g.R.Resolver.asks c.args.walk.now.collector.possible in
+    let possible = g.R.Conditions.possible c.args.walk.now.collector.possible in
+    let W = g.R.Completer.world c.args.walk.now.collector.possible in
+    let T = c.concrete_type_name-concrete.result.now in
+    let selected = ap (all_expanded shown collector) c.deref-then-is_column.ensures.value ∙ (c.in_ok-enclosing.ensures
+    ∙ ap (λ l. all_below (view_all shown collector l)) c.fields.ensures) in
+    let some = c.run_end-end.ensures.some in
+    let low : c.loop-start.start ≤ c.run_end-end.result = omega (arith, some) in
+    let run = rows-end W _ T shown _ (ap (λ f. keys (occurrences f T (all_expanded shown collector c.deref-then-is_column.result.now))) c.requires.ready.same) _
+    c.in_ok-rows.rows.items c.in_ok-rows.ensures.rows c.run_end-end.ensures.typed in
+    record {
+      step = more-steps shown collector asks possible c.args.plan.now c.groups_below.new.plan c.rows_of.new.plan
+          (step-made shown collector asks possible c.args.plan.now c.loop-start.plan c.args.group.0 c.requires.standing c.requires.bound
+          c.loop-start.invariant.step _ selected c.groups_below.new.plan _ _ _ c.in_ok-groups.ensures) c.in_ok-rows.ensures.plan;
+      inside = c.run_end-end.ensures.inside;
+      walked = run-walked shown collector asks possible c.args.plan.now c.loop-start.plan c.args.group.0 c.requires.standing c.requires.bound
+          c.loop-start.invariant.step _ selected W _ _ _ _ _ _ _ _ _ c.loop-start.invariant.walked run
+          (seen-slice (view_spot (λ n. n)) c.args.nodes.now c.loop-start.start c.run_end-end.result low) c.in_ok-end_rows.ensures.values
+          c.in_ok-end_rows.ensures.listed;
+    }
+
+pub objects_of-loop-start-preserved : goal.objects_of-loop-start-preserved
+objects_of-loop-start-preserved g t c =
+    let shown = g.S.ScalarValue.shown in
+    let collector = c.args.walk.now.collector in
+    let asks = g.R.Resolver.asks c.args.walk.now.collector.possible in
+    let possible = g.R.Conditions.possible c.args.walk.now.collector.possible in
+    let W = g.R.Completer.world c.args.walk.now.collector.possible in
+    let selected = ap (all_expanded shown collector) c.deref-else-is_column.ensures.value ∙ (c.in_ok-enclosing.ensures
+    ∙ ap (λ l. all_below (view_all shown collector l)) c.fields.ensures) in
+    let some = c.run_end-end.ensures.some in
+    let low : c.loop-start.start ≤ c.run_end-end.result = omega (arith, some) in
+    let added = c.in_ok-one_by_one.ensures.walked in
+    record {
+      step = more-steps shown collector asks possible c.args.plan.now c.groups_below.new.plan c.one_by_one.new.plan
+          (step-made shown collector asks possible c.args.plan.now c.loop-start.plan c.args.group.0 c.requires.standing c.requires.bound
+          c.loop-start.invariant.step _ selected c.groups_below.new.plan _ _ _ c.in_ok-groups.ensures) c.in_ok-one_by_one.ensures.plan;
+      inside = c.run_end-end.ensures.inside;
+      walked = run-walked shown collector asks possible c.args.plan.now c.loop-start.plan c.args.group.0 c.requires.standing c.requires.bound
+          c.loop-start.invariant.step _ selected W _ _ _ _ _ _ _ _ _ c.loop-start.invariant.walked added.walked
+          (seen-slice (view_spot (λ n. n)) c.args.nodes.now c.loop-start.start c.run_end-end.result low) added.all_values added.all_errors;
+    }
+
+pub objects_of-returns-clause-walked : goal.objects_of-returns-clause-walked
+objects_of-returns-clause-walked g t c =
+    let shown = g.S.ScalarValue.shown in
+    let collector = c.args.walk.now.collector in
+    let asks = g.R.Resolver.asks c.args.walk.now.collector.possible in
+    let possible = g.R.Conditions.possible c.args.walk.now.collector.possible in
+    let W = g.R.Completer.world c.args.walk.now.collector.possible in
+    subst (λ ns. AreWalkedOnce whole first_start W (all_below (view_all shown collector (fields_at c.args.plan.now c.args.group.0))) ns
+    (values_of shown c.loop-start.done.items) (listed_of shown c.loop-start.done.items))
+    (taken-all (view_spot (λ n. n)) c.args.nodes.now c.loop-start.start c.loop-start-test.false) c.loop-start.invariant.walked
+
+pub one_by_one-loop-spot-init : goal.one_by_one-loop-spot-init
+one_by_one-loop-spot-init g t c =
+    let shown = g.S.ScalarValue.shown in
+    let collector = c.args.walk.now.collector in
+    let asks = g.R.Resolver.asks c.args.walk.now.collector.possible in
+    let possible = g.R.Conditions.possible c.args.walk.now.collector.possible in
+    let standing : IsStanding shown collector asks possible c.args.plan.now = c.requires.1.1.1.1.1.1.1.0 in
+    record {
+      step = no-step shown collector asks possible c.args.plan.now standing;
+      added = none-added (g.R.Completer.world c.args.walk.now.collector.possible) _ shown c.args.done.now.items;
+    }
+
+pub one_by_one-execute_selection_set-requires : goal.one_by_one-execute_selection_set-requires
+one_by_one-execute_selection_set-requires g t c κs within =
+    let shown = g.S.ScalarValue.shown in
+    let collector = c.args.walk.now.collector in
+    let asks = g.R.Resolver.asks c.args.walk.now.collector.possible in
+    let possible = g.R.Conditions.possible c.args.walk.now.collector.possible in
+    let T = c.args.concrete.now in
+    let s = all_expanded shown collector c.args.enclosing.now in
+    let standing : IsStanding shown collector asks possible c.args.plan.now = c.requires.1.1.1.1.1.1.1.0 in
+    let stands : StandsFor shown collector asks T c.args.plan.now c.args.groups (occurrences possible T s) = c.requires.1.1.1.1.1.1.1.1.0 in
+    let now : IsStanding shown collector asks possible c.loop-spot.plan = c.loop-spot.invariant.step.standing in
+    let groups : StandsFor shown collector asks T c.loop-spot.plan c.args.groups (occurrences possible T s) =
+    still-stands shown collector asks possible c.args.plan.now c.loop-spot.plan c.args.groups T s standing stands c.loop-spot.invariant.step in
+    (omega arith, search (rules, now, groups))
+
+pub one_by_one-loop-spot-preserved : goal.one_by_one-loop-spot-preserved
+one_by_one-loop-spot-preserved g t c =
+    let shown = g.S.ScalarValue.shown in
+    let collector = c.args.walk.now.collector in
+    let asks = g.R.Resolver.asks c.args.walk.now.collector.possible in
+    let possible = g.R.Conditions.possible c.args.walk.now.collector.possible in
+    let W = g.R.Completer.world c.args.walk.now.collector.possible in
+    let T = c.args.concrete.now in
+    let nodes = c.args.nodes.now in
+    let i = c.loop-spot.spot-index in
+    let x = c.spot-item.result in
+    let below = c.loop-spot-test.true in
+    let is = c.spot-item.is in
+    let typed : AreOfType W T (view_nodes nodes) = c.requires.1.1.1.1.1.1.1.1.1 in
+    record {
+      step = more-steps shown collector asks possible c.args.plan.now c.loop-spot.plan c.execute_selection_set.new.plan c.loop-spot.invariant.step
+          c.in_ok-walked.ensures.plan;
+      added = added-more W _ shown _ _ _ _ _ (view_spot (λ n. n) x) T _ c.loop-spot.invariant.added (typed-at W T nodes i x below is typed)
+          c.in_ok-walked.ensures.walked (taken-one (view_spot (λ n. n)) nodes i x below is) c.in_ok-push.ensures.items;
+    }
+
+pub one_by_one-returns : goal.one_by_one-returns
+one_by_one-returns g t c =
     let shown = g.S.ScalarValue.shown in
     let W = g.R.Completer.world c.args.walk.now.collector.possible in
-    let below = (view_collected shown c.args.walk.now.collector c.args.field.now).below in
-    let T = c.concrete_type_name-concrete.result.now in
-    let fields = ap (view_singles shown c.args.walk.now.collector) c.deref.ensures.value
-    ∙ collected-below shown c.args.walk.now.collector c.args.field.now _ _ W.possible T _ c.requires.ready.same c.selections_of-selections.ensures
-    c.in_ok-fields.ensures.fields in
-    let x = view_spot (λ n. n) c.spot-item.result in
-    one-more W below _ _ _ _ _ _ _ x _ c.loop-spot.invariant
-    (walked-at W below x _ T _ _ _ refl c.concrete_type_name-concrete.ensures fields c.in_ok-walked.ensures) c.in_ok-walked.ensures.keyed
-    (taken-one (view_spot (λ n. n)) c.args.nodes.now c.loop-spot.spot-index c.spot-item.result c.loop-spot-test.true c.spot-item.is)
-    c.in_ok-add_object.ensures.values
-    c.in_ok-add_object.ensures.errors
+    record {
+      plan = c.loop-spot.invariant.step;
+      walked = subst (λ ns. AreAdded W (all_expanded shown c.args.walk.now.collector c.args.enclosing.now) shown ns c.args.done.now.items
+          c.loop-spot.done.items)
+          (taken-all (view_spot (λ n. n)) c.args.nodes.now c.loop-spot.spot-index c.loop-spot-test.false) c.loop-spot.invariant.added;
+    }
 
-pub objects_of-returns : goal.objects_of-returns
-objects_of-returns g t c =
-    nodes-at _ _ _ _ _ _ (taken-all (view_spot (λ n. n)) c.args.nodes.now c.loop-spot.spot-index c.loop-spot-test.false) c.loop-spot.invariant
+pub rows_of-loop-number-init : goal.rows_of-loop-number-init
+rows_of-loop-number-init g t c =
+    let shown = g.S.ScalarValue.shown in
+    let collector = c.args.walk.now.collector in
+    let asks = g.R.Resolver.asks c.args.walk.now.collector.possible in
+    let possible = g.R.Conditions.possible c.args.walk.now.collector.possible in
+    let W = g.R.Completer.world c.args.walk.now.collector.possible in
+    let T = c.args.concrete.now in
+    let s = all_expanded shown collector c.args.enclosing.now in
+    let ready : IsReadyWalk shown g.R.Conditions.possible g.R.Resolver.values W c.args.walk.now = c.requires.1.1.1.1.1.1.0 in
+    let standing : IsStanding shown collector asks possible c.args.plan.now = c.requires.1.1.1.1.1.1.1.0 in
+    let stands : StandsFor shown collector asks T c.args.plan.now c.args.groups (occurrences possible T s) = c.requires.1.1.1.1.1.1.1.1.0 in
+    let nodes = c.args.nodes.now in
+    let ks = take (c.args.groups.first.0 - c.args.groups.first.0) (keys (occurrences W.possible T s)) in
+    let rows : AreRows W s T shown ks (view_nodes nodes) c.in_ok-rows.rows.items =
+    rows-fresh W s T shown (view_nodes nodes) c.in_ok-rows.rows.items ks (take-none _ (c.args.groups.first.0 - c.args.groups.first.0) (omega arith))
+    (length nodes) (sym (length-map nodes (view_spot (λ n. n)))) c.in_ok-rows.ensures in
+    record {
+      step = no-step shown collector asks possible c.args.plan.now standing;
+      counted = rows-counted W s T shown ks (view_nodes nodes) c.in_ok-rows.rows.items rows ∙ length-map nodes (view_spot (λ n. n));
+      walked = rows;
+    }
+
+pub rows_of-ask_column-requires-clause-whole : goal.rows_of-ask_column-requires-clause-whole
+rows_of-ask_column-requires-clause-whole g t c =
+    let shown = g.S.ScalarValue.shown in
+    let collector = c.args.walk.now.collector in
+    let asks = g.R.Resolver.asks c.args.walk.now.collector.possible in
+    let possible = g.R.Conditions.possible c.args.walk.now.collector.possible in
+    let W = g.R.Completer.world c.args.walk.now.collector.possible in
+    let T = c.args.concrete.now in
+    let s = all_expanded shown collector c.args.enclosing.now in
+    let ready : IsReadyWalk shown g.R.Conditions.possible g.R.Resolver.values W c.args.walk.now = c.requires.1.1.1.1.1.1.0 in
+    let standing : IsStanding shown collector asks possible c.args.plan.now = c.requires.1.1.1.1.1.1.1.0 in
+    let stands : StandsFor shown collector asks T c.args.plan.now c.args.groups (occurrences possible T s) = c.requires.1.1.1.1.1.1.1.1.0 in
+    group-is shown collector asks possible c.args.plan.now c.loop-number.plan c.args.groups T s standing stands
+    c.loop-number.invariant.step c.loop-number.number c.loop-number.auto.number c.loop-number-test.true
+
+pub rows_of-ask_column-requires-clause-asked : goal.rows_of-ask_column-requires-clause-asked
+rows_of-ask_column-requires-clause-asked g t c =
+    let shown = g.S.ScalarValue.shown in
+    let collector = c.args.walk.now.collector in
+    let asks = g.R.Resolver.asks c.args.walk.now.collector.possible in
+    let possible = g.R.Conditions.possible c.args.walk.now.collector.possible in
+    let W = g.R.Completer.world c.args.walk.now.collector.possible in
+    let T = c.args.concrete.now in
+    let s = all_expanded shown collector c.args.enclosing.now in
+    let ready : IsReadyWalk shown g.R.Conditions.possible g.R.Resolver.values W c.args.walk.now = c.requires.1.1.1.1.1.1.0 in
+    let standing : IsStanding shown collector asks possible c.args.plan.now = c.requires.1.1.1.1.1.1.1.0 in
+    let stands : StandsFor shown collector asks T c.args.plan.now c.args.groups (occurrences possible T s) = c.requires.1.1.1.1.1.1.1.1.0 in
+    group-asked shown collector asks possible c.args.plan.now c.loop-number.plan c.args.groups T s standing stands
+    c.loop-number.invariant.step c.loop-number.number c.loop-number.auto.number c.loop-number-test.true
+
+pub rows_of-objects_of-requires : goal.rows_of-objects_of-requires
+rows_of-objects_of-requires g t c κs within =
+    let shown = g.S.ScalarValue.shown in
+    let collector = c.args.walk.now.collector in
+    let asks = g.R.Resolver.asks c.args.walk.now.collector.possible in
+    let possible = g.R.Conditions.possible c.args.walk.now.collector.possible in
+    let W = g.R.Completer.world c.args.walk.now.collector.possible in
+    let T = c.args.concrete.now in
+    let s = all_expanded shown collector c.args.enclosing.now in
+    let ready : IsReadyWalk shown g.R.Conditions.possible g.R.Resolver.values W c.args.walk.now = c.requires.1.1.1.1.1.1.0 in
+    let standing : IsStanding shown collector asks possible c.args.plan.now = c.requires.1.1.1.1.1.1.1.0 in
+    let stands : StandsFor shown collector asks T c.args.plan.now c.args.groups (occurrences possible T s) = c.requires.1.1.1.1.1.1.1.1.0 in
+    let bound : c.loop-number.number < length c.loop-number.plan.groups.items =
+    group-bound shown collector asks possible c.args.plan.now c.loop-number.plan c.args.groups T s standing stands
+    c.loop-number.invariant.step c.loop-number.number c.loop-number.auto.number c.loop-number-test.true in
+    let falls : 3 * depth (all_below (view_all shown collector (fields_at c.loop-number.plan c.loop-number.number))) + 2 < 3 * depth s =
+    group-falls shown collector asks possible c.args.plan.now c.loop-number.plan c.args.groups T s standing stands
+    c.loop-number.invariant.step c.loop-number.number c.loop-number.auto.number c.loop-number-test.true in
+    let still : IsStanding shown collector asks possible c.loop-number.plan = c.loop-number.invariant.step.standing in
+    (omega (arith, falls), search (rules, bound, still))
+
+pub rows_of-loop-number-preserved : goal.rows_of-loop-number-preserved
+rows_of-loop-number-preserved g t c =
+    let shown = g.S.ScalarValue.shown in
+    let collector = c.args.walk.now.collector in
+    let asks = g.R.Resolver.asks c.args.walk.now.collector.possible in
+    let possible = g.R.Conditions.possible c.args.walk.now.collector.possible in
+    let W = g.R.Completer.world c.args.walk.now.collector.possible in
+    let T = c.args.concrete.now in
+    let s = all_expanded shown collector c.args.enclosing.now in
+    let ready : IsReadyWalk shown g.R.Conditions.possible g.R.Resolver.values W c.args.walk.now = c.requires.1.1.1.1.1.1.0 in
+    let standing : IsStanding shown collector asks possible c.args.plan.now = c.requires.1.1.1.1.1.1.1.0 in
+    let stands : StandsFor shown collector asks T c.args.plan.now c.args.groups (occurrences possible T s) = c.requires.1.1.1.1.1.1.1.1.0 in
+    let ks = take (c.loop-number.number - c.args.groups.first.0) (keys (occurrences W.possible T s)) in
+    let k = key_at c.loop-number.plan c.loop-number.number in
+    let os = view_all shown collector (fields_at c.loop-number.plan c.loop-number.number) in
+    let next = group-next shown collector asks possible c.args.plan.now c.loop-number.plan c.args.groups T s standing stands
+    c.loop-number.invariant.step c.loop-number.number c.loop-number.auto.number c.loop-number-test.true W ready.same in
+    let columns = next-keys shown collector asks possible c.args.plan.now c.loop-number.plan c.args.groups T s standing stands
+    c.loop-number.invariant.step c.loop-number.number c.loop-number.auto.number c.loop-number-test.true W ready.same in
+    let below = subst (λ l. AreWalkedOnce whole first_start W (all_below os) (view_nodes l) (values_of shown c.in_ok-below.below.items)
+    (listed_of shown c.in_ok-below.below.items)) c.deref.ensures.value c.in_ok-below.ensures.walked in
+    record {
+      step = more-steps shown collector asks possible c.args.plan.now c.loop-number.plan c.objects_of.new.plan c.loop-number.invariant.step
+          c.in_ok-below.ensures.plan;
+      counted = c.in_ok-fill_rows.ensures.counted ∙ c.in_ok-column.ensures.counted;
+      walked = subst (λ js. AreRows W s T shown js (view_nodes c.args.nodes.now) c.fill_rows.new.rows.items) (sym columns)
+          (c.in_ok-fill_rows.ensures.rows W s T ks k os (view_nodes c.args.nodes.now) _ next
+          (c.in_ok-column.ensures.pending ks next c.loop-number.invariant.walked) below);
+    }
+
+pub rows_of-returns-clause-rows : goal.rows_of-returns-clause-rows
+rows_of-returns-clause-rows g t c =
+    let shown = g.S.ScalarValue.shown in
+    let collector = c.args.walk.now.collector in
+    let asks = g.R.Resolver.asks c.args.walk.now.collector.possible in
+    let possible = g.R.Conditions.possible c.args.walk.now.collector.possible in
+    let W = g.R.Completer.world c.args.walk.now.collector.possible in
+    let T = c.args.concrete.now in
+    let s = all_expanded shown collector c.args.enclosing.now in
+    let ready : IsReadyWalk shown g.R.Conditions.possible g.R.Resolver.values W c.args.walk.now = c.requires.1.1.1.1.1.1.0 in
+    let standing : IsStanding shown collector asks possible c.args.plan.now = c.requires.1.1.1.1.1.1.1.0 in
+    let stands : StandsFor shown collector asks T c.args.plan.now c.args.groups (occurrences possible T s) = c.requires.1.1.1.1.1.1.1.1.0 in
+    subst (λ js. AreRows W s T shown js (view_nodes c.args.nodes.now) c.loop-number.rows.items)
+    (all-keys shown collector asks possible c.args.plan.now c.args.groups T s stands c.loop-number.number c.loop-number-test.false W ready.same)
+    c.loop-number.invariant.walked

@@ -1,33 +1,82 @@
-use Rattle.std.proofs.Common.{◌+◌, ◌*◌, map, take}
-use Rattle.graphql_spec.specs.Selections.{depth}
-use Rattle.juniper_syntax.specs.ValueView.{view_object, view_value}
-use Rattle.juniper_errors.specs.ErrorView.{view_listed}
-use Rattle.juniper_errors.specs.PathView.{path_place}
+use Rattle.std.proofs.Common.{◌≡◌, ◌+◌, ◌*◌, ◌-◌, ◌≤◌, length, map, take}
+use Rattle.graphql_spec.specs.ExactAnswers.{whole}
+use Rattle.graphql_spec.specs.GroupLaws.{first_start}
+use Rattle.graphql_spec.specs.Selections.{all_below, depth, keys, occurrences}
+use Rattle.juniper_syntax.specs.ValueView.{view_object}
+use Rattle.juniper_conversions.specs.ErrorView.{view_listed}
+use Rattle.juniper_conversions.specs.PathView.{path_place}
 use Rattle.juniper_assemble.specs.SpotView.{view_nodes}
-use Rattle.juniper_collect.specs.Collected.{view_collected}
-use Rattle.juniper_collect.specs.Singles.{view_singles}
-use Rattle.juniper_walk.specs.Walking.{AreAllWalked, IsWalking, deepest}
+use Rattle.juniper_collect.specs.Collected.{view_all}
+use Rattle.juniper_walk.specs.Plans.{IsStep, all_expanded, fields_at}
+use Rattle.graphql_spec.specs.NodeLaws.{AreWalkedOnce}
+use Rattle.juniper_walk.specs.PlanWalks.{IsWalking}
+use Rattle.juniper_walk.specs.Rows.{AreAdded, AreRows, listed_of, values_of}
 use Rattle.juniper_walk.proofs.walking.+walking.Given as goal
 
--- twice how deep what is selected is nested, and one more for the nodes of an answer
-abbrev pub decreases-object : goal.decreases-object
-decreases-object g l = 2 * deepest (view_singles g.S.ScalarValue.shown l.walk.now.collector l.fields.now)
+-- three times how deep what is selected is nested, one more for nodes of one type, and two more for the nodes of an answer
+abbrev pub decreases-execute_selection_set : goal.decreases-execute_selection_set
+decreases-execute_selection_set g l = 3 * depth (all_expanded g.S.ScalarValue.shown l.walk.now.collector l.enclosing.now)
 
 abbrev pub decreases-objects_of : goal.decreases-objects_of
-decreases-objects_of g l = 2 * depth (view_collected g.S.ScalarValue.shown l.walk.now.collector l.field.now).below + 1
+decreases-objects_of g l = 3 * depth (all_below (view_all g.S.ScalarValue.shown l.walk.now.collector (fields_at l.plan.now l.group.0))) + 2
 
--- the fields so far are walked
-abbrev pub invariant-object-loop-single : goal.invariant-object-loop-single
-invariant-object-loop-single g l =
+abbrev pub decreases-rows_of : goal.decreases-rows_of
+decreases-rows_of g l = 3 * depth (all_expanded g.S.ScalarValue.shown l.walk.now.collector l.enclosing.now)
+
+abbrev pub decreases-one_by_one : goal.decreases-one_by_one
+decreases-one_by_one g l = 3 * depth (all_expanded g.S.ScalarValue.shown l.walk.now.collector l.enclosing.now) + 1
+
+abbrev pub decreases-objects_of-loop-start : goal.decreases-objects_of-loop-start
+decreases-objects_of-loop-start g l = length l.nodes - l.start
+
+-- the groups so far are walked
+abbrev pub invariant-execute_selection_set-loop-number : goal.invariant-execute_selection_set-loop-number
+invariant-execute_selection_set-loop-number g l =
     let shown = g.S.ScalarValue.shown in
-    let view = view_singles shown l.walk.collector in
-    IsWalking (g.R.Completer.world l.walk.collector.possible) (path_place l.path.value) l.concrete l.node (view l.fields)
-    (view (take l.single-index l.fields)) (view_object shown l.entries) (map (view_listed shown) l.errors.items)
+    let W = g.R.Completer.world l.walk.collector.possible in
+    record {
+      step : IsStep shown l.walk.collector (g.R.Resolver.asks l.walk.collector.possible) (g.R.Conditions.possible l.walk.collector.possible) l.initial.plan
+          l.plan;
+      walked : IsWalking W (path_place l.path.value) l.concrete l.node
+          (occurrences W.possible l.concrete (all_expanded shown l.walk.collector l.enclosing))
+          (take (l.number - l.fn.groups.first.0) (keys (occurrences W.possible l.concrete (all_expanded shown l.walk.collector l.enclosing))))
+          (view_object shown l.entries) (map (view_listed shown) l.errors.items);
+    }
 
 -- and the nodes so far
-abbrev pub invariant-objects_of-loop-spot : goal.invariant-objects_of-loop-spot
-invariant-objects_of-loop-spot g l =
+abbrev pub invariant-objects_of-loop-start : goal.invariant-objects_of-loop-start
+invariant-objects_of-loop-start g l =
     let shown = g.S.ScalarValue.shown in
-    AreAllWalked (g.R.Completer.world l.walk.collector.possible) (view_collected shown l.walk.collector l.field).below
-    (view_nodes (take l.spot-index l.nodes))
-    (map (view_value shown) l.values.items) (map (view_listed shown) l.errors.items)
+    record {
+      step : IsStep shown l.walk.collector (g.R.Resolver.asks l.walk.collector.possible) (g.R.Conditions.possible l.walk.collector.possible) l.initial.plan
+          l.plan;
+      inside : l.start ≤ length l.nodes;
+      walked : AreWalkedOnce whole first_start (g.R.Completer.world l.walk.collector.possible)
+          (all_below (view_all shown l.walk.collector (fields_at l.initial.plan l.fn.group.0))) (view_nodes (take l.start l.nodes))
+          (values_of shown l.done.items) (listed_of shown l.done.items);
+    }
+
+-- the objects of the nodes so far were put behind those that were there
+abbrev pub invariant-one_by_one-loop-spot : goal.invariant-one_by_one-loop-spot
+invariant-one_by_one-loop-spot g l =
+    let shown = g.S.ScalarValue.shown in
+    record {
+      step : IsStep shown l.walk.collector (g.R.Resolver.asks l.walk.collector.possible) (g.R.Conditions.possible l.walk.collector.possible) l.initial.plan
+          l.plan;
+      added : AreAdded (g.R.Completer.world l.walk.collector.possible) (all_expanded shown l.walk.collector l.enclosing) shown
+          (view_nodes (take l.spot-index l.nodes)) l.initial.done.items l.done.items;
+    }
+
+-- the groups so far are walked in each row
+abbrev pub invariant-rows_of-loop-number : goal.invariant-rows_of-loop-number
+invariant-rows_of-loop-number g l =
+    let shown = g.S.ScalarValue.shown in
+    let W = g.R.Completer.world l.walk.collector.possible in
+    let s = all_expanded shown l.walk.collector l.enclosing in
+    record {
+      step : IsStep shown l.walk.collector (g.R.Resolver.asks l.walk.collector.possible) (g.R.Conditions.possible l.walk.collector.possible) l.initial.plan
+          l.plan;
+      counted : length l.rows.items ≡ length l.nodes;
+      walked : AreRows W s l.concrete shown (take (l.number - l.fn.groups.first.0) (keys (occurrences W.possible l.concrete s)))
+          (view_nodes l.nodes) l.rows.items;
+    }

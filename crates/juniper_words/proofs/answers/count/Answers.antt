@@ -1,5 +1,5 @@
 use Rattle.std.proofs.Common.{subst}
-use Rattle.juniper_resolvable.specs.ResolvedView.{Answers}
+use Rattle.juniper_values.specs.ResolvedView.{Answers}
 use Rattle.juniper_words.proofs.Counts.{counted, too_many}
 use Rattle.juniper_words.proofs.answers.count.Goals as goal
 

@@ -1,8 +1,8 @@
 use Rattle.std.proofs.Common.{◌≤◌, map, length, ap, sym, ◌∙◌, arith}
 use Rattle.std.proofs.lemmas.List.{take_all}
 use Rattle.graphql_spec.specs.Resolvers.{answered, items, node}
-use Rattle.juniper_resolvable.proofs.Resolutions.{view-List}
-use Rattle.juniper_resolvable.specs.ResolvedView.{trees_of}
+use Rattle.juniper_values.proofs.Resolutions.{view-List}
+use Rattle.juniper_values.specs.ResolvedView.{trees_of}
 use Rattle.juniper_words.proofs.node_lists.nodes.Goals as goal
 
 pub returns : goal.returns

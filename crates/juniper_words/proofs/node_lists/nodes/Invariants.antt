@@ -1,6 +1,6 @@
 use Rattle.std.proofs.Common.{◌≡◌, map, take}
 use Rattle.graphql_spec.specs.Resolvers.{node}
-use Rattle.juniper_resolvable.specs.ResolvedView.{view_resolved}
+use Rattle.juniper_values.specs.ResolvedView.{view_resolved}
 use Rattle.juniper_words.proofs.node_lists.nodes.Given as goal
 
 -- the nodes so far

@@ -1,5 +1,5 @@
 use Rattle.std.proofs.Common.{map, ap, ◌∙◌}
-use Rattle.juniper_position.specs.RuleView.{view_rule_error}
+use Rattle.juniper_syntax.specs.RuleView.{view_rule_error}
 use Rattle.juniper.specs.RequestErrors.{not_valid}
 use Rattle.juniper.proofs.error.GraphQLError.try_clone.Goals as goal
 

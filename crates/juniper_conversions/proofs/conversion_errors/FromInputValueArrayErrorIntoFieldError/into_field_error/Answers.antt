@@ -2,7 +2,7 @@ use Rattle.std.proofs.Common.{◌≡◌, ◌∙◌, ap, sym, codes, ◌++◌, st
 use Rattle.std.specs.Fmt.{decimal}
 use Rattle.std.proofs.lemmas.List.{append_assoc}
 use Rattle.std.proofs.lemmas.Result.{IfOk-weaker}
-use Rattle.juniper_errors.specs.Messages.{message_alone}
+use Rattle.juniper_conversions.specs.Messages.{message_alone}
 use Rattle.juniper_conversions.proofs.conversion_errors.FromInputValueArrayErrorIntoFieldError.into_field_error.Goals as goal
 
 pub returns-in_ok-format-in-WrongCount : goal.returns-in_ok-format-in-WrongCount

@@ -1,5 +1,5 @@
 use Rattle.std.proofs.Common.{map}
-use Rattle.juniper_errors.specs.ErrorView.{view_listed}
+use Rattle.juniper_conversions.specs.ErrorView.{view_listed}
 use Rattle.juniper_syntax.specs.ValueView.{view_value}
 use Rattle.juniper_execute.proofs.ToldFirsts.{answer-tells}
 use Rattle.juniper_execute.proofs.walking.Walking.answer.Goals as goal

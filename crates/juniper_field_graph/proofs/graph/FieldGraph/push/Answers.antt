@@ -39,7 +39,7 @@ returns g c graph typed once inside =
     let v : Vertex = record {
       key = key;
       parent = c.args.parent;
-      on_object = c.names_object.result;
+      on_object = c.is_object.result;
       shape = c.shape_among-shape.result;
       call = c.call_among-call.result;
       below = c.args.below;
@@ -60,7 +60,7 @@ returns g c graph typed once inside =
     let made : IsMade shown s old v (record { field = c.args.field; declared_type = c.args.declared_type }) = record {
       typed = typed;
       once = once;
-      on_object = c.names_object.ensures;
+      on_object = c.is_object.ensures;
       shape = shape;
       call = call;
     } in

@@ -3,7 +3,7 @@ use Rattle.graphql_spec.specs.Introspection.{all_of, answer_at}
 use Rattle.graphql_spec.specs.Resolvers.{answered}
 use Rattle.graphql_spec.specs.SeenNodes.{map_tree}
 use Rattle.graphql_spec.specs.TypeList.{type_list}
-use Rattle.juniper_resolvable.specs.ResolvedView.{Answers}
+use Rattle.juniper_values.specs.ResolvedView.{Answers}
 use Rattle.juniper_schema.specs.SchemaView.{view_schema}
 use Rattle.juniper_intro.specs.HandleView.{of_handle}
 use Rattle.juniper_intro.specs.Handles.{called, schema_held}

@@ -3,7 +3,7 @@ use Rattle.graphql_spec.specs.Introspected.{own_name}
 use Rattle.graphql_spec.specs.Introspection.{answer_at, if_any, says}
 use Rattle.graphql_spec.specs.Resolvers.{answered}
 use Rattle.graphql_spec.specs.SeenNodes.{map_tree}
-use Rattle.juniper_resolvable.specs.ResolvedView.{Answers}
+use Rattle.juniper_values.specs.ResolvedView.{Answers}
 use Rattle.juniper_schema.specs.SchemaView.{view_schema}
 use Rattle.juniper_values.specs.ArgumentView.{view_arguments}
 use Rattle.juniper_intro.specs.HandleView.{of_handle, view_type_place}

@@ -3,7 +3,7 @@ use Rattle.std.specs.Prelude.{option_map}
 use Rattle.graphql_spec.specs.SeenNodes.{map_reply}
 use Rattle.juniper_schema.specs.SchemaView.{view_schema}
 use Rattle.juniper_types.proofs.Batches.{answers-more, answers-whole}
-use Rattle.juniper_resolvable.specs.ResolvedView.{AllAnswer}
+use Rattle.juniper_values.specs.ResolvedView.{AllAnswer}
 use Rattle.juniper_types.specs.ExecutorView.{context_of}
 use Rattle.juniper_values.specs.ArgumentView.{view_arguments}
 use Rattle.juniper_intro.proofs.Users.{users-answer}

@@ -1,6 +1,6 @@
 use Rattle.std.proofs.Common.{map, subst}
 use Rattle.std.specs.Prelude.{IfOk}
-use Rattle.juniper_resolvable.specs.ResolvedView.{AllAnswer}
+use Rattle.juniper_values.specs.ResolvedView.{AllAnswer}
 use Rattle.juniper_types.specs.ExecutorView.{context_of}
 use Rattle.juniper_values.specs.ArgumentView.{view_arguments}
 use Rattle.juniper_types.proofs.boxes.BoxGraphQLValue.resolve_fields.Goals as goal

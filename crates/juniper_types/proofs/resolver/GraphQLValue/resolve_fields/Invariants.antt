@@ -1,5 +1,5 @@
 use Rattle.std.proofs.Common.{map, take}
-use Rattle.juniper_resolvable.specs.ResolvedView.{AllAnswer}
+use Rattle.juniper_values.specs.ResolvedView.{AllAnswer}
 use Rattle.juniper_types.specs.ExecutorView.{context_of}
 use Rattle.juniper_values.specs.ArgumentView.{view_arguments}
 use Rattle.juniper_types.proofs.resolver.GraphQLValue.resolve_fields.Given as goal

@@ -1,6 +1,6 @@
 use Rattle.std.proofs.Common.{◌∙◌, Err, Global, Vec, ap, map, subst, sym}
 use Rattle.graphql_spec.specs.Constants.{meaning}
-use Rattle.juniper_errors.specs.Messages.{message_alone}
+use Rattle.juniper_conversions.specs.Messages.{message_alone}
 use Rattle.juniper_syntax.specs.InputView.{view_input}
 use Rattle.juniper_words.specs.InputsRead.{ReadsAs}
 use Rattle.juniper_words.proofs.ReadLists.{list-items, list-null, list-single, meant}

@@ -1,5 +1,0 @@
-use Rattle.juniper_bench_tasks.proofs.Counting.{IsCountSoFar}
-use Rattle.juniper_bench_tasks.proofs.count.+counting.Given as goal
-
-abbrev pub invariant-count_selections-loop-selection : goal.invariant-count_selections-loop-selection
-invariant-count_selections-loop-selection g l = IsCountSoFar g.S.ScalarValue.shown l.selections l.before l.selection-index l.count

@@ -1,4 +1,0 @@
-use Rattle.juniper_builtins.proofs.scalars.boolean_scalar.Goals as goal
-
-pub returns : goal.returns
-returns g c = c.scalar_named.ensures

@@ -1,2 +1,0 @@
-pub mod BuiltInScalars
-pub mod Rows

@@ -1,4 +1,0 @@
-pub mod Skeletons
-pub mod CompletionLaws
-pub mod Walks
-pub mod NodeLaws

@@ -1,0 +1,6 @@
+use Rattle.std.proofs.Common.{ap, ◌∙◌}
+use Rattle.juniper_conversions.specs.Messages.{message_alone}
+use Rattle.juniper_conversions.proofs.into_field_error.RefStrIntoFieldError.into_field_error.Goals as goal
+
+pub returns : goal.returns
+returns g c = c.error_of_message.ensures ∙ ap message_alone c.in_ok-from_str.ensures.ok

@@ -1,3 +1,0 @@
-mod Declared
-mod Literals
-mod NotedValues

@@ -1,2 +1,0 @@
-pub mod ErrorEquality
-pub mod ErrorOrder

@@ -1,5 +1,0 @@
-use Rattle.std.proofs.Common.{rules}
-use Rattle.juniper_errors.proofs.execution_error.ExecutionError.at_origin.Goals as goal
-
-pub returns : goal.returns
-returns g c = search rules

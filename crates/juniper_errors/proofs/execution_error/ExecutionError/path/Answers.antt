@@ -1,6 +1,0 @@
-use Rattle.std.proofs.Common.{ap, map}
-use Rattle.juniper_errors.specs.SegmentView.{view_segment}
-use Rattle.juniper_errors.proofs.execution_error.ExecutionError.path.Goals as goal
-
-pub returns : goal.returns
-returns g c = ap (map view_segment) c.as_slice.ensures.value

@@ -1,6 +1,0 @@
-use Rattle.std.proofs.Common.{ap, ◌∙◌}
-use Rattle.juniper_errors.specs.Messages.{message_alone}
-use Rattle.juniper_errors.proofs.into_field_error.BoxedStrIntoFieldError.into_field_error.Goals as goal
-
-pub returns : goal.returns
-returns g c = c.error_of_message.ensures ∙ ap message_alone c.into_string.ensures.bytes

@@ -1,4 +1,0 @@
-use Rattle.juniper_errors.proofs.into_field_error.FieldErrorIntoFieldError.into_field_error.Goals as goal
-
-pub returns : goal.returns
-returns g c = c.map_scalar_value.ensures

@@ -1,4 +1,0 @@
-pub mod SegmentView
-pub mod ErrorView
-pub mod Messages
-pub mod PathView

@@ -1,7 +1,0 @@
-use Rattle.std.proofs.Common.{refl}
-use Rattle.graphql_spec.specs.Resolvers.{world_of}
-use Rattle.juniper_execute.proofs.service.Service.complete_group.Goals as goal
-
-pub complete_group-requires-clause-ready : goal.complete_group-requires-clause-ready
-unfolding world_of
-complete_group-requires-clause-ready g c = record { collector = c.requires.ready; same = refl; variables = refl }

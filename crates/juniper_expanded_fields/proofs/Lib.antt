@@ -1,7 +1,0 @@
-mod Adding
-mod Bounding
-mod Chains
-mod Keeping
-mod Measuring
-mod Operations
-mod Turns

@@ -1,5 +1,0 @@
-use Rattle.juniper_expanded_fields.proofs.Chains.{long_is_endless}
-use Rattle.juniper_expanded_fields.proofs.laws.long_is_endless.Goals as goal
-
-pub returns : goal.returns
-returns c = long_is_endless

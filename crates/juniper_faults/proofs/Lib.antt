@@ -1,6 +1,0 @@
-pub mod Listing
-pub mod Faulty
-pub mod BuiltNames
-pub mod Pushed
-pub mod Counting
-pub mod Searched

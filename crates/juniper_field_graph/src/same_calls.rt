@@ -1,0 +1,72 @@
+//! Fields of one name with the same arguments (FieldsInSetCanMerge, section 5.3.2 of the Specification).
+
+ghost use Rattle.std.specs.Prelude.{◌≡◌, ◌&&◌, false, map};
+ghost use Rattle.std.specs.Str.{bytes_eq};
+ghost use Rattle.graphql_spec.specs.Arguments.{written_meaning};
+ghost use Rattle.graphql_spec.specs.Constants.{same_members};
+ghost use Rattle.graphql_spec.specs.Documents.{written};
+ghost use Rattle.graphql_spec.specs.Written.{arguments_repeat};
+ghost use Rattle.juniper_field_graph.specs.NamedValues.{as_fields, view_named};
+ghost use Rattle.juniper_field_graph.specs.SameValues.{all_keyed, same_fields};
+ghost use Rattle.juniper_syntax.specs.DocumentView.{view_argument, view_arguments};
+ghost use Rattle.juniper_written.specs.WrittenView.{view_field};
+
+use crate::named_values::{Named, all_named, value_at};
+use crate::same_values::is_matched;
+use juniper_syntax::ast::Arguments;
+use juniper_syntax::{Field, ScalarValue, Span, Spanning};
+
+/// Whether two fields have one name, and the same arguments up to places, the order of arguments and that of object
+/// fields (FieldsInSetCanMerge, section 5.3.2). Nothing is said of a field that writes an argument or object field
+/// twice.
+pub fn same_call<S: ScalarValue>(
+    first: &Spanning<Field<'_, S>, Span>,
+    second: &Spanning<Field<'_, S>, Span>,
+) -> bool
+    ensures { arguments_repeat (written (view_field S.shown first.now).arguments) ≡ false →
+        arguments_repeat (written (view_field S.shown second.now).arguments) ≡ false →
+        result ≡ (bytes_eq (view_field S.shown first.now).name.item (view_field S.shown second.now).name.item
+        && same_members (written_meaning (written (view_field S.shown first.now).arguments))
+        (written_meaning (written (view_field S.shown second.now).arguments))) }
+{
+    first.item.name.item == second.item.name.item
+        && same_arguments(&first.item.arguments, &second.item.arguments)
+}
+
+/// Whether each argument of the one is one of the other, with the same value.
+fn same_arguments<S: ScalarValue>(
+    first: &Option<Spanning<Arguments<'_, S>, Span>>,
+    second: &Option<Spanning<Arguments<'_, S>, Span>>,
+) -> bool
+    ensures { result ≡ (same_fields (as_fields (written (view_arguments S.shown first.now))) (as_fields (written (view_arguments S.shown second.now)))
+        && all_keyed (as_fields (written (view_arguments S.shown second.now))) (as_fields (written (view_arguments S.shown first.now)))) }
+{
+    let arguments = arguments_in(first);
+    let others = arguments_in(second);
+    all_matched(arguments, others) && all_named(others, arguments)
+}
+
+/// Whether each of the arguments has the same value among the others.
+fn all_matched<S: ScalarValue>(arguments: &[Named<&str, S>], others: &[Named<&str, S>]) -> bool
+    ensures { result ≡ same_fields (view_named (λ n. n.now) S.shown arguments.now) (view_named (λ n. n.now) S.shown others.now) }
+{
+    for argument in arguments {
+        if !is_matched(&argument.1.item, value_at(others, argument.0.item)) {
+            return false;
+        }
+    }
+    true
+}
+
+/// The arguments that are written.
+#[tactic(auto, unfolding(graphql_spec::specs::Documents::written))]
+fn arguments_in<'b, 'a, S: ScalarValue>(
+    arguments: &'b Option<Spanning<Arguments<'a, S>, Span>>,
+) -> &'b [Named<&'a str, S>]
+    ensures { map (view_argument S.shown) result.now ≡ written (view_arguments S.shown arguments.now) }
+{
+    match arguments {
+        Some(arguments) => arguments.item.items.as_slice(),
+        None => &[],
+    }
+}

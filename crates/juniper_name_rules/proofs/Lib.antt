@@ -1,4 +1,0 @@
-mod Counted
-mod FieldRepeats
-mod Known
-mod NamesBefore

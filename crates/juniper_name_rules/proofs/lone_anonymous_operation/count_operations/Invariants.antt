@@ -1,5 +1,0 @@
-use Rattle.juniper_name_rules.proofs.Counted.{IsCount}
-use Rattle.juniper_name_rules.proofs.lone_anonymous_operation.count_operations.Given as goal
-
-abbrev pub invariant-loop-definition : goal.invariant-loop-definition
-invariant-loop-definition g l = IsCount g.S.ScalarValue.shown l.definitions l.definition-index l.count

@@ -1,2 +1,0 @@
-pub mod NamesBefore
-pub mod FieldNames

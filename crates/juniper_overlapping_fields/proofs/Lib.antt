@@ -1,6 +1,0 @@
-pub mod Alike
-mod MemberMaps
-mod NamedValues
-mod SameArguments
-mod SameItems
-pub mod SameMeanings

@@ -1,2 +1,0 @@
-pub mod NamedValues
-pub mod SameValues

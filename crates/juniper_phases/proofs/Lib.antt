@@ -1,5 +1,0 @@
-pub mod AtEach
-pub mod Listing
-pub mod Phases
-pub mod SideBySide
-mod Validating

@@ -1,6 +1,0 @@
-use Rattle.std.proofs.Common.{sym, ap}
-use Rattle.juniper_position.specs.Refusals.{view_refusal}
-use Rattle.juniper_position.proofs.error.ParseError.try_clone.Goals as goal
-
-pub returns-in-TooDeep : goal.returns-in-TooDeep
-returns-in-TooDeep c = ap view_refusal (sym c.in-TooDeep.is)

@@ -1,5 +1,0 @@
-use Rattle.std.proofs.Common.{refl}
-use Rattle.juniper_position.proofs.position.SourcePosition.new_origin.Goals as goal
-
-pub returns : goal.returns
-returns c = refl

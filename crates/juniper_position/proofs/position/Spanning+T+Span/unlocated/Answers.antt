@@ -1,4 +1,0 @@
-use Rattle.juniper_position.proofs.position.Spanning+T+Span.unlocated.Goals as goal
-
-pub returns-clause-end : goal.returns-clause-end
-returns-clause-end g c = c.new_origin-start.ensures

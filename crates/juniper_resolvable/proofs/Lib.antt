@@ -1,3 +1,0 @@
-mod ListReplies
-pub mod Resolutions
-mod Sums

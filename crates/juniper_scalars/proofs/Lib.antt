@@ -1,2 +1,0 @@
-pub mod IdReads
-pub mod RoundTrips

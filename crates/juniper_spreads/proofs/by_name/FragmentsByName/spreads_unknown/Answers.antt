@@ -1,6 +1,0 @@
-use Rattle.std.proofs.Common.{◌∙◌}
-use Rattle.juniper_spreads.proofs.Ruling.{unknown-is}
-use Rattle.juniper_spreads.proofs.by_name.FragmentsByName.spreads_unknown.Goals as goal
-
-pub returns : goal.returns
-returns g c = λ d x are is. c.has_unknown.ensures ∙ unknown-is c.args.self.now.spreads d x are.spread c.args.names.now is

@@ -1,6 +1,0 @@
-use Rattle.juniper_spreads.specs.SpreadsView.{Falls}
-use Rattle.juniper_spreads.proofs.Testing.{HoldsSoFar}
-use Rattle.juniper_spreads.proofs.groups.never_rise.Given as goal
-
-abbrev pub invariant-loop-name : goal.invariant-loop-name
-invariant-loop-name l = HoldsSoFar l.names (Falls l.spreads l.groups) l.name-index

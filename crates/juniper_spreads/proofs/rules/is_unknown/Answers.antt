@@ -1,6 +1,0 @@
-use Rattle.std.proofs.Common.{not, ap, ◌∙◌}
-use Rattle.juniper_spreads.proofs.Looking.{found-by}
-use Rattle.juniper_spreads.proofs.rules.is_unknown.Goals as goal
-
-pub returns : goal.returns
-returns c = ap not (c.contains.ensures ∙ found-by c.args.spreads.now c.args.name.now)

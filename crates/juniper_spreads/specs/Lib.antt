@@ -1,2 +1,0 @@
-pub mod SpreadsView
-pub mod Order

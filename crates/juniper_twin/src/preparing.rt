@@ -1,0 +1,79 @@
+//! A field is resolved, and its answer taken apart from its nodes (sections 6.4.2 and 6.4.3 of the Specification).
+
+ghost use Rattle.std.specs.Prelude.{IfOk, map};
+ghost use Rattle.juniper_conversions.specs.ErrorView.{view_listed};
+ghost use Rattle.juniper_conversions.specs.PathView.{path_place};
+ghost use Rattle.juniper_assemble.specs.SkeletonView.{view_skeleton};
+ghost use Rattle.juniper_assemble.specs.SpotView.{view_nodes};
+ghost use Rattle.juniper_collect.specs.Collected.{view_collected};
+ghost use Rattle.juniper_collect.specs.Singles.{IsAlone};
+ghost use Rattle.juniper_walk.specs.Walking.{IsReadyWalk};
+ghost use Rattle.juniper_twin.specs.Walking.{IsPrepared};
+
+use juniper_assemble::{Skeleton, Spot};
+use juniper_collect::Single;
+use juniper_conversions::{ExecutionError, FieldPath};
+use juniper_lookahead::{Enclosing, Occurrence};
+use juniper_syntax::ScalarValue;
+use juniper_walk::{Asked, Parted, Resolver, Site, Walk, list_errors, part_reply, path_below};
+use std::alloc::AllocError;
+use std::rc::Rc;
+
+/// A field's answer without the objects of its nodes.
+#[derive(Drop)]
+pub(crate) struct Prepared<'a, N, S> {
+    /// Whether its type is non-null.
+    pub(crate) is_non_null: bool,
+    /// The answer, with a hole for each node.
+    pub(crate) skeleton: Skeleton<S>,
+    /// The nodes, each at its place.
+    pub(crate) nodes: Vec<Spot<'a, N>>,
+    /// What fails apart from them.
+    pub(crate) errors: Vec<ExecutionError<S>>,
+}
+
+/// A field of a node, asked for as the one occurrence that its selection alone holds: its answer, taken apart.
+pub(crate) fn execute_field<'d, 'a, S: ScalarValue, R: Resolver<S>>(
+    walk: &Walk<'_, 'd, 'a, S, R>,
+    path: &Rc<FieldPath<'a>>,
+    concrete: &str,
+    node: &R::Node,
+    single: &Single<'d, 'a, S>,
+) -> Result<Prepared<'a, R::Node, S>, AllocError>
+    requires ready { IsReadyWalk S.shown R.possible R.values (R.world walk.now.collector.possible) walk.now }
+    requires alone { IsAlone S.shown walk.now.collector (R.possible walk.now.collector.possible) concrete.now single.now }
+    ensures { IfOk result (λ p. IsPrepared (R.world walk.now.collector.possible) (path_place path.now.value) concrete.now node.now
+        (view_collected S.shown walk.now.collector single.now.field.now)
+        p.is_non_null (view_skeleton S.shown p.skeleton) (view_nodes p.nodes.items) (map (view_listed S.shown) p.errors.items)) }
+{
+    let alloc = walk.alloc;
+    let field = single.field;
+    let here = path_below(alloc, path, field)?;
+    let enclosing = [Enclosing {
+        selections: single.alone,
+    }];
+    let occurrences = [Occurrence { field }];
+    let site = Site {
+        fragments: walk.collector.fragments.by_name(),
+        path: here.as_ref(),
+        enclosing: &enclosing,
+        occurrences: &occurrences,
+    };
+    let resolver = &walk.collector.possible;
+    let question = resolver.question(alloc, concrete, field)?;
+    let Asked { declared, answer } = resolver.resolve_field_value(
+        alloc, &question, concrete, node, &site,
+    );
+    let Parted {
+        skeleton,
+        nodes,
+        errors,
+    } = part_reply(alloc, resolver, declared, answer, &here)?;
+    let listed = list_errors(alloc, field.span.start, &errors)?;
+    Ok(Prepared {
+        is_non_null: declared.is_non_null(),
+        skeleton,
+        nodes,
+        errors: listed,
+    })
+}

@@ -1,0 +1,82 @@
+//! What a definition uses of variables (section 5.8 of the Specification).
+
+ghost use Rattle.std.specs.Prelude.{◌≡◌, IfOk, map, option_map};
+ghost use Rattle.graphql_spec.specs.Placed as placed;
+ghost use Rattle.graphql_spec.specs.Written.{argument_lists};
+ghost use Rattle.juniper_syntax.specs.DocumentView.{view_definition};
+ghost use Rattle.juniper_schema.specs.SchemaView.{view_schema};
+ghost use Rattle.juniper_written.specs.WrittenView.{view_lists};
+ghost use Rattle.juniper_placed.specs.CallView.{view_call};
+ghost use Rattle.juniper_type_rules.specs.UsesView.{fragment_name, has_variables, usage_of, view_used};
+
+use crate::names::names_in_lists;
+use crate::once::{names_once, uses_once};
+use crate::places::uses_in_calls;
+use juniper_placed::Call;
+use juniper_schema::SchemaType;
+use juniper_syntax::{Definition, ScalarValue, Type};
+use juniper_written::ArgumentLists;
+use std::alloc::{AllocError, Global};
+
+/// A variable at a place (5.8.5).
+#[derive(Drop)]
+pub struct Use<'u> {
+    /// Its name.
+    pub variable: &'u str,
+    /// The type of the place.
+    pub place: &'u Type<String>,
+    /// Whether the place has a default.
+    pub has_default: bool,
+}
+
+/// What a definition uses of variables in its own arguments.
+#[derive(Drop)]
+pub struct Used<'u> {
+    /// The definition's name, where it is a fragment.
+    pub fragment: Option<&'u str>,
+    /// The names of the variables, in all arguments (5.8.3).
+    pub names: Vec<&'u str>,
+    /// The variables with their places, in the arguments that are declared (5.8.5).
+    pub uses: Vec<Use<'u>>,
+}
+
+impl<'u> Used<'u> {
+    /// Whether there is a variable.
+    pub fn has_variables(&self) -> bool
+        ensures { result ≡ has_variables (view_used self.now) }
+    {
+        !self.names.is_empty() || !self.uses.is_empty()
+    }
+}
+
+/// What a definition uses, whose arguments are these, and those with their declarations these calls. An error where
+/// memory is refused.
+pub fn used_in<'u, 'd: 'u, 'a: 'u, 's: 'u, S: ScalarValue>(
+    alloc: Global,
+    schema: &'u SchemaType<S>,
+    definition: &Definition<'a, S>,
+    arguments: &ArgumentLists<'d, 'a, S>,
+    calls: &[Call<'d, 'a, 's, S>],
+) -> Result<Used<'u>, AllocError>
+    ensures { IfOk result (λ u. view_lists S.shown arguments.now ≡ argument_lists (view_definition S.shown definition.now) →
+        map (view_call S.shown) calls.now ≡ placed.calls (view_schema S.shown schema.now) (view_definition S.shown definition.now) →
+        view_used u ≡ usage_of (view_schema S.shown schema.now) (view_definition S.shown definition.now)) }
+{
+    let names = names_once(alloc, names_in_lists(alloc, arguments)?)?;
+    let uses = uses_once(alloc, uses_in_calls(alloc, schema, calls)?)?;
+    Ok(Used {
+        fragment: fragment_name(definition),
+        names,
+        uses,
+    })
+}
+
+/// The name of a fragment.
+fn fragment_name<'u, 'a: 'u, S: ScalarValue>(definition: &Definition<'a, S>) -> Option<&'u str>
+    ensures { option_map (λ n. n.now) result ≡ fragment_name (view_definition S.shown definition.now) }
+{
+    match definition {
+        Definition::Fragment(fragment) => Some(fragment.item.name.item),
+        Definition::Operation(_) => None,
+    }
+}

@@ -1,6 +1,0 @@
-use Rattle.juniper_written.proofs.Deciding.{IsOpen}
-use Rattle.juniper_use_rules.specs.UsesView.{definition_at, uses_unknown, view_used}
-use Rattle.juniper_use_rules.proofs.no_undefined_variables.lacks_in_parts.Given as goal
-
-abbrev pub invariant-loop-index : goal.invariant-loop-index
-invariant-loop-index g l = IsOpen (λ u. view_used u.now) (uses_unknown (definition_at g.S.ScalarValue.shown l.defined)) l.parts.items l.index

@@ -1,0 +1,7 @@
+use Rattle.std.proofs.Common.{ap, sym, ◌∙◌}
+use Rattle.graphql_spec.specs.Resolvers.{answered, leaf}
+use Rattle.juniper_values.proofs.Resolutions.{view-Scalar}
+use Rattle.juniper_values.proofs.scalars.StringIntoResolvable.into_resolvable.Goals as goal
+
+pub returns : goal.returns
+returns g c = ap (λ s. answered (leaf s)) (sym c.in_ok-from_text.ensures) ∙ sym (ap answered (view-Scalar g.S.ScalarValue.shown c.in_ok-from_text.field-0))
