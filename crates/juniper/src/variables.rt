@@ -27,7 +27,7 @@ pub(crate) fn first_not_constant<'a, S: ScalarValue>(
     ensures { option_map (λ n. n.now) result ≡ requests.first_not_constant (variables_of (view_operation S.shown operation.now))
         (view_given_values S.shown given.now) }
 {
-    first_inconstant(defined_variables(operation), given)
+    first_inconstant(Operation::defined_variables(operation), given)
 }
 
 /// The first of these variables whose given value holds a variable.
@@ -57,19 +57,6 @@ fn is_inconstant<S: ScalarValue>(given: &Given<'_, S>, name: &str) -> bool
     }
 }
 
-/// The variables that an operation defines, in order.
-#[tactic(auto, unfolding(graphql_spec::specs::Documents::variables_of))]
-fn defined_variables<'d, 'a, S: ScalarValue>(
-    operation: &'d Spanning<Operation<'a, S>, Span>,
-) -> &'d [Defined<'a, S>]
-    ensures { map (view_variable S.shown) result.now ≡ variables_of (view_operation S.shown operation.now) }
-{
-    match &operation.item.variable_definitions {
-        Some(defined) => defined.item.items.as_slice(),
-        None => &[],
-    }
-}
-
 /// The values of the variables that an operation defines: the given one, else the default, else none. An error where memory
 /// is refused.
 pub(crate) fn coerce_variables<S: ScalarValue>(
@@ -81,7 +68,7 @@ pub(crate) fn coerce_variables<S: ScalarValue>(
         (view_variables S.shown variables.now)) }
 {
     let given = Given::new(alloc, operation, variables)?;
-    let values = values_of(alloc, defined_variables(operation), &given)?;
+    let values = values_of(alloc, Operation::defined_variables(operation), &given)?;
     Ok(values)
 }
 

@@ -2,8 +2,7 @@
 use Rattle.std.proofs.Common.{◌≡◌, true, false, ap, refl}
 use Rattle.std.specs.Prelude.{◌≢◌}
 use Rattle.std.proofs.lemmas.Bool.{both_ways}
-use Rattle.graphql_spec.specs.Constants.{Constant, null, scalar, enumerated, variable, list, object}
-use Rattle.juniper_conversions.specs.Conversions.{is_null}
+use Rattle.graphql_spec.specs.Constants.{Constant, null, scalar, enumerated, variable, list, object, is_null}
 
 pub null_is : (v : Constant) → is_null v ≡ true → v ≡ null
 null_is null e = refl

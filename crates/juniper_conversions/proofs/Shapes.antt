@@ -2,12 +2,11 @@
 use Rattle.std.proofs.Common.{◌≡◌, List, [], ◌∷◌, Some, None, true, false, map, Vec, Global, refl, ap, subst, ◌∙◌}
 use Rattle.std.proofs.lemmas.Bool.{both_ways}
 use Rattle.graphql_spec.specs.Shown.{Shown}
-use Rattle.graphql_spec.specs.Constants.{Constant, null, scalar, enumerated, variable, list, object, constant, meaning, meanings}
+use Rattle.graphql_spec.specs.Constants.{Constant, null, scalar, enumerated, variable, list, object, constant, is_null, meaning, meanings}
 use Rattle.juniper_syntax.specs.InputView.{view_input, view_items}
 use Rattle.juniper_syntax.specs.declared.position.Span.{Span}
 use Rattle.juniper_syntax.specs.declared.position.Spanning.{Spanning}
 use Rattle.juniper_syntax.specs.declared.input.InputValue.{InputValue, List as ListOf}
-use Rattle.juniper_conversions.specs.Conversions.{is_null}
 use Rattle.juniper_conversions.proofs.Meanings.{means-List}
 use Rattle.juniper_conversions.specs.ListConversions.{items_of, constants_of, list_of, ByShape}
 

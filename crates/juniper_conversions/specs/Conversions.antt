@@ -17,15 +17,6 @@ refusal_text kind (variable x) = codes "Expected GraphQL scalar, found: variable
 refusal_text kind (list vs) = codes "Expected GraphQL scalar, found: list"
 refusal_text kind (object ms) = codes "Expected GraphQL scalar, found: object"
 
--- it is null
-abbrev pub is_null : Constant → Bool
-is_null null = true
-is_null (scalar s) = false
-is_null (enumerated e) = false
-is_null (variable x) = false
-is_null (list vs) = false
-is_null (object ms) = false
-
 -- what a scalar shows; no other value shows anything
 abbrev pub scalar_of : Constant → Option Shown
 scalar_of null = None

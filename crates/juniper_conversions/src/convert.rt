@@ -3,7 +3,7 @@
 ghost use Rattle.std.specs.Prelude.{◌≡◌, ◌⊎◌, IfOk, Result, codes, option_map, string_bytes};
 ghost use Rattle.graphql_spec.specs.Constants.{Constant, null, meaning};
 ghost use Rattle.juniper_syntax.specs.InputView.{view_input};
-ghost use Rattle.juniper_conversions.specs.Conversions.{is_null, scalar_of, int_of, boolean_of, text_of, refusal_text};
+ghost use Rattle.juniper_conversions.specs.Conversions.{scalar_of, int_of, boolean_of, text_of, refusal_text};
 ghost use Rattle.juniper_conversions.specs.Messages.{message_alone};
 ghost use Rattle.juniper_conversions.specs.ErrorView.{view_error};
 
@@ -149,7 +149,7 @@ impl<T: FromInputValue<S>, S: ScalarValue> FromInputValue<S> for Option<T> {
         alloc: Global,
         value: &InputValue<S>,
     ) -> Result<Result<Option<T>, T::Error>, AllocError> {
-        if is_null(value) {
+        if value.is_null() {
             return Ok(Ok(None));
         }
         match T::from_input_value(alloc, value)? {
@@ -169,20 +169,6 @@ impl<T: ToInputValue<S>, S: ScalarValue> ToInputValue<S> for Option<T> {
             Some(value) => value.to_input_value(alloc),
             None => Ok(InputValue::Null),
         }
-    }
-}
-
-/// Whether a value is null.
-pub fn is_null<S: ScalarValue>(value: &InputValue<S>) -> bool
-    ensures { result ≡ is_null (meaning (view_input S.shown value.now)) }
-{
-    match value {
-        InputValue::Null => true,
-        InputValue::Scalar(_) => false,
-        InputValue::Enum(_) => false,
-        InputValue::Variable(_) => false,
-        InputValue::List(_) => false,
-        InputValue::Object(_) => false,
     }
 }
 

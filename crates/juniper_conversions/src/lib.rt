@@ -20,7 +20,7 @@ mod segment;
 mod wrapped_conversions;
 
 pub use conversion_errors::{FromInputValueArrayError, FromInputValueVecError};
-pub use convert::{FromInputValue, ToInputValue, is_null};
+pub use convert::{FromInputValue, ToInputValue};
 pub use execution_error::ExecutionError;
 pub use field_error::{ExecutionResult, FieldError, FieldResult, ResolveError, error_of_message};
 pub use field_path::FieldPath;

@@ -6,7 +6,7 @@ ghost use Rattle.juniper_syntax.specs.InputView.{view_input, view_items};
 ghost use Rattle.juniper_conversions.specs.ListConversions.{GivesItems, constants_of, list_of};
 
 use crate::conversion_errors::{FromInputValueArrayError, FromInputValueVecError};
-use crate::convert::{FromInputValue, ToInputValue, is_null};
+use crate::convert::{FromInputValue, ToInputValue};
 use juniper_syntax::{InputValue, ScalarValue, Span, Spanning};
 use std::alloc::{AllocError, Global};
 
@@ -22,7 +22,7 @@ impl<T: FromInputValue<S>, S: ScalarValue> FromInputValue<S> for Vec<T> {
         alloc: Global,
         value: &InputValue<S>,
     ) -> Result<Result<Vec<T>, FromInputValueVecError<T, S>>, AllocError> {
-        if is_null(value) {
+        if value.is_null() {
             return Ok(Err(FromInputValueVecError::Null));
         }
         let answer = match list_of(value) {
@@ -59,7 +59,7 @@ impl<T: FromInputValue<S>, S: ScalarValue, const N: usize> FromInputValue<S> for
         alloc: Global,
         value: &InputValue<S>,
     ) -> Result<Result<[T; N], FromInputValueArrayError<T, S>>, AllocError> {
-        if is_null(value) {
+        if value.is_null() {
             return Ok(Err(FromInputValueArrayError::Null));
         }
         let converted = match list_of(value) {

@@ -3,7 +3,7 @@
 
 ghost use Rattle.std.specs.Prelude.{◌≡◌, IfOk};
 
-use crate::convert::{FromInputValue, ToInputValue, is_null};
+use crate::convert::{FromInputValue, ToInputValue};
 use juniper_nullable::Nullable;
 use juniper_syntax::{InputValue, ScalarValue};
 use std::alloc::{AllocError, Global};
@@ -23,7 +23,7 @@ impl<T: FromInputValue<S>, S: ScalarValue> FromInputValue<S> for Nullable<T> {
         alloc: Global,
         value: &InputValue<S>,
     ) -> Result<Result<Nullable<T>, T::Error>, AllocError> {
-        if is_null(value) {
+        if value.is_null() {
             return Ok(Ok(Nullable::ExplicitNull));
         }
         match T::from_input_value(alloc, value)? {

@@ -100,7 +100,7 @@ fn look_in(
     if is_barred(may_write, operation.item.operation_type) {
         return Ok(Finding::Writes);
     }
-    let errors = refused_errors(alloc, defined_variables(operation), refused)?;
+    let errors = refused_errors(alloc, Operation::defined_variables(operation), refused)?;
     if errors.is_empty() {
         Ok(Finding::Passes)
     } else {
@@ -116,19 +116,6 @@ fn is_barred(may_write: bool, kind: OperationType) -> bool
     match kind {
         OperationType::Query | OperationType::Subscription => false,
         OperationType::Mutation => !may_write,
-    }
-}
-
-/// The variables that an operation defines, in order.
-#[tactic(auto, unfolding(graphql_spec::specs::Documents::variables_of))]
-fn defined_variables<'d, 'a>(
-    operation: &'d Spanning<Operation<'a, DefaultScalarValue>, Span>,
-) -> &'d [Defined<'a>]
-    ensures { map (view_variable default_shown) result.now ≡ variables_of (view_operation default_shown operation.now) }
-{
-    match &operation.item.variable_definitions {
-        Some(defined) => defined.item.items.as_slice(),
-        None => &[],
     }
 }
 

@@ -14,6 +14,7 @@ ghost use Rattle.juniper_walk.specs.FieldWords.{head_of};
 use crate::small::are_small;
 use indexmap::IndexMap;
 use juniper_meta::meta::Argument;
+use juniper_syntax::ast::Arguments as WrittenArguments;
 use juniper_syntax::{Field, InputValue, ScalarValue, Span, Spanning, Variables};
 use juniper_values::Arguments;
 use std::alloc::{AllocError, Global};
@@ -35,7 +36,11 @@ pub(crate) fn coerce_arguments<'a, 'b, S: ScalarValue>(
     ensures { IfOk result (λ made. view_arguments S.shown made ≡ coerced_arguments (map (view_meta_argument S.shown) declared.now)
         (view_variables S.shown variables.now) (written (head_of S.shown field.now).arguments)) }
 {
-    let given = give(alloc, written_arguments(field), variables)?;
+    let given = give(
+        alloc,
+        WrittenArguments::written(&field.item.arguments),
+        variables,
+    )?;
     Arguments::new(alloc, Some(given), Some(declared))
 }
 
@@ -50,7 +55,12 @@ fn declared_arguments<'s, S: ScalarValue>(
     ensures { IfOk result (λ found. IfSome found (λ made. view_arguments S.shown made ≡ coerced_arguments (map (view_meta_argument S.shown) declared.now)
         (view_variables S.shown variables.now) (written (head_of S.shown field.now).arguments))) }
 {
-    match give_declared(alloc, declared, written_arguments(field), variables)? {
+    match give_declared(
+        alloc,
+        declared,
+        WrittenArguments::written(&field.item.arguments),
+        variables,
+    )? {
         None => Ok(None),
         Some(given) => {
             let made = Arguments::new(alloc, Some(given), Some(declared))?;
@@ -69,24 +79,11 @@ pub(crate) fn kept_arguments<'s, S: ScalarValue>(
     ensures { IfOk result (λ found. IfSome found (λ made. view_arguments S.shown made ≡ coerced_arguments (map (view_meta_argument S.shown) declared.now)
         (view_variables S.shown variables.now) (written (head_of S.shown field.now).arguments))) }
 {
-    if !are_small(written_arguments(field), variables) {
+    if !are_small(WrittenArguments::written(&field.item.arguments), variables) {
         return Ok(None);
     }
     let made = declared_arguments(alloc, declared, field, variables)?;
     Ok(made)
-}
-
-/// The arguments that are written at a field, in order (2.6).
-#[tactic(auto, unfolding(graphql_spec::specs::Documents::written))]
-fn written_arguments<'a, 'b, S: ScalarValue>(
-    field: &'b Spanning<Field<'a, S>, Span>,
-) -> &'b [Written<'a, S>]
-    ensures { map (view_argument S.shown) result.now ≡ written (head_of S.shown field.now).arguments }
-{
-    match &field.item.arguments {
-        Some(arguments) => arguments.item.items.as_slice(),
-        None => &[],
-    }
 }
 
 /// The written arguments with values for their variables.

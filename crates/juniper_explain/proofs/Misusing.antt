@@ -18,7 +18,6 @@ use Rattle.graphql_spec.specs.Types.{TypeRef, innermost, type_text}
 use Rattle.graphql_spec.specs.VariableUses.{Use, all_allowed, allowed, at_declared, definition_of, has_real_default, input_fields, item_type, may_stand, parts}
 use Rattle.graphql_spec.specs.VariableUses.{uses}
 use Rattle.graphql_spec.specs.VariableUses.{uses_at, uses_in_call, uses_in_fields, uses_in_items}
-use Rattle.juniper_type_rules.specs.UsesView.{is_null}
 use Rattle.juniper_syntax.specs.Positions.{view_span}
 use Rattle.juniper_syntax.specs.declared.position.Spanning.{Spanning}
 use Rattle.juniper_syntax.specs.declared.position.Span.{Span}
@@ -192,20 +191,6 @@ fields-of (input_object_type ds) = refl
 fields-of (list_type size t) = refl
 fields-of (nullable_type t) = refl
 fields-of placeholder = refl
-
-by_cases : (v : Input) → not (is_null v) ≡ elim v as (λ x. Bool) [ null ↦ false | _ ↦ true ]
-unfolding is_null
-by_cases null = refl
-by_cases (scalar x) = refl
-by_cases (enumerated e) = refl
-by_cases (variable x) = refl
-by_cases (list is) = refl
-by_cases (object fs) = refl
-
--- a default is one that is not null
-pub real-default-is : (v : Spanned Input) → not (is_null v.item) ≡ has_real_default (Some v)
-unfolding has_real_default is_null
-real-default-is v = by_cases v.item
 
 -- what is said of a variable where it may not stand
 abbrev misused_message : VariableDefinition → positions.Place → Text

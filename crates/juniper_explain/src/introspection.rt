@@ -2,7 +2,8 @@
 
 ghost use Rattle.std.specs.Prelude.{◌≡◌, ◌++◌, OnOk};
 ghost use Rattle.std.specs.List.{flat_map};
-ghost use Rattle.juniper_written.specs.WrittenView.{view_field, view_fields, view_written};
+ghost use Rattle.juniper_syntax.specs.DocumentView.{view_field};
+ghost use Rattle.juniper_written.specs.WrittenView.{view_fields, view_written};
 ghost use Rattle.juniper_explain.specs.Explanations.{view_explanations};
 ghost use Rattle.juniper_explain.specs.Nodes.{introspection_field, where_found};
 

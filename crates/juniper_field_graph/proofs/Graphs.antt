@@ -19,7 +19,7 @@ use Rattle.juniper_merging.specs.declared.graph.Vertex.{Vertex}
 use Rattle.juniper_merging.specs.declared.sets.FieldSet.{FieldSet}
 use Rattle.juniper_merging.proofs.Grouping.{empty-groups}
 use Rattle.juniper_meta.specs.MetaView.{view_type}
-use Rattle.juniper_written.specs.WrittenView.{view_field}
+use Rattle.juniper_syntax.specs.DocumentView.{view_field}
 use Rattle.juniper_field_graph.specs.GraphView.{IsGraphOf, IsPushed, head_or_none, heads_of, table_in, vertices_of, written_of}
 use Rattle.juniper_field_graph.specs.Keys.{IsNumbered, number_at}
 use Rattle.juniper_field_graph.specs.KindsView.{AreKept, IsOnce, has_call, has_type, heads_in, number_among, types_in}

@@ -8,14 +8,14 @@ use Rattle.graphql_spec.specs.Schema.{Schema}
 use Rattle.graphql_spec.specs.Fields.{declared_type, field_of}
 use Rattle.juniper_syntax.specs.declared.position.Spanning.{Spanning}
 use Rattle.juniper_syntax.specs.declared.position.Span.{Span}
-use Rattle.juniper_syntax.specs.DocumentView.{put_selection, view_selections, view_set}
+use Rattle.juniper_syntax.specs.DocumentView.{put_selection, view_field, view_selections, view_set}
 use Rattle.juniper_syntax.specs.declared.ast.Field.{Field as FieldType, out-Field}
 use Rattle.juniper_syntax.specs.declared.ast.InlineFragment.{InlineFragment as InlineType, out-InlineFragment}
 use Rattle.juniper_syntax.specs.declared.ast.FragmentSpread.{FragmentSpread as SpreadType}
 use Rattle.juniper_syntax.specs.declared.ast.Selection.{Selection, Field, FragmentSpread, InlineFragment}
 use Rattle.juniper_syntax.proofs.Documents.{put-Field, put-FragmentSpread, put-InlineFragment}
 use Rattle.juniper_syntax.proofs.Lists.{left-is}
-use Rattle.juniper_written.specs.WrittenView.{view_field, view_inline}
+use Rattle.juniper_written.specs.WrittenView.{view_inline}
 use Rattle.juniper_field_graph.specs.MetView.{Meets, Table}
 use Rattle.juniper_field_graph.specs.PlainKeys.{placed_on, written_on}
 use Rattle.juniper_field_graph.proofs.Meeting.{meets-nothing, meets-then}

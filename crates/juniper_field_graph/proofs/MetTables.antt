@@ -9,7 +9,7 @@ use Rattle.graphql_spec.specs.Shown.{Name, Shown}
 use Rattle.graphql_spec.specs.Documents.{response_key}
 use Rattle.graphql_spec.specs.Schema.{Schema}
 use Rattle.juniper_syntax.specs.NameNumbers.{name_number}
-use Rattle.juniper_written.specs.WrittenView.{view_field}
+use Rattle.juniper_syntax.specs.DocumentView.{view_field}
 use Rattle.juniper_field_graph.specs.KindsView.{IsOnce}
 use Rattle.juniper_field_graph.specs.MetView.{Meets, met_at, view_on}
 use Rattle.juniper_field_graph.specs.PlainKeys.{is_like, placed_on}

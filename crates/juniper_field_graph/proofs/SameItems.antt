@@ -4,6 +4,7 @@ use Rattle.std.proofs.Common.{string_bytes, refl, sym, ap, ap₂, ◌∙◌, ari
 use Rattle.std.specs.Borrow.{Bor}
 use Rattle.std.proofs.lemmas.List.{drop_all}
 use Rattle.graphql_spec.specs.Shown.{Name, Shown}
+use Rattle.graphql_spec.specs.Constants.{is_null, meaning}
 use Rattle.graphql_spec.specs.Inputs as inputs
 use Rattle.graphql_spec.specs.Inputs.{Input, InputFields}
 use Rattle.juniper_syntax.specs.declared.position.Span.{Span}
@@ -15,6 +16,16 @@ use Rattle.juniper_syntax.proofs.Lists.{left-is}
 use Rattle.juniper_field_graph.specs.NamedValues.{view_named}
 use Rattle.juniper_field_graph.proofs.NamedValues.{named-fields}
 use Rattle.juniper_field_graph.specs.SameValues.{all_keyed, field_at, same_value, same_items, same_fields, passes}
+
+-- null means the same as null alone
+pub null-is-same : (v : Input) → is_null (meaning v) ≡ same_value inputs.null v
+unfolding meaning same_value
+null-is-same inputs.null = refl
+null-is-same (inputs.scalar s) = refl
+null-is-same (inputs.enumerated e) = refl
+null-is-same (inputs.variable x) = refl
+null-is-same (inputs.list is) = refl
+null-is-same (inputs.object fs) = refl
 
 -- ## Items
 

@@ -19,7 +19,7 @@ use Rattle.juniper_merging.proofs.Tables.{set-some}
 use Rattle.graphql_spec.specs.ValidityLaws.{sets_below}
 use Rattle.juniper_syntax.specs.declared.position.Spanning.{Spanning}
 use Rattle.juniper_syntax.specs.declared.position.Span.{Span}
-use Rattle.juniper_syntax.specs.DocumentView.{put_selection, view_selections, view_set}
+use Rattle.juniper_syntax.specs.DocumentView.{put_selection, view_field, view_selections, view_set}
 use Rattle.juniper_syntax.specs.declared.ast.Field.{Field as FieldType, out-Field}
 use Rattle.juniper_syntax.specs.declared.ast.InlineFragment.{InlineFragment as InlineType, out-InlineFragment}
 use Rattle.juniper_syntax.specs.declared.ast.FragmentSpread.{FragmentSpread as SpreadType}
@@ -27,7 +27,7 @@ use Rattle.juniper_syntax.specs.declared.ast.Selection.{Selection, Field, Fragme
 use Rattle.juniper_syntax.specs.declared.ast.Selection.TheOpen.{Selection-F}
 use Rattle.juniper_syntax.proofs.Documents.{put-Field, put-FragmentSpread, put-InlineFragment}
 use Rattle.juniper_syntax.proofs.Lists.{left-is}
-use Rattle.juniper_written.specs.WrittenView.{view_field, view_inline, view_spread_at}
+use Rattle.juniper_written.specs.WrittenView.{view_inline, view_spread_at}
 use Rattle.juniper_field_graph.specs.Gathering.{IsBelowGathered, IsGathered, IsKnown, IsPutTo, IsReadyIn, IsSetGathered, IsSetGatheredAt, IsSetMade}
 use Rattle.juniper_field_graph.specs.GraphView.{IsGraphOf, IsPushed, heads_of, table_in, vertices_of}
 use Rattle.juniper_field_graph.specs.declared.gathering.Gathered.{Gathered}

@@ -14,7 +14,7 @@ use Rattle.graphql_spec.specs.Merging.{types_agree}
 use Rattle.graphql_spec.specs.Laws.{In}
 use Rattle.juniper_meta.specs.MetaView.{view_type}
 use Rattle.juniper_merging.specs.MergingGraph.{FieldAt}
-use Rattle.juniper_written.specs.WrittenView.{view_field}
+use Rattle.juniper_syntax.specs.DocumentView.{view_field}
 use Rattle.juniper_field_graph.specs.declared.graph.WrittenField.{WrittenField}
 
 module _ {S : Type 0} (shown : S → Shown) where

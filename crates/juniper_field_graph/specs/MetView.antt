@@ -8,7 +8,7 @@ use Rattle.graphql_spec.specs.Laws.{In}
 use Rattle.graphql_spec.specs.Placed.{Placed}
 use Rattle.graphql_spec.specs.Schema.{Schema}
 use Rattle.juniper_syntax.specs.NameNumbers.{name_number}
-use Rattle.juniper_written.specs.WrittenView.{view_field}
+use Rattle.juniper_syntax.specs.DocumentView.{view_field}
 use Rattle.juniper_field_graph.specs.KindsView.{IsOnce}
 use Rattle.juniper_field_graph.specs.PlainKeys.{AreOnce, is_like, placed_on}
 use Rattle.juniper_field_graph.specs.declared.plain_keys.FieldOn.{FieldOn}

@@ -10,8 +10,8 @@ ghost use Rattle.juniper_meta.specs.MetaView.{view_type};
 ghost use Rattle.graphql_spec.specs.Schema.{Schema};
 ghost use Rattle.juniper_merging.specs.Sets.{IsInside, IsSetOf};
 ghost use Rattle.juniper_schema.specs.SchemaView.{view_schema};
-ghost use Rattle.juniper_syntax.specs.DocumentView.{put_selection, view_selections};
-ghost use Rattle.juniper_written.specs.WrittenView.{view_field, view_inline};
+ghost use Rattle.juniper_syntax.specs.DocumentView.{put_selection, view_field, view_selections};
+ghost use Rattle.juniper_written.specs.WrittenView.{view_inline};
 ghost use Rattle.juniper_field_graph.specs.Gathering.{IsGathered, IsReadyIn, IsSetGatheredAt, IsSetMade, set_named};
 ghost use Rattle.juniper_field_graph.specs.GraphView.{IsGraphOf, IsPushed, table_in};
 

@@ -11,7 +11,7 @@ ghost use Rattle.graphql_spec.specs.Written.{arguments_repeat};
 ghost use Rattle.juniper_merging.specs.MergingGraph.{view_vertex};
 ghost use Rattle.juniper_meta.specs.MetaView.{view_type};
 ghost use Rattle.juniper_schema.specs.SchemaView.{view_schema};
-ghost use Rattle.juniper_written.specs.WrittenView.{view_field};
+ghost use Rattle.juniper_syntax.specs.DocumentView.{view_field};
 ghost use Rattle.juniper_field_graph.specs.GraphView.{IsGraphOf, IsPushed, table_in, vertices_of};
 ghost use Rattle.juniper_merging.specs.Sets.{IsInside, IsTable};
 ghost use Rattle.juniper_merging.specs.Tables.{below_in, table_of};
@@ -83,7 +83,7 @@ impl<'d, 'a, S: ScalarValue> FieldGraph<'d, 'a, S> {
             → IsPushed S.shown (view_schema S.shown schema.now) self.old self.new parent.now (view_field S.shown field.now) below i) }
     {
         let number = self.vertices.len();
-        let key = number_of_key(&mut self.keys, response_key(field), number)?;
+        let key = number_of_key(&mut self.keys, Field::response_key(field), number)?;
         let mut kinds = take_group(alloc, &mut self.kinds, key);
         let shape = shape_among(schema, &self.vertices, &self.fields, &kinds, declared_type);
         let call = call_among(&self.vertices, &self.fields, &kinds, field);
@@ -116,17 +116,6 @@ impl<'d, 'a, S: ScalarValue> FieldGraph<'d, 'a, S> {
             vertices: &self.vertices,
             sets: &self.sets,
         }
-    }
-}
-
-/// The response key of a field: its alias, else its name.
-#[tactic(auto, unfolding(graphql_spec::specs::Documents::response_key, graphql_spec::specs::Documents::name_or))]
-pub(crate) fn response_key<'a, S: ScalarValue>(field: &Spanning<Field<'a, S>, Span>) -> &'a str
-    ensures { result.now ≡ documents.response_key (view_field S.shown field.now) }
-{
-    match field.item.alias {
-        Some(alias) => alias.item,
-        None => field.item.name.item,
     }
 }
 

@@ -7,15 +7,13 @@ ghost use Rattle.graphql_spec.specs.Fields.{declared_type, field_of};
 ghost use Rattle.graphql_spec.specs.Merging as merging;
 ghost use Rattle.graphql_spec.specs.Types.{innermost};
 ghost use Rattle.juniper_schema.specs.SchemaView.{view_schema};
-ghost use Rattle.juniper_syntax.specs.DocumentView.{put_selection, view_definition, view_selections};
-ghost use Rattle.juniper_written.specs.WrittenView.{view_field};
+ghost use Rattle.juniper_syntax.specs.DocumentView.{put_selection, view_definition, view_field, view_selections};
 ghost use Rattle.juniper_field_graph.specs.KindsView.{IsOnce};
 ghost use Rattle.juniper_field_graph.specs.MetView.{Meets, Table, met_at, view_on};
 ghost use Rattle.juniper_field_graph.specs.PlainKeys as plain_keys;
 ghost use Rattle.juniper_field_graph.specs.PlainKeys.{AreOnce, placed_on, written_in, written_on};
 
 use crate::gathering::type_inside;
-use crate::graph::response_key;
 use crate::{same_call, types_agree};
 use juniper_placed::root_name;
 use juniper_schema::SchemaType;
@@ -154,7 +152,7 @@ fn meet_field<'d, 'a, S: ScalarValue>(
         (met_at S.shown (view_schema S.shown schema.now) met.new)
         (placed_on (view_schema S.shown schema.now) parent.now (view_field S.shown field.now) ∷ [])) }
 {
-    let number = name_number(response_key(field));
+    let number = name_number(Field::response_key(field));
     match met.insert(number, FieldOn { parent, field })? {
         Some(earlier) => Ok(is_like(schema, &earlier, &FieldOn { parent, field })),
         None => Ok(true),
@@ -174,7 +172,7 @@ fn is_like<S: ScalarValue>(
 {
     let field = first.field;
     let other = second.field;
-    response_key(field) == response_key(other)
+    Field::response_key(field) == Field::response_key(other)
         && same_call(field, other)
         && has_types_that_agree(schema, first.parent, second.parent, other.item.name.item)
 }

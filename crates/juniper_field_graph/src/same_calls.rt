@@ -8,8 +8,7 @@ ghost use Rattle.graphql_spec.specs.Documents.{written};
 ghost use Rattle.graphql_spec.specs.Written.{arguments_repeat};
 ghost use Rattle.juniper_field_graph.specs.NamedValues.{as_fields, view_named};
 ghost use Rattle.juniper_field_graph.specs.SameValues.{all_keyed, same_fields};
-ghost use Rattle.juniper_syntax.specs.DocumentView.{view_argument, view_arguments};
-ghost use Rattle.juniper_written.specs.WrittenView.{view_field};
+ghost use Rattle.juniper_syntax.specs.DocumentView.{view_argument, view_arguments, view_field};
 
 use crate::named_values::{Named, all_named, value_at};
 use crate::same_values::is_matched;
@@ -41,8 +40,8 @@ fn same_arguments<S: ScalarValue>(
     ensures { result ≡ (same_fields (as_fields (written (view_arguments S.shown first.now))) (as_fields (written (view_arguments S.shown second.now)))
         && all_keyed (as_fields (written (view_arguments S.shown second.now))) (as_fields (written (view_arguments S.shown first.now)))) }
 {
-    let arguments = arguments_in(first);
-    let others = arguments_in(second);
+    let arguments = Arguments::written(first);
+    let others = Arguments::written(second);
     all_matched(arguments, others) && all_named(others, arguments)
 }
 
@@ -56,17 +55,4 @@ fn all_matched<S: ScalarValue>(arguments: &[Named<&str, S>], others: &[Named<&st
         }
     }
     true
-}
-
-/// The arguments that are written.
-#[tactic(auto, unfolding(graphql_spec::specs::Documents::written))]
-fn arguments_in<'b, 'a, S: ScalarValue>(
-    arguments: &'b Option<Spanning<Arguments<'a, S>, Span>>,
-) -> &'b [Named<&'a str, S>]
-    ensures { map (view_argument S.shown) result.now ≡ written (view_arguments S.shown arguments.now) }
-{
-    match arguments {
-        Some(arguments) => arguments.item.items.as_slice(),
-        None => &[],
-    }
 }

@@ -13,12 +13,12 @@ use juniper_syntax::{InputValue, ScalarValue, Span, Spanning};
 /// Whether two values are the same up to places and the order of object fields, where no object has two fields of one
 /// name (2.9).
 #[cycle(same)]
-#[tactic(auto, using(juniper_syntax::proofs::Inputs::input_views), unfolding(crate::specs::SameValues::same_value))]
+#[tactic(auto, using(juniper_syntax::proofs::Inputs::input_views, crate::proofs::SameItems::null-is-same), unfolding(crate::specs::SameValues::same_value))]
 pub(crate) fn same_value<S: ScalarValue>(first: &InputValue<S>, second: &InputValue<S>) -> bool
     ensures { result ≡ same.same_value (view_input S.shown first.now) (view_input S.shown second.now) }
 {
     match first {
-        InputValue::Null => is_null(second),
+        InputValue::Null => second.is_null(),
         InputValue::Scalar(scalar) => is_scalar(second, scalar),
         InputValue::Enum(name) => is_enum(second, name.as_str()),
         InputValue::Variable(name) => is_variable(second, name.as_str()),
@@ -112,21 +112,6 @@ pub(crate) fn is_matched<S: ScalarValue>(
     match second {
         Some(value) => same_value(first, value),
         None => false,
-    }
-}
-
-/// Whether it is null.
-#[tactic(auto, using(juniper_syntax::proofs::Inputs::input_views), unfolding(crate::specs::SameValues::same_value))]
-fn is_null<S: ScalarValue>(value: &InputValue<S>) -> bool
-    ensures { result ≡ same.same_value inputs.null (view_input S.shown value.now) }
-{
-    match value {
-        InputValue::Null => true,
-        InputValue::Scalar(_) => false,
-        InputValue::Enum(_) => false,
-        InputValue::Variable(_) => false,
-        InputValue::List(_) => false,
-        InputValue::Object(_) => false,
     }
 }
 

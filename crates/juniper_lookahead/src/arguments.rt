@@ -104,7 +104,7 @@ impl<'r, 'd, 'a, S: ScalarValue> LookAheadSelection<'r, 'd, 'a, S> {
         ensures { result ≡ not (length (written (view_selection self.now).head.arguments) == 0) }
     {
         let field = self.field;
-        !written_arguments(&field.arguments).is_empty()
+        !Arguments::written(&field.arguments).is_empty()
     }
 
     /// The arguments that are written, in order (2.6), with the values of their variables.
@@ -113,7 +113,7 @@ impl<'r, 'd, 'a, S: ScalarValue> LookAheadSelection<'r, 'd, 'a, S> {
     {
         let field = self.field;
         ArgumentsIter {
-            left: written_arguments(&field.arguments).iter(),
+            left: Arguments::written(&field.arguments).iter(),
             variables: self.variables,
         }
     }
@@ -151,17 +151,4 @@ fn is_named<'r, 'a, S: ScalarValue>(argument: &LookAheadArgument<'r, 'a, S>, nam
     ensures { result ≡ bytes_eq (view_look_argument S.shown argument.now).name.item name.now }
 {
     argument.name() == name
-}
-
-/// The arguments that are written.
-#[tactic(auto, unfolding(graphql_spec::specs::Documents::written))]
-fn written_arguments<'d, 'a, S: ScalarValue>(
-    arguments: &'d Option<Spanning<Arguments<'a, S>, Span>>,
-) -> &'d [WrittenArgument<'a, S>]
-    ensures { map (view_argument S.shown) result.now ≡ written (view_arguments S.shown arguments.now) }
-{
-    match arguments {
-        Some(arguments) => arguments.item.items.as_slice(),
-        None => &[],
-    }
 }

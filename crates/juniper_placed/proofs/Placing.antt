@@ -12,14 +12,14 @@ use Rattle.graphql_spec.specs.Written.{own_directives}
 use Rattle.std.specs.List.{flat_map}
 use Rattle.juniper_syntax.specs.declared.position.Spanning.{Spanning}
 use Rattle.juniper_syntax.specs.declared.position.Span.{Span}
-use Rattle.juniper_syntax.specs.DocumentView.{put_selection, view_selections, view_set}
+use Rattle.juniper_syntax.specs.DocumentView.{put_selection, view_field, view_selections, view_set}
 use Rattle.juniper_syntax.specs.declared.ast.Field.{Field as FieldType, out-Field}
 use Rattle.juniper_syntax.specs.declared.ast.InlineFragment.{InlineFragment as InlineType, out-InlineFragment}
 use Rattle.juniper_syntax.specs.declared.ast.FragmentSpread.{FragmentSpread as SpreadType}
 use Rattle.juniper_syntax.specs.declared.ast.Selection.{Selection, Field, FragmentSpread, InlineFragment}
 use Rattle.juniper_syntax.proofs.Documents.{put-Field, put-FragmentSpread, put-InlineFragment}
 use Rattle.juniper_syntax.proofs.Lists.{left-is}
-use Rattle.juniper_written.specs.WrittenView.{view_field, view_inline, view_spread_at}
+use Rattle.juniper_written.specs.WrittenView.{view_inline, view_spread_at}
 use Rattle.juniper_placed.specs.Placing.{Parts, parts_in, parts_on, parts_of, joined, field_parts, directive_parts, type_below, type_inside}
 
 -- ## Parts

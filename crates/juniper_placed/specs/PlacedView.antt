@@ -3,7 +3,8 @@ use Rattle.std.specs.Prelude.{map, option_map}
 use Rattle.graphql_spec.specs.Shown.{Shown}
 use Rattle.graphql_spec.specs.Placed as spec
 use Rattle.juniper_meta.specs.MetaView as metas
-use Rattle.juniper_written.specs.WrittenView.{view_directives_at, view_field}
+use Rattle.juniper_syntax.specs.DocumentView.{view_field}
+use Rattle.juniper_written.specs.WrittenView.{view_directives_at}
 use Rattle.juniper_placed.specs.Placing.{Parts}
 use Rattle.juniper_placed.specs.declared.placed.Placed.{Placed}
 use Rattle.juniper_placed.specs.declared.placed.PlacedParts.{PlacedParts}

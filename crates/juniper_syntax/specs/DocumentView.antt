@@ -22,7 +22,7 @@ use Rattle.juniper_syntax.specs.declared.ast.VariableDefinition.{VariableDefinit
 use Rattle.juniper_syntax.specs.declared.ast.Operation.{Operation}
 use Rattle.juniper_syntax.specs.declared.ast.Definition.{Definition}
 use Rattle.juniper_syntax.specs.declared.ast.Definition.TheVariants as definition
-use Rattle.juniper_syntax.specs.declared.ast.Field.{Field, fold-Field}
+use Rattle.juniper_syntax.specs.declared.ast.Field.{Field, fold-Field, out-Field}
 use Rattle.juniper_syntax.specs.declared.ast.InlineFragment.{InlineFragment, fold-InlineFragment}
 use Rattle.juniper_syntax.specs.declared.ast.Selection.{Selection, fold-Selection}
 use Rattle.juniper_syntax.specs.declared.ast.Selection.TheOpen.{Selection-F, Field-F, InlineFragment-F}
@@ -71,6 +71,10 @@ module _ {S : Type 0} (shown : S → Shown) where
     has_set = is_some f.selection_set;
     span = at;
   }
+
+  -- a field without what stands below it
+  abbrev pub view_field : Spanning (Field S) Span → Head
+  view_field f = view_head shown (out-Field S f.item) (view_span f.span)
 
   abbrev pub below_of : Option (Vec (Selections → Selections) Global) → Selections
   below_of None = end

@@ -1,6 +1,11 @@
 //! Documents as they are written (sections 2.2 to 2.12 of the Specification). Names borrow the text.
 
+ghost use Rattle.std.specs.Prelude.{◌≡◌, map};
+ghost use Rattle.graphql_spec.specs.Documents.{response_key, variables_of, written};
+ghost use Rattle.juniper_syntax.specs.DocumentView.{view_argument, view_arguments, view_field, view_operation, view_variable};
+
 use crate::input::InputValue;
+use crate::scalar::ScalarValue;
 use crate::types::Type;
 use crate::{Span, Spanning};
 use std::collections::HashMap;
@@ -115,3 +120,46 @@ pub type Document<'a, S> = Vec<Definition<'a, S>>;
 
 /// The fragments of a document, lent for `'d`, by their names in the text.
 pub type Fragments<'d, 'a, S> = HashMap<&'a str, &'d Fragment<'a, S>>;
+
+impl<'a, S: ScalarValue> Arguments<'a, S> {
+    /// The arguments that are written, in order (2.6).
+    #[tactic(auto, unfolding(graphql_spec::specs::Documents::written))]
+    pub fn written<'b>(
+        arguments: &'b Option<Spanning<Arguments<'a, S>, Span>>,
+    ) -> &'b [(Spanning<&'a str, Span>, Spanning<InputValue<S>, Span>)]
+        ensures { map (view_argument S.shown) result.now ≡ written (view_arguments S.shown arguments.now) }
+    {
+        match arguments {
+            Some(arguments) => arguments.item.items.as_slice(),
+            None => &[],
+        }
+    }
+}
+
+impl<'a, S: ScalarValue> Field<'a, S> {
+    /// The response key of a field: its alias, else its name (2.7).
+    #[tactic(auto, unfolding(graphql_spec::specs::Documents::response_key, graphql_spec::specs::Documents::name_or))]
+    pub fn response_key(field: &Spanning<Field<'a, S>, Span>) -> &'a str
+        ensures { result.now ≡ response_key (view_field S.shown field.now) }
+    {
+        match field.item.alias {
+            Some(alias) => alias.item,
+            None => field.item.name.item,
+        }
+    }
+}
+
+impl<'a, S: ScalarValue> Operation<'a, S> {
+    /// The variables that an operation defines, in order (2.10).
+    #[tactic(auto, unfolding(graphql_spec::specs::Documents::variables_of))]
+    pub fn defined_variables<'d>(
+        operation: &'d Spanning<Operation<'a, S>, Span>,
+    ) -> &'d [(Spanning<&'a str, Span>, VariableDefinition<'a, S>)]
+        ensures { map (view_variable S.shown) result.now ≡ variables_of (view_operation S.shown operation.now) }
+    {
+        match &operation.item.variable_definitions {
+            Some(defined) => defined.item.items.as_slice(),
+            None => &[],
+        }
+    }
+}

@@ -3,6 +3,7 @@
 ghost use Rattle.std.specs.Prelude.{◌≡◌, IfOk, option_map, unwrap_or};
 ghost use Rattle.graphql_spec.specs.Inputs.{null, is_const, items_are_const, fields_are_const, const, const_items, const_fields};
 ghost use Rattle.graphql_spec.specs.Inputs as inputs;
+ghost use Rattle.graphql_spec.specs.Constants.{is_null, meaning};
 ghost use Rattle.juniper_syntax.specs.InputView.{view_input, view_items, view_fields, view_variables};
 
 use crate::scalar::ScalarValue;
@@ -62,6 +63,20 @@ impl<S: ScalarValue> InputValue<S> {
         ensures { view_input S.shown result ≡ inputs.object (view_fields S.shown fields.items) }
     {
         InputValue::Object(fields)
+    }
+
+    /// Whether it is null (2.9.5).
+    pub fn is_null(&self) -> bool
+        ensures { result ≡ is_null (meaning (view_input S.shown self.now)) }
+    {
+        match self {
+            InputValue::Null => true,
+            InputValue::Scalar(_) => false,
+            InputValue::Enum(_) => false,
+            InputValue::Variable(_) => false,
+            InputValue::List(_) => false,
+            InputValue::Object(_) => false,
+        }
     }
 
     /// Whether no variable stands in it (2.10).

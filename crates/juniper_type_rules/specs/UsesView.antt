@@ -135,8 +135,3 @@ named_in u = option_to_list u.fragment
 -- what is used, where its number is marked
 abbrev pub where_marked : List Bool → Usage × ℕ → List Usage
 where_marked marks p = cond (get_or marks p.1 false) (p.0 ∷ []) []
-
--- the value null
-unfoldable pub is_null : Input → Bool
-is_null null = true
-is_null _ = false

@@ -14,7 +14,7 @@ ghost use Rattle.juniper_syntax.specs.InputView.{view_input};
 ghost use Rattle.juniper_syntax.specs.TypeView as types;
 ghost use Rattle.juniper_meta.specs.MetaView.{view_type};
 ghost use Rattle.juniper_schema.specs.SchemaView.{view_schema};
-ghost use Rattle.juniper_type_rules.specs.UsesView.{AreUsesOfParts, allowed_by, definition_at, is_misused, is_null, uses_misused};
+ghost use Rattle.juniper_type_rules.specs.UsesView.{AreUsesOfParts, allowed_by, definition_at, is_misused, uses_misused};
 ghost use Rattle.juniper_type_rules.specs.UsesView.{view_use, view_used_at, view_uses};
 
 use crate::defined::{Variable, VariablesByName, variables_by_name};
@@ -107,22 +107,8 @@ pub fn has_real_default<S: ScalarValue>(default: &Option<Spanning<InputValue<S>,
     ensures { result ≡ spec.has_real_default (option_map (view_spanning (view_input S.shown)) default.now) }
 {
     match default {
-        Some(value) => !is_null(&value.item),
+        Some(value) => !value.item.is_null(),
         None => false,
-    }
-}
-
-/// Whether it is null.
-fn is_null<S: ScalarValue>(value: &InputValue<S>) -> bool
-    ensures { result ≡ is_null (view_input S.shown value.now) }
-{
-    match value {
-        InputValue::Null => true,
-        InputValue::Scalar(_) => false,
-        InputValue::Enum(_) => false,
-        InputValue::Variable(_) => false,
-        InputValue::List(_) => false,
-        InputValue::Object(_) => false,
     }
 }
 

@@ -9,7 +9,6 @@ ghost use Rattle.juniper_syntax.specs.DocumentView.{view_selections, view_set};
 ghost use Rattle.juniper_syntax.specs.declared.ast.Field.{out-Field};
 ghost use Rattle.juniper_walk.specs.FieldWords.{fields_at, head_of};
 
-use crate::paths::response_key;
 use juniper_collect::Collected;
 use juniper_lookahead::Occurrence;
 use juniper_syntax::{Field, ScalarValue, Selection, Span, Spanning};
@@ -29,7 +28,7 @@ pub fn group_fields<'d, 'a, S: ScalarValue>(
     let mut groups = BTreeMap::new(alloc);
     for occurrence in fields {
         let field = occurrence.field;
-        let key = response_key(field);
+        let key = Field::response_key(field);
         groups
             .entry(key)?
             .or_insert(Vec::new(alloc))

@@ -14,10 +14,10 @@ ghost use Rattle.juniper_walk.specs.PlanLists.{rises};
 ghost use Rattle.juniper_walk.specs.Plans.{AreAdded, IsGroupAdded, IsMade, IsStanding, all_expanded, fields_at, group_count};
 
 use crate::plan::{GroupNo, GroupRange, Plan};
-use crate::{Groups, Resolver, Walk, group_fields, response_key, selections_of};
+use crate::{Groups, Resolver, Walk, group_fields, selections_of};
 use juniper_collect::{Collected, Collector, Conditions, collect_fields};
 use juniper_lookahead::{Enclosing, Occurrence};
-use juniper_syntax::{ScalarValue, name_number};
+use juniper_syntax::{Field, ScalarValue, name_number};
 use std::alloc::{AllocError, Global};
 
 /// The fields that selections hold for an object type, one slice after the other.
@@ -119,7 +119,7 @@ fn keys_differ<'d, 'a, S: ScalarValue>(
     }
     let mut numbers = Vec::with_capacity(alloc, fields.len())?;
     for occurrence in fields {
-        numbers.push(name_number(response_key(occurrence.field)))?;
+        numbers.push(name_number(Field::response_key(occurrence.field)))?;
     }
     numbers.sort_unstable();
     Ok(do_rise(&numbers))
@@ -131,7 +131,7 @@ fn few_differ<'d, 'a, S: ScalarValue>(fields: &[Occurrence<'d, 'a, S>]) -> bool
 {
     match fields {
         [] => true,
-        [first, rest @ ..] => !has_key(rest, response_key(first.field)) && few_differ(rest),
+        [first, rest @ ..] => !has_key(rest, Field::response_key(first.field)) && few_differ(rest),
     }
 }
 
@@ -140,7 +140,7 @@ fn has_key<'d, 'a, S: ScalarValue>(fields: &[Occurrence<'d, 'a, S>], key: &str) 
     ensures { result ≡ list_any (bytes_eq key.now) (map (λ o. response_key (head_of S.shown o.field.now)) fields.now) }
 {
     for occurrence in fields {
-        if key == response_key(occurrence.field) {
+        if key == Field::response_key(occurrence.field) {
             return true;
         }
     }
@@ -175,7 +175,7 @@ fn add_each<'d, 'a, S: ScalarValue, R: Resolver<S>>(
     for occurrence in fields {
         let field = occurrence.field;
         let question = collector.possible.question(alloc, concrete, field)?;
-        plan.add_field(alloc, response_key(field), field, question)?;
+        plan.add_field(alloc, Field::response_key(field), field, question)?;
     }
     Ok(())
 }
@@ -193,7 +193,7 @@ fn add_few<'d, 'a, S: ScalarValue, R: Resolver<S>>(
         (view_all S.shown collector.now fields.now) plan.old plan.new) }
 {
     for place in 0..fields.len() {
-        let key = response_key(fields[place].field);
+        let key = Field::response_key(fields[place].field);
         let members = new_members(alloc, fields, place, key)?;
         add_members(alloc, collector, plan, concrete, key, members)?;
     }
@@ -230,7 +230,7 @@ fn fields_of<'d, 'a, S: ScalarValue>(
     let mut members = Vec::new(alloc);
     for occurrence in fields {
         let field = occurrence.field;
-        if key == response_key(field) {
+        if key == Field::response_key(field) {
             members.push(Occurrence { field })?;
         }
     }
@@ -251,7 +251,7 @@ fn add_grouped<'d, 'a, S: ScalarValue, R: Resolver<S>>(
 {
     let mut by_key = group_fields(alloc, fields)?;
     for occurrence in fields {
-        let key = response_key(occurrence.field);
+        let key = Field::response_key(occurrence.field);
         let members = take_fields(alloc, &mut by_key, key);
         add_members(alloc, collector, plan, concrete, key, members)?;
     }

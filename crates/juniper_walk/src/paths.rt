@@ -11,17 +11,6 @@ use juniper_syntax::{Field, ScalarValue, SourcePosition, Span, Spanning};
 use std::alloc::{AllocError, Global};
 use std::rc::Rc;
 
-/// The response key of a field: its alias, else its name (2.7).
-#[tactic(auto, unfolding(graphql_spec::specs::Documents::response_key, graphql_spec::specs::Documents::name_or))]
-pub fn response_key<'a, S: ScalarValue>(field: &Spanning<Field<'a, S>, Span>) -> &'a str
-    ensures { result.now ≡ response_key (head_of S.shown field.now) }
-{
-    match field.item.alias {
-        Some(alias) => alias.item,
-        None => field.item.name.item,
-    }
-}
-
 /// The path of the root: no steps.
 pub fn root_path<'a>(alloc: Global, start: SourcePosition) -> Result<Rc<FieldPath<'a>>, AllocError>
     ensures { IfOk result (λ made. path_place made.value ≡ []) }
@@ -41,7 +30,7 @@ pub fn path_below<'a, S: ScalarValue>(
     let parent = path.clone()?;
     let made = Rc::new(
         alloc,
-        FieldPath::Field(response_key(field), field.span.start, parent),
+        FieldPath::Field(Field::response_key(field), field.span.start, parent),
     )?;
     Ok(made)
 }

@@ -18,7 +18,7 @@ ghost use Rattle.juniper_walk.specs.Walking.{IsReadyWalk};
 
 use crate::leaf::{Reply, leaf_of};
 use crate::plan::{GroupNo, Plan};
-use crate::{Asked, Parted, Resolver, Site, Walk, list_errors, part_reply, response_key};
+use crate::{Asked, Parted, Resolver, Site, Walk, list_errors, part_reply};
 use juniper_assemble::{Skeleton, Spot};
 use juniper_conversions::{ExecutionError, FieldPath};
 use juniper_lookahead::Enclosing;
@@ -58,7 +58,7 @@ pub(crate) fn step_below<'a, S: ScalarValue>(
     ensures { IfOk result (λ made. path_place made ≡ path_place path.now.value ++ key (response_key (head_of S.shown field.now)) ∷ []) }
 {
     let parent = path.clone()?;
-    let key = response_key(field);
+    let key = Field::response_key(field);
     Ok(FieldPath::Field(key, field.span.start, parent))
 }
 

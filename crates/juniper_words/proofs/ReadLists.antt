@@ -2,7 +2,7 @@
 use Rattle.std.proofs.Common.{◌≡◌, ◌≤◌, ◌<◌, ◌+◌, ℕ, true, false, codes, List, [], ◌∷◌, ◌++◌, Some, None, Result, Ok, Err, map, length, drop, get_or}
 use Rattle.std.proofs.Common.{ap, sym, subst, refl, ◌∙◌}
 use Rattle.std.proofs.lemmas.List.{at_drop_more, drop_all, append-nil, append_assoc}
-use Rattle.graphql_spec.specs.Constants.{Constant, null, scalar, enumerated, variable, list, object, meaning}
+use Rattle.graphql_spec.specs.Constants.{Constant, null, scalar, enumerated, variable, list, object, is_null, meaning}
 use Rattle.graphql_spec.specs.Resolvers.{Error}
 use Rattle.graphql_spec.specs.Shown.{Shown}
 use Rattle.juniper_conversions.specs.ListConversions.{list_of}
@@ -12,7 +12,6 @@ use Rattle.juniper_conversions.specs.declared.field_error.ResolveError.{ResolveE
 use Rattle.juniper_conversions.specs.declared.field_error.ResolveError.TheVariants.{Field, Memory}
 use Rattle.juniper_syntax.specs.declared.position.Span.{Span}
 use Rattle.juniper_syntax.specs.declared.position.Spanning.{Spanning}
-use Rattle.juniper_conversions.specs.Conversions.{is_null}
 use Rattle.juniper_syntax.specs.InputView.{view_input}
 use Rattle.juniper_syntax.specs.declared.input.InputValue.{InputValue}
 use Rattle.juniper_words.specs.InputsRead.{ReadsAs, before_read, items_read, read_items, read_list}

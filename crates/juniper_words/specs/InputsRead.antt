@@ -2,14 +2,14 @@
 use Rattle.std.specs.Prelude.{◌≡◌, ℤ, Bool, codes, cond, List, [], ◌∷◌, Option, Some, None, Result, Ok, Err, unwrap_or}
 use Rattle.std.specs.Str.{bytes_eq}
 use Rattle.graphql_spec.specs.Shown.{Name, Shown, Text}
-use Rattle.graphql_spec.specs.Constants.{Constant, null, scalar, enumerated, variable, list, object, find}
+use Rattle.graphql_spec.specs.Constants.{Constant, null, scalar, enumerated, variable, list, object, find, is_null}
 use Rattle.graphql_spec.specs.Resolvers.{Error, Reply, failed}
 use Rattle.juniper_conversions.specs.ListConversions.{items_of}
 use Rattle.juniper_conversions.specs.ErrorView.{view_error}
 use Rattle.juniper_conversions.specs.Messages.{message_alone}
 use Rattle.juniper_conversions.specs.declared.field_error.ResolveError.{ResolveError}
 use Rattle.juniper_conversions.specs.declared.field_error.ResolveError.TheVariants.{Field, Memory}
-use Rattle.juniper_conversions.specs.Conversions.{boolean_of, int_of, is_null, refusal_text, text_of}
+use Rattle.juniper_conversions.specs.Conversions.{boolean_of, int_of, refusal_text, text_of}
 use Rattle.juniper_conversions.specs.Identifiers.{id_of}
 use Rattle.juniper_values.specs.ArgumentsRead.{enum_of}
 

@@ -8,7 +8,7 @@ ghost use Rattle.juniper_id.specs.Text.{id_text};
 ghost use Rattle.juniper_syntax.specs.InputView.{view_input};
 ghost use Rattle.juniper_words.specs.InputsRead.{ReadsAs, read_bool, read_id, read_int, read_option, read_text};
 
-use juniper_conversions::{FromInputValue, ResolveError, is_null};
+use juniper_conversions::{FromInputValue, ResolveError};
 use juniper_id::ID;
 use juniper_syntax::{InputValue, ScalarValue};
 use std::alloc::Global;
@@ -103,7 +103,7 @@ impl<T: InputType<S>, S: ScalarValue> InputType<S> for Option<T> {
     ghost read = { read_option T.read };
 
     fn read_input(alloc: Global, value: &InputValue<S>) -> Result<Option<T>, ResolveError<S>> {
-        if is_null(value) {
+        if value.is_null() {
             return Ok(None);
         }
         match T::read_input(alloc, value) {

@@ -6,7 +6,7 @@ ghost use Rattle.juniper_syntax.specs.InputView.{view_input};
 ghost use Rattle.juniper_words.specs.InputsRead.{ReadsAs, read_items, read_list};
 
 use crate::input_type::InputType;
-use juniper_conversions::{ResolveError, error_of_message, is_null, list_of};
+use juniper_conversions::{ResolveError, error_of_message, list_of};
 use juniper_syntax::{InputValue, ScalarValue, Span, Spanning};
 use std::alloc::Global;
 
@@ -20,7 +20,7 @@ impl<T: InputType<S>, S: ScalarValue> InputType<S> for Vec<T> {
     ghost read = { read_list T.read };
 
     fn read_input(alloc: Global, value: &InputValue<S>) -> Result<Vec<T>, ResolveError<S>> {
-        if is_null(value) {
+        if value.is_null() {
             let message = String::from_str(
                 alloc,
                 "Failed to convert into `Vec`: Value cannot be `null`",

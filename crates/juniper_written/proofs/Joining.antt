@@ -9,7 +9,7 @@ use Rattle.std.specs.List.{flat_map}
 use Rattle.graphql_spec.specs.Written.{heads, conditions, directives_in, selections_of, all_conditions, all_directives, own_directives}
 use Rattle.juniper_syntax.specs.declared.position.Spanning.{Spanning}
 use Rattle.juniper_syntax.specs.declared.position.Span.{Span}
-use Rattle.juniper_syntax.specs.DocumentView.{put_selection, view_selections, view_set}
+use Rattle.juniper_syntax.specs.DocumentView.{put_selection, view_field, view_selections, view_set}
 use Rattle.juniper_syntax.specs.declared.ast.Field.{Field as FieldType, out-Field}
 use Rattle.juniper_syntax.specs.declared.ast.InlineFragment.{InlineFragment as InlineType, out-InlineFragment}
 use Rattle.juniper_syntax.specs.declared.ast.FragmentSpread.{FragmentSpread as SpreadType}
@@ -17,7 +17,7 @@ use Rattle.juniper_syntax.specs.declared.ast.Selection.{Selection, Field, Fragme
 use Rattle.juniper_syntax.proofs.Documents.{put-Field, put-FragmentSpread, put-InlineFragment}
 use Rattle.juniper_syntax.proofs.Lists.{left-is}
 use Rattle.juniper_written.specs.Parts.{Parts, parts_in, parts_of, joined, field_parts, spread_parts, inline_parts, condition_names}
-use Rattle.juniper_written.specs.WrittenView.{view_field, view_inline, view_spread_at}
+use Rattle.juniper_written.specs.WrittenView.{view_inline, view_spread_at}
 
 -- ## Parts
 

@@ -10,7 +10,7 @@ use Rattle.graphql_spec.specs.Documents.{Head, written}
 use Rattle.juniper_syntax.specs.Positions.{view_span}
 use Rattle.juniper_syntax.specs.declared.position.Spanning.{Spanning}
 use Rattle.juniper_syntax.specs.declared.position.Span.{Span}
-use Rattle.juniper_syntax.specs.DocumentView.{view_arguments, view_head, view_directive, view_spread, inline_head, view_variable}
+use Rattle.juniper_syntax.specs.DocumentView.{view_arguments, view_field, view_head, view_directive, view_spread, inline_head, view_variable}
 use Rattle.juniper_syntax.specs.declared.ast.Arguments.{Arguments}
 use Rattle.juniper_syntax.specs.declared.ast.Directive.{Directive}
 use Rattle.juniper_syntax.specs.declared.ast.Field.{Field, out-Field}
@@ -45,10 +45,6 @@ module _ {T : Type 0} where
   named m k = lookup (λ n. bytes_eq k n.now) (entries_of m)
 
 module _ {S : Type 0} (shown : S → Shown) where
-  -- a field without what stands below it
-  abbrev pub view_field : Spanning (Field S) Span → Head
-  view_field f = view_head shown (out-Field S f.item) (view_span f.span)
-
   -- a spread
   abbrev pub view_spread_at : Spanning (FragmentSpread S) Span → spec.Spread
   view_spread_at x = view_spread shown x.item (view_span x.span)

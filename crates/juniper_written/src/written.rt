@@ -6,7 +6,8 @@ ghost use Rattle.graphql_spec.specs.Documents.{Selections};
 ghost use Rattle.graphql_spec.specs.Documents as documents;
 ghost use Rattle.juniper_syntax.specs.DocumentView.{put_selection, view_definition, view_directives, view_fragment, view_operation, view_selections};
 ghost use Rattle.juniper_written.specs.Parts.{field_parts, inline_parts, joined, parts_in, parts_of, spread_parts};
-ghost use Rattle.juniper_written.specs.WrittenView.{view_directives_at, view_field, view_inline, view_spread_at, view_variables, view_written};
+ghost use Rattle.juniper_syntax.specs.DocumentView.{view_field};
+ghost use Rattle.juniper_written.specs.WrittenView.{view_directives_at, view_inline, view_spread_at, view_variables, view_written};
 
 use juniper_syntax::{
     Definition, Directive, Field, Fragment, FragmentSpread, InlineFragment, Operation, ScalarValue,

@@ -3,4 +3,4 @@ use Rattle.juniper_execute.proofs.coerce.coerce_arguments.Goals as goal
 
 pub returns : goal.returns
 unfolding coerced_arguments
-returns g c = rw (← c.written_arguments.ensures, ← c.in_ok-given.ensures) c.new.ensures
+returns g c = rw (← c.written.ensures, ← c.in_ok-given.ensures) c.new.ensures

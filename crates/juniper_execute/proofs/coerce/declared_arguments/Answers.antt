@@ -11,7 +11,7 @@ unfolding coerced_arguments
 returns-in_ok-made-in-Some g c =
     let shown = g.S.ScalarValue.shown in
     let vars = view_variables shown c.args.variables.now in
-    let found = subst (λ o. IfSome o (λ m. members_of shown m.entries ≡ given vars (map (view_argument shown) c.written_arguments.result.now)))
+    let found = subst (λ o. IfSome o (λ m. members_of shown m.entries ≡ given vars (map (view_argument shown) c.written.result.now)))
     c.in-Some.is c.in_ok-give_declared.ensures in
     c.in_ok-made-in-Some.ensures
-    ∙ ap (with_defaults (map (view_meta_argument shown) c.args.declared.now)) (found ∙ ap (given vars) c.written_arguments.ensures)
+    ∙ ap (with_defaults (map (view_meta_argument shown) c.args.declared.now)) (found ∙ ap (given vars) c.written.ensures)

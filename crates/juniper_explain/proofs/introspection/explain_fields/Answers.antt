@@ -1,5 +1,5 @@
 use Rattle.std.proofs.Common.{refl, ap, arith, length, ◌<◌, ◌≤◌, ◌∙◌, ◌++◌}
-use Rattle.juniper_written.specs.WrittenView.{view_field}
+use Rattle.juniper_syntax.specs.DocumentView.{view_field}
 use Rattle.juniper_explain.specs.Explanations.{view_explanations}
 use Rattle.juniper_explain.specs.Nodes.{introspection_field}
 use Rattle.juniper_written.proofs.Lists.{flat-all, flat-next, flat-seen}

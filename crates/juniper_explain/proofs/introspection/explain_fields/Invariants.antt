@@ -1,4 +1,4 @@
-use Rattle.juniper_written.specs.WrittenView.{view_field}
+use Rattle.juniper_syntax.specs.DocumentView.{view_field}
 use Rattle.juniper_explain.specs.Explanations.{view_explanations}
 use Rattle.juniper_explain.specs.Nodes.{introspection_field}
 use Rattle.juniper_written.proofs.Lists.{IsFlatSoFar}

@@ -1,6 +1,6 @@
 use Rattle.std.specs.List.{slice_get}
 use Rattle.std.proofs.Common.{ℕ, Bool}
-use Rattle.juniper_written.specs.WrittenView.{view_field}
+use Rattle.juniper_syntax.specs.DocumentView.{view_field}
 use Rattle.juniper_field_graph.specs.KindsView.{has_call, heads_in}
 use Rattle.juniper_field_graph.proofs.Choosing.{kind-passed, kind-taken, kind-missing}
 use Rattle.juniper_field_graph.proofs.graph.call_among.Goals as goal

@@ -1,7 +1,7 @@
 use Rattle.std.specs.List.{slice_get}
 use Rattle.std.proofs.Common.{ℕ, Some, ◌≡◌}
 use Rattle.graphql_spec.specs.Documents.{Head}
-use Rattle.juniper_written.specs.WrittenView.{view_field}
+use Rattle.juniper_syntax.specs.DocumentView.{view_field}
 use Rattle.juniper_field_graph.specs.KindsView.{IsOnce, has_call, heads_in}
 use Rattle.juniper_field_graph.proofs.Choosing.{IsLeft}
 use Rattle.juniper_field_graph.proofs.graph.call_among.Given as goal

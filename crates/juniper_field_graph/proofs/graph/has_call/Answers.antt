@@ -1,5 +1,5 @@
 use Rattle.std.proofs.Common.{sym, ap, ◌∙◌}
-use Rattle.juniper_written.specs.WrittenView.{view_field}
+use Rattle.juniper_syntax.specs.DocumentView.{view_field}
 use Rattle.juniper_field_graph.specs.KindsView.{has_call}
 use Rattle.juniper_field_graph.proofs.Found.{found-view}
 use Rattle.juniper_field_graph.proofs.graph.has_call.Goals as goal

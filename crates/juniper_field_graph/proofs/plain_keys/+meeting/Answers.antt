@@ -2,8 +2,7 @@ use Rattle.std.proofs.Common.{refl, subst}
 use Rattle.graphql_spec.specs.Fields.{declared_type, field_of}
 use Rattle.graphql_spec.specs.Types.{innermost}
 use Rattle.juniper_schema.specs.SchemaView.{view_schema}
-use Rattle.juniper_syntax.specs.DocumentView.{view_selections}
-use Rattle.juniper_written.specs.WrittenView.{view_field}
+use Rattle.juniper_syntax.specs.DocumentView.{view_field, view_selections}
 use Rattle.juniper_field_graph.specs.MetView.{Meets, met_at}
 use Rattle.juniper_field_graph.specs.PlainKeys.{written_on}
 use Rattle.juniper_field_graph.proofs.MetSelections.{field-before, inline-before, met-all, met-next, none-below, set-below, spread-before}

@@ -4,7 +4,7 @@ use Rattle.std.specs.Str.{bytes_eq}
 use Rattle.graphql_spec.specs.Documents.{response_key}
 use Rattle.graphql_spec.proofs.Lists.{same_true}
 use Rattle.juniper_schema.specs.SchemaView.{view_schema}
-use Rattle.juniper_written.specs.WrittenView.{view_field}
+use Rattle.juniper_syntax.specs.DocumentView.{view_field}
 use Rattle.juniper_field_graph.proofs.PlainFields.{like-from}
 use Rattle.juniper_field_graph.proofs.plain_keys.is_like.Goals as goal
 use Rattle.juniper_field_graph.proofs.plain_keys.is_like.Goals.{then-eq, else-eq}

@@ -1,5 +1,5 @@
 use Rattle.graphql_spec.specs.Documents.{written}
-use Rattle.juniper_written.specs.WrittenView.{view_field}
+use Rattle.juniper_syntax.specs.DocumentView.{view_field}
 use Rattle.juniper_field_graph.proofs.SameArguments.{calls-told}
 use Rattle.juniper_field_graph.proofs.same_calls.same_call.Goals as goal
 

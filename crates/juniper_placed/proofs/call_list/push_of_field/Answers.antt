@@ -2,7 +2,7 @@ use Rattle.std.proofs.Common.{ap, option_map, ◌∙◌, ◌++◌, ◌∷◌, []
 use Rattle.graphql_spec.specs.Documents.{written}
 use Rattle.juniper_meta.specs.MetaView as metas
 use Rattle.juniper_syntax.proofs.Lists.{seen-push}
-use Rattle.juniper_written.specs.WrittenView.{view_field}
+use Rattle.juniper_syntax.specs.DocumentView.{view_field}
 use Rattle.juniper_placed.specs.CallView.{view_call, view_calls}
 use Rattle.juniper_placed.specs.Placing.{call_of_field, field_call}
 use Rattle.juniper_placed.proofs.Calling.{adds-some, adds-none}

@@ -3,7 +3,7 @@ use Rattle.graphql_spec.specs.Documents.{Head}
 use Rattle.juniper_syntax.proofs.Lists.{seen-push}
 use Rattle.juniper_meta.specs.MetaView as metas
 use Rattle.juniper_schema.specs.SchemaView.{view_schema}
-use Rattle.juniper_written.specs.WrittenView.{view_field}
+use Rattle.juniper_syntax.specs.DocumentView.{view_field}
 use Rattle.juniper_placed.specs.Placing.{type_below}
 use Rattle.juniper_placed.specs.PlacedView.{view_parts, view_placed}
 use Rattle.juniper_placed.proofs.Placing.{adds-known, adds-unknown}

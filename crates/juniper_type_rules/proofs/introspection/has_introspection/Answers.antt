@@ -1,6 +1,6 @@
 use Rattle.std.proofs.Common.{◌<◌, ◌≤◌, length, arith, sym, ◌∙◌}
 use Rattle.graphql_spec.specs.Rules.{is_introspection}
-use Rattle.juniper_written.specs.WrittenView.{view_field}
+use Rattle.juniper_syntax.specs.DocumentView.{view_field}
 use Rattle.juniper_written.proofs.Deciding.{open-first, open-next, one-passes, none-passes}
 use Rattle.juniper_type_rules.proofs.introspection.has_introspection.Goals as goal
 

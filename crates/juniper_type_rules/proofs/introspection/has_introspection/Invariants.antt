@@ -1,5 +1,5 @@
 use Rattle.graphql_spec.specs.Rules.{is_introspection}
-use Rattle.juniper_written.specs.WrittenView.{view_field}
+use Rattle.juniper_syntax.specs.DocumentView.{view_field}
 use Rattle.juniper_written.proofs.Deciding.{IsOpen}
 use Rattle.juniper_type_rules.proofs.introspection.has_introspection.Given as goal
 

@@ -1,7 +1,7 @@
 use Rattle.std.proofs.Common.{◌<◌, ◌≤◌, length, ◌++◌, refl, ap, ◌∙◌, arith}
 use Rattle.graphql_spec.specs.Documents.{written}
-use Rattle.juniper_syntax.specs.DocumentView.{view_arguments}
-use Rattle.juniper_written.specs.WrittenView.{view_field, view_list}
+use Rattle.juniper_syntax.specs.DocumentView.{view_arguments, view_field}
+use Rattle.juniper_written.specs.WrittenView.{view_list}
 use Rattle.juniper_syntax.proofs.Lists.{seen-push}
 use Rattle.juniper_written.proofs.Lists.{seen-next, seen-all, seen-twice}
 use Rattle.juniper_written.proofs.arguments.push_of_fields.Goals as goal

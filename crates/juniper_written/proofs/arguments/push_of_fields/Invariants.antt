@@ -1,5 +1,6 @@
 use Rattle.graphql_spec.specs.Documents.{written}
-use Rattle.juniper_written.specs.WrittenView.{view_field, view_list}
+use Rattle.juniper_syntax.specs.DocumentView.{view_field}
+use Rattle.juniper_written.specs.WrittenView.{view_list}
 use Rattle.juniper_written.proofs.Lists.{IsSeenSoFar}
 use Rattle.juniper_written.proofs.arguments.push_of_fields.Given as goal
 

@@ -1,5 +1,6 @@
 use Rattle.juniper_syntax.proofs.Lists.{seen-push}
-use Rattle.juniper_written.specs.WrittenView.{view_field, view_written}
+use Rattle.juniper_syntax.specs.DocumentView.{view_field}
+use Rattle.juniper_written.specs.WrittenView.{view_written}
 use Rattle.juniper_written.proofs.Joining.{adds-head}
 use Rattle.juniper_written.proofs.written.write_field.Goals as goal
 

@@ -9,7 +9,7 @@ use Rattle.juniper_merging.specs.Tables.{table_of}
 use Rattle.juniper_merging.specs.declared.graph.Vertex.{Vertex}
 use Rattle.juniper_meta.specs.MetaView.{view_type}
 use Rattle.juniper_schema.specs.SchemaView.{view_schema}
-use Rattle.juniper_written.specs.WrittenView.{view_field}
+use Rattle.juniper_syntax.specs.DocumentView.{view_field}
 use Rattle.juniper_field_graph.specs.GraphView.{table_in}
 use Rattle.juniper_field_graph.specs.Keys.{IsNumbered, number_at}
 use Rattle.juniper_field_graph.specs.KindsView.{IsOwn, has_call, has_type, heads_in, number_among, types_in}
