@@ -52,7 +52,7 @@ pub fn nullables_come_back<T: FromInputValue<S> + ToInputValue<S>, S: ScalarValu
         ⟦<Nullable<T> as FromInputValue<S>>⟧.gives (⟦<Nullable<T> as ToInputValue<S>>⟧.input (Nullable.Some value.now)) (Ok (Nullable.Some back)) }
     ensures some { T.input value.now ≢ null → ComesBack T.gives T.input value.now → (answer : _) →
         ⟦<Nullable<T> as FromInputValue<S>>⟧.gives (⟦<Nullable<T> as ToInputValue<S>>⟧.input (Nullable.Some value.now)) answer →
-        IsOkAnd answer (λ back. IsSomeAnd (some back) (ComesBackAs T.gives T.input value.now)) }
+        IsOkAnd answer (λ b. IsSomeAnd (some b) (ComesBackAs T.gives T.input value.now)) }
     ensures explicit_given { ⟦<Nullable<T> as FromInputValue<S>>⟧.gives (⟦<Nullable<T> as ToInputValue<S>>⟧.input Nullable.ExplicitNull)
         (Ok Nullable.ExplicitNull) }
     ensures explicit { (answer : _) → ⟦<Nullable<T> as FromInputValue<S>>⟧.gives (⟦<Nullable<T> as ToInputValue<S>>⟧.input Nullable.ExplicitNull) answer →

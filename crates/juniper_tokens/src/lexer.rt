@@ -400,8 +400,7 @@ impl<'a> Lexer<'a> {
 
     /// Takes the token at the front, if there is one.
     fn token(&mut self) -> Option<Token<'a>>
-        ensures { MatchOption result
-            ((read.lexeme_len self.old.ahead ≡ 0) × (self.new ≡ self.old))
+        ensures { MatchOption result ((read.lexeme_len self.old.ahead ≡ 0) × (self.new ≡ self.old))
             (λ t. (read.lexeme_len self.old.ahead ≢ 0) × (view_token t ≡ read.token_of (read.lexeme_len self.old.ahead) self.old)
             × (self.new ≡ read.past (read.lexeme_len self.old.ahead) self.old)) }
     {
