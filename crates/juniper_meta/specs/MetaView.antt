@@ -195,10 +195,13 @@ view_location place.Enum = codes "ENUM"
 view_location place.InputObject = codes "INPUT_OBJECT"
 view_location place.InputFieldDefinition = codes "INPUT_FIELD_DEFINITION"
 
+-- the directive of this name that may stand at these places, with these arguments
+abbrev pub directive_of : {S : Type 0} → (S → Shown) → String Global → List DirectiveLocation → List (Argument S) → DirectiveDeclaration
+directive_of shown n ls ds = record { name = string_bytes n; locations = map view_location ls; arguments = map (view_argument shown) ds }
+
 -- a directive
 abbrev pub view_directive : {S : Type 0} → (S → Shown) → DirectiveType S → DirectiveDeclaration
-view_directive shown d =
-    record { name = string_bytes d.name; locations = map view_location d.locations.items; arguments = map (view_argument shown) d.arguments.items }
+view_directive shown d = directive_of shown d.name d.locations.items d.arguments.items
 
 -- ## What the calls that change a declaration give
 

@@ -1,7 +1,7 @@
 //! Directives that a schema has (section 3.13 of the Specification).
 
-ghost use Rattle.std.specs.Prelude.{◌≡◌, Some, map, string_bytes};
-ghost use Rattle.juniper_meta.specs.MetaView.{view_argument, view_directive, view_location};
+ghost use Rattle.std.specs.Prelude.{◌≡◌, Some};
+ghost use Rattle.juniper_meta.specs.MetaView.{directive_of, view_directive, view_location};
 
 use crate::declaration::Argument;
 use juniper_syntax::ScalarValue;
@@ -101,11 +101,7 @@ pub struct DirectiveType<S> {
 impl<S: ScalarValue> DirectiveType<S> {
     /// The directive of this name that may stand at these places, with these arguments.
     pub fn new(name: String, locations: Vec<DirectiveLocation>, arguments: Vec<Argument<S>>) -> Self
-        ensures { view_directive S.shown result ≡ record {
-          name = string_bytes name;
-          locations = map view_location locations.items;
-          arguments = map (view_argument S.shown) arguments.items;
-        } }
+        ensures { view_directive S.shown result ≡ directive_of S.shown name locations.items arguments.items }
     {
         DirectiveType {
             name,
