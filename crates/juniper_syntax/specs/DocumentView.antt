@@ -74,7 +74,7 @@ module _ {S : Type 0} (shown : S → Shown) where
 
   -- a field without what stands below it
   abbrev pub view_field : Spanning (Field S) Span → Head
-  view_field f = view_head shown (out-Field S f.item) (view_span f.span)
+  view_field f = view_head (out-Field S f.item) (view_span f.span)
 
   abbrev pub below_of : Option (Vec (Selections → Selections) Global) → Selections
   below_of None = end

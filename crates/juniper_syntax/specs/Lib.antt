@@ -3,6 +3,7 @@ pub mod Refusals
 pub mod RuleView
 pub mod Scalars
 pub mod InputView
+pub mod InputParts
 pub mod Escapes
 pub mod FieldWords
 pub mod NameNumbers

@@ -4,6 +4,7 @@ ghost use Rattle.std.specs.Prelude.{◌≡◌, IfOk, option_map, unwrap_or};
 ghost use Rattle.graphql_spec.specs.Inputs.{null, is_const, items_are_const, fields_are_const, const, const_items, const_fields};
 ghost use Rattle.graphql_spec.specs.Inputs as inputs;
 ghost use Rattle.graphql_spec.specs.Constants.{is_null, meaning};
+ghost use Rattle.juniper_syntax.specs.InputParts.{IsListOf, IsObjectOf};
 ghost use Rattle.juniper_syntax.specs.InputView.{view_input, view_items, view_fields, view_variables};
 
 use crate::scalar::ScalarValue;
@@ -47,6 +48,31 @@ impl<S: ScalarValue> InputValue<S> {
         ensures { view_input S.shown result ≡ inputs.scalar (S.shown scalar) }
     {
         InputValue::Scalar(scalar)
+    }
+
+    /// The list of these; an error where memory is refused. None has a place of a text.
+    pub fn list(alloc: Global, items: Vec<InputValue<S>>) -> Result<InputValue<S>, AllocError>
+        ensures { IfOk result (λ made. IsListOf made items.items) }
+    {
+        let mut placed = Vec::with_capacity(alloc, items.len())?;
+        for item in items {
+            placed.push(Spanning::unlocated(item))?;
+        }
+        Ok(InputValue::List(placed))
+    }
+
+    /// The object of these fields, in their order; an error where memory is refused. None has a place of a text.
+    pub fn object(
+        alloc: Global,
+        fields: Vec<(String, InputValue<S>)>,
+    ) -> Result<InputValue<S>, AllocError>
+        ensures { IfOk result (λ made. IsObjectOf made fields.items) }
+    {
+        let mut placed = Vec::with_capacity(alloc, fields.len())?;
+        for (name, value) in fields {
+            placed.push((Spanning::unlocated(name), Spanning::unlocated(value)))?;
+        }
+        Ok(InputValue::Object(placed))
     }
 
     /// The list of these, each with its place.
