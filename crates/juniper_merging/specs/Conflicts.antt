@@ -1,6 +1,6 @@
 -- How sets of fields conflict, of which some were looked at, in the order in which they were made (5.3.2). Only private clauses cite what
 -- stands here.
-use Rattle.std.specs.Prelude.{ℕ, Bool, true, false, List, [], ◌∷◌, Option, Some, None, Vec, length, nat_eq, ◌+◌, ◌≡◌, ◌<◌, ◌≤◌, ◌⊎◌}
+use Rattle.std.specs.Prelude.{ℕ, Bool, true, false, List, [], ◌∷◌, ◌++◌, Option, Some, None, Vec, length, nat_eq, ◌+◌, ◌≡◌, ◌<◌, ◌≤◌, ◌⊎◌}
 use Rattle.std.specs.List.{slice_get}
 use Rattle.std.specs.declared.alloc.Global.{Global}
 use Rattle.graphql_spec.specs.Laws.{In}
@@ -54,10 +54,13 @@ pub record AreMarkedBefore (row : List Clash) (k : ℕ) (old new : List Bool) : 
   pub kept : (i : ℕ) → slice_get new i ≡ Some false → slice_get old i ≡ Some false
   pub marked : (i : ℕ) → i < k → slice_get new i ≡ Some false → clash_in row i ≡ clash.Nothing
 
+-- a vertex is like the vertex whose number is that of its response key
+abbrev pub IsLikeFirst : List Vertex → Vertex → Type 0
+IsLikeFirst vs v = (first : Vertex) × (slice_get vs v.key ≡ Some first) × (v.shape ≡ first.shape) × (v.call ≡ first.call)
+
 -- those of the first k vertices whose response key is not marked are like the vertex whose number is that of the key
 abbrev pub AreAlikeBefore : List Vertex → ℕ → List Bool → Type 0
-AreAlikeBefore vs k dirty = (i : ℕ) (v : Vertex) → i < k → slice_get vs i ≡ Some v → slice_get dirty v.key ≡ Some false →
-    (first : Vertex) × (slice_get vs v.key ≡ Some first) × (v.shape ≡ first.shape) × (v.call ≡ first.call)
+AreAlikeBefore vs k dirty = (i : ℕ) (v : Vertex) → i < k → slice_get vs i ≡ Some v → slice_get dirty v.key ≡ Some false → IsLikeFirst vs v
 
 -- where the new row passes, so does the old one, and it is good; where it fails, the old one does, or it is bad
 pub record IsAdded (old new : List Clash) (Good Bad : ℕ → Bool → Type 0) : Type 0 where
@@ -113,6 +116,19 @@ module _ (vs : List FieldAt) where
     pub others : (b : ℕ) → b < k → Tells (Between vs before (own b)) (clash_in row b)
     pub within : Tells (Pairs vs before) (clash_in row k)
 
+  -- where a field is v, and the index and the row are of those before it, the new row is of it too
+  abbrev pub IsRowStep : FieldIndex → (ℕ → List ℕ) → ℕ → List ℕ → ℕ → FieldAt → List Clash → List Clash → Type 0
+  IsRowStep x own k before field v old new = slice_get vs field ≡ Some v →
+      IsIndexOf x own k before → IsRowSoFar own k before old → IsRowSoFar own k (before ++ field ∷ []) new
+
+  -- the index and the row are of these fields of the k-th set
+  abbrev pub AreRowed : FieldIndex → (ℕ → List ℕ) → ℕ → List ℕ → List Clash → Type 0
+  AreRowed x own k fields row = IsIndexOf x own k fields × IsRowSoFar own k fields row
+
+  -- where both are of the fields before this one, they are of this one too
+  abbrev pub AreRowedBehind : FieldIndex → FieldIndex → (ℕ → List ℕ) → ℕ → List ℕ → ℕ → List Clash → List Clash → Type 0
+  AreRowedBehind x y own k before field old new = IsIndexOf x own k before → IsRowSoFar own k before old → AreRowed y own k (before ++ field ∷ []) new
+
   -- a field was compared with others, which stand in these sets
   abbrev pub IsCompared : (List (Vec ℕ Global)) → ℕ → List ℕ → List Clash → List Clash → Type 0
   IsCompared homes x ys old new = IsAdded old new
@@ -161,12 +177,28 @@ module _ (vs : List FieldAt) where
       pub others : (b : ℕ) → b < k → (i : ℕ) → In i (own b) → IsSettled dirty k i
       pub these : (i : ℕ) → In i fields → IsSettled dirty k i
 
+    -- where the sets before the k-th are known and settled, and so are these fields of it, this follows
+    abbrev pub WhereSettled : Conflicts → (ℕ → List ℕ) → ℕ → List ℕ → Type 0 → Type 0
+    WhereSettled c own k fields conclusion = AreKnown c k → AreSettled c.dirty.items own k fields → conclusion
+
+    -- what is known of the sets before the k-th stays right, the field is settled, and each that was settled still is
+    abbrev pub IsMarked : Conflicts → Conflicts → ℕ → ℕ → Type 0
+    IsMarked old new k field = AreKnown old k → AreKnown new k × IsSettled new.dirty.items k field
+        × ((i : ℕ) → IsSettled old.dirty.items k i → IsSettled new.dirty.items k i)
+
     -- it tells how these fields clash, with each of the sets before the k-th and with one another
     pub record IsLook (k : ℕ) (fields : List ℕ) (look : Look) : Type 0 where
       pub row : (b : ℕ) → b < k → Tells (Between vs fields (set_at t b)) (clash_in look.row.items b)
       pub behind : clash_in look.row.items k ≡ clash.Nothing
       pub within : Tells (Pairs vs fields) look.within
       pub itself : Tells (Between vs fields fields) look.itself
+
+-- where a graph's sets before the k-th are known and settled, these fields of it too, and the index is of those sets: this is how the fields
+-- clash, and the index is of them too
+abbrev pub AreFieldsLookedAt : Graph → Conflicts → FieldIndex → FieldIndex → ℕ → List ℕ → Look → Type 0
+AreFieldsLookedAt g c x y k fields look = WhereSettled (fields_of g) (table_of g.sets.now) c (own_in g.sets.now) k fields
+    (IsIndexOf (fields_of g) x (own_in g.sets.now) k [] →
+    IsLook (fields_of g) (table_of g.sets.now) k fields look × IsIndexOf (fields_of g) y (own_in g.sets.now) k fields)
 
 -- the sets before the k-th are known, and the index is of their fields
 abbrev pub AreLookedAt : Graph → Conflicts → FieldIndex → ℕ → Type 0

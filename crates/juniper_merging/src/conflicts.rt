@@ -4,9 +4,9 @@
 ghost use Rattle.std.specs.Prelude.{◌≡◌, ◌++◌, ◌∷◌, ◌+◌, ◌<◌, IfOk, List, OnOk, Some, false, length, true, ℕ, []};
 ghost use Rattle.std.specs.List.{slice_get};
 ghost use Rattle.graphql_spec.specs.Laws.{In};
-ghost use Rattle.juniper_merging.specs.Conflicts.{AreKnown, AreSettled, AreTold, IsCompared, IsIndexOf, IsLook, IsMadeBefore, IsQuiet, IsRowAdded, IsRowOf};
-ghost use Rattle.juniper_merging.specs.Conflicts.{IsRowSoFar, IsSettled, IsStep};
-ghost use Rattle.juniper_merging.specs.Conflicts.{in_row, own_in};
+ghost use Rattle.juniper_merging.specs.Conflicts.{AreKnown, AreTold, IsCompared, IsIndexOf, IsLook, IsMadeBefore, IsQuiet, IsRowAdded, IsRowOf, IsRowStep};
+ghost use Rattle.juniper_merging.specs.Conflicts.{AreFieldsLookedAt, AreRowed, AreRowedBehind, IsMarked, IsSettled, IsStep, WhereSettled};
+ghost use Rattle.juniper_merging.specs.Conflicts.{in_row};
 ghost use Rattle.juniper_merging.specs.MergingGraph.{FieldAt, view_vertex};
 ghost use Rattle.juniper_merging.specs.Questions.{Pairs, Tells, Tested, Themselves, between_test, fields_of, seen, within_test};
 ghost use Rattle.juniper_merging.specs.Sets.{IsTable};
@@ -106,11 +106,7 @@ impl Conflicts {
         fields: &[usize],
         index: &mut FieldIndex,
     ) -> Result<Look, AllocError>
-        ensures { IfOk result (λ look. IsTable graph.now.sets.now → AreKnown (fields_of graph.now) (table_of graph.now.sets.now) self.now set
-            → AreSettled (fields_of graph.now) (table_of graph.now.sets.now) self.now.dirty.items (own_in graph.now.sets.now) set fields.now
-            → IsIndexOf (fields_of graph.now) index.old (own_in graph.now.sets.now) set []
-            → IsLook (fields_of graph.now) (table_of graph.now.sets.now) set fields.now look
-            × IsIndexOf (fields_of graph.now) index.new (own_in graph.now.sets.now) set fields.now) }
+        ensures { IfOk result (λ look. IsTable graph.now.sets.now → AreFieldsLookedAt graph.now self.now index.old index.new set fields.now look) }
     {
         let mut row = self.row_of_fields(graph.vertices, set, fields, index)?;
         spread(graph.sets, set, &mut row)?;
@@ -133,10 +129,8 @@ impl Conflicts {
         fields: &[usize],
         index: &mut FieldIndex,
     ) -> Result<Vec<Clash>, AllocError>
-        ensures { IfOk result (λ row. (t : List (List ℕ)) (own : ℕ → List ℕ) → AreKnown (seen t vertices.now) t self.now set
-            → AreSettled (seen t vertices.now) t self.now.dirty.items own set fields.now
-            → IsIndexOf (seen t vertices.now) index.old own set []
-            → IsIndexOf (seen t vertices.now) index.new own set fields.now × IsRowSoFar (seen t vertices.now) own set fields.now row.items) }
+        ensures { IfOk result (λ row. (t : List (List ℕ)) (own : ℕ → List ℕ) → WhereSettled (seen t vertices.now) t self.now own set fields.now
+            (IsIndexOf (seen t vertices.now) index.old own set [] → AreRowed (seen t vertices.now) index.new own set fields.now row.items)) }
     {
         let mut row = Vec::new(self.alloc);
         for field in fields {
@@ -154,11 +148,9 @@ impl Conflicts {
         index: &mut FieldIndex,
         row: &mut Vec<Clash>,
     ) -> Result<(), AllocError>
-        ensures { OnOk result ((t : List (List ℕ)) (own : ℕ → List ℕ) (before : List ℕ) → AreKnown (seen t vertices.now) t self.now set
-            → AreSettled (seen t vertices.now) t self.now.dirty.items own set (before ++ field ∷ [])
-            → IsIndexOf (seen t vertices.now) index.old own set before → IsRowSoFar (seen t vertices.now) own set before row.old.items
-            → IsIndexOf (seen t vertices.now) index.new own set (before ++ field ∷ [])
-            × IsRowSoFar (seen t vertices.now) own set (before ++ field ∷ []) row.new.items) }
+        ensures { OnOk result ((t : List (List ℕ)) (own : ℕ → List ℕ) (before : List ℕ) →
+            WhereSettled (seen t vertices.now) t self.now own set (before ++ field ∷ [])
+            (AreRowedBehind (seen t vertices.now) index.old index.new own set before field row.old.items row.new.items)) }
     {
         match vertices.get(field) {
             Some(vertex) => {
@@ -179,11 +171,9 @@ impl Conflicts {
         index: &FieldIndex,
         row: &mut Vec<Clash>,
     ) -> Result<(), AllocError>
-        ensures { OnOk result ((t : List (List ℕ)) (own : ℕ → List ℕ) (k : ℕ) (before : List ℕ) → AreKnown (seen t vertices.now) t self.now k
-            → AreSettled (seen t vertices.now) t self.now.dirty.items own k (before ++ field ∷ [])
-            → slice_get (seen t vertices.now) field ≡ Some (view_vertex t vertex.now)
-            → IsIndexOf (seen t vertices.now) index.now own k before → IsRowSoFar (seen t vertices.now) own k before row.old.items
-            → IsRowSoFar (seen t vertices.now) own k (before ++ field ∷ []) row.new.items) }
+        ensures { OnOk result ((t : List (List ℕ)) (own : ℕ → List ℕ) (k : ℕ) (before : List ℕ) →
+            WhereSettled (seen t vertices.now) t self.now own k (before ++ field ∷ [])
+            (IsRowStep (seen t vertices.now) index.now own k before field (view_vertex t vertex.now) row.old.items row.new.items)) }
     {
         if !self.is_loud(vertex) {
             return Ok(());
@@ -287,9 +277,7 @@ impl Conflicts {
 
     /// Marks the response key of a field, if what it selects clashes within.
     fn mark_key(&mut self, vertices: &[Vertex<'_>], field: usize) -> Result<(), AllocError>
-        ensures { OnOk result ((t : List (List ℕ)) (k : ℕ) → AreKnown (seen t vertices.now) t self.old k → AreKnown (seen t vertices.now) t self.new k
-            × IsSettled (seen t vertices.now) t self.new.dirty.items k field
-            × ((i : ℕ) → IsSettled (seen t vertices.now) t self.old.dirty.items k i → IsSettled (seen t vertices.now) t self.new.dirty.items k i)) }
+        ensures { OnOk result ((t : List (List ℕ)) (k : ℕ) → IsMarked (seen t vertices.now) t self.old self.new k field) }
     {
         match vertices.get(field) {
             Some(vertex) => {

@@ -2,7 +2,7 @@
 
 ghost use Rattle.std.specs.Prelude.{◌≡◌, IfOk, List, Some, false, length, nat_eq, true, ℕ};
 ghost use Rattle.std.specs.List.{slice_get};
-ghost use Rattle.juniper_merging.specs.Conflicts.{AreLike};
+ghost use Rattle.juniper_merging.specs.Conflicts.{AreLike, IsLikeFirst};
 ghost use Rattle.juniper_merging.specs.Questions.{seen};
 ghost use Rattle.juniper_merging.specs.declared.graph.Vertex.{Vertex};
 
@@ -27,8 +27,7 @@ pub(crate) fn differing_keys(
 /// Marks the response key of the field of this number, if it is unlike the vertex whose number is that of the key.
 fn mark_key_of(vertices: &[Vertex<'_>], index: usize, dirty: &mut Vec<bool>)
     ensures { (i : ℕ) → slice_get dirty.new.items i ≡ Some false → (slice_get dirty.old.items i ≡ Some false) × ((v : Vertex) →
-        slice_get vertices.now index ≡ Some v
-        → nat_eq v.key i ≡ true → (first : Vertex) × (slice_get vertices.now v.key ≡ Some first) × (v.shape ≡ first.shape) × (v.call ≡ first.call)) }
+        slice_get vertices.now index ≡ Some v → nat_eq v.key i ≡ true → IsLikeFirst vertices.now v) }
 {
     match vertices.get(index) {
         Some(vertex) => mark_if(dirty, vertex.key, differs_from_first(vertices, vertex)),
@@ -38,8 +37,7 @@ fn mark_key_of(vertices: &[Vertex<'_>], index: usize, dirty: &mut Vec<bool>)
 
 /// Whether a field is unlike the vertex whose number is that of its response key.
 fn differs_from_first(vertices: &[Vertex<'_>], vertex: &Vertex<'_>) -> bool
-    ensures { result ≡ false → (first : Vertex) × (slice_get vertices.now vertex.now.key ≡ Some first) × (vertex.now.shape ≡ first.shape) ×
-        (vertex.now.call ≡ first.call) }
+    ensures { result ≡ false → IsLikeFirst vertices.now vertex.now }
 {
     match vertices.get(vertex.key) {
         Some(first) => !are_alike(vertex, first),
