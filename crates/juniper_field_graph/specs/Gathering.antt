@@ -1,6 +1,6 @@
 -- Numbers that stand for the fields of selections, and for those of the sets that are written in them; only private clauses
 -- cite what stands here.
-use Rattle.std.specs.Prelude.{ℕ, zero, Bool, true, cond, false, List, [], ◌∷◌, ◌++◌, Option, Some, None, ◌≡◌, ◌⊎◌}
+use Rattle.std.specs.Prelude.{ℕ, zero, Bool, true, cond, false, List, [], ◌∷◌, ◌++◌, Option, Some, None, map, ◌≡◌, ◌⊎◌}
 use Rattle.std.specs.Borrow.{Bor}
 use Rattle.std.specs.BTreeMap.{BTreeMap, get_by}
 use Rattle.std.specs.Cmp.Lexicographic.{slice_cmp}
@@ -8,19 +8,27 @@ use Rattle.std.specs.List.{slice_get}
 use Rattle.std.specs.Ordering.{nat_cmp}
 use Rattle.std.specs.Str.{bytes_eq}
 use Rattle.graphql_spec.specs.Shown.{Shown, Name}
-use Rattle.graphql_spec.specs.Documents.{Definition, Fragment, Head, Selections, fragment, operation, written}
-use Rattle.graphql_spec.specs.Fragments.{fragment_of, spreads}
+use Rattle.graphql_spec.specs.Documents.{Definition, Document, Fragment, Head, Selections, fragment, operation, written}
+use Rattle.graphql_spec.specs.Fields.{declared_type}
+use Rattle.graphql_spec.specs.Fragments.{HasNoCycle, fragment_of, spreads}
 use Rattle.graphql_spec.specs.Placed.{root_type}
+use Rattle.graphql_spec.specs.Rules.{cannot_merge}
 use Rattle.graphql_spec.specs.Schema.{Schema}
-use Rattle.graphql_spec.specs.Written.{arguments_repeat, heads}
+use Rattle.graphql_spec.specs.Types.{TypeRef}
+use Rattle.graphql_spec.specs.Written.{arguments_repeat, heads, selections_of}
 use Rattle.graphql_spec.specs.Laws.{In}
-use Rattle.graphql_spec.specs.ValidityLaws.{PlacedSet, sets_below, sets_from}
+use Rattle.graphql_spec.specs.ValidityLaws.{HasGoodNames, PlacedSet, sets_below, sets_from}
 use Rattle.juniper_merging.specs.MergingGraph.{FieldAt, set_merges_at}
 use Rattle.juniper_merging.specs.Sets.{Extends, IsInside, IsSetOf}
 use Rattle.juniper_merging.specs.Standing.{AreAlike, Covers, Grows}
 use Rattle.juniper_merging.specs.Tables.{below_in, set_at}
 use Rattle.juniper_merging.specs.declared.sets.Gathering.{Gathering}
-use Rattle.juniper_field_graph.specs.GraphView.{IsGraphOf, heads_of, table_in, vertices_of, written_of}
+use Rattle.juniper_meta.specs.MetaView.{view_type}
+use Rattle.juniper_schema.specs.SchemaView.{view_schema}
+use Rattle.juniper_written.specs.Order.{IsInOrder}
+use Rattle.juniper_field_graph.specs.GraphView.{IsGraphOf, IsPushed, WhereFits, heads_of, table_in, vertices_of, written_of}
+use Rattle.juniper_field_graph.specs.declared.gathering.Gathered.{Gathered}
+use Rattle.juniper_field_graph.specs.declared.gathering.Known.{Known}
 use Rattle.juniper_field_graph.specs.declared.graph.FieldGraph.{FieldGraph}
 
 -- the number that a map has at a name
@@ -177,3 +185,59 @@ module _ {S : Type 0} (shown : S → Shown) (s : Schema) (fs : List Fragment) wh
 abbrev pub IsAnswer : List FieldAt → List (List ℕ) → List ℕ → Bool → Type 0
 IsAnswer vs t bs c = (c ≡ false → (b : ℕ) → In b bs → (n : ℕ) → set_merges_at vs n (set_at t b) ≡ true)
     × (c ≡ true → (b : ℕ) × In b bs × ((n : ℕ) × (set_merges_at vs n (set_at t b) ≡ false)))
+
+-- where the rules on names find nothing, it is told of each definition whether two fields of some set in it cannot be merged (5.3.2)
+abbrev pub JudgesEach : Schema → Bool → Document → List Bool → Type 0
+JudgesEach s disabled d found = HasGoodNames s disabled d → found ≡ map (cannot_merge s d) d
+
+-- where no fragment reaches itself, and t is the type of a field that is not declared, this follows
+abbrev pub WhereEnding : List Fragment → TypeRef → Type 0 → Type 0
+WhereEnding fs t conclusion = HasNoCycle fs → t ≡ declared_type None → conclusion
+
+module _ {S : Type 0} (shown : S → Shown) (s : Schema) (fs : List Fragment) where
+  -- where what a fragment spreads is known, it is held too
+  abbrev pub HoldsToo : FieldGraph S → FieldGraph S → (Name → Option ℕ) → (Name → Option ℕ) → Fragment → Type 0
+  HoldsToo old new held more f = IsGraphOf shown s old → IsReadyIn shown s fs old held f.selections → IsHeld shown s fs old new held more f
+
+  -- where no field has an argument twice, each fragment stands behind those that it spreads, and none was held, all are
+  abbrev pub HoldsAll : FieldGraph S → FieldGraph S → (Name → Option ℕ) → (Name → Option ℕ) → List Fragment → Type 0
+  HoldsAll old new held more order = AreWritten fs → IsInOrder fs order → ((k : Name) → held k ≡ None) → IsGraphOf shown s old →
+      AllKnown shown s fs old new more
+
+module _ {S : Type 0} (shown : S → Shown) where
+  -- where a field fits, it is pushed, and its number is put to what is gathered
+  abbrev pub PushesTo : Schema → FieldGraph S → FieldGraph S → TypeRef → Name → Head → Option ℕ → Gathering → Gathering → Type 0
+  PushesTo s old new type p h below n m = WhereFits shown s old type p h below ((i : ℕ) × IsPushed shown s old new p h below i
+      × ((t : List (List ℕ)) (all : List ℕ) → IsSetOf t n all → IsSetOf t m (all ++ i ∷ [])))
+
+module _ {S : Type 0} (shown : S → Shown) (k : Known S) where
+  -- the schema that is known
+  abbrev pub schema_in : Schema
+  schema_in = view_schema shown k.schema.now
+
+  module _ (fs : List Fragment) where
+    -- where no fragment reaches itself, the type of a field that is not declared is known, and the graph is one, this follows
+    abbrev pub WhereKnown : Gathered S → Type 0 → Type 0
+    WhereKnown g conclusion = WhereEnding fs (view_type k.undeclared.now) (IsGraphOf shown schema_in g.graph → conclusion)
+
+    -- the fragments that selections spread are known, and no field in them has an argument twice
+    abbrev pub IsReadyFor : Gathered S → Selections → Type 0
+    IsReadyFor g set = IsReadyIn shown schema_in fs g.graph (set_named k.fragments.now) set
+
+    -- where a set on a type is ready, it is gathered under this number
+    abbrev pub GathersSet : Gathered S → Gathered S → Name → Selections → ℕ → Type 0
+    GathersSet old new p set b = IsReadyFor old set → IsSetGatheredAt shown schema_in fs old.graph new.graph old.sets.items new.sets.items p set b
+
+    -- where selections on a type are ready, what stands in them before the rest is gathered
+    abbrev pub GathersBefore : Gathered S → Gathered S → Gathering → Gathering → Name → Selections → Selections → Type 0
+    GathersBefore old new n m p rest whole = IsReadyFor old whole →
+        IsGathered shown schema_in fs old.graph new.graph old.sets.items new.sets.items n m p rest whole
+
+    -- where a definition's selections are ready, its sets are gathered
+    abbrev pub GathersDefinition : Gathered S → Gathered S → Definition → Type 0
+    GathersDefinition old new x = IsReadyFor old (selections_of x) →
+        IsDefinitionGathered shown schema_in fs old.graph new.graph old.sets.items new.sets.items x
+
+    -- where those of each definition are ready, the sets of each are gathered
+    abbrev pub GathersEach : Gathered S → Gathered S → Document → List (List ℕ) → Type 0
+    GathersEach old new d lists = ((x : Definition) → In x d → IsReadyFor old (selections_of x)) → AreGathered shown schema_in fs old.graph new.graph d lists

@@ -4,7 +4,9 @@ use Rattle.std.specs.List.{slice_get}
 use Rattle.graphql_spec.specs.Shown.{Shown, Name}
 use Rattle.graphql_spec.specs.Positions.{Span, origin}
 use Rattle.graphql_spec.specs.Documents.{Head}
+use Rattle.graphql_spec.specs.Fields.{declared_type, field_of}
 use Rattle.graphql_spec.specs.Schema.{Schema}
+use Rattle.graphql_spec.specs.Types.{TypeRef}
 use Rattle.graphql_spec.specs.Overlap.{Field}
 use Rattle.juniper_merging.specs.MergingGraph.{FieldAt, view_vertex}
 use Rattle.juniper_merging.specs.Standing.{AreNumbered, Grows, IsAt}
@@ -13,7 +15,7 @@ use Rattle.juniper_merging.specs.Sets.{IsInside, IsTable}
 use Rattle.juniper_merging.specs.Tables.{below_in, table_of}
 use Rattle.juniper_merging.specs.declared.graph.Vertex.{Vertex}
 use Rattle.juniper_field_graph.specs.Keys.{number_at}
-use Rattle.juniper_field_graph.specs.KindsView.{AreKept, heads_in, types_in}
+use Rattle.juniper_field_graph.specs.KindsView.{AreKept, IsOnce, heads_in, types_in}
 use Rattle.juniper_field_graph.specs.declared.graph.FieldGraph.{FieldGraph}
 
 -- a place, and a field of no name there; each number of a graph has a field
@@ -53,6 +55,11 @@ module _ {S : Type 0} (shown : S → Shown) where
     pub kept : AreKept s (vertices_of g) (types_in shown g.fields.items) (written_of g) (heads_of g) (number_at g.keys) (group_in g.kinds)
     pub table : IsTable g.sets.items
     pub inside : AreInside g
+
+  -- where the graph is one, t is the field's declared type on p, it has no argument twice, and the set that it selects is there, this follows
+  abbrev pub WhereFits : Schema → FieldGraph S → TypeRef → Name → Head → Option ℕ → Type 0 → Type 0
+  WhereFits s g t p h below conclusion = IsGraphOf s g → t ≡ declared_type (field_of s p h.name.item) → IsOnce h →
+      ((b : ℕ) → below ≡ Some b → IsInside (table_in g) b) → conclusion
 
   -- a field on the type p, which selects the fields of this set, now stands at i
   pub record IsPushed (s : Schema) (old new : FieldGraph S) (p : Name) (h : Head) (below : Option ℕ) (i : ℕ) : Type 0 where

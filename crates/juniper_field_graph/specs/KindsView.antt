@@ -42,6 +42,10 @@ has_call h (Some g) = same_call g h
 abbrev pub IsOnce : Head → Type 0
 IsOnce h = arguments_repeat (written h.arguments) ≡ false
 
+-- no argument of any of these fields is written twice
+abbrev pub HaveOnce : List Head → Type 0
+HaveOnce hs = (i : ℕ) (h : Head) → slice_get hs i ≡ Some h → IsOnce h
+
 -- the number of a vertex, else n
 unfoldable pub number_or : (FieldAt → ℕ) → ℕ → Option FieldAt → ℕ
 number_or number n None = n

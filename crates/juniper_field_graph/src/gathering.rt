@@ -1,19 +1,17 @@
 //! The fields of selection sets, gathered into a graph.
 
-ghost use Rattle.std.specs.Prelude.{◌≡◌, ◌++◌, ◌∷◌, ℕ, IfOk, List, None, OnOk, Some, false, []};
-ghost use Rattle.graphql_spec.specs.Documents.{Fragment as SpecFragment, Selections, name_or, written};
+ghost use Rattle.std.specs.Prelude.{◌≡◌, ℕ, IfOk, List, None, OnOk, Some};
+ghost use Rattle.graphql_spec.specs.Documents.{Fragment as SpecFragment, Selections, name_or};
 ghost use Rattle.graphql_spec.specs.Fields as fields;
 ghost use Rattle.graphql_spec.specs.Fields.{field_of};
-ghost use Rattle.graphql_spec.specs.Fragments.{HasNoCycle};
-ghost use Rattle.graphql_spec.specs.Written.{arguments_repeat};
 ghost use Rattle.juniper_meta.specs.MetaView.{view_type};
 ghost use Rattle.graphql_spec.specs.Schema.{Schema};
-ghost use Rattle.juniper_merging.specs.Sets.{IsInside, IsSetOf};
+ghost use Rattle.juniper_merging.specs.Sets.{IsSetOf};
 ghost use Rattle.juniper_schema.specs.SchemaView.{view_schema};
 ghost use Rattle.juniper_syntax.specs.DocumentView.{put_selection, view_field, view_selections};
 ghost use Rattle.juniper_written.specs.WrittenView.{view_inline};
-ghost use Rattle.juniper_field_graph.specs.Gathering.{IsGathered, IsReadyIn, IsSetGatheredAt, IsSetMade, set_named};
-ghost use Rattle.juniper_field_graph.specs.GraphView.{IsGraphOf, IsPushed, table_in};
+ghost use Rattle.juniper_field_graph.specs.Gathering.{GathersBefore, GathersSet, PushesTo, IsSetMade, WhereKnown, schema_in};
+ghost use Rattle.juniper_field_graph.specs.GraphView.{IsGraphOf, table_in};
 
 use crate::graph::FieldGraph;
 use juniper_merging::Gathering;
@@ -51,12 +49,8 @@ pub(crate) fn gather_set<'d, 'a, S: ScalarValue>(
     selections: &'d [Selection<'a, S>],
     gathered: &mut Gathered<'d, 'a, S>,
 ) -> Result<usize, AllocError>
-    ensures { IfOk result (λ v. (fs : List SpecFragment) → HasNoCycle fs → view_type known.now.undeclared.now ≡ fields.declared_type None →
-        IsGraphOf S.shown (view_schema S.shown known.now.schema.now) gathered.old.graph
-        → IsReadyIn S.shown (view_schema S.shown known.now.schema.now) fs gathered.old.graph (set_named known.now.fragments.now)
-        (view_selections S.shown selections.now)
-        → IsSetGatheredAt S.shown (view_schema S.shown known.now.schema.now) fs gathered.old.graph gathered.new.graph gathered.old.sets.items
-        gathered.new.sets.items parent.now (view_selections S.shown selections.now) v) }
+    ensures { IfOk result (λ v. (fs : List SpecFragment) → WhereKnown S.shown known.now fs gathered.old
+        (GathersSet S.shown known.now fs gathered.old gathered.new parent.now (view_selections S.shown selections.now) v)) }
 {
     let mut numbers = Gathering::new(alloc);
     for selection in selections {
@@ -76,12 +70,8 @@ fn gather_selection<'d, 'a, S: ScalarValue>(
     numbers: &mut Gathering,
     gathered: &mut Gathered<'d, 'a, S>,
 ) -> Result<(), AllocError>
-    ensures { OnOk result ((fs : List SpecFragment) → HasNoCycle fs → view_type known.now.undeclared.now ≡ fields.declared_type None →
-        IsGraphOf S.shown (view_schema S.shown known.now.schema.now) gathered.old.graph
-        → (rest : Selections) → IsReadyIn S.shown (view_schema S.shown known.now.schema.now) fs gathered.old.graph (set_named known.now.fragments.now)
-        (put_selection S.shown selection.now rest)
-        → IsGathered S.shown (view_schema S.shown known.now.schema.now) fs gathered.old.graph gathered.new.graph gathered.old.sets.items
-        gathered.new.sets.items numbers.old numbers.new parent.now rest (put_selection S.shown selection.now rest)) }
+    ensures { OnOk result ((fs : List SpecFragment) → WhereKnown S.shown known.now fs gathered.old ((rest : Selections) →
+        GathersBefore S.shown known.now fs gathered.old gathered.new numbers.old numbers.new parent.now rest (put_selection S.shown selection.now rest))) }
 {
     match selection {
         Selection::Field(field) => {
@@ -117,12 +107,9 @@ fn gather_field<'d, 'a, S: ScalarValue>(
     numbers: &mut Gathering,
     gathered: &mut Gathered<'d, 'a, S>,
 ) -> Result<(), AllocError>
-    ensures { OnOk result ((fs : List SpecFragment) → HasNoCycle fs → view_type known.now.undeclared.now ≡ fields.declared_type None →
-        IsGraphOf S.shown (view_schema S.shown known.now.schema.now) gathered.old.graph
-        → (rest : Selections) → IsReadyIn S.shown (view_schema S.shown known.now.schema.now) fs gathered.old.graph (set_named known.now.fragments.now)
-        (put_selection S.shown (Selection.Field field.now) rest)
-        → IsGathered S.shown (view_schema S.shown known.now.schema.now) fs gathered.old.graph gathered.new.graph gathered.old.sets.items
-        gathered.new.sets.items numbers.old numbers.new parent.now rest (put_selection S.shown (Selection.Field field.now) rest)) }
+    ensures { OnOk result ((fs : List SpecFragment) → WhereKnown S.shown known.now fs gathered.old ((rest : Selections) →
+        GathersBefore S.shown known.now fs gathered.old gathered.new numbers.old numbers.new parent.now rest
+        (put_selection S.shown (Selection.Field field.now) rest))) }
 {
     let declared_type = declared_type(known, parent, field.item.name.item);
     let below = match &field.item.selection_set {
@@ -158,13 +145,8 @@ fn put_field<'d, 'a, S: ScalarValue>(
     graph: &mut FieldGraph<'d, 'a, S>,
     numbers: &mut Gathering,
 ) -> Result<(), AllocError>
-    ensures { OnOk result (IsGraphOf S.shown (view_schema S.shown known.now.schema.now) graph.old
-        → view_type declared_type.now ≡ fields.declared_type (field_of (view_schema S.shown known.now.schema.now) parent.now
-        (view_field S.shown field.now).name.item)
-        → arguments_repeat (written (view_field S.shown field.now).arguments) ≡ false
-        → ((b : ℕ) → below ≡ Some b → IsInside (table_in S.shown graph.old) b)
-        → (i : ℕ) × IsPushed S.shown (view_schema S.shown known.now.schema.now) graph.old graph.new parent.now (view_field S.shown field.now) below i
-        × ((t : List (List ℕ)) (all : List ℕ) → IsSetOf t numbers.old all → IsSetOf t numbers.new (all ++ i ∷ []))) }
+    ensures { OnOk result (PushesTo S.shown (schema_in S.shown known.now) graph.old graph.new
+        (view_type declared_type.now) parent.now (view_field S.shown field.now) below numbers.old numbers.new) }
 {
     let number = graph.push(alloc, known.schema, parent, field, declared_type, below)?;
     numbers.push(number)?;

@@ -3,20 +3,17 @@
 ghost use Rattle.std.specs.Prelude.{◌≡◌, ◌||◌, ℕ, IfOk, List, None, Some, cond, false, length, map, nat_eq, not, true, []};
 ghost use Rattle.std.specs.List.{find, slice_get};
 ghost use Rattle.graphql_spec.specs.Documents as documents;
-ghost use Rattle.graphql_spec.specs.Documents.{Head, written};
 ghost use Rattle.graphql_spec.specs.Fields as fields;
-ghost use Rattle.graphql_spec.specs.Fields.{field_of};
 ghost use Rattle.graphql_spec.specs.Schema.{Schema};
-ghost use Rattle.graphql_spec.specs.Written.{arguments_repeat};
 ghost use Rattle.juniper_merging.specs.MergingGraph.{view_vertex};
 ghost use Rattle.juniper_meta.specs.MetaView.{view_type};
 ghost use Rattle.juniper_schema.specs.SchemaView.{view_schema};
 ghost use Rattle.juniper_syntax.specs.DocumentView.{view_field};
-ghost use Rattle.juniper_field_graph.specs.GraphView.{IsGraphOf, IsPushed, table_in, vertices_of};
-ghost use Rattle.juniper_merging.specs.Sets.{IsInside, IsTable};
+ghost use Rattle.juniper_field_graph.specs.GraphView.{IsGraphOf, IsPushed, WhereFits, vertices_of};
+ghost use Rattle.juniper_merging.specs.Sets.{IsTable};
 ghost use Rattle.juniper_merging.specs.Tables.{below_in, table_of};
 ghost use Rattle.juniper_field_graph.specs.KindsView as kinds_view;
-ghost use Rattle.juniper_field_graph.specs.KindsView.{IsOnce, IsOwn, heads_in, number_among, number_or, types_in};
+ghost use Rattle.juniper_field_graph.specs.KindsView.{HaveOnce, IsOnce, IsOwn, heads_in, number_among, number_or, types_in};
 
 use crate::keys::{KeyNumbers, number_of_key};
 use crate::{same_call, types_agree};
@@ -76,11 +73,9 @@ impl<'d, 'a, S: ScalarValue> FieldGraph<'d, 'a, S> {
         declared_type: &'d Type<String>,
         below: Option<usize>,
     ) -> Result<usize, AllocError>
-        ensures { IfOk result (λ i. IsGraphOf S.shown (view_schema S.shown schema.now) self.old
-            → view_type declared_type.now ≡ fields.declared_type (field_of (view_schema S.shown schema.now) parent.now (view_field S.shown field.now).name.item)
-            → arguments_repeat (written (view_field S.shown field.now).arguments) ≡ false
-            → ((b : ℕ) → below ≡ Some b → IsInside (table_in S.shown self.old) b)
-            → IsPushed S.shown (view_schema S.shown schema.now) self.old self.new parent.now (view_field S.shown field.now) below i) }
+        ensures { IfOk result (λ i. WhereFits S.shown (view_schema S.shown schema.now) self.old
+            (view_type declared_type.now) parent.now (view_field S.shown field.now) below
+            (IsPushed S.shown (view_schema S.shown schema.now) self.old self.new parent.now (view_field S.shown field.now) below i)) }
     {
         let number = self.vertices.len();
         let key = number_of_key(&mut self.keys, Field::response_key(field), number)?;
@@ -241,7 +236,7 @@ fn call_among<S: ScalarValue>(
     kinds: &[usize],
     field: &Spanning<Field<'_, S>, Span>,
 ) -> usize
-    ensures { ((i : ℕ) (h : Head) → slice_get (heads_in S.shown fields.now) i ≡ Some h → IsOnce h) → IsOnce (view_field S.shown field.now)
+    ensures { HaveOnce (heads_in S.shown fields.now) → IsOnce (view_field S.shown field.now)
         → (t : List (List ℕ)) → result ≡ number_among (λ v. v.call) (map (view_vertex t) vertices.now)
         (λ r. kinds_view.has_call (view_field S.shown field.now) (slice_get (heads_in S.shown fields.now) r)) kinds.now }
 {
@@ -298,7 +293,7 @@ fn has_call<S: ScalarValue>(
     number: usize,
     field: &Spanning<Field<'_, S>, Span>,
 ) -> bool
-    ensures { ((i : ℕ) (h : Head) → slice_get (heads_in S.shown fields.now) i ≡ Some h → IsOnce h) → IsOnce (view_field S.shown field.now)
+    ensures { HaveOnce (heads_in S.shown fields.now) → IsOnce (view_field S.shown field.now)
         → result ≡ kinds_view.has_call (view_field S.shown field.now) (slice_get (heads_in S.shown fields.now) number) }
 {
     match fields.get(number) {

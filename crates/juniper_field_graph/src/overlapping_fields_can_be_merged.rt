@@ -1,27 +1,22 @@
 //! Whether the fields of each selection set can be merged (FieldsInSetCanMerge, section 5.3.2).
 
-ghost use Rattle.std.specs.Prelude.{◌≡◌, Bool, IfOk, List, None, OnOk, Some, ℕ, cond, false, map, true, []};
+ghost use Rattle.std.specs.Prelude.{◌≡◌, Bool, IfOk, List, None, OnOk, Some, ℕ, cond, false, map, true};
 ghost use Rattle.std.specs.Str.{bytes_eq};
 ghost use Rattle.graphql_spec.specs.Shown.{Name};
 ghost use Rattle.graphql_spec.specs.Documents as documents;
 ghost use Rattle.graphql_spec.specs.Fields as fields;
-ghost use Rattle.graphql_spec.specs.Fragments.{HasNoCycle};
 ghost use Rattle.graphql_spec.specs.Laws.{In};
-ghost use Rattle.graphql_spec.specs.Rules as rules;
 ghost use Rattle.graphql_spec.specs.Schema.{Schema};
-ghost use Rattle.graphql_spec.specs.Rules.{at_each};
-ghost use Rattle.graphql_spec.specs.Written.{selections_of};
 ghost use Rattle.juniper_meta.specs.MetaView.{view_type};
 ghost use Rattle.juniper_merging.specs.MergingGraph.{set_merges_at};
 ghost use Rattle.juniper_merging.specs.Questions.{IsSoundIn, fields_of};
 ghost use Rattle.juniper_merging.specs.Sets.{IsTable};
 ghost use Rattle.juniper_merging.specs.Tables.{set_at, table_of};
 ghost use Rattle.juniper_schema.specs.SchemaView.{view_schema};
-ghost use Rattle.juniper_written.specs.Order.{IsInOrder};
 ghost use Rattle.juniper_written.specs.SpreadsView.{AreFragmentsOf};
 ghost use Rattle.juniper_syntax.specs.DocumentView.{view_definition, view_fragment};
-ghost use Rattle.juniper_field_graph.specs.Gathering.{AllKnown, AreGathered, AreWritten, IsAnswer, IsDefinitionGathered, IsHeld, IsReadyIn, Pairwise};
-ghost use Rattle.juniper_field_graph.specs.Gathering.{set_named};
+ghost use Rattle.juniper_field_graph.specs.Gathering.{GathersDefinition, HoldsAll, HoldsToo, IsAnswer, JudgesEach, Pairwise, WhereEnding, WhereKnown};
+ghost use Rattle.juniper_field_graph.specs.Gathering.{GathersEach, set_named};
 ghost use Rattle.juniper_field_graph.specs.GraphView.{IsGraphOf};
 
 use crate::gathering::{Gathered, Known, gather_set};
@@ -45,11 +40,8 @@ pub fn cannot_merge<'d, 'a, S: ScalarValue>(
     document: &'d [Definition<'a, S>],
     fragments: &FragmentsByName<'d, 'a, S>,
 ) -> Result<Vec<bool>, AllocError>
-    ensures { IfOk result (λ found. (disabled : Bool) → AreFragmentsOf S.shown fragments.now (map (view_definition S.shown) document.now)
-        → at_each (rules.name_errors (view_schema S.shown schema.now) disabled (map (view_definition S.shown) document.now)) []
-        (map (view_definition S.shown) document.now) ≡ []
-        → found.items ≡ map (rules.cannot_merge (view_schema S.shown schema.now) (map (view_definition S.shown) document.now))
-        (map (view_definition S.shown) document.now)) }
+    ensures { IfOk result (λ each. (disabled : Bool) → AreFragmentsOf S.shown fragments.now (map (view_definition S.shown) document.now) →
+        JudgesEach (view_schema S.shown schema.now) disabled (map (view_definition S.shown) document.now) each.items) }
 {
     if has_plain_keys(alloc, schema, document)? {
         return none_found(alloc, document);
@@ -77,12 +69,9 @@ fn judge_all<'u, 'd: 'u, 'a: 'u, S: ScalarValue>(
     document: &'u [Definition<'a, S>],
     fragments: &FragmentsByName<'d, 'a, S>,
 ) -> Result<Vec<bool>, AllocError>
-    ensures { IfOk result (λ found. (disabled : Bool) → AreFragmentsOf S.shown fragments.now (map (view_definition S.shown) document.now) →
-        view_type undeclared.now ≡ fields.declared_type None
-        → at_each (rules.name_errors (view_schema S.shown schema.now) disabled (map (view_definition S.shown) document.now)) []
-        (map (view_definition S.shown) document.now) ≡ []
-        → found.items ≡ map (rules.cannot_merge (view_schema S.shown schema.now) (map (view_definition S.shown) document.now))
-        (map (view_definition S.shown) document.now)) }
+    ensures { IfOk result (λ each. (disabled : Bool) → AreFragmentsOf S.shown fragments.now (map (view_definition S.shown) document.now) →
+        view_type undeclared.now ≡ fields.declared_type None →
+        JudgesEach (view_schema S.shown schema.now) disabled (map (view_definition S.shown) document.now) each.items) }
 {
     let order = fragments.in_order(alloc)?;
     let mut held: BTreeMap<&'u str, usize> = BTreeMap::new(alloc);
@@ -126,10 +115,9 @@ fn hold_fragments<'d, 'f: 'd, 'a, S: ScalarValue>(
     held: &mut BTreeMap<&'d str, usize>,
     gathered: &mut Gathered<'d, 'a, S>,
 ) -> Result<(), AllocError>
-    ensures { OnOk result ((fs : List documents.Fragment) → HasNoCycle fs → view_type undeclared.now ≡ fields.declared_type None → AreWritten fs
-        → IsInOrder fs (map (λ f. view_fragment S.shown f.now) order.now.items) → ((k : Name) → set_named held.old k ≡ None) →
-        IsGraphOf S.shown (view_schema S.shown schema.now) gathered.old.graph
-        → AllKnown S.shown (view_schema S.shown schema.now) fs gathered.old.graph gathered.new.graph (set_named held.new)) }
+    ensures { OnOk result ((fs : List documents.Fragment) → WhereEnding fs (view_type undeclared.now)
+        (HoldsAll S.shown (view_schema S.shown schema.now) fs gathered.old.graph gathered.new.graph (set_named held.old) (set_named held.new)
+        (map (λ f. view_fragment S.shown f.now) order.now.items))) }
 {
     for index in 0..order.len() {
         let fragment = order[index];
@@ -147,11 +135,9 @@ fn hold_fragment<'d, 'a, S: ScalarValue>(
     held: &mut BTreeMap<&'d str, usize>,
     gathered: &mut Gathered<'d, 'a, S>,
 ) -> Result<(), AllocError>
-    ensures { OnOk result ((fs : List documents.Fragment) → HasNoCycle fs → view_type undeclared.now ≡ fields.declared_type None →
-        IsGraphOf S.shown (view_schema S.shown schema.now) gathered.old.graph
-        → IsReadyIn S.shown (view_schema S.shown schema.now) fs gathered.old.graph (set_named held.old) (view_fragment S.shown fragment.now).selections
-        → IsHeld S.shown (view_schema S.shown schema.now) fs gathered.old.graph gathered.new.graph (set_named held.old) (set_named held.new)
-        (view_fragment S.shown fragment.now)) }
+    ensures { OnOk result ((fs : List documents.Fragment) → WhereEnding fs (view_type undeclared.now)
+        (HoldsToo S.shown (view_schema S.shown schema.now) fs gathered.old.graph gathered.new.graph (set_named held.old) (set_named held.new)
+        (view_fragment S.shown fragment.now))) }
 {
     let known = Known {
         schema,
@@ -189,12 +175,8 @@ fn gather_each<'d, 'a, S: ScalarValue>(
     document: &'d [Definition<'a, S>],
     gathered: &mut Gathered<'d, 'a, S>,
 ) -> Result<Vec<Vec<usize>>, AllocError>
-    ensures { IfOk result (λ lists. (fs : List documents.Fragment) → HasNoCycle fs → view_type known.now.undeclared.now ≡ fields.declared_type None →
-        IsGraphOf S.shown (view_schema S.shown known.now.schema.now) gathered.old.graph
-        → ((x : documents.Definition) → In x (map (view_definition S.shown) document.now) →
-        IsReadyIn S.shown (view_schema S.shown known.now.schema.now) fs gathered.old.graph (set_named known.now.fragments.now) (selections_of x))
-        → AreGathered S.shown (view_schema S.shown known.now.schema.now) fs gathered.old.graph gathered.new.graph (map (view_definition S.shown) document.now)
-        (map (λ l. l.items) lists.items)) }
+    ensures { IfOk result (λ lists. (fs : List documents.Fragment) → WhereKnown S.shown known.now fs gathered.old
+        (GathersEach S.shown known.now fs gathered.old gathered.new (map (view_definition S.shown) document.now) (map (λ l. l.items) lists.items))) }
 {
     let mut lists = Vec::new(alloc);
     for definition in document {
@@ -214,12 +196,8 @@ fn gather_definition<'d, 'a, S: ScalarValue>(
     definition: &'d Definition<'a, S>,
     gathered: &mut Gathered<'d, 'a, S>,
 ) -> Result<(), AllocError>
-    ensures { OnOk result ((fs : List documents.Fragment) → HasNoCycle fs → view_type known.now.undeclared.now ≡ fields.declared_type None →
-        IsGraphOf S.shown (view_schema S.shown known.now.schema.now) gathered.old.graph
-        → IsReadyIn S.shown (view_schema S.shown known.now.schema.now) fs gathered.old.graph (set_named known.now.fragments.now)
-        (selections_of (view_definition S.shown definition.now))
-        → IsDefinitionGathered S.shown (view_schema S.shown known.now.schema.now) fs gathered.old.graph gathered.new.graph gathered.old.sets.items
-        gathered.new.sets.items (view_definition S.shown definition.now)) }
+    ensures { OnOk result ((fs : List documents.Fragment) → WhereKnown S.shown known.now fs gathered.old
+        (GathersDefinition S.shown known.now fs gathered.old gathered.new (view_definition S.shown definition.now))) }
 {
     match definition {
         Definition::Operation(operation) => {

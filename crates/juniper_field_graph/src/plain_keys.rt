@@ -9,7 +9,7 @@ ghost use Rattle.graphql_spec.specs.Types.{innermost};
 ghost use Rattle.juniper_schema.specs.SchemaView.{view_schema};
 ghost use Rattle.juniper_syntax.specs.DocumentView.{put_selection, view_definition, view_field, view_selections};
 ghost use Rattle.juniper_field_graph.specs.KindsView.{IsOnce};
-ghost use Rattle.juniper_field_graph.specs.MetView.{Meets, Table, met_at, view_on};
+ghost use Rattle.juniper_field_graph.specs.MetView.{AreLike, Meets, MeetsWhole, Table, met_at};
 ghost use Rattle.juniper_field_graph.specs.PlainKeys as plain_keys;
 ghost use Rattle.juniper_field_graph.specs.PlainKeys.{AreOnce, placed_on, written_in, written_on};
 
@@ -111,10 +111,8 @@ fn meet_selection<'d, 'a, S: ScalarValue>(
     selection: &'d Selection<'a, S>,
     met: &mut Met<'d, 'a, S>,
 ) -> Result<bool, AllocError>
-    ensures { IfOk result (λ b. b ≡ true → (then : Table) (rest : Selections) → Meets (view_schema S.shown schema.now)
-        (met_at S.shown (view_schema S.shown schema.now) met.new) then (written_on (view_schema S.shown schema.now) parent.now rest)
-        → Meets (view_schema S.shown schema.now) (met_at S.shown (view_schema S.shown schema.now) met.old) then
-        (written_on (view_schema S.shown schema.now) parent.now (put_selection S.shown selection.now rest))) }
+    ensures { IfOk result (λ b. b ≡ true → (then : Table) (rest : Selections) → MeetsWhole S.shown (view_schema S.shown schema.now) met.old met.new then
+        parent.now rest (put_selection S.shown selection.now rest)) }
 {
     match selection {
         Selection::Field(field) => {
@@ -165,10 +163,8 @@ fn is_like<S: ScalarValue>(
     first: &FieldOn<'_, '_, S>,
     second: &FieldOn<'_, '_, S>,
 ) -> bool
-    ensures { result ≡ true → IsOnce (view_field S.shown first.now.field.now) → IsOnce (view_field S.shown second.now.field.now)
-        → (response_key (view_field S.shown first.now.field.now) ≡ response_key (view_field S.shown second.now.field.now))
-        × (plain_keys.is_like (view_schema S.shown schema.now) (view_on S.shown (view_schema S.shown schema.now) first.now)
-        (view_on S.shown (view_schema S.shown schema.now) second.now) ≡ true) }
+    ensures { result ≡ true → IsOnce (view_field S.shown first.now.field.now) → IsOnce (view_field S.shown second.now.field.now) →
+        AreLike S.shown (view_schema S.shown schema.now) first.now second.now }
 {
     let field = first.field;
     let other = second.field;

@@ -1,11 +1,9 @@
 //! Fields of one name with the same arguments (FieldsInSetCanMerge, section 5.3.2 of the Specification).
 
 ghost use Rattle.std.specs.Prelude.{◌≡◌, ◌&&◌, false, map};
-ghost use Rattle.std.specs.Str.{bytes_eq};
-ghost use Rattle.graphql_spec.specs.Arguments.{written_meaning};
-ghost use Rattle.graphql_spec.specs.Constants.{same_members};
 ghost use Rattle.graphql_spec.specs.Documents.{written};
-ghost use Rattle.graphql_spec.specs.Written.{arguments_repeat};
+ghost use Rattle.juniper_field_graph.specs.KindsView as kinds_view;
+ghost use Rattle.juniper_field_graph.specs.KindsView.{IsOnce};
 ghost use Rattle.juniper_field_graph.specs.NamedValues.{as_fields, view_named};
 ghost use Rattle.juniper_field_graph.specs.SameValues.{all_keyed, same_fields};
 ghost use Rattle.juniper_syntax.specs.DocumentView.{view_argument, view_arguments, view_field};
@@ -22,11 +20,8 @@ pub fn same_call<S: ScalarValue>(
     first: &Spanning<Field<'_, S>, Span>,
     second: &Spanning<Field<'_, S>, Span>,
 ) -> bool
-    ensures { arguments_repeat (written (view_field S.shown first.now).arguments) ≡ false →
-        arguments_repeat (written (view_field S.shown second.now).arguments) ≡ false →
-        result ≡ (bytes_eq (view_field S.shown first.now).name.item (view_field S.shown second.now).name.item
-        && same_members (written_meaning (written (view_field S.shown first.now).arguments))
-        (written_meaning (written (view_field S.shown second.now).arguments))) }
+    ensures { IsOnce (view_field S.shown first.now) → IsOnce (view_field S.shown second.now) →
+        result ≡ kinds_view.same_call (view_field S.shown first.now) (view_field S.shown second.now) }
 {
     first.item.name.item == second.item.name.item
         && same_arguments(&first.item.arguments, &second.item.arguments)
