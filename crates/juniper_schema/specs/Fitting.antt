@@ -1,8 +1,8 @@
 -- Words about fitting values (3.10, 3.11). Only private clauses cite it.
 use Rattle.std.specs.Prelude.{Bool, true, false, not, ◌&&◌, ◌||◌, List, [], Option, Some, None, option_map, unwrap_or}
 use Rattle.std.specs.Option.{is_none}
-use Rattle.graphql_spec.specs.Fields.{declaration_in}
-use Rattle.graphql_spec.specs.Fits.{all_fit, all_written, fits, has_field, size_met}
+use Rattle.graphql_spec.specs.Fields.{declaration_in, type_named}
+use Rattle.graphql_spec.specs.Fits.{all_fit, all_written, fields_fit, fits, has_field, input_object_fits, size_met, through}
 use Rattle.graphql_spec.specs.Inputs.{InputFields, InputItems, count_items, no_fields, input_field}
 use Rattle.graphql_spec.specs.Schema.{InputDeclaration, Schema, Shape, input_object_type}
 use Rattle.graphql_spec.specs.Types.{TypeRef, named, list_of, required}
@@ -50,3 +50,7 @@ list_fits s given is (list_of r size t) = size_met size (count_items is) && all_
 unfoldable pub object_by : Schema → Bool → InputFields → Option (List InputDeclaration) → Bool
 object_by s given fs None = false
 object_by s given fs (Some ds) = all_written fs ds && (keys_differ fs && each_fits s given fs ds)
+
+-- an object of these fields fits a type: what `fits` says of it
+abbrev pub object_fits_type : Schema → Bool → InputFields → TypeRef → Bool
+object_fits_type s given fs t = through (λ n. input_object_fits (λ ds. all_written fs ds && fields_fit s given fs ds) (type_named s n)) t

@@ -5,6 +5,7 @@ ghost use Rattle.graphql_spec.specs.Fields.{declaration_in, type_named};
 ghost use Rattle.graphql_spec.specs.Fits as fit;
 ghost use Rattle.juniper_meta.specs.MetaView.{shape_of, view_argument};
 ghost use Rattle.juniper_schema.specs.Fitting.{declared_fields, declared_of, each_fits, fits_some, is_supplied, keys_differ, list_fits, object_by, takes_one};
+ghost use Rattle.juniper_schema.specs.Fitting.{object_fits_type};
 ghost use Rattle.juniper_schema.specs.SchemaView.{view_schema};
 ghost use Rattle.juniper_syntax.specs.InputView.{view_fields, view_input, view_items};
 ghost use Rattle.juniper_syntax.specs.TypeView.{view_type};
@@ -80,8 +81,7 @@ impl<S: ScalarValue> SchemaType<S> {
     /// Whether an object fits the type.
     #[cycle(fits)]
     fn object_stands(&self, fields: &[Member<S>], reference: &Type<String>, given: bool) -> bool
-        ensures { result ≡ fit.through (λ n. fit.input_object_fits (λ ds. fit.all_written (view_fields S.shown fields.now) ds
-            && fit.fields_fit (view_schema S.shown self.now) given (view_fields S.shown fields.now) ds) (type_named (view_schema S.shown self.now) n))
+        ensures { result ≡ object_fits_type (view_schema S.shown self.now) given (view_fields S.shown fields.now)
             (view_type (λ n. string_bytes n) reference.now) }
     {
         if !takes_one(reference) {
