@@ -1,7 +1,6 @@
 //! What operations ask for: each fragment is counted once, behind those that it spreads.
 
-ghost use Rattle.std.specs.Prelude.{◌≡◌, ◌-◌, ◌^◌, IfOk, None, OnOk, Some, cond, map, min};
-ghost use Rattle.std.specs.Str.{bytes_eq};
+ghost use Rattle.std.specs.Prelude.{◌≡◌, ◌-◌, ◌^◌, IfOk, None, OnOk, Some, map, min};
 ghost use Rattle.graphql_spec.specs.Shown.{Name};
 ghost use Rattle.graphql_spec.specs.Documents as documents;
 ghost use Rattle.graphql_spec.specs.Documents.{Document, Selections};
@@ -10,8 +9,8 @@ ghost use Rattle.juniper_written.specs.Order.{IsInOrder};
 ghost use Rattle.juniper_written.specs.SpreadsView.{AreFragmentsOf};
 ghost use Rattle.juniper_written.specs.ExpandedFields.{expanded_fields as expanded};
 ghost use Rattle.juniper_written.specs.ExpandedLevels.{expanded_levels as levels};
-ghost use Rattle.juniper_written.specs.Kept.{kept_at, number_by, weight_at, whole_at};
-ghost use Rattle.juniper_written.specs.Measures.{Measure, expanded_number, join, number, put_in};
+ghost use Rattle.juniper_written.specs.Kept.{AreWhole, kept_at, kept_with, number_in, weight_in};
+ghost use Rattle.juniper_written.specs.Measures.{Measure, expanded_number, join, number};
 
 use crate::counts::Counts;
 use crate::{FragmentsByName, fragments_by_name};
@@ -93,8 +92,7 @@ fn count_operations<'d, 'a, S: ScalarValue>(
     kept: &Kept<'a>,
 ) -> Result<Vec<Counts>, AllocError>
     ensures { IfOk result (λ r. (m : Measure) (d : Document) → AreFragmentsOf S.shown fragments.now d → map (number m) r.items
-        ≡ map (λ o. min (2 ^ 64 - 1) (number_by m (weight_at (2 ^ 64 - 1) (documents.fragments d) (kept_at m kept.now)) o.selections))
-        (documents.operations (map (view_definition S.shown) document.now))) }
+        ≡ map (λ o. min (2 ^ 64 - 1) (number_in m d kept.now o.selections)) (documents.operations (map (view_definition S.shown) document.now))) }
 {
     let mut counts = Vec::new(alloc);
     for definition in document {
@@ -113,8 +111,7 @@ fn count_fragments<'d, 'a, S: ScalarValue>(
     alloc: Global,
     fragments: &FragmentsByName<'d, 'a, S>,
 ) -> Result<Kept<'a>, AllocError>
-    ensures { IfOk result (λ r. (m : Measure) (d : Document) → AreFragmentsOf S.shown fragments.now d → (k : Name) →
-        weight_at (2 ^ 64 - 1) (documents.fragments d) (kept_at m r) k ≡ whole_at m (2 ^ 64 - 1) (documents.fragments d) k) }
+    ensures { IfOk result (λ r. (m : Measure) (d : Document) → AreFragmentsOf S.shown fragments.now d → AreWhole m d r) }
 {
     let order = fragments.in_order(alloc)?;
     let mut kept = BTreeMap::new(alloc);
@@ -130,7 +127,7 @@ fn count_in_order<'d, 'a, S: ScalarValue>(
 ) -> Result<(), AllocError>
     ensures { OnOk result ((m : Measure) (d : Document) → AreFragmentsOf S.shown fragments.now d →
         IsInOrder (documents.fragments d) (map (λ f. view_fragment S.shown f.now) order.now.items) → ((k : Name) → kept_at m kept.old k ≡ None) →
-        (k : Name) → weight_at (2 ^ 64 - 1) (documents.fragments d) (kept_at m kept.new) k ≡ whole_at m (2 ^ 64 - 1) (documents.fragments d) k) }
+        AreWhole m d kept.new) }
 {
     for index in 0..order.len() {
         let fragment = order[index];
@@ -145,11 +142,8 @@ fn count_fragment<'d, 'a, S: ScalarValue>(
     fragments: &FragmentsByName<'d, 'a, S>,
     kept: &mut Kept<'a>,
 ) -> Result<(), AllocError>
-    ensures { OnOk result ((m : Measure) (d : Document) → AreFragmentsOf S.shown fragments.now d → (k : Name) → kept_at m kept.new k
-        ≡ cond (bytes_eq (view_fragment S.shown fragment.now).name.item k)
-        (Some (min (2 ^ 64 - 1) (put_in m (number_by m (weight_at (2 ^ 64 - 1) (documents.fragments d) (kept_at m kept.old))
-        (view_fragment S.shown fragment.now).selections))))
-        (kept_at m kept.old k)) }
+    ensures { OnOk result ((m : Measure) (d : Document) → AreFragmentsOf S.shown fragments.now d → (k : Name) →
+        kept_at m kept.new k ≡ kept_with m d kept.old (view_fragment S.shown fragment.now) k) }
 {
     let held = counts_of(fragment.item.selection_set.as_slice(), fragments, kept);
     kept.insert(fragment.item.name.item, held.of_fragment())?;
@@ -163,8 +157,8 @@ fn counts_of<'d, 'a, S: ScalarValue>(
     fragments: &FragmentsByName<'d, 'a, S>,
     kept: &Kept<'a>,
 ) -> Counts
-    ensures { (m : Measure) (d : Document) → AreFragmentsOf S.shown fragments.now d → number m result
-        ≡ min (2 ^ 64 - 1) (number_by m (weight_at (2 ^ 64 - 1) (documents.fragments d) (kept_at m kept.now)) (view_selections S.shown selections.now)) }
+    ensures { (m : Measure) (d : Document) → AreFragmentsOf S.shown fragments.now d →
+        number m result ≡ min (2 ^ 64 - 1) (number_in m d kept.now (view_selections S.shown selections.now)) }
 {
     let mut counts = Counts::none();
     for selection in selections {
@@ -181,8 +175,8 @@ fn counts_at<'d, 'a, S: ScalarValue>(
     kept: &Kept<'a>,
 ) -> Counts
     ensures { (m : Measure) (d : Document) → AreFragmentsOf S.shown fragments.now d → (rest : Selections) →
-        min (2 ^ 64 - 1) (join m (number m result) (number_by m (weight_at (2 ^ 64 - 1) (documents.fragments d) (kept_at m kept.now)) rest))
-        ≡ min (2 ^ 64 - 1) (number_by m (weight_at (2 ^ 64 - 1) (documents.fragments d) (kept_at m kept.now)) (put_selection S.shown selection.now rest)) }
+        min (2 ^ 64 - 1) (join m (number m result) (number_in m d kept.now rest))
+        ≡ min (2 ^ 64 - 1) (number_in m d kept.now (put_selection S.shown selection.now rest)) }
 {
     match selection {
         Selection::Field(field) => match &field.item.selection_set {
@@ -202,8 +196,7 @@ fn counts_behind<'d, 'a, S: ScalarValue>(
     fragments: &FragmentsByName<'d, 'a, S>,
     kept: &Kept<'a>,
 ) -> Counts
-    ensures { (m : Measure) (d : Document) → AreFragmentsOf S.shown fragments.now d →
-        number m result ≡ weight_at (2 ^ 64 - 1) (documents.fragments d) (kept_at m kept.now) name.now }
+    ensures { (m : Measure) (d : Document) → AreFragmentsOf S.shown fragments.now d → number m result ≡ weight_in m d kept.now name.now }
 {
     match kept.get(name) {
         Some(counts) => *counts,
