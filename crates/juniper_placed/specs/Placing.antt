@@ -1,5 +1,5 @@
 -- The fields and directives of a definition on their types, side by side (5.3, 5.4).
-use Rattle.std.specs.Prelude.{cond, List, [], ◌∷◌, ◌++◌, Option, Some, None}
+use Rattle.std.specs.Prelude.{◌≡◌, cond, List, [], ◌∷◌, ◌++◌, Option, Some, None}
 use Rattle.graphql_spec.specs.Shown.{Name}
 use Rattle.graphql_spec.specs.Types.{innermost}
 use Rattle.graphql_spec.specs.Documents.{Directive, Head, Selections, Definition, written}
@@ -43,6 +43,10 @@ module _ (s : Schema) where
 -- the one behind the other
 unfoldable pub joined : Parts → Parts → Parts
 joined p q = record { fields = p.fields ++ q.fields; directives = p.directives ++ q.directives }
+
+-- behind the new parts, those of the rest of selections on a type are what those of the whole are behind the old ones
+abbrev pub AddsBefore : Schema → Name → Parts → Parts → Selections → Selections → Type 0
+AddsBefore s p old new rest whole = joined new (parts_in s p rest) ≡ joined old (parts_in s p whole)
 
 -- directives alone
 unfoldable pub directive_parts : List Directive → Parts

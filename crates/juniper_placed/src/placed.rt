@@ -11,7 +11,7 @@ ghost use Rattle.juniper_schema.specs.SchemaView.{view_schema};
 ghost use Rattle.juniper_syntax.specs.DocumentView.{put_selection, view_definition, view_field, view_fragment, view_kind, view_operation, view_selections};
 ghost use Rattle.juniper_written.specs.WrittenView.{view_inline};
 ghost use Rattle.juniper_placed.specs.Parents.{IsParent};
-ghost use Rattle.juniper_placed.specs.Placing.{directive_parts, field_parts, joined, parts_in, parts_of, parts_on, type_below, type_inside};
+ghost use Rattle.juniper_placed.specs.Placing.{AddsBefore, directive_parts, field_parts, joined, parts_in, parts_of, parts_on, type_below, type_inside};
 ghost use Rattle.juniper_placed.specs.PlacedView.{view_parts, view_placed};
 
 use crate::parent::{Parent, field_on, parent_of};
@@ -165,8 +165,8 @@ fn place_selection<'d, 'a, S: ScalarValue>(
     placed: &mut PlacedParts<'d, 'a, S>,
 ) -> Result<(), AllocError>
     ensures { OnOk result (IsParent S.shown (view_schema S.shown schema.now) parent.now → (rest : Selections) →
-        joined (view_parts S.shown placed.new) (parts_in (view_schema S.shown schema.now) parent.now.name.now rest)
-        ≡ joined (view_parts S.shown placed.old) (parts_in (view_schema S.shown schema.now) parent.now.name.now (put_selection S.shown selection.now rest))) }
+        AddsBefore (view_schema S.shown schema.now) parent.now.name.now (view_parts S.shown placed.old) (view_parts S.shown placed.new)
+        rest (put_selection S.shown selection.now rest)) }
 {
     match selection {
         Selection::Field(field) => {
