@@ -8,10 +8,11 @@ use Rattle.graphql_spec.specs.Documents as spec
 use Rattle.graphql_spec.specs.Documents.{Document, Definition, Operation, operation, fragment, fragments}
 use Rattle.graphql_spec.specs.Fragments.{spreads}
 use Rattle.graphql_spec.specs.Inputs.{Input, null}
-use Rattle.graphql_spec.specs.Placed.{calls}
+use Rattle.graphql_spec.specs.Placed.{Call, calls}
 use Rattle.graphql_spec.specs.Schema.{Schema}
 use Rattle.graphql_spec.specs.VariableUses as uses
 use Rattle.graphql_spec.specs.VariableUses.{as_definitions, is_reached, names_used, uses_in_call, may_stand}
+use Rattle.graphql_spec.specs.Written.{argument_lists}
 use Rattle.juniper_syntax.specs.declared.position.Spanning.{Spanning}
 use Rattle.juniper_syntax.specs.declared.position.Span.{Span}
 use Rattle.juniper_syntax.specs.DocumentView.{view_variable}
@@ -44,6 +45,10 @@ usage_of s x = record {
   names = λ test. list_any test (names_used x);
   uses = λ test. list_any test (flat_map (uses_in_call s) (calls s x));
 }
+
+-- where these are the arguments in a definition, and those with their declarations these calls, this is what it uses
+abbrev pub IsUsageIn : Schema → Definition → List (List spec.Argument) → List Call → Usage → Type 0
+IsUsageIn s x arguments given used = arguments ≡ argument_lists x → given ≡ calls s x → used ≡ usage_of s x
 
 -- ## Views
 

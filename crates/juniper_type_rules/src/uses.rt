@@ -1,13 +1,12 @@
 //! What a definition uses of variables (section 5.8 of the Specification).
 
-ghost use Rattle.std.specs.Prelude.{◌≡◌, IfOk, map, option_map};
+ghost use Rattle.std.specs.Prelude.{◌≡◌, IfOk, option_map};
 ghost use Rattle.graphql_spec.specs.Placed as placed;
-ghost use Rattle.graphql_spec.specs.Written.{argument_lists};
 ghost use Rattle.juniper_syntax.specs.DocumentView.{view_definition};
 ghost use Rattle.juniper_schema.specs.SchemaView.{view_schema};
 ghost use Rattle.juniper_written.specs.WrittenView.{view_lists};
-ghost use Rattle.juniper_placed.specs.CallView.{view_call};
-ghost use Rattle.juniper_type_rules.specs.UsesView.{fragment_name, has_variables, usage_of, view_used};
+ghost use Rattle.juniper_placed.specs.CallView.{view_calls};
+ghost use Rattle.juniper_type_rules.specs.UsesView.{IsUsageIn, fragment_name, has_variables, view_used};
 
 use crate::names::names_in_lists;
 use crate::once::{names_once, uses_once};
@@ -58,9 +57,8 @@ pub fn used_in<'u, 'd: 'u, 'a: 'u, 's: 'u, S: ScalarValue>(
     arguments: &ArgumentLists<'d, 'a, S>,
     calls: &[Call<'d, 'a, 's, S>],
 ) -> Result<Used<'u>, AllocError>
-    ensures { IfOk result (λ u. view_lists S.shown arguments.now ≡ argument_lists (view_definition S.shown definition.now) →
-        map (view_call S.shown) calls.now ≡ placed.calls (view_schema S.shown schema.now) (view_definition S.shown definition.now) →
-        view_used u ≡ usage_of (view_schema S.shown schema.now) (view_definition S.shown definition.now)) }
+    ensures { IfOk result (λ u. IsUsageIn (view_schema S.shown schema.now) (view_definition S.shown definition.now) (view_lists S.shown arguments.now)
+        (view_calls S.shown calls.now) (view_used u)) }
 {
     let names = names_once(alloc, names_in_lists(alloc, arguments)?)?;
     let uses = uses_once(alloc, uses_in_calls(alloc, schema, calls)?)?;
