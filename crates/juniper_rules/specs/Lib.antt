@@ -1,3 +1,4 @@
 pub mod Listing
 pub mod Operations
 pub mod GivenView
+pub mod Finding

@@ -1,6 +1,6 @@
 //! The given values of variables (CoerceVariableValues, section 6.1.2 of the Specification).
 
-ghost use Rattle.std.specs.Prelude.{◌≡◌, ◌∷◌, ◌++◌, IfOk, OnOk, List, map, option_map, string_bytes};
+ghost use Rattle.std.specs.Prelude.{◌≡◌, ◌∷◌, IfOk, OnOk, List, map, option_map, string_bytes};
 ghost use Rattle.graphql_spec.specs.Documents as documents;
 ghost use Rattle.graphql_spec.specs.Documents.{variables_of};
 ghost use Rattle.graphql_spec.specs.Requests as requests;
@@ -12,6 +12,7 @@ ghost use Rattle.juniper_syntax.specs.DocumentView.{view_operation, view_variabl
 ghost use Rattle.juniper_syntax.specs.InputView.{view_input, view_variables};
 ghost use Rattle.juniper_syntax.specs.TypeView.{view_type};
 ghost use Rattle.juniper_rules.specs.GivenView.{view_given_values};
+ghost use Rattle.juniper_rules.specs.Finding.{ReportsBefore};
 
 use crate::given::Given;
 use juniper_schema::SchemaType;
@@ -89,9 +90,8 @@ fn report<S: ScalarValue>(
     schema: &SchemaType<S>,
 ) -> Result<(), AllocError>
     ensures { OnOk result ((rest : List documents.VariableDefinition) →
-        map view_rule_error errors.new.items ++ variable_errors (view_schema S.shown schema.now) rest (view_given_values S.shown given.now)
-        ≡ map view_rule_error errors.old.items ++ variable_errors (view_schema S.shown schema.now) (view_variable S.shown variable.now ∷ rest)
-        (view_given_values S.shown given.now)) }
+        ReportsBefore errors.old.items errors.new.items (view_schema S.shown schema.now) (view_given_values S.shown given.now)
+        rest (view_variable S.shown variable.now ∷ rest)) }
 {
     if !is_fitting(alloc, given, variable, schema)? {
         let name = variable.0.item;

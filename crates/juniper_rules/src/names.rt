@@ -1,16 +1,13 @@
 //! The first phase: names, on which the other rules stand.
 
-ghost use Rattle.std.specs.Prelude.{◌≡◌, ◌++◌, Bool, IfOk, List, OnOk, map, []};
+ghost use Rattle.std.specs.Prelude.{◌≡◌, Bool, IfOk, List, OnOk, map};
 ghost use Rattle.graphql_spec.specs.Documents as documents;
 ghost use Rattle.graphql_spec.specs.Rules as rules;
-ghost use Rattle.graphql_spec.specs.Rules.{at_each};
-ghost use Rattle.juniper_written.specs.NamesBefore.{IsEarlier};
-ghost use Rattle.juniper_syntax.specs.RuleView.{view_rule_error};
 ghost use Rattle.juniper_schema.specs.SchemaView.{view_schema};
 ghost use Rattle.juniper_written.specs.SpreadsView.{AreFragmentsOf};
 ghost use Rattle.juniper_syntax.specs.DocumentView.{view_definition};
-ghost use Rattle.juniper_rules.specs.Listing.{AreListed, IsListed, definition_of};
-ghost use Rattle.juniper_rules.specs.Operations.{OperationsOf};
+ghost use Rattle.juniper_rules.specs.Listing.{IsListed, definition_of};
+ghost use Rattle.juniper_rules.specs.Finding.{AreNameErrors, ReportsNames, WhereBehind, WhereListed};
 
 use crate::lists::Listed;
 use crate::report::report;
@@ -33,10 +30,8 @@ pub fn name_errors<'d, 'a, S: ScalarValue>(
     listed: &[Listed<'d, 'a, S>],
     fragments: &FragmentsByName<'d, 'a, S>,
 ) -> Result<Vec<RuleError>, AllocError>
-    ensures { IfOk result (λ es. (disabled : Bool) → AreListed S.shown listed.now (map (view_definition S.shown) document.now) →
-        AreFragmentsOf S.shown fragments.now (map (view_definition S.shown) document.now) →
-        map view_rule_error es.items ≡ at_each (rules.name_errors (view_schema S.shown schema.now) disabled (map (view_definition S.shown) document.now)) []
-        (map (view_definition S.shown) document.now)) }
+    ensures { IfOk result (λ es. (disabled : Bool) → WhereListed S.shown listed.now fragments.now (map (view_definition S.shown) document.now)
+        (AreNameErrors (view_schema S.shown schema.now) disabled (map (view_definition S.shown) document.now) es.items)) }
 {
     let operation_count = count_operations(document);
     let mut errors = Vec::new(alloc);
@@ -66,9 +61,9 @@ fn find_names<'d, 'a, S: ScalarValue>(
     listed: &Listed<'d, 'a, S>,
     errors: &mut Vec<RuleError>,
 ) -> Result<(), AllocError>
-    ensures { OnOk result ((disabled : Bool) (d : documents.Document) (ds : List documents.Definition) → AreFragmentsOf S.shown fragments.now d →
-        OperationsOf operation_count d → IsEarlier earlier.now ds → IsListed S.shown listed.now → map view_rule_error errors.new.items
-        ≡ map view_rule_error errors.old.items ++ rules.name_errors (view_schema S.shown schema.now) disabled d ds (definition_of S.shown listed.now)) }
+    ensures { OnOk result ((disabled : Bool) (d : documents.Document) (ds : List documents.Definition) →
+        WhereBehind S.shown fragments.now operation_count earlier.now d ds
+        (ReportsNames S.shown (view_schema S.shown schema.now) disabled d ds listed.now errors.old.items errors.new.items)) }
 {
     let definition = listed.definition;
     let inside = names_inside(alloc, schema, fragments, listed)?;

@@ -1,12 +1,13 @@
 //! The second phase: types, on which the last rules stand.
 
-ghost use Rattle.std.specs.Prelude.{◌≡◌, ◌++◌, Bool, IfOk, List, OnOk, map, []};
+ghost use Rattle.std.specs.Prelude.{◌≡◌, Bool, IfOk, List, OnOk, map, []};
 ghost use Rattle.graphql_spec.specs.Documents as documents;
 ghost use Rattle.graphql_spec.specs.Rules as rules;
 ghost use Rattle.graphql_spec.specs.Rules.{at_each};
 ghost use Rattle.juniper_syntax.specs.RuleView.{view_rule_error};
 ghost use Rattle.juniper_schema.specs.SchemaView.{view_schema};
 ghost use Rattle.juniper_rules.specs.Listing.{AreListedOnTypes, IsListedOnTypes, definition_of};
+ghost use Rattle.juniper_rules.specs.Finding.{ReportsTypes};
 
 use crate::lists::ListedOnTypes;
 use crate::report::report;
@@ -43,8 +44,7 @@ fn find_types<'d, 'a, S: ScalarValue>(
     errors: &mut Vec<RuleError>,
 ) -> Result<(), AllocError>
     ensures { OnOk result ((disabled : Bool) (d : documents.Document) (ds : List documents.Definition) →
-        IsListedOnTypes S.shown (view_schema S.shown schema.now) on_types.now → map view_rule_error errors.new.items ≡ map view_rule_error errors.old.items
-        ++ rules.type_errors (view_schema S.shown schema.now) disabled d ds (definition_of S.shown on_types.now.listed.now)) }
+        ReportsTypes S.shown (view_schema S.shown schema.now) disabled d ds on_types.now errors.old.items errors.new.items) }
 {
     let listed = on_types.listed;
     let definition = listed.definition;

@@ -1,15 +1,14 @@
 //! The third phase: how variables are used, merging, and introspection.
 
-ghost use Rattle.std.specs.Prelude.{◌≡◌, ◌++◌, IfOk, List, OnOk, false, get_or, length, map, []};
+ghost use Rattle.std.specs.Prelude.{◌≡◌, IfOk, List, OnOk, false, get_or, length, map};
 ghost use Rattle.graphql_spec.specs.Documents as documents;
 ghost use Rattle.graphql_spec.specs.Rules as rules;
-ghost use Rattle.graphql_spec.specs.Rules.{at_each};
 ghost use Rattle.graphql_spec.specs.Schema.{Schema};
-ghost use Rattle.juniper_syntax.specs.RuleView.{view_rule_error};
 ghost use Rattle.juniper_schema.specs.SchemaView.{view_schema};
 ghost use Rattle.juniper_written.specs.SpreadsView.{AreFragmentsOf};
 ghost use Rattle.juniper_type_rules.specs.UsesView.{AreUsesOfFragments, AreUsesOfParts, usage_of, view_used};
 ghost use Rattle.juniper_rules.specs.Listing.{AreListedOnTypes, IsListed, IsListedOnTypes, definition_of};
+ghost use Rattle.juniper_rules.specs.Finding.{AreUseErrors, ReportsUses, WhereUsed, schema_beside};
 
 use crate::lists::{Listed, ListedOnTypes};
 use crate::report::report;
@@ -34,8 +33,8 @@ pub fn use_errors<'d, 'a, S: ScalarValue>(
     introspection_disabled: bool,
 ) -> Result<Vec<RuleError>, AllocError>
     ensures { IfOk result (λ es. (d : documents.Document) → AreListedOnTypes S.shown (view_schema S.shown schema.now) listed.now d →
-        AreFragmentsOf S.shown fragments.now d → cannot_merge.now ≡ map (rules.cannot_merge (view_schema S.shown schema.now) d) d →
-        map view_rule_error es.items ≡ at_each (rules.use_errors (view_schema S.shown schema.now) introspection_disabled d) [] d) }
+        AreFragmentsOf S.shown fragments.now d →
+        AreUseErrors (view_schema S.shown schema.now) introspection_disabled d cannot_merge.now es.items) }
 {
     let used = used_by_each(alloc, schema, listed)?;
     let used_by_fragments = uses_of_fragments(alloc, &used, &fragments.spreads)?;
@@ -74,12 +73,8 @@ fn find_uses<'r, 'u, S: ScalarValue>(
     cannot_merge: bool,
     errors: &mut Vec<RuleError>,
 ) -> Result<(), AllocError>
-    ensures { OnOk result ((d : documents.Document) (ds : List documents.Definition) →
-        AreUsesOfFragments (view_schema S.shown given.now.schema.now) given.now.used_by_fragments.now d → IsListed S.shown listed.now →
-        view_used own.now ≡ usage_of (view_schema S.shown given.now.schema.now) (definition_of S.shown listed.now) →
-        cannot_merge ≡ rules.cannot_merge (view_schema S.shown given.now.schema.now) d (definition_of S.shown listed.now) →
-        map view_rule_error errors.new.items ≡ map view_rule_error errors.old.items
-        ++ rules.use_errors (view_schema S.shown given.now.schema.now) given.now.introspection_disabled d ds (definition_of S.shown listed.now)) }
+    ensures { OnOk result ((d : documents.Document) (ds : List documents.Definition) → WhereUsed S.shown given.now d listed.now own.now
+        (ReportsUses S.shown given.now d ds listed.now cannot_merge errors.old.items errors.new.items)) }
 {
     let definition = listed.definition;
     let inside = uses_inside(alloc, given, listed, own)?;
@@ -111,16 +106,12 @@ pub fn uses_inside<'r, 'u, S: ScalarValue>(
     listed: &Listed<'_, '_, S>,
     own: &'r Used<'u>,
 ) -> Result<UsesInside, AllocError>
-    ensures undefined { IfOk result (λ u. (d : documents.Document) →
-        AreUsesOfFragments (view_schema S.shown given.now.schema.now) given.now.used_by_fragments.now d → IsListed S.shown listed.now →
-        view_used own.now ≡ usage_of (view_schema S.shown given.now.schema.now) (definition_of S.shown listed.now) →
-        u.undefined ≡ rules.uses_undefined (view_schema S.shown given.now.schema.now) d (definition_of S.shown listed.now)) }
-    ensures misused { IfOk result (λ u. (d : documents.Document) →
-        AreUsesOfFragments (view_schema S.shown given.now.schema.now) given.now.used_by_fragments.now d → IsListed S.shown listed.now →
-        view_used own.now ≡ usage_of (view_schema S.shown given.now.schema.now) (definition_of S.shown listed.now) →
-        u.misused ≡ rules.misuses_variable (view_schema S.shown given.now.schema.now) d (definition_of S.shown listed.now)) }
+    ensures undefined { IfOk result (λ u. (d : documents.Document) → WhereUsed S.shown given.now d listed.now own.now
+        (u.undefined ≡ rules.uses_undefined (schema_beside S.shown given.now) d (definition_of S.shown listed.now))) }
+    ensures misused { IfOk result (λ u. (d : documents.Document) → WhereUsed S.shown given.now d listed.now own.now
+        (u.misused ≡ rules.misuses_variable (schema_beside S.shown given.now) d (definition_of S.shown listed.now))) }
     ensures schema { IfOk result (λ u. IsListed S.shown listed.now → u.looks_at_schema
-        ≡ rules.looks_at_schema (view_schema S.shown given.now.schema.now) given.now.introspection_disabled (definition_of S.shown listed.now)) }
+        ≡ rules.looks_at_schema (schema_beside S.shown given.now) given.now.introspection_disabled (definition_of S.shown listed.now)) }
 {
     let schema = given.schema;
     let definition = listed.definition;

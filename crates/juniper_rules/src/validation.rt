@@ -1,13 +1,11 @@
 //! Validation of a document against a schema (section 5 of the Specification).
 
-ghost use Rattle.std.specs.Prelude.{◌≡◌, IfOk, map, []};
-ghost use Rattle.graphql_spec.specs.Rules as rules;
-ghost use Rattle.graphql_spec.specs.Rules.{at_each, rule_errors};
+ghost use Rattle.std.specs.Prelude.{◌≡◌, IfOk, map};
+ghost use Rattle.graphql_spec.specs.Rules.{rule_errors};
 ghost use Rattle.juniper_syntax.specs.RuleView.{view_rule_error};
 ghost use Rattle.juniper_schema.specs.SchemaView.{view_schema};
-ghost use Rattle.juniper_written.specs.SpreadsView.{AreFragmentsOf};
 ghost use Rattle.juniper_syntax.specs.DocumentView.{view_definition, view_document};
-ghost use Rattle.juniper_rules.specs.Listing.{AreListed};
+ghost use Rattle.juniper_rules.specs.Finding.{AreLaterErrors, WhereListed};
 
 use crate::lists::{Listed, listed_in, listed_on_types};
 use crate::names::name_errors;
@@ -59,11 +57,8 @@ fn later_errors<'d, 'a, S: ScalarValue>(
     fragments: &FragmentsByName<'d, 'a, S>,
     introspection_disabled: bool,
 ) -> Result<Vec<RuleError>, AllocError>
-    ensures { IfOk result (λ es. AreListed S.shown listed.now (map (view_definition S.shown) document.now) →
-        AreFragmentsOf S.shown fragments.now (map (view_definition S.shown) document.now) →
-        at_each (rules.name_errors (view_schema S.shown schema.now) introspection_disabled (map (view_definition S.shown) document.now)) []
-        (map (view_definition S.shown) document.now) ≡ [] → map view_rule_error es.items
-        ≡ rule_errors (view_schema S.shown schema.now) introspection_disabled (map (view_definition S.shown) document.now)) }
+    ensures { IfOk result (λ es. WhereListed S.shown listed.now fragments.now (map (view_definition S.shown) document.now)
+        (AreLaterErrors (view_schema S.shown schema.now) introspection_disabled (map (view_definition S.shown) document.now) es.items)) }
 {
     let on_types = listed_on_types(alloc, schema, listed)?;
     let errors = type_errors(alloc, schema, &on_types)?;
