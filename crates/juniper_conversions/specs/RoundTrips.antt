@@ -1,5 +1,5 @@
 -- What comes back from the input value that a value is written as (3.12).
-use Rattle.std.specs.Prelude.{List, Result, Ok, Err}
+use Rattle.std.specs.Prelude.{List, Result, Ok, Err, IsOkAnd}
 use Rattle.std.specs.List.{AllZip}
 use Rattle.graphql_spec.specs.Constants.{Constant}
 
@@ -14,6 +14,10 @@ BringsBack {A = A} gives input x = (y : A) × ComesBackAs gives input x y
 -- no error is
 abbrev pub ComesBack : {A E : Type 0} → (Constant → Result A E → Type 0) → (A → Constant) → A → Type 0
 ComesBack {E = E} gives input x = (e : E) → gives (input x) (Err e) → ⊥
+
+-- every answer for what is written of x is a value of this kind
+abbrev pub AlwaysBrings : {A E : Type 0} → (Constant → Result A E → Type 0) → (A → Constant) → A → (A → Type 0) → Type 0
+AlwaysBrings {A = A} {E = E} gives input x Kind = (answer : Result A E) → gives (input x) answer → IsOkAnd answer Kind
 
 -- each item beside an answer for what is written of it
 abbrev pub EachComesBackAs : {A E : Type 0} → (Constant → Result A E → Type 0) → (A → Constant) → List A → List A → Type 0

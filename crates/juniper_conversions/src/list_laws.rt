@@ -5,7 +5,7 @@ ghost use Rattle.std.specs.declared.alloc.Global.{Global};
 ghost use Rattle.std.specs.declared.boxed.Box.{Box};
 ghost use Rattle.graphql_spec.specs.Constants.{null};
 ghost use Rattle.juniper_nullable.specs.Nullable.{some};
-ghost use Rattle.juniper_conversions.specs.RoundTrips.{BringsBack, ComesBack, ComesBackAs, EachComesBackAs};
+ghost use Rattle.juniper_conversions.specs.RoundTrips.{AlwaysBrings, BringsBack, ComesBack, ComesBackAs, EachComesBackAs};
 
 use crate::convert::{FromInputValue, ToInputValue};
 use juniper_nullable::Nullable;
@@ -50,9 +50,9 @@ pub fn boxes_come_back<T: FromInputValue<S> + ToInputValue<S>, S: ScalarValue>(v
 pub fn nullables_come_back<T: FromInputValue<S> + ToInputValue<S>, S: ScalarValue>(value: &T)
     ensures some_given { (back : T) → T.input value.now ≢ null → ComesBackAs T.gives T.input value.now back →
         ⟦<Nullable<T> as FromInputValue<S>>⟧.gives (⟦<Nullable<T> as ToInputValue<S>>⟧.input (Nullable.Some value.now)) (Ok (Nullable.Some back)) }
-    ensures some { T.input value.now ≢ null → ComesBack T.gives T.input value.now → (answer : _) →
-        ⟦<Nullable<T> as FromInputValue<S>>⟧.gives (⟦<Nullable<T> as ToInputValue<S>>⟧.input (Nullable.Some value.now)) answer →
-        IsOkAnd answer (λ b. IsSomeAnd (some b) (ComesBackAs T.gives T.input value.now)) }
+    ensures some { T.input value.now ≢ null → ComesBack T.gives T.input value.now →
+        AlwaysBrings ⟦<Nullable<T> as FromInputValue<S>>⟧.gives ⟦<Nullable<T> as ToInputValue<S>>⟧.input (Nullable.Some value.now)
+        (λ back. IsSomeAnd (some back) (ComesBackAs T.gives T.input value.now)) }
     ensures explicit_given { ⟦<Nullable<T> as FromInputValue<S>>⟧.gives (⟦<Nullable<T> as ToInputValue<S>>⟧.input Nullable.ExplicitNull)
         (Ok Nullable.ExplicitNull) }
     ensures explicit { (answer : _) → ⟦<Nullable<T> as FromInputValue<S>>⟧.gives (⟦<Nullable<T> as ToInputValue<S>>⟧.input Nullable.ExplicitNull) answer →
