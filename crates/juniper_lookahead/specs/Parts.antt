@@ -7,9 +7,13 @@ use Rattle.graphql_spec.specs.Documents.{Selections}
 use Rattle.graphql_spec.specs.Fragments.{deep, spreads}
 use Rattle.graphql_spec.specs.Selections.{Child, children}
 use denote.Param.Weighed.{most}
-use Rattle.juniper_syntax.specs.DocumentView.{view_directives, view_selections, view_word}
+use Rattle.juniper_syntax.specs.Positions.{view_span}
+use Rattle.juniper_syntax.specs.DocumentView.{inline_head, view_directives, view_selections, view_word}
 use Rattle.juniper_syntax.specs.declared.ast.Fragment.{Fragment}
+use Rattle.juniper_syntax.specs.declared.ast.InlineFragment.{InlineFragment, out-InlineFragment}
 use Rattle.juniper_syntax.specs.declared.ast.Selection.{Selection, size-Selection}
+use Rattle.juniper_syntax.specs.declared.position.Span.{Span}
+use Rattle.juniper_syntax.specs.declared.position.Spanning.{Spanning}
 use Rattle.juniper_lookahead.specs.Expansion.{VariableMap, FragmentsByName, child_at, expanded, fragments_among, nowhere, unplaced}
 use Rattle.juniper_lookahead.specs.SelectionView.{view_applies}
 use Rattle.juniper_lookahead.specs.declared.parts.Part.{Part}
@@ -37,6 +41,11 @@ module _ {S : Type 0} (shown : S → Shown) where
     selections = view_selections shown f.selection_set.items;
     span = nowhere;
   }
+
+  -- an inline fragment, before what follows it
+  abbrev pub inline_before : Spanning (InlineFragment S) Span → Selections → Selections
+  inline_before x =
+      spec.inline (inline_head shown (out-InlineFragment S x.item) (view_span x.span)) (view_selections shown (out-InlineFragment S x.item).selection_set.items)
 
   -- no more than n spreads of the selections are inside one another
   abbrev pub IsWithin : FragmentsByName S → ℕ → Selections → Type 0

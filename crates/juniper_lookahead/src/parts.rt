@@ -9,14 +9,14 @@ ghost use Rattle.graphql_spec.specs.Fragments.{asked, fragment_of};
 ghost use Rattle.graphql_spec.specs.Selections as selections;
 ghost use Rattle.juniper_syntax.specs.Positions.{view_span};
 ghost use Rattle.juniper_syntax.specs.InputView.{view_variables};
-ghost use Rattle.juniper_syntax.specs.DocumentView.{inline_head, put_selection, view_directives, view_head, view_selections, view_set, view_spread, view_word};
+ghost use Rattle.juniper_syntax.specs.DocumentView.{put_selection, view_directives, view_head, view_set, view_spread, view_word};
 ghost use Rattle.juniper_syntax.specs.declared.ast.Field.{out-Field};
 ghost use Rattle.juniper_syntax.specs.declared.ast.InlineFragment.{out-InlineFragment};
 ghost use Rattle.juniper_syntax.specs.declared.ast.Selection.{size-Selection};
 ghost use Rattle.juniper_lookahead.specs.DirectiveView.{view_lent};
 ghost use Rattle.juniper_lookahead.specs.Expansion.{fragments_among};
 ghost use Rattle.juniper_lookahead.specs.SelectionView.{view_applies};
-ghost use Rattle.juniper_lookahead.specs.Parts.{IsPart, deepest, fragment_at, nesting};
+ghost use Rattle.juniper_lookahead.specs.Parts.{IsPart, deepest, fragment_at, inline_before, nesting};
 
 use crate::directives::admits;
 use crate::selection::{Applies, LookAheadSelection};
@@ -98,11 +98,9 @@ fn inline_part<'d, 'a, S: ScalarValue>(
     applies_for: Applies<'a>,
     spreads_left: usize,
 ) -> Part<'d, 'a, S>
-    ensures { (size : _) → nesting (out-InlineFragment S inline.now.item).selection_set.items < size
-        → IsPart S.shown parent.now.variables.now parent.now.fragments.now (view_applies applies_for.entry)
-        (document.inline (inline_head S.shown (out-InlineFragment S inline.now.item) (view_span inline.now.span))
-        (view_selections S.shown (out-InlineFragment S inline.now.item).selection_set.items))
-        spreads_left size result }
+    ensures { (size : _) → nesting (out-InlineFragment S inline.now.item).selection_set.items < size →
+        IsPart S.shown parent.now.variables.now parent.now.fragments.now (view_applies applies_for.entry)
+        (inline_before S.shown inline.now) spreads_left size result }
 {
     if !is_taken(parent.variables, &inline.item.directives) {
         return Part::Nothing;
