@@ -9,11 +9,12 @@ ghost use Rattle.graphql_spec.specs.Fragments.{asked};
 ghost use Rattle.std.specs.Option.{option_map};
 ghost use Rattle.juniper_syntax.specs.Positions.{view_span};
 ghost use Rattle.juniper_syntax.specs.InputView.{view_variables};
-ghost use Rattle.juniper_syntax.specs.DocumentView.{inline_head, put_selection, view_directives, view_head, view_selections, view_set, view_spread, view_word};
+ghost use Rattle.juniper_syntax.specs.DocumentView.{put_selection, view_directives, view_head, view_set, view_spread, view_word};
 ghost use Rattle.juniper_syntax.specs.declared.ast.Field.{out-Field};
 ghost use Rattle.juniper_syntax.specs.declared.ast.InlineFragment.{out-InlineFragment};
 ghost use Rattle.juniper_syntax.specs.declared.ast.Selection.{size-Selection};
 ghost use Rattle.juniper_lookahead.specs.DirectiveView.{view_lent};
+ghost use Rattle.juniper_lookahead.specs.Parts.{inline_before};
 ghost use Rattle.juniper_collect.specs.FragmentView.{nesting};
 ghost use Rattle.juniper_collect.specs.Collected.{IsPart, IsReady};
 
@@ -113,9 +114,7 @@ fn inline_part<'d, 'a, S: ScalarValue, P: Conditions>(
     spreads_left: usize,
 ) -> Part<'d, 'a, S>
     ensures { (size : _) → nesting (out-InlineFragment S inline.now.item).selection_set.items < size →
-        IsPart S.shown collector.now (P.possible collector.now.possible) concrete.now
-        (document.inline (inline_head S.shown (out-InlineFragment S inline.now.item) (view_span inline.now.span))
-        (view_selections S.shown (out-InlineFragment S inline.now.item).selection_set.items)) spreads_left size result }
+        IsPart S.shown collector.now (P.possible collector.now.possible) concrete.now (inline_before S.shown inline.now) spreads_left size result }
 {
     if !is_taken(collector, &inline.item.directives) {
         return Part::Nothing;
