@@ -8,7 +8,7 @@ ghost use Rattle.juniper_syntax.specs.TypeView.{view_type};
 ghost use Rattle.juniper_conversions.specs.PathView.{path_place};
 ghost use Rattle.juniper_values.specs.ResolvedView.{view_resolved};
 ghost use Rattle.juniper_assemble.specs.SkeletonView.{view_fault, view_skeleton};
-ghost use Rattle.juniper_assemble.specs.SpotView.{view_nodes, view_faults};
+ghost use Rattle.juniper_assemble.specs.SpotView.{IsTakenApart, view_faults};
 ghost use Rattle.juniper_assemble.specs.Apart.{IsApart, IsNullApart, IsWrong};
 
 use crate::skeleton::Skeleton;
@@ -56,9 +56,8 @@ pub fn take_apart<'a, S: ScalarValue, C: Completer<S>>(
     nodes: &mut Vec<Spot<'a, C::Node>>,
     faults: &mut Vec<Spot<'a, Fault>>,
 ) -> Result<Skeleton<S>, AllocError>
-    ensures { IfOk result (λ s. IsApart (C.world completer.now) (path_place path.now.value) (view_type (λ n. string_bytes n) declared.now)
-        (view_resolved S.shown resolved) (view_skeleton S.shown s) (view_nodes nodes.old.items) (view_nodes nodes.new.items)
-        (view_faults faults.old.items) (view_faults faults.new.items)) }
+    ensures { IfOk result (λ s. IsTakenApart S.shown (C.world completer.now) (path_place path.now.value) (view_type (λ n. string_bytes n) declared.now)
+        (view_resolved S.shown resolved) s nodes.old.items nodes.new.items faults.old.items faults.new.items) }
 {
     let mut positions = Vec::new(alloc);
     let skeleton = item_apart(
@@ -85,9 +84,9 @@ fn item_apart<'a, S: ScalarValue, C: Completer<S>>(
     nodes: &mut Vec<Spot<'a, C::Node>>,
     faults: &mut Vec<Spot<'a, Fault>>,
 ) -> Result<Skeleton<S>, AllocError>
-    ensures apart { IfOk result (λ s. IsApart (C.world completer.now) (path_place path.now.value ++ map index positions.old.items)
-        (view_type (λ n. string_bytes n) declared.now) (view_resolved S.shown resolved) (view_skeleton S.shown s)
-        (view_nodes nodes.old.items) (view_nodes nodes.new.items) (view_faults faults.old.items) (view_faults faults.new.items)) }
+    ensures apart { IfOk result (λ s. IsTakenApart S.shown (C.world completer.now) (path_place path.now.value ++ map index positions.old.items)
+        (view_type (λ n. string_bytes n) declared.now) (view_resolved S.shown resolved) s
+        nodes.old.items nodes.new.items faults.old.items faults.new.items) }
     ensures positions { OnOk result (positions.new.items ≡ positions.old.items) }
 {
     match resolved {
@@ -221,9 +220,8 @@ fn node_apart<'a, S: ScalarValue, C: Completer<S>>(
     nodes: &mut Vec<Spot<'a, C::Node>>,
     faults: &mut Vec<Spot<'a, Fault>>,
 ) -> Result<Skeleton<S>, AllocError>
-    ensures { IfOk result (λ s. IsApart (C.world completer.now) (path_place path.now.value ++ map index positions.now)
-        (view_type (λ n. string_bytes n) declared.now) (node_of node)
-        (view_skeleton S.shown s) (view_nodes nodes.old.items) (view_nodes nodes.new.items) (view_faults faults.old.items) (view_faults faults.new.items)) }
+    ensures { IfOk result (λ s. IsTakenApart S.shown (C.world completer.now) (path_place path.now.value ++ map index positions.now)
+        (view_type (λ n. string_bytes n) declared.now) (node_of node) s nodes.old.items nodes.new.items faults.old.items faults.new.items) }
 {
     match declared.list_contents() {
         Some(_) => {
