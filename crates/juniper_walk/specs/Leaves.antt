@@ -1,9 +1,9 @@
 -- Scalars that their types take (6.4.3); only private clauses cite it.
-use Rattle.std.specs.Prelude.{◌≡◌, true, [], List, Result, Ok, None, map, string_bytes}
+use Rattle.std.specs.Prelude.{◌≡◌, true, [], IfOk, List, Result, Ok, None, map, string_bytes}
 use Rattle.graphql_spec.specs.Shown.{Name, Shown}
 use Rattle.graphql_spec.specs.Types.{TypeRef, innermost, required}
 use Rattle.graphql_spec.specs.Errors.{Place}
-use Rattle.graphql_spec.specs.Execution.{type_of}
+use Rattle.graphql_spec.specs.Execution.{reply_of, type_of}
 use Rattle.graphql_spec.specs.Resolvers.{World}
 use Rattle.graphql_spec.specs.Selections.{Occurrence}
 use Rattle.graphql_spec.specs.Skeletons.{filled}
@@ -14,7 +14,8 @@ use Rattle.juniper_values.specs.declared.resolved.Resolved.{Resolved, Scalar}
 use Rattle.juniper_assemble.specs.SkeletonView.{view_skeleton}
 use Rattle.juniper_assemble.specs.SpotView.{view_nodes}
 use Rattle.juniper_walk.specs.declared.asking.Asked.{Asked}
-use Rattle.juniper_walk.specs.PlanWalks.{IsPrepared}
+use Rattle.juniper_walk.specs.Lists.{IsAskedAbout}
+use Rattle.juniper_walk.specs.PlanWalks.{IsGroupOf, IsPrepared}
 use Rattle.juniper_walk.specs.declared.leaf.Reply.{Reply}
 use Rattle.juniper_walk.specs.declared.leaf.Reply.TheVariants as reply
 use Rattle.juniper_walk.specs.declared.preparing.Taken.{Taken}
@@ -42,3 +43,8 @@ module _ {N : Type 0} (W : World N) where
     IsTaken at T m k os (taken.Leaf key_is x) = IsPrepared W at T m k os key_is.now (required (type_of W T os)) (filled (shown x)) [] []
     IsTaken at T m k os (taken.Apart p) = IsPrepared W at T m k os p.key.now p.is_non_null (view_skeleton shown p.skeleton) (view_nodes p.nodes.items)
         (map (view_listed shown) p.errors.items)
+
+    -- whatever node was asked for the occurrences os of the response key k, the answer is what is taken of what was told
+    abbrev pub TakesTold : {E : Type 0} → Place → Name → List Occurrence → Asked N S → Result (Taken N S) E → Type 0
+    TakesTold at k os told result = (T : Name) → (m : N) → (all : List Occurrence) → IsGroupOf k all os →
+        IsAskedAbout shown (type_of W T os) (λ n. reply_of W T n os) m told → IfOk result (λ a. IsTaken at T m k os a)

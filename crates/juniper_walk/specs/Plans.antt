@@ -7,6 +7,7 @@ use Rattle.juniper_syntax.specs.DocumentView.{view_selections}
 use Rattle.juniper_collect.specs.Collected.{expansion, view_all}
 use Rattle.juniper_collect.specs.declared.collecting.Collector.{Collector}
 use Rattle.juniper_lookahead.specs.declared.occurrences.Occurrence.{Occurrence as CodeOccurrence}
+use Rattle.juniper_walk.specs.declared.asking.Walk.{Walk}
 use Rattle.juniper_walk.specs.declared.plan.Below.{Below}
 use Rattle.juniper_lookahead.specs.declared.occurrences.Enclosing.{Enclosing}
 use Rattle.juniper_walk.specs.declared.plan.Group.{Group}
@@ -212,3 +213,7 @@ pub record AreAdded {S P Q : Type 0} (shown : S → Shown) (c : Collector S P) (
   pub step : IsStep shown c asks possible p q
   pub groups : view_groups shown c q.occurrences.items (drop (length p.groups.items) q.groups.items) ≡ grouped_by os
   pub asked : AllAsked (asks T) (map (λ k. with_key k os) (keys os)) (drop (length p.groups.items) q.questions.items)
+
+-- the occurrences of the group of a number, with what they select, expanded
+abbrev pub group_at : {S R Q : Type 0} → (S → Shown) → Walk S R → Plan S Q → ℕ → List Occurrence
+group_at shown walk p i = view_all shown walk.collector (fields_at p i)

@@ -1,21 +1,25 @@
 -- The objects of nodes of one object type, walked side by side (6.3, 6.4.4); only private clauses cite this.
 use Rattle.std.specs.Prelude.{◌≡◌, ◌≤◌, ◌<◌, ℕ, zero, suc, Bool, true, false, List, [], ◌∷◌, ◌++◌, Option, Some, None, length, map, take, drop, ◌⊎◌}
+use Rattle.std.specs.Prelude.{IfOk, OnOk, Result, is_some}
 use Rattle.graphql_spec.specs.Shown.{Name, Shown}
 use Rattle.graphql_spec.specs.Values.{Value, null, object, no_entries, put, scalar}
 use Rattle.graphql_spec.specs.Errors.{Listed}
 use Rattle.graphql_spec.specs.ExactAnswers.{whole}
 use Rattle.graphql_spec.specs.GroupLaws.{first_start}
-use Rattle.graphql_spec.specs.Selections.{Forest, Occurrence, keys, occurrences, with_key}
+use Rattle.graphql_spec.specs.Selections.{Forest, Occurrence, all_below, keys, occurrences, with_key}
 use Rattle.graphql_spec.specs.Resolvers.{World}
 use Rattle.juniper_assemble.specs.SkeletonView.{view_skeleton}
+use Rattle.juniper_assemble.specs.SpotView.{view_nodes}
 use Rattle.graphql_spec.specs.CompletionLaws.{all_listed}
 use Rattle.graphql_spec.specs.NodeLaws.{AreWalkedOnce}
 use Rattle.graphql_spec.specs.Skeletons.{Spot}
 use Rattle.juniper_conversions.specs.ErrorView.{view_listed}
+use Rattle.juniper_conversions.specs.declared.execution_error.ExecutionError.{ExecutionError}
 use Rattle.juniper_syntax.specs.ValueView.{view_object, view_value}
 use Rattle.juniper_syntax.specs.declared.value.Object.{Object}
 use Rattle.juniper_walk.specs.declared.walked.Walked.{Walked}
 use Rattle.juniper_walk.specs.Holes.{holes_of}
+use Rattle.juniper_walk.specs.Lists.{picked}
 use Rattle.juniper_walk.specs.PlanWalks.{IsObjectWalked, IsPrepared, IsPut, IsWalking}
 use Rattle.juniper_walk.specs.declared.preparing.Prepared.{Prepared}
 use Rattle.juniper_walk.specs.declared.preparing.Taken.{Taken}
@@ -33,6 +37,10 @@ AreOfType W T (x ∷ xs) = (T ≡ W.concrete x.what) × AreOfType W T xs
 abbrev pub AreIn : {N S : Type 0} → ℕ → List (Opened N S) → Type 0
 AreIn n [] = Unit {0}
 AreIn n (o ∷ os) = (o.row < n) × AreIn n os
+
+-- the nodes whose objects stand
+abbrev pub nodes_standing : {N S : Type 0} → List (Row S) → List (Spot N) → List N
+nodes_standing rows spots = map (λ x. x.what) (picked (map (λ r. is_some r.object) rows) spots)
 
 module _ {S : Type 0} (shown : S → Shown) where
   -- the objects that were walked, and what was listed in each
@@ -89,14 +97,19 @@ module _ {S : Type 0} (shown : S → Shown) where
     IsPutIn i (taken.Leaf k x) o r new c more = IsLeafPut k.now x o r new × (more ≡ c)
     IsPutIn i (taken.Apart p) o r new c more = IsApartPut i p r new c more
 
+    -- an answer, filled with the first of these objects, was put into an object, but where its null rises, and what failed was listed
+    abbrev pub IsPutWith : Prepared N S → List (Walked S) → Bool → Object S → Object S → List (ExecutionError S) → List (ExecutionError S) → Type 0
+    IsPutWith p ws rises o made errors all = IsPut p.key.now p.is_non_null (view_skeleton shown p.skeleton)
+        (take (holes_of (view_skeleton shown p.skeleton)) (values_of ws))
+        (map (view_listed shown) p.errors.items ++ all_listed (take (holes_of (view_skeleton shown p.skeleton)) (listed_of ws))) rises
+        (view_object shown o) (view_object shown made) (map (view_listed shown) errors) (map (view_listed shown) all)
+
     -- an answer was filled with the first of these objects, the others are left, and it was put into the object of a row, but where its null
     -- rises
     pub record IsFilledIn (p : Prepared N S) (ws left : List (Walked S)) (o : Object S) (r new : Row S) : Type 0 where
       pub made : Object S
       pub rises : Bool
-      pub put_in : IsPut p.key.now p.is_non_null (view_skeleton shown p.skeleton) (take (holes_of (view_skeleton shown p.skeleton)) (values_of ws))
-          (map (view_listed shown) p.errors.items ++ all_listed (take (holes_of (view_skeleton shown p.skeleton)) (listed_of ws))) rises
-          (view_object shown o) (view_object shown made) (map (view_listed shown) r.errors.items) (map (view_listed shown) new.errors.items)
+      pub put_in : IsPutWith p ws rises o made r.errors.items new.errors.items
       pub left_over : left ≡ drop (holes_of (view_skeleton shown p.skeleton)) ws
       pub kept : rises ≡ false → new.object ≡ Some made
       pub lost : rises ≡ true → new.object ≡ None
@@ -152,3 +165,19 @@ module _ {N : Type 0} (W : World N) (s : Forest) (T : Name) where
         (IsRow (ks ++ k ∷ []) x r × ArePending ks k os (suc i) xs rs (h ∷ hs) ns)
         ⊎ (IsOpen ks k os i x r h (take (awaited shown h) ns) × (awaited shown h ≤ length ns) × ArePending ks k os (suc i) xs rs hs (drop (awaited shown h) ns))
     ArePending ks k os i xs rs hs ns = ⊥
+
+    -- the whole objects of the nodes
+    abbrev pub AreWholeRows : (Name → Name → Bool) → List (Spot N) → List (Row S) → Type 0
+    AreWholeRows possible xs rows = AreRows (keys (occurrences possible T s)) xs rows
+
+    -- where the response key k comes next, and those before it were walked in each row, the answer is what waits for nodes at k
+    abbrev pub AsksColumn : {E : Type 0} → Name → List Occurrence → List (Spot N) → List (Row S) → List (Row S) → Result (Column N S) E → Type 0
+    AsksColumn k os xs old new result = (ks : List Name) → IsNext ks k os → AreRows ks xs old →
+        IfOk result (λ c. ArePending ks k os 0 xs new c.opened.items (view_nodes c.nodes.items))
+
+-- whatever answers wait in the rows, and whatever nodes they wait for, of which these objects were walked: the rows then have them
+abbrev pub FillsRows : {N S A E : Type 0} → (S → Shown) → List (Row S) → List (Row S) → List (Opened N S) → List (Walked S) → Result A E → Type 0
+FillsRows {N = N} shown old new opened below result = (W : World N) → (s : Forest) → (T : Name) → (ks : List Name) → (k : Name) →
+    (os : List Occurrence) → (xs ns : List (Spot N)) → IsNext W s T ks k os → ArePending W s T shown ks k os 0 xs old opened ns →
+    AreWalkedOnce whole first_start W (all_below os) ns (values_of shown below) (listed_of shown below) →
+    OnOk result (AreRows W s T shown (ks ++ k ∷ []) xs new)

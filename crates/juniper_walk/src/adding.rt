@@ -1,15 +1,12 @@
 //! What was walked of a group is added to its object (section 6.4.4 of the Specification).
 
-ghost use Rattle.std.specs.Prelude.{◌≡◌, ◌++◌, ◌&&◌, IfOk, OnOk, drop, map, take};
+ghost use Rattle.std.specs.Prelude.{◌≡◌, ◌&&◌, IfOk, OnOk, drop};
 ghost use Rattle.std.specs.Vec.Iter.{into_iter_items};
 ghost use Rattle.graphql_spec.specs.Values.{is_null, put, scalar as leaf};
 ghost use Rattle.juniper_syntax.specs.ValueView.{view_object, view_value};
-ghost use Rattle.juniper_conversions.specs.ErrorView.{view_listed};
 ghost use Rattle.juniper_assemble.specs.SkeletonView.{view_skeleton};
-ghost use Rattle.graphql_spec.specs.CompletionLaws.{all_listed};
 ghost use Rattle.juniper_walk.specs.Holes.{holes_of};
-ghost use Rattle.juniper_walk.specs.PlanWalks.{IsPut};
-ghost use Rattle.juniper_walk.specs.Rows.{listed_of, values_of};
+ghost use Rattle.juniper_walk.specs.Rows.{IsPutWith};
 
 use crate::filling::fill_walked;
 use crate::preparing::Prepared;
@@ -28,12 +25,8 @@ pub(crate) fn add_value<'a, N: Drop, S: ScalarValue>(
     prepared: Prepared<'a, N, S>,
     objects: &mut vec::IntoIter<Walked<S>>,
 ) -> Result<bool, AllocError>
-    ensures put_in { IfOk result (λ rises. IsPut prepared.entry.key.now prepared.entry.is_non_null (view_skeleton S.shown prepared.entry.skeleton)
-        (take (holes_of (view_skeleton S.shown prepared.entry.skeleton)) (values_of S.shown (into_iter_items objects.old)))
-        (map (view_listed S.shown) prepared.entry.errors.items
-        ++ all_listed (take (holes_of (view_skeleton S.shown prepared.entry.skeleton)) (listed_of S.shown (into_iter_items objects.old)))) rises
-        (view_object S.shown entries.old) (view_object S.shown entries.new) (map (view_listed S.shown) errors.old.items)
-        (map (view_listed S.shown) errors.new.items)) }
+    ensures put_in { IfOk result (λ rises. IsPutWith S.shown prepared.entry (into_iter_items objects.old) rises
+        entries.old entries.new errors.old.items errors.new.items) }
     ensures left { IfOk result (λ _. into_iter_items objects.new
         ≡ drop (holes_of (view_skeleton S.shown prepared.entry.skeleton)) (into_iter_items objects.old)) }
 {

@@ -1,17 +1,11 @@
 //! A reply is completed for all fields of a group at once (CompleteValue and MergeSelectionSets, section 6.4.3 of the Specification).
 
-ghost use Rattle.std.specs.Prelude.{◌≡◌, ◌<◌, [], IfOk, map, string_bytes};
-ghost use Rattle.graphql_spec.specs.ExactAnswers.{whole};
-ghost use Rattle.graphql_spec.specs.GroupLaws.{GroupCompleted, first_start};
-ghost use Rattle.juniper_collect.specs.Collected.{view_all};
-ghost use Rattle.juniper_conversions.specs.ErrorView.{view_listed};
+ghost use Rattle.std.specs.Prelude.{◌≡◌, ◌<◌, IfOk};
+ghost use Rattle.graphql_spec.specs.GroupLaws.{first_start};
 ghost use Rattle.juniper_conversions.specs.PathView.{path_place};
-ghost use Rattle.juniper_values.specs.ResolvedView.{Answers};
-ghost use Rattle.juniper_syntax.specs.TypeView.{view_type};
-ghost use Rattle.juniper_syntax.specs.ValueView.{view_value};
-ghost use Rattle.juniper_walk.specs.Completing.{IsTold};
+ghost use Rattle.juniper_walk.specs.Completing.{CompletesAsked, IsTold};
 ghost use Rattle.juniper_walk.specs.Walking.{IsReadyWalk};
-ghost use Rattle.juniper_walk.specs.Plans.{IsStanding, IsStep, fields_at, group_count};
+ghost use Rattle.juniper_walk.specs.Plans.{IsStanding, IsStep, group_at, group_count};
 ghost use Rattle.juniper_walk.specs.PlanWalks.{HasFirst};
 
 use crate::filling::fill_walked;
@@ -35,13 +29,12 @@ pub fn complete_value<'d, 'a, S: ScalarValue, R: Resolver<S>>(
     requires ready { IsReadyWalk S.shown R.possible R.values (R.world walk.now.collector.possible) walk.now }
     requires standing { IsStanding S.shown walk.now.collector (R.asks walk.now.collector.possible) (R.possible walk.now.collector.possible) plan.old }
     requires bound { group.0 < group_count plan.old }
-    requires some { HasFirst (view_all S.shown walk.now.collector (fields_at plan.old group.0)) }
+    requires some { HasFirst (group_at S.shown walk.now plan.old group.0) }
     ensures plan { IfOk result (λ _. IsStep S.shown walk.now.collector (R.asks walk.now.collector.possible) (R.possible walk.now.collector.possible) plan.old
         plan.new) }
     ensures told { IfOk result (λ _. IsTold asked.entry.answer) }
-    ensures completed { (reply : _) → Answers S.shown asked.entry.answer reply → IfOk result (λ w. GroupCompleted whole first_start
-        (R.world walk.now.collector.possible) (path_place path.now.value) [] (view_type (λ n. string_bytes n) asked.entry.declared.now) reply
-        (view_all S.shown walk.now.collector (fields_at plan.old group.0)) (view_value S.shown w.value) (map (view_listed S.shown) w.errors.items)) }
+    ensures completed { CompletesAsked S.shown first_start (R.world walk.now.collector.possible) (path_place path.now.value)
+        (group_at S.shown walk.now plan.old group.0) asked.entry result }
 {
     let Asked { declared, answer } = asked;
     let Parted {

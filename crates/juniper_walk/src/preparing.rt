@@ -1,17 +1,13 @@
 //! The fields of a response key are resolved once, and the answer taken apart from its nodes (sections 6.4.2 and 6.4.3 of the
 //! Specification).
 
-ghost use Rattle.std.specs.Prelude.{◌≡◌, ◌<◌, ◌++◌, ◌∷◌, [], IfOk, List};
-ghost use Rattle.graphql_spec.specs.Execution.{reply_of, type_of};
-ghost use Rattle.graphql_spec.specs.Selections.{Occurrence as Held, occurrences};
-ghost use Rattle.graphql_spec.specs.Shown.{Name};
+ghost use Rattle.std.specs.Prelude.{◌≡◌, ◌<◌, ◌++◌, ◌∷◌, [], IfOk};
+ghost use Rattle.graphql_spec.specs.Selections.{occurrences};
 ghost use Rattle.graphql_spec.specs.Documents.{response_key};
 ghost use Rattle.graphql_spec.specs.Errors.{key};
-ghost use Rattle.juniper_collect.specs.Collected.{view_all};
 ghost use Rattle.juniper_conversions.specs.PathView.{path_place};
-ghost use Rattle.juniper_walk.specs.Plans.{IsAskedAt, IsStanding, all_expanded, fields_at, group_count, key_at};
-ghost use Rattle.juniper_walk.specs.Leaves.{IsTaken};
-ghost use Rattle.juniper_walk.specs.Lists.{IsAskedAbout};
+ghost use Rattle.juniper_walk.specs.Plans.{IsAskedAt, IsStanding, all_expanded, group_at, group_count, key_at};
+ghost use Rattle.juniper_walk.specs.Leaves.{IsTaken, TakesTold};
 ghost use Rattle.juniper_walk.specs.PlanWalks.{HasFirst, IsGroupOf};
 ghost use Rattle.juniper_walk.specs.FieldWords.{head_of};
 ghost use Rattle.juniper_walk.specs.Walking.{IsReadyWalk};
@@ -76,11 +72,11 @@ pub(crate) fn execute_field<'d, 'a, S: ScalarValue, R: Resolver<S>>(
     requires standing { IsStanding S.shown walk.now.collector (R.asks walk.now.collector.possible) (R.possible walk.now.collector.possible) plan.now }
     requires bound { group.0 < group_count plan.now }
     requires whole { IsGroupOf (key_at plan.now group.0) (occurrences (R.possible walk.now.collector.possible) concrete.now
-        (all_expanded S.shown walk.now.collector enclosing.now)) (view_all S.shown walk.now.collector (fields_at plan.now group.0)) }
+        (all_expanded S.shown walk.now.collector enclosing.now)) (group_at S.shown walk.now plan.now group.0) }
     requires asked { IsAskedAt (R.asks walk.now.collector.possible) concrete.now plan.now group.0
-        (view_all S.shown walk.now.collector (fields_at plan.now group.0)) }
+        (group_at S.shown walk.now plan.now group.0) }
     ensures { IfOk result (λ a. IsTaken (R.world walk.now.collector.possible) S.shown (path_place path.now.value) concrete.now node.now
-        (key_at plan.now group.0) (view_all S.shown walk.now.collector (fields_at plan.now group.0)) a) }
+        (key_at plan.now group.0) (group_at S.shown walk.now plan.now group.0) a) }
 {
     let alloc = walk.alloc;
     let fields = plan.fields(group);
@@ -111,13 +107,9 @@ pub(crate) fn take<'d, 'a, S: ScalarValue, R: Resolver<S>>(
 ) -> Result<Taken<'a, R::Node, S>, AllocError>
     requires standing { IsStanding S.shown walk.now.collector (R.asks walk.now.collector.possible) (R.possible walk.now.collector.possible) plan.now }
     requires bound { group.0 < group_count plan.now }
-    requires some { HasFirst (view_all S.shown walk.now.collector (fields_at plan.now group.0)) }
-    ensures { (T : Name) → (m : R.Node) → (all : List Held) → IsGroupOf (key_at plan.now group.0) all
-        (view_all S.shown walk.now.collector (fields_at plan.now group.0)) →
-        IsAskedAbout S.shown (type_of (R.world walk.now.collector.possible) T (view_all S.shown walk.now.collector (fields_at plan.now group.0)))
-        (λ n. reply_of (R.world walk.now.collector.possible) T n (view_all S.shown walk.now.collector (fields_at plan.now group.0))) m told.entry →
-        IfOk result (λ a. IsTaken (R.world walk.now.collector.possible) S.shown (path_place path.now.value) T m (key_at plan.now group.0)
-        (view_all S.shown walk.now.collector (fields_at plan.now group.0)) a) }
+    requires some { HasFirst (group_at S.shown walk.now plan.now group.0) }
+    ensures { TakesTold (R.world walk.now.collector.possible) S.shown (path_place path.now.value) (key_at plan.now group.0)
+        (group_at S.shown walk.now plan.now group.0) told.entry result }
 {
     let alloc = walk.alloc;
     let resolver = &walk.collector.possible;

@@ -1,23 +1,16 @@
 //! The objects of nodes of one object type, walked side by side: a group is asked of all of them, then what is below it is walked for all of
 //! them at once (sections 6.3 and 6.4 of the Specification).
 
-ghost use Rattle.std.specs.Prelude.{◌≡◌, ◌<◌, ◌∷◌, ◌++◌, [], IfOk, List, OnOk, Some, is_some, length, map, string_bytes};
+ghost use Rattle.std.specs.Prelude.{◌≡◌, ◌<◌, ◌++◌, IfOk, OnOk, Some, is_some, length, map, string_bytes};
 ghost use Rattle.std.specs.Vec.Iter.{into_iter_items};
 ghost use Rattle.graphql_spec.specs.ExactAnswers.{whole};
 ghost use Rattle.graphql_spec.specs.Execution.{reply_of, type_of};
-ghost use Rattle.graphql_spec.specs.GroupLaws.{first_start};
-ghost use Rattle.graphql_spec.specs.Resolvers.{World};
-ghost use Rattle.graphql_spec.specs.Selections.{Forest, Occurrence as Held, all_below, occurrences};
-ghost use Rattle.graphql_spec.specs.Shown.{Name};
+ghost use Rattle.graphql_spec.specs.Selections.{occurrences};
 ghost use Rattle.juniper_assemble.specs.SpotView.{view_nodes};
-ghost use Rattle.juniper_collect.specs.Collected.{view_all};
-ghost use Rattle.graphql_spec.specs.Skeletons.{Spot as Seen};
-ghost use Rattle.graphql_spec.specs.NodeLaws.{AreWalkedOnce};
-ghost use Rattle.juniper_walk.specs.Lists.{picked};
 ghost use Rattle.juniper_values.specs.ResolvedView.{AllAnswer};
-ghost use Rattle.juniper_walk.specs.Plans.{IsAskedAt, IsStanding, all_expanded, fields_at, group_count, key_at};
+ghost use Rattle.juniper_walk.specs.Plans.{IsAskedAt, IsStanding, all_expanded, group_at, group_count, key_at};
 ghost use Rattle.juniper_walk.specs.PlanWalks.{IsGroupOf};
-ghost use Rattle.juniper_walk.specs.Rows.{AreFresh, AreIn, ArePending, AreRows, IsFilledIn, IsLeafPut, IsNext, IsPutIn, listed_of, so_far, values_of};
+ghost use Rattle.juniper_walk.specs.Rows.{AreFresh, AreIn, AsksColumn, FillsRows, IsFilledIn, IsLeafPut, IsPutIn, listed_of, nodes_standing, so_far, values_of};
 ghost use Rattle.juniper_conversions.specs.ErrorView.{view_listed};
 ghost use Rattle.juniper_syntax.specs.TypeView.{view_type};
 ghost use Rattle.juniper_syntax.specs.ValueView.{view_value};
@@ -128,8 +121,7 @@ fn standing_nodes<'n, 'a, N, S>(
     rows: &[Row<S>],
 ) -> Result<Vec<&'n N>, AllocError>
     requires { length rows.now ≡ length spots.now }
-    ensures { IfOk result (λ nodes. map (λ n. n.now) nodes.items
-        ≡ map (λ x. x.what) (picked (map (λ r. is_some r.object) rows.now) (view_nodes spots.now))) }
+    ensures { IfOk result (λ nodes. map (λ n. n.now) nodes.items ≡ nodes_standing rows.now (view_nodes spots.now)) }
 {
     let mut nodes = Vec::with_capacity(alloc, spots.len())?;
     for number in 0..spots.len() {
@@ -155,16 +147,16 @@ fn ask_rows<'p, 'd, 'a, S: ScalarValue, R: Resolver<S>>(
     requires standing { IsStanding S.shown walk.now.collector (R.asks walk.now.collector.possible) (R.possible walk.now.collector.possible) plan.now }
     requires bound { group.0 < group_count plan.now }
     requires whole { IsGroupOf (key_at plan.now group.0) (occurrences (R.possible walk.now.collector.possible) concrete.now
-        (all_expanded S.shown walk.now.collector enclosing.now)) (view_all S.shown walk.now.collector (fields_at plan.now group.0)) }
+        (all_expanded S.shown walk.now.collector enclosing.now)) (group_at S.shown walk.now plan.now group.0) }
     requires asked { IsAskedAt (R.asks walk.now.collector.possible) concrete.now plan.now group.0
-        (view_all S.shown walk.now.collector (fields_at plan.now group.0)) }
+        (group_at S.shown walk.now plan.now group.0) }
     requires some { 0 < length spots.now }
     requires counted { length rows.now ≡ length spots.now }
     ensures declared { IfOk result (λ told. view_type (λ n. string_bytes n) told.declared.now ≡ type_of (R.world walk.now.collector.possible) concrete.now
-        (view_all S.shown walk.now.collector (fields_at plan.now group.0))) }
+        (group_at S.shown walk.now plan.now group.0)) }
     ensures answers { IfOk result (λ told. AllAnswer S.shown
-        (λ m. reply_of (R.world walk.now.collector.possible) concrete.now m (view_all S.shown walk.now.collector (fields_at plan.now group.0)))
-        (map (λ x. x.what) (picked (map (λ r. is_some r.object) rows.now) (view_nodes spots.now))) told.answers.items) }
+        (λ m. reply_of (R.world walk.now.collector.possible) concrete.now m (group_at S.shown walk.now plan.now group.0))
+        (nodes_standing rows.now (view_nodes spots.now)) told.answers.items) }
 {
     let alloc = walk.alloc;
     let nodes = standing_nodes(alloc, spots, rows)?;
@@ -198,20 +190,15 @@ pub(crate) fn ask_column<'d, 'a, S: ScalarValue, R: Resolver<S>>(
     requires standing { IsStanding S.shown walk.now.collector (R.asks walk.now.collector.possible) (R.possible walk.now.collector.possible) plan.now }
     requires bound { group.0 < group_count plan.now }
     requires whole { IsGroupOf (key_at plan.now group.0) (occurrences (R.possible walk.now.collector.possible) concrete.now
-        (all_expanded S.shown walk.now.collector enclosing.now)) (view_all S.shown walk.now.collector (fields_at plan.now group.0)) }
+        (all_expanded S.shown walk.now.collector enclosing.now)) (group_at S.shown walk.now plan.now group.0) }
     requires asked { IsAskedAt (R.asks walk.now.collector.possible) concrete.now plan.now group.0
-        (view_all S.shown walk.now.collector (fields_at plan.now group.0)) }
+        (group_at S.shown walk.now plan.now group.0) }
     requires some { 0 < length spots.now }
     requires counted { length rows.old.items ≡ length spots.now }
     ensures counted { IfOk result (λ c. length rows.new.items ≡ length spots.now) }
     ensures within { IfOk result (λ c. AreIn (length spots.now) c.opened.items) }
-    ensures pending { (ks : List Name) → IsNext (R.world walk.now.collector.possible) (all_expanded S.shown walk.now.collector enclosing.now) concrete.now ks
-        (key_at plan.now group.0) (view_all S.shown walk.now.collector (fields_at plan.now group.0)) →
-        AreRows (R.world walk.now.collector.possible) (all_expanded S.shown walk.now.collector enclosing.now) concrete.now S.shown ks
-        (view_nodes spots.now) rows.old.items →
-        IfOk result (λ c. ArePending (R.world walk.now.collector.possible) (all_expanded S.shown walk.now.collector enclosing.now) concrete.now S.shown ks
-        (key_at plan.now group.0) (view_all S.shown walk.now.collector (fields_at plan.now group.0)) 0 (view_nodes spots.now) rows.new.items
-        c.opened.items (view_nodes c.nodes.items)) }
+    ensures pending { AsksColumn (R.world walk.now.collector.possible) (all_expanded S.shown walk.now.collector enclosing.now) concrete.now S.shown
+        (key_at plan.now group.0) (group_at S.shown walk.now plan.now group.0) (view_nodes spots.now) rows.old.items rows.new.items result }
 {
     let mut column = Column {
         opened: Vec::new(walk.alloc),
@@ -243,10 +230,7 @@ pub(crate) fn fill_rows<'a, N: Drop, S: ScalarValue>(
 ) -> Result<(), AllocError>
     requires within { AreIn (length rows.old.items) opened.items }
     ensures counted { OnOk result (length rows.new.items ≡ length rows.old.items) }
-    ensures rows { (W : World N) → (s : Forest) → (T : Name) → (ks : List Name) → (k : Name) → (os : List Held) → (xs ns : List (Seen N)) →
-        IsNext W s T ks k os → ArePending W s T S.shown ks k os 0 xs rows.old.items opened.entry.items ns →
-        AreWalkedOnce whole first_start W (all_below os) ns (values_of S.shown below.items) (listed_of S.shown below.items) →
-        OnOk result (AreRows W s T S.shown (ks ++ k ∷ []) xs rows.new.items) }
+    ensures rows { FillsRows S.shown rows.old.items rows.new.items opened.entry.items below.items result }
 {
     let mut objects = below.into_iter();
     for open in opened {

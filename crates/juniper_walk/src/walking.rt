@@ -4,16 +4,15 @@
 ghost use Rattle.std.specs.Prelude.{◌<◌, ◌≤◌, ◌+◌, IfOk, length, map, slice_range};
 ghost use Rattle.graphql_spec.specs.ExactAnswers.{whole};
 ghost use Rattle.graphql_spec.specs.GroupLaws.{first_start};
-ghost use Rattle.graphql_spec.specs.Selections.{all_below, keys, occurrences};
+ghost use Rattle.graphql_spec.specs.Selections.{all_below, occurrences};
 ghost use Rattle.juniper_assemble.specs.SpotView.{view_nodes};
-ghost use Rattle.juniper_collect.specs.Collected.{view_all};
 ghost use Rattle.juniper_conversions.specs.ErrorView.{view_listed};
 ghost use Rattle.juniper_conversions.specs.PathView.{path_place};
 ghost use Rattle.juniper_syntax.specs.ValueView.{view_value};
-ghost use Rattle.juniper_walk.specs.Plans.{IsStanding, IsStep, StandsFor, all_expanded, fields_at, group_count};
+ghost use Rattle.juniper_walk.specs.Plans.{IsStanding, IsStep, StandsFor, all_expanded, group_at, group_count};
 ghost use Rattle.graphql_spec.specs.NodeLaws.{AreWalkedOnce};
 ghost use Rattle.juniper_walk.specs.PlanWalks.{IsObjectWalked};
-ghost use Rattle.juniper_walk.specs.Rows.{AreAdded, AreOfType, AreRows, listed_of, values_of};
+ghost use Rattle.juniper_walk.specs.Rows.{AreAdded, AreOfType, AreWholeRows, listed_of, values_of};
 ghost use Rattle.juniper_walk.specs.Walking.{IsReadyWalk};
 
 use crate::adding::{add_value, put_leaf};
@@ -91,7 +90,7 @@ pub(crate) fn objects_of<'d, 'a, S: ScalarValue, R: Resolver<S>>(
     ensures plan { IfOk result (λ _. IsStep S.shown walk.now.collector (R.asks walk.now.collector.possible) (R.possible walk.now.collector.possible) plan.old
         plan.new) }
     ensures walked { IfOk result (λ r. AreWalkedOnce whole first_start (R.world walk.now.collector.possible)
-        (all_below (view_all S.shown walk.now.collector (fields_at plan.old group.0))) (view_nodes nodes.now)
+        (all_below (group_at S.shown walk.now plan.old group.0)) (view_nodes nodes.now)
         (values_of S.shown r.items) (listed_of S.shown r.items)) }
 {
     let mut done = Vec::with_capacity(walk.alloc, nodes.len())?;
@@ -215,9 +214,8 @@ fn rows_of<'d, 'a, S: ScalarValue, R: Resolver<S>>(
     requires some { 0 < length nodes.now }
     ensures plan { IfOk result (λ _. IsStep S.shown walk.now.collector (R.asks walk.now.collector.possible) (R.possible walk.now.collector.possible) plan.old
         plan.new) }
-    ensures rows { IfOk result (λ r. AreRows (R.world walk.now.collector.possible) (all_expanded S.shown walk.now.collector enclosing.now) concrete.now S.shown
-        (keys (occurrences (R.possible walk.now.collector.possible) concrete.now (all_expanded S.shown walk.now.collector enclosing.now)))
-        (view_nodes nodes.now) r.items) }
+    ensures rows { IfOk result (λ r. AreWholeRows (R.world walk.now.collector.possible) (all_expanded S.shown walk.now.collector enclosing.now) concrete.now
+        S.shown (R.possible walk.now.collector.possible) (view_nodes nodes.now) r.items) }
 {
     let mut rows = begin_rows(walk.alloc, plan, groups, nodes.len())?;
     for number in groups.first.0..groups.end.0 {
