@@ -1,5 +1,5 @@
 -- What a walk makes of a reply, for one occurrence and for all of a response key (6.4.3).
-use Rattle.std.specs.Prelude.{◌≡◌, true, List, [], ◌∷◌}
+use Rattle.std.specs.Prelude.{◌≡◌, true, List, [], ◌∷◌, map}
 use Rattle.graphql_spec.specs.Shown.{Shown}
 use Rattle.graphql_spec.specs.Values.{Value}
 use Rattle.graphql_spec.specs.Types.{TypeRef, innermost}
@@ -10,10 +10,16 @@ use Rattle.graphql_spec.specs.Laws.{Merges}
 use Rattle.graphql_spec.specs.Resolvers.{Error, Reply, World}
 use Rattle.graphql_spec.specs.Selections.{Occurrence, all_below}
 use Rattle.juniper_assemble.specs.Keyed.{is_keyed}
+use Rattle.juniper_assemble.specs.SkeletonView.{view_skeleton}
+use Rattle.juniper_assemble.specs.SpotView.{view_nodes}
+use Rattle.juniper_conversions.specs.ErrorView.{view_listed}
+use Rattle.juniper_syntax.specs.ValueView.{view_value}
 use Rattle.juniper_collect.specs.Collected.{view_all, view_collected}
 use Rattle.juniper_collect.specs.declared.collecting.Collector.{Collector}
 use Rattle.graphql_spec.specs.Skeletons.{Spot, Skeleton}
-use Rattle.juniper_walk.specs.Completing.{IsParted}
+use Rattle.juniper_walk.specs.Completing.{IsParted, view_errors}
+use Rattle.juniper_walk.specs.declared.parting.Parted.{Parted}
+use Rattle.juniper_walk.specs.declared.walked.Walked.{Walked}
 use Rattle.juniper_twin.specs.declared.completing.Group.{Group}
 
 -- the fields of a group, with what they select, expanded
@@ -35,3 +41,13 @@ module _ {N : Type 0} (W : World N) where
       pub completed : (here : Place) (t : TypeRef) (r : Reply N) → IsParted W here t r s ns errors → Merges W (innermost t) (all_below all) →
           IsCompletedFor whole W here [] t r os v es
       pub keyed : is_keyed v ≡ true
+
+  module _ {S : Type 0} (shown : S → Shown) (p : Parted N S) where
+    -- the same of a reply as it is kept
+    abbrev pub IsOneOf : Occurrence → Walked S → Type 0
+    IsOneOf o w = IsOne (view_skeleton shown p.skeleton) (view_nodes p.nodes.items) (view_errors shown p.errors.items) o (view_value shown w.value)
+        (map (view_listed shown) w.errors.items)
+
+    abbrev pub AreAllOf : List Occurrence → Walked S → Type 0
+    AreAllOf os w = AreSome (view_skeleton shown p.skeleton) (view_nodes p.nodes.items) (view_errors shown p.errors.items) os os (view_value shown w.value)
+        (map (view_listed shown) w.errors.items)

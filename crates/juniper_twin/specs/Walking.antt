@@ -1,6 +1,6 @@
 -- What a walk over objects within objects promises (6.3, 6.4).
-use Rattle.std.specs.Prelude.{◌≡◌, ℕ, ◌≤◌, suc, max, Bool, true, false, ◌&&◌, List, [], ◌∷◌, ◌++◌}
-use Rattle.graphql_spec.specs.Shown.{Name}
+use Rattle.std.specs.Prelude.{◌≡◌, ℕ, ◌≤◌, suc, max, Bool, true, false, ◌&&◌, List, [], ◌∷◌, ◌++◌, map}
+use Rattle.graphql_spec.specs.Shown.{Name, Shown}
 use Rattle.graphql_spec.specs.Documents.{response_key}
 use Rattle.graphql_spec.specs.Values.{Value, Entries, object, is_null}
 use Rattle.graphql_spec.specs.Types.{required}
@@ -14,7 +14,15 @@ use Rattle.graphql_spec.specs.Skeletons.{Spot, Skeleton, reply_skeleton, reply_n
 use Rattle.graphql_spec.specs.CompletionLaws.{all_listed}
 use Rattle.graphql_spec.specs.Walks.{AreWalkedAt, IsWalked, joined_in}
 use Rattle.juniper_assemble.specs.Keyed.{is_keyed}
+use Rattle.juniper_assemble.specs.SkeletonView.{view_skeleton}
+use Rattle.juniper_assemble.specs.SpotView.{view_nodes}
+use Rattle.juniper_conversions.specs.ErrorView.{view_listed}
+use Rattle.juniper_conversions.specs.declared.execution_error.ExecutionError.{ExecutionError}
+use Rattle.juniper_syntax.specs.ValueView.{view_object, view_value}
+use Rattle.juniper_syntax.specs.declared.value.Object.{Object}
 use Rattle.juniper_walk.specs.Walking.{AllAgree}
+use Rattle.juniper_twin.specs.declared.preparing.Prepared.{Prepared}
+use Rattle.juniper_twin.specs.declared.walking.AllWalked.{AllWalked}
 
 -- how deep what the fields select is nested, at most
 unfoldable pub deepest : List Occurrence → ℕ
@@ -66,3 +74,15 @@ pub record IsAdded (k : Name) (r : Bool) (s : Skeleton) (vs : List Value) (more 
   pub rising : rises ≡ (is_null (fill s vs).value && r)
   pub put_in : rises ≡ false → made ≡ joined_in k (fill s vs).value es
   pub keyed : rises ≡ false → is_keyed (object made) ≡ true
+
+module _ {N S : Type 0} (shown : S → Shown) where
+  -- the answer to a field of a node, taken apart, as it is kept
+  abbrev pub IsPreparedAs : World N → Place → Name → N → Occurrence → Prepared N S → Type 0
+  IsPreparedAs W at T m o p = IsPrepared W at T m o p.is_non_null (view_skeleton shown p.skeleton) (view_nodes p.nodes.items)
+      (map (view_listed shown) p.errors.items)
+
+  -- an answer with the objects of its nodes was added at a response key, but where its null rises, and what failed was listed
+  abbrev pub IsAddedAt : Name → Prepared N S → AllWalked S → Bool → Object S → Object S → List (ExecutionError S) → List (ExecutionError S) → Type 0
+  IsAddedAt k p walked rises o made errors all = IsAdded k p.is_non_null (view_skeleton shown p.skeleton) (map (view_value shown) walked.values.items)
+      (map (view_listed shown) p.errors.items ++ map (view_listed shown) walked.errors.items) rises (view_object shown o) (view_object shown made)
+      (map (view_listed shown) errors) (map (view_listed shown) all)

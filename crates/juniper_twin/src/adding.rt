@@ -6,9 +6,8 @@ ghost use Rattle.graphql_spec.specs.Values.{object};
 ghost use Rattle.juniper_syntax.specs.ValueView.{view_object, view_value};
 ghost use Rattle.juniper_conversions.specs.ErrorView.{view_listed};
 ghost use Rattle.juniper_assemble.specs.Keyed.{is_keyed};
-ghost use Rattle.juniper_assemble.specs.SkeletonView.{view_skeleton};
 ghost use Rattle.juniper_walk.specs.FieldWords.{head_of};
-ghost use Rattle.juniper_twin.specs.Walking.{IsAdded, all_keyed};
+ghost use Rattle.juniper_twin.specs.Walking.{IsAddedAt, all_keyed};
 
 use crate::preparing::Prepared;
 use crate::walking::AllWalked;
@@ -29,11 +28,8 @@ pub(crate) fn add_field<'a, N: Drop, S: ScalarValue>(
 ) -> Result<bool, AllocError>
     requires entries { IsTrue (is_keyed (object (view_object S.shown entries.old))) }
     requires walked { IsTrue (all_keyed (map (view_value S.shown) walked.values.items)) }
-    ensures { IfOk result (λ rises. IsAdded (key_of (head_of S.shown field.now)) prepared.entry.is_non_null (view_skeleton S.shown prepared.entry.skeleton)
-        (map (view_value S.shown) walked.values.items)
-        (map (view_listed S.shown) prepared.entry.errors.items ++ map (view_listed S.shown) walked.errors.items) rises
-        (view_object S.shown entries.old) (view_object S.shown entries.new) (map (view_listed S.shown) errors.old.items)
-        (map (view_listed S.shown) errors.new.items)) }
+    ensures { IfOk result (λ rises. IsAddedAt S.shown (key_of (head_of S.shown field.now)) prepared.entry walked rises
+        entries.old entries.new errors.old.items errors.new.items) }
 {
     let mut listed = prepared.errors;
     errors.append(&mut listed)?;

@@ -1,24 +1,20 @@
 //! A reply is completed for all occurrences of a response key (CompleteValue and MergeSelectionSets, section 6.4.3 of the
 //! Specification).
 
-ghost use Rattle.std.specs.Prelude.{◌≡◌, [], IfOk, map, string_bytes, true};
-ghost use Rattle.graphql_spec.specs.ExactAnswers.{whole};
-ghost use Rattle.graphql_spec.specs.GroupLaws.{GroupCompleted, all_starts};
+ghost use Rattle.std.specs.Prelude.{◌≡◌, IfOk, string_bytes, true};
+ghost use Rattle.graphql_spec.specs.GroupLaws.{all_starts};
 ghost use Rattle.graphql_spec.specs.Laws.{In, Merges};
 ghost use Rattle.graphql_spec.specs.Selections as spec;
 ghost use Rattle.graphql_spec.specs.Selections.{all_below};
 ghost use Rattle.graphql_spec.specs.Types.{innermost};
 ghost use Rattle.juniper_assemble.specs.Keyed.{is_keyed};
-ghost use Rattle.juniper_assemble.specs.SkeletonView.{view_skeleton};
 ghost use Rattle.juniper_assemble.specs.SpotView.{view_nodes};
 ghost use Rattle.juniper_collect.specs.Collected.{view_collected};
-ghost use Rattle.juniper_conversions.specs.ErrorView.{view_listed};
 ghost use Rattle.juniper_conversions.specs.PathView.{path_place};
-ghost use Rattle.juniper_values.specs.ResolvedView.{Answers};
 ghost use Rattle.juniper_syntax.specs.TypeView.{view_type};
 ghost use Rattle.juniper_syntax.specs.ValueView.{view_value};
-ghost use Rattle.juniper_walk.specs.Completing.{IsTold, view_errors};
-ghost use Rattle.juniper_twin.specs.Completing.{AreSome, IsOne, view_group};
+ghost use Rattle.juniper_walk.specs.Completing.{CompletesAsked, IsTold};
+ghost use Rattle.juniper_twin.specs.Completing.{AreAllOf, IsOneOf, view_group};
 ghost use Rattle.juniper_walk.specs.Walking.{IsReadyWalk};
 ghost use Rattle.juniper_twin.specs.Walking.{AreReached};
 
@@ -54,10 +50,8 @@ pub fn complete_value<'d, 'a, S: ScalarValue, R: Resolver<S>>(
         (all_below (view_group S.shown walk.now.collector group.now)) }
     ensures keyed { IfOk result (λ w. is_keyed (view_value S.shown w.value) ≡ true) }
     ensures told { IfOk result (λ _. IsTold asked.entry.answer) }
-    ensures completed { (reply : _) → Answers S.shown asked.entry.answer reply → IfOk result (λ w. GroupCompleted whole all_starts
-        (R.world walk.now.collector.possible) (path_place path.now.value) [] (view_type (λ n. string_bytes n) asked.entry.declared.now) reply
-        (view_group S.shown walk.now.collector group.now)
-        (view_value S.shown w.value) (map (view_listed S.shown) w.errors.items)) }
+    ensures completed { CompletesAsked S.shown all_starts (R.world walk.now.collector.possible) (path_place path.now.value)
+        (view_group S.shown walk.now.collector group.now) asked.entry result }
 {
     let Asked { declared, answer } = asked;
     let parted = part_reply(walk.alloc, &walk.collector.possible, declared, answer, path)?;
@@ -74,11 +68,7 @@ fn complete_all<'d, 'a, S: ScalarValue, R: Resolver<S>>(
     requires ready { IsReadyWalk S.shown R.possible R.values (R.world walk.now.collector.possible) walk.now }
     requires reached { (o : spec.Occurrence) → In o (view_group S.shown walk.now.collector group.now) →
         AreReached (R.world walk.now.collector.possible) (view_nodes parted.now.nodes.items) o.below }
-    ensures { IfOk result (λ w. AreSome (R.world walk.now.collector.possible) (view_skeleton S.shown parted.now.skeleton)
-        (view_nodes parted.now.nodes.items) (view_errors S.shown parted.now.errors.items)
-        (view_group S.shown walk.now.collector group.now)
-        (view_group S.shown walk.now.collector group.now)
-        (view_value S.shown w.value) (map (view_listed S.shown) w.errors.items)) }
+    ensures { IfOk result (λ w. AreAllOf (R.world walk.now.collector.possible) S.shown parted.now (view_group S.shown walk.now.collector group.now) w) }
 {
     let Walked {
         mut value,
@@ -102,9 +92,8 @@ fn complete_one<'d, 'a, S: ScalarValue, R: Resolver<S>>(
     requires ready { IsReadyWalk S.shown R.possible R.values (R.world walk.now.collector.possible) walk.now }
     requires reached { AreReached (R.world walk.now.collector.possible) (view_nodes parted.now.nodes.items)
         (view_collected S.shown walk.now.collector field.now).below }
-    ensures { IfOk result (λ w. IsOne (R.world walk.now.collector.possible) (view_skeleton S.shown parted.now.skeleton)
-        (view_nodes parted.now.nodes.items) (view_errors S.shown parted.now.errors.items) (view_collected S.shown walk.now.collector field.now)
-        (view_value S.shown w.value) (map (view_listed S.shown) w.errors.items)) }
+    ensures { IfOk result (λ w. IsOneOf (R.world walk.now.collector.possible) S.shown parted.now
+        (view_collected S.shown walk.now.collector field.now) w) }
 {
     let mut errors = list_errors(walk.alloc, field.span.start, &parted.errors)?;
     let walked = objects_of(walk, &parted.nodes, field)?;

@@ -1,14 +1,11 @@
 //! A field is resolved, and its answer taken apart from its nodes (sections 6.4.2 and 6.4.3 of the Specification).
 
-ghost use Rattle.std.specs.Prelude.{IfOk, map};
-ghost use Rattle.juniper_conversions.specs.ErrorView.{view_listed};
+ghost use Rattle.std.specs.Prelude.{IfOk};
 ghost use Rattle.juniper_conversions.specs.PathView.{path_place};
-ghost use Rattle.juniper_assemble.specs.SkeletonView.{view_skeleton};
-ghost use Rattle.juniper_assemble.specs.SpotView.{view_nodes};
 ghost use Rattle.juniper_collect.specs.Collected.{view_collected};
 ghost use Rattle.juniper_collect.specs.Singles.{IsAlone};
 ghost use Rattle.juniper_walk.specs.Walking.{IsReadyWalk};
-ghost use Rattle.juniper_twin.specs.Walking.{IsPrepared};
+ghost use Rattle.juniper_twin.specs.Walking.{IsPreparedAs};
 
 use juniper_assemble::{Skeleton, Spot};
 use juniper_collect::Single;
@@ -42,9 +39,8 @@ pub(crate) fn execute_field<'d, 'a, S: ScalarValue, R: Resolver<S>>(
 ) -> Result<Prepared<'a, R::Node, S>, AllocError>
     requires ready { IsReadyWalk S.shown R.possible R.values (R.world walk.now.collector.possible) walk.now }
     requires alone { IsAlone S.shown walk.now.collector (R.possible walk.now.collector.possible) concrete.now single.now }
-    ensures { IfOk result (λ p. IsPrepared (R.world walk.now.collector.possible) (path_place path.now.value) concrete.now node.now
-        (view_collected S.shown walk.now.collector single.now.field.now)
-        p.is_non_null (view_skeleton S.shown p.skeleton) (view_nodes p.nodes.items) (map (view_listed S.shown) p.errors.items)) }
+    ensures { IfOk result (λ p. IsPreparedAs S.shown (R.world walk.now.collector.possible) (path_place path.now.value) concrete.now node.now
+        (view_collected S.shown walk.now.collector single.now.field.now) p) }
 {
     let alloc = walk.alloc;
     let field = single.field;
