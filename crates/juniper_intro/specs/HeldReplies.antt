@@ -16,6 +16,11 @@ module _ {N : Type 0} (concrete : N → Name) (top : N) where
   held_concrete (node.User n) = concrete n
   held_concrete (node.Introspected h) = handle_type (view_handle h)
 
+module _ {N : Type 0} (s : Schema) (names : List Name) (number : Name → ℕ) (answer : N → Name → Members → Reply N) where
+  -- the reply of a user's node, among the root's nodes
+  abbrev pub user_held : N → Name → Members → Reply (RootedNode N)
+  user_held = held_user_reply of_user of_handle s names number answer
+
 module _ {N : Type 0} (s : Schema) (names : List Name) (number : Name → ℕ) (answer : N → Name → Members → Reply N) (top : N) where
   -- the reply to a field: `__schema` and `__type` of the root and of users' nodes are the schema's, and all fields of introspection
   abbrev pub held_answer : RootedNode N → Name → Members → Reply (RootedNode N)

@@ -4,8 +4,8 @@ ghost use Rattle.std.specs.Prelude.{◌≡◌, IfOk, map, option_map};
 ghost use Rattle.graphql_spec.specs.Rules.{is_introspection};
 ghost use Rattle.graphql_spec.specs.SeenNodes.{map_reply};
 ghost use Rattle.juniper_intro.specs.HandleView.{of_handle, of_user, users_in, view_handle};
-ghost use Rattle.juniper_intro.specs.Handles.{held_reply, held_user_reply};
-ghost use Rattle.juniper_intro.specs.HeldReplies.{held_answer, held_concrete};
+ghost use Rattle.juniper_intro.specs.Handles.{held_reply};
+ghost use Rattle.juniper_intro.specs.HeldReplies.{held_answer, held_concrete, user_held};
 ghost use Rattle.juniper_intro.specs.Introspectors.{names_of, number_of, schema_of};
 ghost use Rattle.juniper_values.specs.ResolvedView.{AllAnswer, Answers};
 ghost use Rattle.juniper_schema.specs.SchemaView.{view_schema};
@@ -209,8 +209,7 @@ impl<Q: GraphQLValue<S>, M: GraphQLType<S>, Sub: GraphQLType<S>, S: ScalarValue>
         executor: &Executor<Q::Context, S>,
     ) -> Result<Resolved<RootedNode<Q::Node>, S>, ResolveError<S>>
         requires { IsAskedFor S.shown executor.now field_name.now (view_arguments S.shown arguments.now) }
-        ensures { Answers S.shown result (held_user_reply of_user of_handle (view_schema S.shown (schema_of self.now.introspector))
-            (names_of self.now.introspector)
+        ensures { Answers S.shown result (user_held (view_schema S.shown (schema_of self.now.introspector)) (names_of self.now.introspector)
             (number_of self.now.introspector) (Q.answer self.now.query info.now (context_of executor.now)) node.now field_name.now
             (view_arguments S.shown arguments.now)) }
     {

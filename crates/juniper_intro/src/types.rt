@@ -13,7 +13,7 @@ ghost use Rattle.juniper_values.specs.ResolvedView.{Answers};
 ghost use Rattle.juniper_values.specs.ArgumentView.{view_arguments};
 ghost use Rattle.juniper_intro.specs.HandleView.{of_handle, view_type_place};
 ghost use Rattle.juniper_intro.specs.Handles.{called, field_handle, held_answers, inputs_at, numbered, of_input_object, root_held, schema_held, type_handle};
-ghost use Rattle.juniper_intro.specs.Handles.{type_held, value_handle};
+ghost use Rattle.juniper_intro.specs.Handles.{value_handle};
 ghost use Rattle.juniper_intro.specs.Kinds.{kind_in};
 ghost use Rattle.juniper_intro.specs.Naming.{number_of};
 ghost use Rattle.juniper_intro.specs.References.{view_reference};
@@ -42,7 +42,7 @@ struct TypeSite<'t, S: ScalarValue> {
 }
 
 impl<S: ScalarValue> Introspector<S> {
-    ghost use Rattle.juniper_intro.specs.TypeSites.{IsDeclaredSo};
+    ghost use Rattle.juniper_intro.specs.TypeSites.{IsDeclaredSo, site_held};
     ghost use Rattle.juniper_intro.specs.Introspectors.{names_of, number_of as number_in, schema_of};
 
     /// What the schema answers (4.2.1).
@@ -144,9 +144,8 @@ impl<S: ScalarValue> Introspector<S> {
     ) -> Answer<N, S>
         requires { IsDeclaredSo S.shown (view_schema S.shown (schema_of self.now)) site.now }
         ensures { Answers S.shown result (answered (map_tree of_handle (answer_at field_name.now
-            (type_held (view_schema S.shown (schema_of self.now)) (names_of self.now) (number_in self.now) (view_type_place site.now.place) site.now.depth
-            (view_reference site.now.reference) (shape_in S.shown site.now.declared)
-            (number_in self.now (unwrap_or (own_name (view_reference site.now.reference)) [])) (view_arguments S.shown arguments.now))))) }
+            (site_held S.shown (view_schema S.shown (schema_of self.now)) (names_of self.now) (number_in self.now) site.now
+            (view_arguments S.shown arguments.now))))) }
     {
         let declared = site.declared;
         match field_name {
