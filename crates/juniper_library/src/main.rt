@@ -10,8 +10,11 @@ mod types;
 
 use catalogue::{Book, Entry, Genre, Library};
 use juniper::words::served;
-use juniper::{DefaultScalarValue, Variables, execute_sync};
-use juniper_json::response_line;
+use juniper::{
+    DefaultScalarValue, GraphQLError, SchemaType, Variables, execute_sync, parse_document_source,
+};
+use juniper_explain::explain;
+use juniper_json::{Refusal, explained_line, response_line};
 use resolvers::{Mutation, Query};
 use std::alloc::{AllocError, Global};
 use std::{env, io};
@@ -45,14 +48,43 @@ fn shelves(alloc: Global) -> Result<Library, AllocError> {
     })
 }
 
-/// The response to a request, as a line of JSON.
+/// What explains the error of a request: where it is not valid, each node that violates a rule.
+fn explanations(
+    alloc: Global,
+    request: &str,
+    schema: &SchemaType<DefaultScalarValue>,
+    error: &GraphQLError,
+) -> Result<Vec<Refusal>, AllocError> {
+    let mut refusals = Vec::new(alloc);
+    if !matches!(error, GraphQLError::ValidationError(_)) {
+        return Ok(refusals);
+    }
+    let Ok(document) = parse_document_source(alloc, request) else {
+        return Ok(refusals);
+    };
+    for explanation in explain(alloc, &document, schema, false)? {
+        refusals.push(Refusal {
+            message: explanation.message,
+            place: Some(explanation.location),
+        })?;
+    }
+    Ok(refusals)
+}
+
+/// The response to a request, as a line of JSON; where the request is not valid, with what explains it.
 fn respond(alloc: Global, request: &str, library: &mut Library) -> Result<String, AllocError> {
     let root = match served::<_, _, DefaultScalarValue>(alloc, Query, Mutation, &types::TYPES) {
         Ok(root) => root,
         Err(error) => return error.to_string(alloc),
     };
     let outcome = execute_sync(alloc, request, None, &root, &Variables::new(alloc), library);
-    response_line(alloc, &outcome)
+    match &outcome {
+        Err(error) => {
+            let explained = explanations(alloc, request, root.schema(), error)?;
+            explained_line(alloc, error, explained.as_slice())
+        }
+        Ok(_) => response_line(alloc, &outcome),
+    }
 }
 
 fn main(rt: HostRuntime) -> io::Result<()> {

@@ -17,7 +17,8 @@ const QUERIES: &str = r#"{ books { id } }
 => {"data":{"books":[{"title":"Poems","author":{"name":"Emily Dickinson"}}]}}
 
 { books(genre: CRIME) { id } }
-=> {"errors":[{"message":"Argument does not fit its type","locations":[{"line":1,"column":1}]}]}
+=> {"errors":[{"message":"Argument does not fit its type","locations":[{"line":1,"column":1}]}],
+"extensions":{"explanations":[{"message":"Value `CRIME` of `genre` is no `Genre`","locations":[{"line":1,"column":16}]}]}}
 
 { search(text: "Mary") { __typename ... on Author { name books { id } } } }
 => {"data":{"search":[{"__typename":"Author","name":"Mary Shelley",
@@ -36,8 +37,10 @@ q: __type(name: "NewBook") { inputFields { name defaultValue } } }
 "__schema":{"mutationType":{"name":"Mutation"}},
 "q":{"inputFields":[{"name":"title","defaultValue":null},{"name":"genre","defaultValue":"NOVEL"}]}}}
 
-{ book(isbn: "1") { year } }
-=> {"errors":[{"message":"Unknown field","locations":[{"line":1,"column":1}]}]}
+{ book(isbn: "1") { titel } }
+=> {"errors":[{"message":"Unknown field","locations":[{"line":1,"column":1}]}],
+"extensions":{"explanations":[{"message":"Unknown field `titel` of `Book`, did you mean `title`?",
+"locations":[{"line":1,"column":21}]}]}}
 
 { book(isbn: 4) { title } } => {"data":{"book":{"title":"On the Origin of Species"}}}
 
@@ -63,7 +66,8 @@ mutation { addBook(new: { title: "A", genre: null }) { id genre } }
 "locations":[{"line":1,"column":12}],"path":["addBook"]}]}
 
 mutation { addBook(new: { genre: NOVEL }) { id } }
-=> {"errors":[{"message":"Argument does not fit its type","locations":[{"line":1,"column":1}]}]}"#;
+=> {"errors":[{"message":"Argument does not fit its type","locations":[{"line":1,"column":1}]}],
+"extensions":{"explanations":[{"message":"Value `{genre: NOVEL}` of `new` is no `NewBook!`","locations":[{"line":1,"column":25}]}]}}"#;
 
 /// The first row that is answered otherwise; nothing where there is none.
 fn first_wrong<'r>(alloc: Global, rows: &'r str) -> Result<&'r str, AllocError> {
