@@ -3,6 +3,7 @@ pub mod Questions
 pub mod Replied
 pub mod RootFields
 pub mod ServedView
+pub mod Serving
 pub mod Stepping
 pub mod Validity
 pub mod Walkings

@@ -1,5 +1,5 @@
 -- The root fields of a mutation, as its walk has them (6.2.2, 6.3.2).
-use Rattle.std.specs.Prelude.{◌≡◌, List, []}
+use Rattle.std.specs.Prelude.{◌≡◌, ℕ, List, []}
 use Rattle.graphql_spec.specs.Shown.{Shown, Name}
 use Rattle.graphql_spec.specs.Documents.{Head}
 use Rattle.graphql_spec.specs.Directives.{passes}
@@ -8,12 +8,16 @@ use Rattle.graphql_spec.specs.Fragments.{HasNoCycle, expand}
 use Rattle.graphql_spec.specs.Inputs.{Variables}
 use Rattle.graphql_spec.specs.Schema.{Schema}
 use Rattle.graphql_spec.specs.Selections.{Forest, Occurrence, occurrences}
+use Rattle.juniper_collect.specs.Collected.{view_all}
 use Rattle.juniper_collect.specs.FragmentView.{IsMade, fragments_in}
 use Rattle.juniper_collect.specs.declared.collecting.Collector.{Collector}
 use Rattle.juniper_conversions.specs.PathView.{path_place}
 use Rattle.juniper_syntax.specs.declared.position.Span.{Span}
 use Rattle.juniper_syntax.specs.declared.position.Spanning.{Spanning}
-use Rattle.juniper_walk.specs.Plans.{IsStanding, IsStep}
+use Rattle.juniper_lookahead.specs.declared.occurrences.Enclosing.{Enclosing}
+use Rattle.juniper_walk.specs.Plans.{IsAskedAt, IsMade, IsStanding, IsStep, all_expanded, fields_at, key_at}
+use Rattle.juniper_walk.specs.PlanWalks.{IsGroupOf}
+use Rattle.juniper_walk.specs.declared.plan.GroupRange.{GroupRange}
 use Rattle.juniper_walk.specs.declared.plan.Plan.{Plan}
 use Rattle.juniper_syntax.specs.DocumentView.{view_selections, view_set}
 use Rattle.juniper_syntax.specs.InputView.{view_variables}
@@ -67,3 +71,20 @@ module _ {M S : Type 0} (shown : S → Shown) (w : RootWalk M S) where
     pub made : IsMade shown w.fragments.now
     pub acyclic : HasNoCycle (fragments_in shown w.fragments.now)
     pub at_root : path_place w.path.now.value ≡ []
+
+  -- the occurrences of the root group of a number
+  abbrev pub root_group : Plan S (Question S) → ℕ → List Occurrence
+  root_group p i = view_all shown collector_in (fields_at p i)
+
+  -- it is a group of the root's fields
+  abbrev pub IsRootGroup : Schema → Plan S (Question S) → ℕ → Type 0
+  IsRootGroup s p i = IsGroupOf (key_at p i) (all_fields s) (root_group p i)
+
+  -- what is kept as asked for it is what it asks
+  abbrev pub IsRootAsked : Schema → Plan S (Question S) → ℕ → Type 0
+  IsRootAsked s p i = IsAskedAt (asks_in s) w.concrete.now p i (root_group p i)
+
+  -- these groups of a plan stand for what selections hold for the mutation type
+  abbrev pub IsRootMade : Schema → List (Enclosing S) → Plan S (Question S) → Plan S (Question S) → GroupRange → Type 0
+  IsRootMade s es = IsMade shown collector_in (asks_in s) (is_possible s) w.concrete.now
+      (occurrences (is_possible s) w.concrete.now (all_expanded shown collector_in es))

@@ -1,6 +1,6 @@
 -- What is known of the root groups of a mutation that were run (6.2.2).
-use Rattle.std.specs.Prelude.{◌≡◌, ◌⊎◌, ◌&&◌, ◌++◌, Bool, List, [], ◌∷◌, IsTrue, cond, Result, Ok, Err}
-use Rattle.graphql_spec.specs.Shown.{Name}
+use Rattle.std.specs.Prelude.{◌≡◌, ◌⊎◌, ◌&&◌, ◌++◌, Bool, List, [], ◌∷◌, IsTrue, MatchResult, cond, map, Result, Ok, Err}
+use Rattle.graphql_spec.specs.Shown.{Name, Shown}
 use Rattle.graphql_spec.specs.Positions.{Position}
 use Rattle.graphql_spec.specs.Values.{Value, Entries, is_null, put}
 use Rattle.graphql_spec.specs.Types.{required}
@@ -10,8 +10,14 @@ use Rattle.graphql_spec.specs.GroupLaws.{GroupCompleted}
 use Rattle.graphql_spec.specs.Selections.{Forest, Occurrence, keys, with_key}
 use Rattle.graphql_spec.specs.Execution.{type_of}
 use Rattle.graphql_spec.specs.Mutation.{IsLeft, Mutation, root_fields, step_of, torn_of}
+use Rattle.graphql_spec.specs.MutationLaws.{HasRun}
+use Rattle.juniper_conversions.specs.ErrorView.{view_listed}
+use Rattle.juniper_conversions.specs.declared.execution_error.ExecutionError.{ExecutionError}
 use Rattle.juniper_conversions.specs.declared.field_error.ResolveError.{ResolveError}
 use Rattle.juniper_conversions.specs.declared.field_error.ResolveError.TheVariants.{Field, Memory}
+use Rattle.juniper_syntax.specs.ValueView.{view_object, view_value}
+use Rattle.juniper_syntax.specs.declared.value.Object.{Object}
+use Rattle.juniper_walk.specs.declared.walked.Walked.{Walked}
 
 -- What a step leaves, if next is what it should: an answer or an error of the field leaves that; want of memory that, or a context that may be
 -- torn from the step.
@@ -56,3 +62,22 @@ pub record IsGiven (k : Name) (r : Bool) (v : Value) (more : List Listed) (rises
   pub loses : rises ≡ (is_null v && r)
   pub lists : listed ≡ errors ++ more
   pub puts : put_in ≡ cond rises entries (put k v entries)
+
+-- the same of what was walked
+abbrev pub IsGivenTo : {S : Type 0} → (S → Shown) → Name → Bool → Walked S → Bool → Object S → Object S → List (ExecutionError S) →
+    List (ExecutionError S) → Type 0
+IsGivenTo shown k r w rises entries put_in errors listed = IsGiven k r (view_value shown w.value) (map (view_listed shown) w.errors.items) rises
+    (view_object shown entries) (view_object shown put_in) (map (view_listed shown) errors) (map (view_listed shown) listed)
+
+module _ {C N S E : Type 0} (shown : S → Shown) (M : Mutation C N) (T : Name) (pick : List Position → List Position) where
+  -- a group ran, or memory was wanting in it
+  abbrev pub RunsGroup : Name → List Occurrence → C → Object S → List (ExecutionError S) → Result Bool E → Object S → List (ExecutionError S) → C → Type 0
+  RunsGroup k os before entries errors result put_in listed after = MatchResult result
+      (λ rises. GroupRan M T pick k os before (view_object shown entries) (map (view_listed shown) errors) rises (view_object shown put_in)
+      (map (view_listed shown) listed) after) (λ _. GroupStopped M T (with_key k os) before after)
+
+  -- all groups ran, up to and with the first whose null rises, or memory was wanting in one
+  abbrev pub RunsGroups : List Occurrence → C → Result (Walked S) E → C → Type 0
+  RunsGroups os before result after = MatchResult result
+      (λ w. HasRun whole pick M T (keys os) os before (view_value shown w.value) (map (view_listed shown) w.errors.items) after)
+      (λ _. IsLeft M T (keys os) os before after)

@@ -1,6 +1,7 @@
 -- What is known of each way to walk a request (6.4.4, 7.1.2).
-use Rattle.std.specs.Prelude.{false, List, [], map, Result, Ok, Err, Vec}
+use Rattle.std.specs.Prelude.{false, IfOk, List, [], map, Result, Ok, Err, String, Vec}
 use Rattle.std.specs.Borrow.{Bor}
+use Rattle.std.specs.HashMap.{HashMap}
 use Rattle.std.specs.declared.alloc.Global.{Global}
 use Rattle.graphql_spec.specs.Errors.{Place, Listed}
 use Rattle.graphql_spec.specs.ExactAnswers.{whole, PathsDiffer, TellsExactly}
@@ -11,6 +12,7 @@ use Rattle.graphql_spec.specs.Mutation.{Mutation, mutation_nulls, mutation_run}
 use Rattle.graphql_spec.specs.Nulls.{null_or, nulls_of}
 use Rattle.graphql_spec.specs.Outcomes.{Response, refuses, responds, out_of_memory}
 use Rattle.graphql_spec.specs.Positions.{Position}
+use Rattle.graphql_spec.specs.Requests.{selected}
 use Rattle.graphql_spec.specs.Resolvers.{World}
 use Rattle.graphql_spec.specs.Selections.{Forest}
 use Rattle.graphql_spec.specs.Shown.{Name, Shown}
@@ -22,8 +24,16 @@ use Rattle.juniper_collect.specs.declared.fragments.FragmentMap.{FragmentMap}
 use Rattle.juniper_conversions.specs.ErrorView.{view_listed}
 use Rattle.juniper_conversions.specs.declared.execution_error.ExecutionError.{ExecutionError}
 use Rattle.juniper_lookahead.specs.Expansion.{VariableMap}
+use Rattle.juniper_syntax.specs.DocumentView.{view_document, view_operation}
+use Rattle.juniper_syntax.specs.InputView.{view_variables}
 use Rattle.juniper_syntax.specs.ValueView.{view_value}
+use Rattle.juniper_syntax.specs.declared.ast.Definition.{Definition}
+use Rattle.juniper_syntax.specs.declared.ast.Operation.{Operation}
+use Rattle.juniper_syntax.specs.declared.input.InputValue.{InputValue}
+use Rattle.juniper_syntax.specs.declared.position.Span.{Span}
+use Rattle.juniper_syntax.specs.declared.position.Spanning.{Spanning}
 use Rattle.juniper_syntax.specs.declared.value.Value.{Value as ValueType}
+use Rattle.juniper_walk.specs.declared.walked.Walked.{Walked}
 use Rattle.juniper_execute.specs.Stepping.{IsLeftOf}
 use Rattle.juniper_execute.specs.declared.walking.Walking.{Walking}
 use Rattle.juniper_execute.specs.declared.walking.Walking.TheVariants.{Grouped, Joined}
@@ -75,3 +85,17 @@ MutationWalked shown w M T s c (Ok p) after =
     let es = map (view_listed shown) p.1.items in
     IsMutationAnswerFor M T whole s c value es after × Lists w (responds value es) × TellsRun w M T s c es
 MutationWalked shown w M T s c (Err e) after = IsLeftOf M T s c after
+
+-- the same of a query's answer
+abbrev pub QueryWalked : {S N E : Type 0} → (S → Shown) → Walking → World N → Name → N → Forest →
+    Result (ValueType S × Vec (ExecutionError S) Global) E → Type 0
+QueryWalked shown w W T m s result = IfOk result (λ p. IsQueryWalked w W T m s (view_value shown p.0) (map (view_listed shown) p.1.items))
+
+-- what a walk over selections on a node makes is what is answered of them (6.2.1)
+abbrev pub IsAnswerWalked : {S N : Type 0} → (S → Shown) → World N → Name → N → Forest → Walked S → Type 0
+IsAnswerWalked shown W T m s w = IsAnswerFor whole W T m s (view_value shown w.value) (map (view_listed shown) w.errors.items)
+
+-- what an operation of a document selects, for these values of variables
+abbrev pub selected_by : {S H : Type 0} → (S → Shown) → Vec (Definition S) Global → Spanning (Operation S) Span →
+    HashMap (String Global) (InputValue S) H → Forest
+selected_by shown d o vars = selected (view_document shown d) (view_operation shown o) (view_variables shown vars)

@@ -1,8 +1,7 @@
 //! The arguments of a field as its resolver sees them (CoerceArgumentValues, section 6.4.1 of the Specification).
 
-ghost use Rattle.std.specs.Prelude.{◌≡◌, IfOk, IfSome, OnOk, cond, is_some, map};
+ghost use Rattle.std.specs.Prelude.{◌≡◌, IfOk, IfSome, OnOk, map};
 ghost use Rattle.graphql_spec.specs.Arguments.{coerced_arguments, given, put_given};
-ghost use Rattle.graphql_spec.specs.Constants.{find};
 ghost use Rattle.graphql_spec.specs.Documents.{written};
 ghost use Rattle.graphql_spec.specs.Inputs.{const};
 ghost use Rattle.juniper_syntax.specs.DocumentView.{view_argument};
@@ -10,6 +9,7 @@ ghost use Rattle.juniper_syntax.specs.InputView.{view_input, view_variables};
 ghost use Rattle.juniper_meta.specs.MetaView.{view_argument as view_meta_argument};
 ghost use Rattle.juniper_values.specs.ArgumentView.{members_of, view_arguments};
 ghost use Rattle.juniper_walk.specs.FieldWords.{head_of};
+ghost use Rattle.juniper_execute.specs.Questions.{put_absent};
 
 use crate::small::are_small;
 use indexmap::IndexMap;
@@ -142,9 +142,8 @@ fn put_given<'b, S: ScalarValue>(
     value: &Spanning<InputValue<S>, Span>,
     variables: &Variables<S>,
 ) -> Result<(), AllocError>
-    ensures { OnOk result (members_of S.shown items.new.entries ≡ cond (is_some (find name.now (members_of S.shown items.old.entries)))
-        (members_of S.shown items.old.entries) (put_given name.now (const (view_variables S.shown variables.now) (view_input S.shown value.now.item))
-        (members_of S.shown items.old.entries))) }
+    ensures { OnOk result (members_of S.shown items.new.entries
+        ≡ put_absent name.now (const (view_variables S.shown variables.now) (view_input S.shown value.now.item)) (members_of S.shown items.old.entries)) }
 {
     if items.contains_key(name) {
         return Ok(());

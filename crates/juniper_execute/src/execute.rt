@@ -1,16 +1,13 @@
 //! Queries and mutations of valid documents, executed (ExecuteQuery and ExecuteMutation, section 6.2 of the Specification).
 
-ghost use Rattle.std.specs.Prelude.{◌≡◌, IfOk, Some, map};
+ghost use Rattle.std.specs.Prelude.{◌≡◌, Some};
 ghost use Rattle.graphql_spec.specs.Documents as documents;
 ghost use Rattle.graphql_spec.specs.Laws.{In};
-ghost use Rattle.graphql_spec.specs.Requests.{selected};
 ghost use Rattle.juniper_syntax.specs.DocumentView.{view_document, view_operation};
 ghost use Rattle.juniper_syntax.specs.InputView.{view_variables};
-ghost use Rattle.juniper_syntax.specs.ValueView.{view_value};
-ghost use Rattle.juniper_conversions.specs.ErrorView.{view_listed};
 ghost use Rattle.juniper_execute.specs.ServedView.{mutation_root, schema_of, served_world};
 ghost use Rattle.juniper_execute.specs.Validity.{IsValid};
-ghost use Rattle.juniper_execute.specs.Walkings.{IsQueryWalked, MutationWalked};
+ghost use Rattle.juniper_execute.specs.Walkings.{MutationWalked, QueryWalked, selected_by};
 
 use crate::mutation::run_groups;
 use crate::node_resolver::{MutationSteps, NodeResolver};
@@ -36,10 +33,9 @@ pub fn execute_query<'d, 'a, R: NodeResolver<S>, S: ScalarValue>(
     requires valid { IsValid (schema_of S.shown served.now) (view_document S.shown document.now) }
     requires member { In (documents.operation (view_operation S.shown operation.now)) (view_document S.shown document.now) }
     requires query { (view_operation S.shown operation.now).kind ≡ documents.query }
-    ensures { IfOk result (λ p. IsQueryWalked served.now.walking
+    ensures { QueryWalked S.shown served.now.walking
         (served_world R.meaning S.shown served.now (view_variables S.shown variables.now) context.now) (schema_of S.shown served.now).query root.now
-        (selected (view_document S.shown document.now) (view_operation S.shown operation.now) (view_variables S.shown variables.now))
-        (view_value S.shown p.0) (map (view_listed S.shown) p.1.items)) }
+        (selected_by S.shown document.now operation.now variables.now) result }
 {
     let fragments = fragments_of(alloc, document.as_slice())?;
     let service = Service {
@@ -83,9 +79,9 @@ pub fn execute_mutation<
     requires member { In (documents.operation (view_operation S.shown operation.now)) (view_document S.shown document.now) }
     requires mutation { (view_operation S.shown operation.now).kind ≡ documents.mutation }
     requires root { (schema_of S.shown served.now).mutation ≡ Some concrete.now }
-    ensures { MutationWalked S.shown served.now.walking (mutation_root R.meaning S.shown served.now (M.steps steps.now) (view_variables S.shown variables.now)) concrete.now
-        (selected (view_document S.shown document.now) (view_operation S.shown operation.now) (view_variables S.shown variables.now))
-        context.old result context.new }
+    ensures { MutationWalked S.shown served.now.walking
+        (mutation_root R.meaning S.shown served.now (M.steps steps.now) (view_variables S.shown variables.now)) concrete.now
+        (selected_by S.shown document.now operation.now variables.now) context.old result context.new }
 {
     let fragments = fragments_of(alloc, document.as_slice())?;
     let path = root_path(alloc, operation.span.start)?;

@@ -1,31 +1,24 @@
 //! The root groups of a mutation take their steps one after the other (ExecuteMutation, section 6.2.2 of the Specification).
 
-ghost use Rattle.std.specs.Prelude.{◌≡◌, ◌<◌, [], ◌∷◌, codes, false, length, IfOk, MatchResult, map, string_bytes};
+ghost use Rattle.std.specs.Prelude.{◌≡◌, ◌<◌, ◌∷◌, codes, false, length, IfOk, string_bytes};
 ghost use Rattle.std.specs.Str.{bytes_eq};
-ghost use Rattle.graphql_spec.specs.ExactAnswers.{whole};
-ghost use Rattle.graphql_spec.specs.Fields.{is_possible};
-ghost use Rattle.graphql_spec.specs.GroupLaws.{GroupCompleted};
 ghost use Rattle.graphql_spec.specs.Laws.{Merges};
-ghost use Rattle.graphql_spec.specs.Mutation.{IsLeft, step_of};
-ghost use Rattle.graphql_spec.specs.MutationLaws.{HasRun};
-ghost use Rattle.graphql_spec.specs.Selections.{all_below, keys, occurrences, with_key};
+ghost use Rattle.graphql_spec.specs.Mutation.{step_of};
+ghost use Rattle.graphql_spec.specs.Selections.{all_below, occurrences};
 ghost use Rattle.graphql_spec.specs.Types.{innermost};
-ghost use Rattle.juniper_collect.specs.Collected.{view_all};
-ghost use Rattle.juniper_walk.specs.Plans.{IsAskedAt, IsMade, all_expanded, fields_at, key_at};
-ghost use Rattle.juniper_walk.specs.PlanWalks.{HasFirst, IsGroupOf};
-ghost use Rattle.juniper_conversions.specs.ErrorView.{view_listed};
+ghost use Rattle.juniper_walk.specs.Plans.{all_expanded};
+ghost use Rattle.juniper_walk.specs.PlanWalks.{HasFirst};
 ghost use Rattle.juniper_conversions.specs.PathView.{path_place};
 ghost use Rattle.juniper_values.specs.ResolvedView.{Answers};
 ghost use Rattle.juniper_syntax.specs.TypeView.{view_type};
-ghost use Rattle.juniper_syntax.specs.ValueView.{view_object, view_value};
 ghost use Rattle.juniper_values.specs.ArgumentView.{view_arguments};
-ghost use Rattle.juniper_walk.specs.Completing.{IsTold};
+ghost use Rattle.juniper_walk.specs.Completing.{CompletesAsked, IsTold};
 ghost use Rattle.juniper_walk.specs.FieldWords.{head_of};
-ghost use Rattle.juniper_walk.specs.Walking.{SelectionsAgree};
 ghost use Rattle.juniper_execute.specs.Questions.{IsFieldAsked, meant_arguments};
-ghost use Rattle.juniper_execute.specs.RootFields.{IsReadyRoot, IsRootPlan, IsRootStep, all_fields, asks_in, collector_in, field_in, selected_in, values_in};
-ghost use Rattle.juniper_execute.specs.ServedView.{mutation_in, schema_of, served_world};
-ghost use Rattle.juniper_execute.specs.Stepping.{GroupRan, GroupStopped, IsGiven, StepLeaves};
+ghost use Rattle.juniper_execute.specs.RootFields.{IsReadyRoot, IsRootPlan, IsRootStep, collector_in, field_in, root_group, selected_in, values_in};
+ghost use Rattle.juniper_execute.specs.RootFields.{IsRootAsked, IsRootGroup, IsRootMade};
+ghost use Rattle.juniper_execute.specs.ServedView.{RootAgrees, RunsRoot, RunsRootGroup, mutation_in, schema_of, served_world};
+ghost use Rattle.juniper_execute.specs.Stepping.{IsGivenTo, StepLeaves};
 ghost use Rattle.juniper_execute.specs.Walkings.{starts_by};
 
 use crate::coerce::coerce_arguments;
@@ -138,17 +131,15 @@ fn complete<'s, 'd, 'a, R: NodeResolver<S>, M, S: ScalarValue>(
     requires ready { IsReadyRoot S.shown walk.now }
     requires standing { IsRootPlan S.shown walk.now (schema_of S.shown served.now) plan.old }
     requires bound { group.0 < length plan.old.groups.items }
-    requires some { HasFirst (view_all S.shown (collector_in S.shown walk.now) (fields_at plan.old group.0)) }
+    requires some { HasFirst (root_group S.shown walk.now plan.old group.0) }
     requires merge { Merges (served_world R.meaning S.shown served.now (values_in S.shown walk.now) context.now)
         (innermost (view_type (λ n. string_bytes n) asked.declared.now))
-        (all_below (view_all S.shown (collector_in S.shown walk.now) (fields_at plan.old group.0))) }
+        (all_below (root_group S.shown walk.now plan.old group.0)) }
     ensures plan { IfOk result (λ _. IsRootStep S.shown walk.now (schema_of S.shown served.now) plan.old plan.new) }
     ensures told { IfOk result (λ _. IsTold asked.entry.answer) }
-    ensures completed { (reply : _) → Answers S.shown asked.entry.answer reply → IfOk result (λ w. GroupCompleted whole (starts_by served.now.walking)
-        (served_world R.meaning S.shown served.now (values_in S.shown walk.now) context.now) (path_place path.now.value) []
-        (view_type (λ n. string_bytes n) asked.entry.declared.now) reply
-        (view_all S.shown (collector_in S.shown walk.now) (fields_at plan.old group.0))
-        (view_value S.shown w.value) (map (view_listed S.shown) w.errors.items)) }
+    ensures completed { CompletesAsked S.shown (starts_by served.now.walking)
+        (served_world R.meaning S.shown served.now (values_in S.shown walk.now) context.now) (path_place path.now.value)
+        (root_group S.shown walk.now plan.old group.0) asked.entry result }
 {
     let service = Service {
         resolver: served.resolver,
@@ -179,9 +170,7 @@ pub(crate) fn give<S: ScalarValue>(
     entries: &mut Object<S>,
     errors: &mut Vec<ExecutionError<S>>,
 ) -> Result<bool, AllocError>
-    ensures { IfOk result (λ rises. IsGiven key.now is_non_null (view_value S.shown walked.value) (map (view_listed S.shown) walked.errors.items) rises
-        (view_object S.shown entries.old) (view_object S.shown entries.new)
-        (map (view_listed S.shown) errors.old.items) (map (view_listed S.shown) errors.new.items)) }
+    ensures { IfOk result (λ rises. IsGivenTo S.shown key.now is_non_null walked rises entries.old entries.new errors.old.items errors.new.items) }
 {
     let mut listed = walked.errors;
     errors.append(&mut listed)?;
@@ -213,23 +202,14 @@ fn run_group<
 ) -> Result<bool, AllocError>
     requires ready { IsReadyRoot S.shown walk.now }
     requires standing { IsRootPlan S.shown walk.now (schema_of S.shown served.now) plan.old }
-    requires agree { (c : _) → SelectionsAgree ((mutation_in R.meaning S.shown served.now M.steps walk.now).world c)
-        walk.now.concrete.now (selected_in S.shown walk.now) }
+    requires agree { RootAgrees R.meaning S.shown served.now M.steps walk.now }
     requires bound { group.0 < length plan.old.groups.items }
     requires enclosing { all_expanded S.shown (collector_in S.shown walk.now) enclosing.now ≡ selected_in S.shown walk.now }
-    requires asked { IsAskedAt (asks_in S.shown walk.now (schema_of S.shown served.now)) walk.now.concrete.now plan.old group.0
-        (view_all S.shown (collector_in S.shown walk.now) (fields_at plan.old group.0)) }
-    requires group { IsGroupOf (key_at plan.old group.0) (all_fields S.shown walk.now (schema_of S.shown served.now))
-        (view_all S.shown (collector_in S.shown walk.now) (fields_at plan.old group.0)) }
+    requires asked { IsRootAsked S.shown walk.now (schema_of S.shown served.now) plan.old group.0 }
+    requires group { IsRootGroup S.shown walk.now (schema_of S.shown served.now) plan.old group.0 }
     ensures plan { IfOk result (λ _. IsRootStep S.shown walk.now (schema_of S.shown served.now) plan.old plan.new) }
-    ensures ran { MatchResult result
-        (λ rises. GroupRan (mutation_in R.meaning S.shown served.now M.steps walk.now) walk.now.concrete.now
-        (starts_by served.now.walking) (key_at plan.old group.0) (all_fields S.shown walk.now (schema_of S.shown served.now)) context.old
-        (view_object S.shown entries.old) (map (view_listed S.shown) errors.old.items) rises
-        (view_object S.shown entries.new) (map (view_listed S.shown) errors.new.items) context.new)
-        (λ _. GroupStopped (mutation_in R.meaning S.shown served.now M.steps walk.now) walk.now.concrete.now
-        (with_key (key_at plan.old group.0) (all_fields S.shown walk.now (schema_of S.shown served.now)))
-        context.old context.new) }
+    ensures ran { RunsRootGroup R.meaning S.shown served.now M.steps walk.now plan.old group.0 context.old
+        entries.old errors.old.items result entries.new errors.new.items context.new }
 {
     let fields = plan.fields(group);
     let first = first_of(fields);
@@ -272,10 +252,7 @@ fn plan_root<'s, 'd, 'a, R: NodeResolver<S>, M, S: ScalarValue>(
 ) -> Result<GroupRange, AllocError>
     requires ready { IsReadyRoot S.shown walk.now }
     requires standing { IsRootPlan S.shown walk.now (schema_of S.shown served.now) plan.old }
-    ensures { IfOk result (λ r. IsMade S.shown (collector_in S.shown walk.now) (asks_in S.shown walk.now (schema_of S.shown served.now))
-        (is_possible (schema_of S.shown served.now)) walk.now.concrete.now
-        (occurrences (is_possible (schema_of S.shown served.now)) walk.now.concrete.now
-        (all_expanded S.shown (collector_in S.shown walk.now) enclosing.now)) plan.old plan.new r) }
+    ensures { IfOk result (λ r. IsRootMade S.shown walk.now (schema_of S.shown served.now) enclosing.now plan.old plan.new r) }
 {
     let service = Service {
         resolver: served.resolver,
@@ -303,17 +280,8 @@ pub(crate) fn run_groups<
     context: &mut R::Context,
 ) -> Result<Walked<S>, AllocError>
     requires ready { IsReadyRoot S.shown walk.now }
-    requires agree { (c : _) → SelectionsAgree ((mutation_in R.meaning S.shown served.now M.steps walk.now).world c)
-        walk.now.concrete.now (selected_in S.shown walk.now) }
-    ensures { MatchResult result
-        (λ w. HasRun whole (starts_by served.now.walking) (mutation_in R.meaning S.shown served.now M.steps walk.now)
-        walk.now.concrete.now (keys (all_fields S.shown walk.now (schema_of S.shown served.now)))
-        (all_fields S.shown walk.now (schema_of S.shown served.now))
-        context.old (view_value S.shown w.value) (map (view_listed S.shown) w.errors.items) context.new)
-        (λ _. IsLeft (mutation_in R.meaning S.shown served.now M.steps walk.now) walk.now.concrete.now
-        (keys (all_fields S.shown walk.now (schema_of S.shown served.now)))
-        (all_fields S.shown walk.now (schema_of S.shown served.now))
-        context.old context.new) }
+    requires agree { RootAgrees R.meaning S.shown served.now M.steps walk.now }
+    ensures { RunsRoot R.meaning S.shown served.now M.steps walk.now context.old result context.new }
 {
     let mut plan = Plan::new(walk.alloc);
     let enclosing = [Enclosing {

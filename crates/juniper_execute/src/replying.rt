@@ -11,7 +11,7 @@ ghost use Rattle.juniper_values.specs.ArgumentView.{view_arguments};
 ghost use Rattle.juniper_walk.specs.FieldWords.{head_of};
 ghost use Rattle.juniper_execute.specs.Questions.{IsFieldAsked, meant_arguments};
 ghost use Rattle.juniper_execute.specs.Replied.{AreReplied};
-ghost use Rattle.juniper_execute.specs.Meanings.{world_at};
+ghost use Rattle.juniper_execute.specs.Serving.{service_reply, service_world};
 
 use crate::coerce::coerce_arguments;
 use crate::node_resolver::{NodeResolver, Nodes, Replies};
@@ -35,9 +35,7 @@ impl<'c, 's, R: NodeResolver<S>, S: ScalarValue> Service<'c, 's, R, S> {
         first: &Spanning<Written<S>, Span>,
     ) -> Result<Replies<R::Node, S>, ResolveError<S>>
         requires { IsFieldAsked S.shown self.now.schema.now self.now.variables.now concrete.now question.now site.now first.now }
-        ensures { AreReplied S.shown (λ m. reply_to (world_at (R.meaning self.now.resolver.now) (view_schema S.shown self.now.schema.now)
-            (view_variables S.shown self.now.variables.now) self.now.context.now) concrete.now m (head_of S.shown first.now))
-            nodes.now result }
+        ensures { AreReplied S.shown (λ m. reply_to (service_world R.meaning S.shown self.now) concrete.now m (head_of S.shown first.now)) nodes.now result }
     {
         if first.item.name.item == "__typename" {
             type_names(alloc, concrete, nodes)
@@ -57,9 +55,7 @@ impl<'c, 's, R: NodeResolver<S>, S: ScalarValue> Service<'c, 's, R, S> {
         first: &Spanning<Written<S>, Span>,
     ) -> Result<Replies<R::Node, S>, ResolveError<S>>
         requires { IsFieldAsked S.shown self.now.schema.now self.now.variables.now concrete.now question.now site.now first.now }
-        ensures { AreReplied S.shown (λ m. (R.meaning self.now.resolver.now).answer self.now.context.now m (head_of S.shown first.now).name.item
-            (meant_arguments (view_schema S.shown self.now.schema.now) (view_variables S.shown self.now.variables.now) concrete.now
-            (head_of S.shown first.now))) nodes.now result }
+        ensures { AreReplied S.shown (service_reply R.meaning S.shown self.now concrete.now (head_of S.shown first.now)) nodes.now result }
     {
         match &question.arguments {
             Some(arguments) => {
@@ -87,9 +83,7 @@ impl<'c, 's, R: NodeResolver<S>, S: ScalarValue> Service<'c, 's, R, S> {
         requires asked { IsFieldAsked S.shown self.now.schema.now self.now.variables.now concrete.now question.now site.now first.now }
         requires arguments { view_arguments S.shown arguments.now ≡ meant_arguments (view_schema S.shown self.now.schema.now)
             (view_variables S.shown self.now.variables.now) concrete.now (head_of S.shown first.now) }
-        ensures { AreReplied S.shown (λ m. (R.meaning self.now.resolver.now).answer self.now.context.now m (head_of S.shown first.now).name.item
-            (meant_arguments (view_schema S.shown self.now.schema.now) (view_variables S.shown self.now.variables.now) concrete.now
-            (head_of S.shown first.now))) nodes.now result }
+        ensures { AreReplied S.shown (service_reply R.meaning S.shown self.now concrete.now (head_of S.shown first.now)) nodes.now result }
     {
         let executor = Executor::at_field(
             self.context,

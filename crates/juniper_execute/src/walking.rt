@@ -1,31 +1,23 @@
 //! The two ways to walk what a request selects (sections 6.3 and 6.4 of the Specification).
 
-ghost use Rattle.std.specs.Prelude.{◌≡◌, ◌<◌, [], IfOk, drop, length, map, string_bytes};
-ghost use Rattle.graphql_spec.specs.ExactAnswers.{whole};
-ghost use Rattle.graphql_spec.specs.Fields.{is_possible};
-ghost use Rattle.graphql_spec.specs.GroupLaws.{GroupCompleted};
+ghost use Rattle.std.specs.Prelude.{◌≡◌, ◌<◌, IfOk, drop, length, map, string_bytes};
 ghost use Rattle.graphql_spec.specs.Laws.{Merges};
 ghost use Rattle.graphql_spec.specs.Outcomes.{responds};
-ghost use Rattle.graphql_spec.specs.Selections.{all_below, occurrences};
+ghost use Rattle.graphql_spec.specs.Selections.{all_below};
 ghost use Rattle.graphql_spec.specs.Types.{innermost};
-ghost use Rattle.graphql_spec.specs.Walk.{IsAnswerFor};
-ghost use Rattle.juniper_collect.specs.Collected.{IsReady, expansion, view_all};
+ghost use Rattle.juniper_collect.specs.Collected.{IsReady, expansion};
 ghost use Rattle.juniper_conversions.specs.ErrorView.{view_listed};
 ghost use Rattle.juniper_conversions.specs.PathView.{path_place};
 ghost use Rattle.juniper_lookahead.specs.Sites.{IsFirstOf};
 ghost use Rattle.juniper_walk.specs.PlanWalks.{HasFirst};
-ghost use Rattle.juniper_walk.specs.Plans.{IsMade, IsStanding, IsStep, all_expanded, fields_at, group_count};
-ghost use Rattle.juniper_values.specs.ResolvedView.{Answers};
-ghost use Rattle.juniper_schema.specs.SchemaView.{view_schema};
+ghost use Rattle.juniper_walk.specs.Plans.{IsStanding, IsStep, group_at, group_count};
 ghost use Rattle.juniper_syntax.specs.DocumentView.{view_selections};
-ghost use Rattle.juniper_syntax.specs.InputView.{view_variables};
 ghost use Rattle.juniper_syntax.specs.TypeView.{view_type};
 ghost use Rattle.juniper_syntax.specs.ValueView.{view_value};
-ghost use Rattle.juniper_walk.specs.Completing.{IsTold};
+ghost use Rattle.juniper_walk.specs.Completing.{CompletesAsked, IsTold};
 ghost use Rattle.juniper_walk.specs.Walking.{IsReadyWalk, SelectionsAgree};
-ghost use Rattle.juniper_execute.specs.Questions.{IsQuestion};
-ghost use Rattle.juniper_execute.specs.Meanings.{world_at};
-ghost use Rattle.juniper_execute.specs.Walkings.{Lists, TellsQuery, collector_of, starts_by};
+ghost use Rattle.juniper_execute.specs.Walkings.{IsAnswerWalked, Lists, TellsQuery, collector_of, starts_by};
+ghost use Rattle.juniper_execute.specs.Serving.{IsServiceMade, IsServicePlan, IsServiceStep, service_group, service_selected, service_world};
 
 use crate::node_resolver::NodeResolver;
 use crate::question::Question;
@@ -62,9 +54,8 @@ impl Walking {
         requires ready { IsReadyWalk S.shown R.possible R.values (R.world walk.now.collector.possible) walk.now }
         requires agree { SelectionsAgree (R.world walk.now.collector.possible) concrete.now
             (expansion S.shown walk.now.collector (view_selections S.shown selections.now)) }
-        ensures answers { IfOk result (λ r. IsAnswerFor whole (R.world walk.now.collector.possible) concrete.now root.now
-            (expansion S.shown walk.now.collector (view_selections S.shown selections.now))
-            (view_value S.shown r.value) (map (view_listed S.shown) r.errors.items)) }
+        ensures answers { IfOk result (λ r. IsAnswerWalked S.shown (R.world walk.now.collector.possible) concrete.now root.now
+            (expansion S.shown walk.now.collector (view_selections S.shown selections.now)) r) }
         ensures lists { IfOk result (λ r. Lists self (responds (view_value S.shown r.value) (map (view_listed S.shown) r.errors.items))) }
         ensures firsts { IfOk result (λ r. TellsQuery self (R.world walk.now.collector.possible) concrete.now root.now
             (expansion S.shown walk.now.collector (view_selections S.shown selections.now)) (map (view_listed S.shown) r.errors.items)) }
@@ -88,15 +79,14 @@ impl Walking {
         requires standing { IsStanding S.shown walk.now.collector (R.asks walk.now.collector.possible)
             (R.possible walk.now.collector.possible) plan.old }
         requires bound { group.0 < group_count plan.old }
-        requires some { HasFirst (view_all S.shown walk.now.collector (fields_at plan.old group.0)) }
+        requires some { HasFirst (group_at S.shown walk.now plan.old group.0) }
         requires merge { Merges (R.world walk.now.collector.possible) (innermost (view_type (λ n. string_bytes n) asked.declared.now))
-            (all_below (view_all S.shown walk.now.collector (fields_at plan.old group.0))) }
+            (all_below (group_at S.shown walk.now plan.old group.0)) }
         ensures plan { IfOk result (λ _. IsStep S.shown walk.now.collector (R.asks walk.now.collector.possible)
             (R.possible walk.now.collector.possible) plan.old plan.new) }
         ensures told { IfOk result (λ _. IsTold asked.entry.answer) }
-        ensures completed { (reply : _) → Answers S.shown asked.entry.answer reply → IfOk result (λ w. GroupCompleted whole (starts_by self)
-            (R.world walk.now.collector.possible) (path_place path.now.value) [] (view_type (λ n. string_bytes n) asked.entry.declared.now) reply
-            (view_all S.shown walk.now.collector (fields_at plan.old group.0)) (view_value S.shown w.value) (map (view_listed S.shown) w.errors.items)) }
+        ensures completed { CompletesAsked S.shown (starts_by self) (R.world walk.now.collector.possible) (path_place path.now.value)
+            (group_at S.shown walk.now plan.old group.0) asked.entry result }
     {
         match self {
             Walking::Grouped => juniper_walk::complete_value(walk, plan, path, asked, group),
@@ -121,18 +111,12 @@ impl<'c, 's, R: NodeResolver<S>, S: ScalarValue> Service<'c, 's, R, S> {
         selections: &'d [Selection<'a, S>],
     ) -> Result<Walked<S>, AllocError>
         requires ready { IsReady S.shown (collector_of fragments self.variables self) }
-        requires agree { SelectionsAgree (world_at (R.meaning self.resolver.now) (view_schema S.shown self.schema.now)
-            (view_variables S.shown self.variables.now) self.context.now) concrete.now
-            (expansion S.shown (collector_of fragments self.variables self) (view_selections S.shown selections.now)) }
-        ensures answers { IfOk result (λ r. IsAnswerFor whole (world_at (R.meaning self.entry.resolver.now) (view_schema S.shown self.entry.schema.now)
-            (view_variables S.shown self.entry.variables.now) self.entry.context.now) concrete.now root.now
-            (expansion S.shown (collector_of fragments.entry self.entry.variables self.entry) (view_selections S.shown selections.now))
-            (view_value S.shown r.value) (map (view_listed S.shown) r.errors.items)) }
+        requires agree { SelectionsAgree (service_world R.meaning S.shown self) concrete.now (service_selected S.shown self fragments selections.now) }
+        ensures answers { IfOk result (λ r. IsAnswerWalked S.shown (service_world R.meaning S.shown self.entry) concrete.now root.now
+            (service_selected S.shown self.entry fragments.entry selections.now) r) }
         ensures lists { IfOk result (λ r. Lists walking (responds (view_value S.shown r.value) (map (view_listed S.shown) r.errors.items))) }
-        ensures firsts { IfOk result (λ r. TellsQuery walking (world_at (R.meaning self.entry.resolver.now) (view_schema S.shown self.entry.schema.now)
-            (view_variables S.shown self.entry.variables.now) self.entry.context.now) concrete.now root.now
-            (expansion S.shown (collector_of fragments.entry self.entry.variables self.entry) (view_selections S.shown selections.now))
-            (map (view_listed S.shown) r.errors.items)) }
+        ensures firsts { IfOk result (λ r. TellsQuery walking (service_world R.meaning S.shown self.entry) concrete.now root.now
+            (service_selected S.shown self.entry fragments.entry selections.now) (map (view_listed S.shown) r.errors.items)) }
     {
         let walk = Walk {
             alloc,
@@ -156,14 +140,8 @@ impl<'c, 's, R: NodeResolver<S>, S: ScalarValue> Service<'c, 's, R, S> {
         enclosing: &[Enclosing<'d, 'a, S>],
     ) -> Result<GroupRange, AllocError>
         requires ready { IsReady S.shown (collector_of fragments self.variables self) }
-        requires standing { IsStanding S.shown (collector_of fragments self.variables self)
-            (IsQuestion S.shown (view_schema S.shown self.schema.now) (view_variables S.shown self.variables.now))
-            (is_possible (view_schema S.shown self.schema.now)) plan.old }
-        ensures { IfOk result (λ r. IsMade S.shown (collector_of fragments.entry self.entry.variables self.entry)
-            (IsQuestion S.shown (view_schema S.shown self.entry.schema.now) (view_variables S.shown self.entry.variables.now))
-            (is_possible (view_schema S.shown self.entry.schema.now)) concrete.now
-            (occurrences (is_possible (view_schema S.shown self.entry.schema.now)) concrete.now
-            (all_expanded S.shown (collector_of fragments.entry self.entry.variables self.entry) enclosing.now)) plan.old plan.new r) }
+        requires standing { IsServicePlan S.shown self fragments plan.old }
+        ensures { IfOk result (λ r. IsServiceMade S.shown self.entry fragments.entry concrete.now enclosing.now plan.old plan.new r) }
     {
         let collector = Collector {
             fragments,
@@ -186,23 +164,15 @@ impl<'c, 's, R: NodeResolver<S>, S: ScalarValue> Service<'c, 's, R, S> {
         group: GroupNo,
     ) -> Result<Walked<S>, AllocError>
         requires ready { IsReady S.shown (collector_of fragments self.variables self) }
-        requires standing { IsStanding S.shown (collector_of fragments self.variables self)
-            (IsQuestion S.shown (view_schema S.shown self.schema.now) (view_variables S.shown self.variables.now))
-            (is_possible (view_schema S.shown self.schema.now)) plan.old }
+        requires standing { IsServicePlan S.shown self fragments plan.old }
         requires bound { group.0 < group_count plan.old }
-        requires some { HasFirst (view_all S.shown (collector_of fragments self.variables self) (fields_at plan.old group.0)) }
-        requires merge { Merges (world_at (R.meaning self.resolver.now) (view_schema S.shown self.schema.now) (view_variables S.shown self.variables.now)
-            self.context.now) (innermost (view_type (λ n. string_bytes n) asked.declared.now))
-            (all_below (view_all S.shown (collector_of fragments self.variables self) (fields_at plan.old group.0))) }
-        ensures plan { IfOk result (λ _. IsStep S.shown (collector_of fragments.entry self.entry.variables self.entry)
-            (IsQuestion S.shown (view_schema S.shown self.entry.schema.now) (view_variables S.shown self.entry.variables.now))
-            (is_possible (view_schema S.shown self.entry.schema.now)) plan.old plan.new) }
+        requires some { HasFirst (service_group S.shown self fragments plan.old group.0) }
+        requires merge { Merges (service_world R.meaning S.shown self) (innermost (view_type (λ n. string_bytes n) asked.declared.now))
+            (all_below (service_group S.shown self fragments plan.old group.0)) }
+        ensures plan { IfOk result (λ _. IsServiceStep S.shown self.entry fragments.entry plan.old plan.new) }
         ensures told { IfOk result (λ _. IsTold asked.entry.answer) }
-        ensures completed { (reply : _) → Answers S.shown asked.entry.answer reply → IfOk result (λ w. GroupCompleted whole (starts_by walking)
-            (world_at (R.meaning self.entry.resolver.now) (view_schema S.shown self.entry.schema.now) (view_variables S.shown self.entry.variables.now)
-            self.entry.context.now) (path_place path.now.value) [] (view_type (λ n. string_bytes n) asked.entry.declared.now) reply
-            (view_all S.shown (collector_of fragments.entry self.entry.variables self.entry) (fields_at plan.old group.0))
-            (view_value S.shown w.value) (map (view_listed S.shown) w.errors.items)) }
+        ensures completed { CompletesAsked S.shown (starts_by walking) (service_world R.meaning S.shown self.entry) (path_place path.now.value)
+            (service_group S.shown self.entry fragments.entry plan.old group.0) asked.entry result }
     {
         let walk = Walk {
             alloc,
