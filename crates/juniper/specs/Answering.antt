@@ -1,5 +1,5 @@
 -- What a request is answered (6.1).
-use Rattle.std.specs.Prelude.{◌≡◌, ◌⊎◌, Bool, List, [], ◌∷◌, Option, Some, None, Result, Ok, Err, String, Vec, map, option_map}
+use Rattle.std.specs.Prelude.{◌≡◌, ◌⊎◌, Bool, List, [], ◌∷◌, MatchResult, Option, Some, None, Result, Ok, Err, String, Vec, map, option_map}
 use Rattle.std.specs.Borrow.{Bor}
 use Rattle.std.specs.HashMap.{HashMap}
 use Rattle.std.specs.declared.alloc.Global.{Global}
@@ -15,9 +15,14 @@ use Rattle.graphql_spec.specs.Requests.{Choice, chosen, many, unknown, Refusal, 
 use Rattle.graphql_spec.specs.Requests.{variable_errors, first_not_constant, coerced_variables}
 use Rattle.graphql_spec.specs.Outcomes as outcome
 use Rattle.graphql_spec.specs.Outcomes.{Request, Response, refuses, responds}
+use Rattle.juniper_syntax.specs.DocumentView.{view_document, view_operation}
 use Rattle.juniper_syntax.specs.InputView.{view_variables}
 use Rattle.juniper_syntax.specs.ValueView.{view_value}
+use Rattle.juniper_syntax.specs.declared.ast.Definition.{Definition}
+use Rattle.juniper_syntax.specs.declared.ast.Operation.{Operation as CodeOperation}
 use Rattle.juniper_syntax.specs.declared.input.InputValue.{InputValue}
+use Rattle.juniper_syntax.specs.declared.position.Span.{Span}
+use Rattle.juniper_syntax.specs.declared.position.Spanning.{Spanning}
 use Rattle.juniper_syntax.specs.declared.value.Value.{Value}
 use Rattle.juniper_conversions.specs.ErrorView.{view_listed}
 use Rattle.juniper_syntax.specs.Refusals as parser
@@ -79,6 +84,11 @@ IsUnchosen unknown e = e ≡ unknown_operation
 abbrev pub outcome_of : Schema → Document → Operation → Variables → Outcome
 outcome_of s d o given = of_kind s o.kind (runs d o (coerced_variables (variables_of o) given))
 
+-- the same of a document, an operation and given values as code has them
+abbrev pub outcome_in : {S H : Type 0} → (S → Shown) → Schema → Vec (Definition S) Global → Spanning (CodeOperation S) Span →
+    HashMap (String Global) (InputValue S) H → Outcome
+outcome_in shown s d o given = outcome_of s (view_document shown d) (view_operation shown o) (view_variables shown given)
+
 -- the given values fit, and no variable stands in them (6.1.2)
 pub record AreCoercible (s : Schema) (o : Operation) (given : Variables) : Type 0 where
   pub fitting : variable_errors s (variables_of o) given ≡ []
@@ -90,6 +100,10 @@ AreRefused s o given r =
     ((e : RuleError) × (es : List RuleError) × (r ≡ spec.not_valid (e ∷ es)) × (variable_errors s (variables_of o) given ≡ e ∷ es))
     ⊎ ((variable_errors s (variables_of o) given ≡ [])
     × ((n : Name) × (r ≡ spec.variable_not_constant n) × (first_not_constant (variables_of o) given ≡ Some n)))
+
+-- a call lets given values pass that fit and hold no variables, and tells why others are refused (6.1.2)
+abbrev pub PassesCoercible : {A : Type 0} → Schema → Operation → Variables → Result A GraphQLError → Type 0
+PassesCoercible s o given result = MatchResult result (λ _. AreCoercible s o given) (λ e. StandsFor (AreRefused s o given) (view_request_error e))
 
 -- ## Only private clauses cite what follows
 

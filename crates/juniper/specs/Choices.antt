@@ -1,9 +1,12 @@
 -- Which operation a request executes, as the code has it (6.1).
-use Rattle.std.specs.Prelude.{List, [], ◌∷◌, Option, Some, None, cond}
+use Rattle.std.specs.Prelude.{ℕ, List, [], ◌∷◌, Option, Some, None, Vec, cond, option_map}
+use Rattle.std.specs.Borrow.{Bor}
+use Rattle.std.specs.declared.alloc.Global.{Global}
 use Rattle.graphql_spec.specs.Shown.{Shown, Name}
 use Rattle.graphql_spec.specs.Documents.{Operation, Definition, operation, fragment}
-use Rattle.graphql_spec.specs.Requests.{Choice, chosen, many, unknown, is_named}
-use Rattle.juniper_syntax.specs.DocumentView.{view_operation}
+use Rattle.graphql_spec.specs.Requests.{Choice, choose, chosen, many, unknown, is_named}
+use Rattle.juniper_syntax.specs.DocumentView.{view_document, view_operation}
+use Rattle.juniper_syntax.specs.declared.ast.Definition.{Definition as CodeDefinition}
 use Rattle.juniper.specs.declared.operation.Chosen.{Chosen}
 use Rattle.juniper.specs.declared.operation.Chosen.TheVariants as code
 
@@ -11,6 +14,10 @@ abbrev pub view_chosen : {S : Type 0} → (S → Shown) → Chosen S → Choice
 view_chosen shown (code.One o) = chosen (view_operation shown o.now)
 view_chosen shown code.Many = many
 view_chosen shown code.Unknown = unknown
+
+-- which operation of a document a request executes that gives this name, or none
+abbrev pub choice_in : {S : Type 0} → (S → Shown) → Vec (CodeDefinition S) Global → Option (Bor (List ℕ)) → Choice
+choice_in shown d name = choose (view_document shown d) (option_map (λ n. n.now) name)
 
 -- ## Only private clauses cite what follows
 

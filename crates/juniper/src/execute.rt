@@ -11,11 +11,11 @@ ghost use Rattle.juniper_schema.specs.SchemaView.{view_schema};
 ghost use Rattle.juniper_intro.specs.RootView.{is_disabled, schema_of};
 ghost use Rattle.juniper_execute.specs.ServedView as serving;
 ghost use Rattle.juniper_execute.specs.Validity.{IsValid};
-ghost use Rattle.juniper.specs.Answering.{AnswersAs, AreCoercible, outcome_of};
+ghost use Rattle.juniper.specs.Answering.{AnswersAs, AreCoercible, outcome_in};
 ghost use Rattle.juniper.specs.Promised.{IsFullOutcomeOf};
 ghost use Rattle.juniper.specs.RootView.{service_of};
-ghost use Rattle.juniper.specs.Services.{meaning_of, rooted_steps, service_at};
-ghost use Rattle.juniper.specs.WalkedOutcomes.{IsWalkedOutcome};
+ghost use Rattle.juniper.specs.Services.{rooted_steps};
+ghost use Rattle.juniper.specs.WalkedOutcomes.{IsWalkedOutcome, WalksOperation, WalksResolved};
 
 use crate::error::GraphQLError;
 use crate::root_resolver::{MutationResolver, QueryResolver};
@@ -61,10 +61,8 @@ pub fn execute_validated_query<
     requires member { In (documents.operation (view_operation S.shown operation.now)) (view_document S.shown document.now) }
     requires coercible { AreCoercible (view_schema S.shown (schema_of root_node.now)) (view_operation S.shown operation.now)
         (view_variables S.shown variables.now) }
-    ensures { AnswersAs S.shown
-        (λ r. IsFullOutcomeOf (service_of Q.concrete Q.answer Q.root M.step M.torn S.shown root_node.now)
-        (outcome_of (view_schema S.shown (schema_of root_node.now)) (view_document S.shown document.now) (view_operation S.shown operation.now)
-        (view_variables S.shown variables.now)) context.old r context.new) result }
+    ensures { AnswersAs S.shown (λ r. IsFullOutcomeOf (service_of Q.concrete Q.answer Q.root M.step M.torn S.shown root_node.now)
+        (outcome_in S.shown (view_schema S.shown (schema_of root_node.now)) document.now operation.now variables.now) context.old r context.new) result }
 {
     execute_walked(
         alloc,
@@ -98,10 +96,8 @@ pub(crate) fn execute_walked<
     requires member { In (documents.operation (view_operation S.shown operation.now)) (view_document S.shown document.now) }
     requires coercible { AreCoercible (view_schema S.shown (schema_of root_node.now)) (view_operation S.shown operation.now)
         (view_variables S.shown variables.now) }
-    ensures { AnswersAs S.shown
-        (λ r. IsWalkedOutcome (service_of Q.concrete Q.answer Q.root M.step M.torn S.shown root_node.now) walking
-        (outcome_of (view_schema S.shown (schema_of root_node.now)) (view_document S.shown document.now) (view_operation S.shown operation.now)
-        (view_variables S.shown variables.now)) context.old r context.new) result }
+    ensures { AnswersAs S.shown (λ r. IsWalkedOutcome (service_of Q.concrete Q.answer Q.root M.step M.torn S.shown root_node.now) walking
+        (outcome_in S.shown (view_schema S.shown (schema_of root_node.now)) document.now operation.now variables.now) context.old r context.new) result }
 {
     root_replies(root_node);
     let resolver = QueryResolver {
@@ -142,11 +138,9 @@ fn execute_root<
     requires valid { IsValid (view_schema S.shown schema.now) (view_document S.shown document.now) }
     requires member { In (documents.operation (view_operation S.shown operation.now)) (view_document S.shown document.now) }
     requires coercible { AreCoercible (view_schema S.shown schema.now) (view_operation S.shown operation.now) (view_variables S.shown variables.now) }
-    ensures { (disabled : _) → AnswersAs S.shown (λ r. IsWalkedOutcome
-        (service_at (meaning_of Q.concrete Q.answer resolver.now.query.now resolver.now.info.now)
-        (rooted_steps M.step M.torn steps.now.mutation.now steps.now.info.now) (Q.root resolver.now.query.now) (view_schema S.shown schema.now) disabled)
-        walking (outcome_of (view_schema S.shown schema.now) (view_document S.shown document.now) (view_operation S.shown operation.now)
-        (view_variables S.shown variables.now)) context.old r context.new) result }
+    ensures { WalksResolved Q.concrete Q.answer Q.root S.shown resolver.now.query.now resolver.now.info.now
+        (rooted_steps M.step M.torn steps.now.mutation.now steps.now.info.now) (view_schema S.shown schema.now) walking
+        document.now operation.now variables.now context.old result context.new }
 {
     execute_resolved(
         alloc, walking, document, operation, resolver, steps, schema, variables, context,
@@ -175,11 +169,8 @@ fn execute_resolved<
     requires valid { IsValid (view_schema S.shown schema.now) (view_document S.shown document.now) }
     requires member { In (documents.operation (view_operation S.shown operation.now)) (view_document S.shown document.now) }
     requires coercible { AreCoercible (view_schema S.shown schema.now) (view_operation S.shown operation.now) (view_variables S.shown variables.now) }
-    ensures { (disabled : _) → AnswersAs S.shown (λ r. IsWalkedOutcome
-        (service_at (meaning_of Q.concrete Q.answer resolver.now.query.now resolver.now.info.now) (M.steps steps.now) (Q.root resolver.now.query.now)
-        (view_schema S.shown schema.now) disabled)
-        walking (outcome_of (view_schema S.shown schema.now) (view_document S.shown document.now) (view_operation S.shown operation.now)
-        (view_variables S.shown variables.now)) context.old r context.new) result }
+    ensures { WalksResolved Q.concrete Q.answer Q.root S.shown resolver.now.query.now resolver.now.info.now (M.steps steps.now)
+        (view_schema S.shown schema.now) walking document.now operation.now variables.now context.old result context.new }
 {
     let undeclared = undeclared_type(alloc);
     let served = Served {
@@ -214,11 +205,8 @@ fn execute_operation<
     requires valid { IsValid (serving.schema_of S.shown served.now) (view_document S.shown document.now) }
     requires member { In (documents.operation (view_operation S.shown operation.now)) (view_document S.shown document.now) }
     requires coercible { AreCoercible (serving.schema_of S.shown served.now) (view_operation S.shown operation.now) (view_variables S.shown variables.now) }
-    ensures { (disabled : _) → AnswersAs S.shown
-        (λ r. IsWalkedOutcome (service_at (R.meaning served.now.resolver.now) (M.steps steps.now) root.now (serving.schema_of S.shown served.now) disabled)
-        served.now.walking
-        (outcome_of (serving.schema_of S.shown served.now) (view_document S.shown document.now) (view_operation S.shown operation.now)
-        (view_variables S.shown variables.now)) context.old r context.new) result }
+    ensures { WalksOperation S.shown (R.meaning served.now.resolver.now) (M.steps steps.now) root.now (serving.schema_of S.shown served.now)
+        served.now.walking document.now operation.now variables.now context.old result context.new }
 {
     match operation.item.operation_type {
         OperationType::Subscription => Err(GraphQLError::IsSubscription),

@@ -1,15 +1,14 @@
 //! Documents are read and validated once, and executed often (section 6.1 of the Specification).
 
-ghost use Rattle.std.specs.Prelude.{◌≡◌, Bool, MatchResult, Some, nat_lt};
+ghost use Rattle.std.specs.Prelude.{◌≡◌, Bool, MatchResult, nat_lt};
 ghost use Rattle.std.specs.List.{list_any};
-ghost use Rattle.graphql_spec.specs.Outcomes.{Reads};
 ghost use Rattle.graphql_spec.specs.Schema.{Schema};
 ghost use Rattle.juniper_syntax.specs.DocumentView.{view_document};
 ghost use Rattle.juniper_schema.specs.SchemaView.{view_schema};
 ghost use Rattle.juniper_intro.specs.RootView.{is_disabled, schema_of};
 ghost use Rattle.juniper.specs.Answering.{AnswersAs, request_of};
-ghost use Rattle.juniper.specs.Objections.{IsAccepted, IsWithin, Objects};
-ghost use Rattle.juniper.specs.PreparedView.{document_of, root_of, source_of};
+ghost use Rattle.juniper.specs.Objections.{IsWithin, Objects};
+ghost use Rattle.juniper.specs.PreparedView.{IsOfText, IsPreparedFor, document_of, root_of, source_of};
 ghost use Rattle.juniper.specs.Promised.{IsFullOutcome};
 ghost use Rattle.juniper.specs.RootView.{service_of};
 
@@ -85,9 +84,7 @@ pub fn prepare<'r, 'a, Q: GraphQLValue<S>, M: GraphQLType<S>, Sub: GraphQLType<S
     text: &'a str,
     bounds: &Bounds,
 ) -> Result<Prepared<'r, 'a, Q, M, Sub, S>, Objection>
-    ensures { MatchResult result
-        (λ p. (root_of p ≡ root.now) × (source_of p ≡ text.now)
-        × IsAccepted bounds.now text.now (view_schema S.shown (schema_of root.now)) (is_disabled root.now) (document_of S.shown p))
+    ensures { MatchResult result (λ p. IsPreparedFor S.shown bounds.now root.now text.now p)
         (λ e. Objects bounds.now text.now (view_schema S.shown (schema_of root.now)) (is_disabled root.now) e) }
 {
     let document = match read_within(alloc, text, bounds) {
@@ -145,7 +142,7 @@ pub fn execute_prepared<
     variables: &Variables<S>,
     context: &mut Q::Context,
 ) -> Result<(Value<S>, Vec<ExecutionError<S>>), GraphQLError>
-    ensures { Reads (source_of prepared.now) (Some (document_of S.shown prepared.now)) → AnswersAs S.shown
+    ensures { IsOfText S.shown prepared.now → AnswersAs S.shown
         (λ r. IsFullOutcome (service_of Q.concrete Q.answer Q.root M.step M.torn S.shown (root_of prepared.now))
         (request_of S.shown (source_of prepared.now) operation_name.entry variables.now) context.old r context.new) result }
 {

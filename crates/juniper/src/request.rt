@@ -1,16 +1,17 @@
 //! Requests: from a query text to data and errors (section 6.1 of the Specification).
 
-ghost use Rattle.std.specs.Prelude.{◌≡◌, MatchResult, None, Some, [], option_map};
+ghost use Rattle.std.specs.Prelude.{◌≡◌, MatchResult, None, Some, []};
 ghost use Rattle.graphql_spec.specs.Outcomes.{Reads};
 ghost use Rattle.graphql_spec.specs.Requests as requests;
 ghost use Rattle.graphql_spec.specs.Rules.{rule_errors};
 ghost use Rattle.juniper_syntax.specs.DocumentView.{view_document, view_operation};
 ghost use Rattle.juniper_syntax.specs.InputView.{view_variables};
 ghost use Rattle.juniper_schema.specs.SchemaView.{view_schema};
-ghost use Rattle.juniper.specs.Answering.{AnswersAs, AreCoercible, AreRefused, IsInvalid, IsUnchosen, StandsFor, request_of};
+ghost use Rattle.juniper.specs.Answering.{AnswersAs, IsInvalid, IsUnchosen, PassesCoercible, StandsFor, request_of};
 ghost use Rattle.juniper.specs.Promised.{IsFullOutcome};
 ghost use Rattle.juniper.specs.RequestErrors.{view_request_error};
 ghost use Rattle.juniper.specs.RootView.{service_of};
+ghost use Rattle.juniper.specs.Choices.{choice_in};
 
 use crate::error::GraphQLError;
 use crate::execute::execute_validated_query;
@@ -34,9 +35,8 @@ pub fn get_operation<'d, 'a, S: ScalarValue>(
     operation_name: Option<&str>,
 ) -> Result<&'d Spanning<Operation<'a, S>, Span>, GraphQLError>
     ensures { MatchResult result
-        (λ o. requests.choose (view_document S.shown document.now) (option_map (λ n. n.now) operation_name.entry)
-        ≡ requests.chosen (view_operation S.shown o.now))
-        (λ e. IsUnchosen (requests.choose (view_document S.shown document.now) (option_map (λ n. n.now) operation_name.entry)) (view_request_error e)) }
+        (λ o. choice_in S.shown document.now operation_name.entry ≡ requests.chosen (view_operation S.shown o.now))
+        (λ e. IsUnchosen (choice_in S.shown document.now operation_name.entry) (view_request_error e)) }
 {
     match choose(document.as_slice(), operation_name) {
         Chosen::One(operation) => Ok(operation),
@@ -86,10 +86,7 @@ pub fn check_variables<S: ScalarValue>(
     variables: &Variables<S>,
     schema: &SchemaType<S>,
 ) -> Result<(), GraphQLError>
-    ensures { MatchResult result
-        (λ _. AreCoercible (view_schema S.shown schema.now) (view_operation S.shown operation.now) (view_variables S.shown variables.now))
-        (λ e. StandsFor (AreRefused (view_schema S.shown schema.now) (view_operation S.shown operation.now) (view_variables S.shown variables.now))
-        (view_request_error e)) }
+    ensures { PassesCoercible (view_schema S.shown schema.now) (view_operation S.shown operation.now) (view_variables S.shown variables.now) result }
 {
     let given = Given::new(alloc, operation, variables)?;
     let errors = validate_given(alloc, &given, operation, schema)?;

@@ -11,7 +11,7 @@ ghost use Rattle.juniper_intro.specs.RootView.{is_disabled, schema_of};
 ghost use Rattle.juniper_schema.specs.SchemaView.{view_schema};
 ghost use Rattle.juniper_syntax.specs.DocumentView.{view_document, view_operation};
 ghost use Rattle.juniper_syntax.specs.InputView.{view_variables};
-ghost use Rattle.juniper.specs.Answering.{AnswersAs, AreCoercible, outcome_of};
+ghost use Rattle.juniper.specs.Answering.{AnswersAs, AreCoercible, outcome_in};
 ghost use Rattle.juniper.specs.RootView.{service_of};
 
 use crate::error::GraphQLError;
@@ -46,10 +46,8 @@ pub fn execute_by_join<
     requires member { In (documents.operation (view_operation S.shown operation.now)) (view_document S.shown document.now) }
     requires coercible { AreCoercible (view_schema S.shown (schema_of root_node.now)) (view_operation S.shown operation.now)
         (view_variables S.shown variables.now) }
-    ensures { AnswersAs S.shown
-        (λ r. IsOutcomeOf (service_of Q.concrete Q.answer Q.root M.step M.torn S.shown root_node.now) whole
-        (outcome_of (view_schema S.shown (schema_of root_node.now)) (view_document S.shown document.now) (view_operation S.shown operation.now)
-        (view_variables S.shown variables.now)) context.old r context.new) result }
+    ensures { AnswersAs S.shown (λ r. IsOutcomeOf (service_of Q.concrete Q.answer Q.root M.step M.torn S.shown root_node.now) whole
+        (outcome_in S.shown (view_schema S.shown (schema_of root_node.now)) document.now operation.now variables.now) context.old r context.new) result }
 {
     execute_walked(
         alloc,
