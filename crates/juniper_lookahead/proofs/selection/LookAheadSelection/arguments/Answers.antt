@@ -13,4 +13,4 @@ returns g c =
     let shown = g.S.ScalarValue.shown in
     let show = shown_argument (view_variables shown c.args.self.now.variables.now) in
     map-twice show (view_argument shown) c.iter.result.rest.now ∙ ap (λ as'. map show (map (view_argument shown) as')) c.iter.ensures.rest
-    ∙ ap (map show) c.written_arguments.ensures
+    ∙ ap (map show) c.written.ensures

@@ -6,4 +6,4 @@ use Rattle.juniper_lookahead.proofs.selection.LookAheadSelection.has_arguments.G
 
 pub returns : goal.returns
 unfolding view_selection child_at
-returns g c = empty-seen (view_argument g.S.ScalarValue.shown) c.written_arguments.result.now c.is_empty.ensures c.written_arguments.ensures
+returns g c = empty-seen (view_argument g.S.ScalarValue.shown) c.written.result.now c.is_empty.ensures c.written.ensures
