@@ -13,7 +13,7 @@ use Rattle.juniper_syntax.specs.declared.position.Span.{Span}
 use Rattle.juniper_syntax.specs.DocumentView.{view_arguments, view_field, view_head, view_directive, view_spread, inline_head, view_variable}
 use Rattle.juniper_syntax.specs.declared.ast.Arguments.{Arguments}
 use Rattle.juniper_syntax.specs.declared.ast.Directive.{Directive}
-use Rattle.juniper_syntax.specs.declared.ast.Field.{Field, out-Field}
+use Rattle.juniper_syntax.specs.declared.ast.Field.{Field}
 use Rattle.juniper_syntax.specs.declared.ast.FragmentSpread.{FragmentSpread}
 use Rattle.juniper_syntax.specs.declared.ast.InlineFragment.{InlineFragment, out-InlineFragment}
 use Rattle.juniper_syntax.specs.declared.ast.VariableDefinitions.{VariableDefinitions}
@@ -59,7 +59,7 @@ module _ {S : Type 0} (shown : S → Shown) where
   view_variables (Some v) = map (view_variable shown) v.item.items.items
 
   abbrev pub view_fields : List (Bor (Spanning (Field S) Span)) → List Head
-  view_fields = map (λ f. view_field f.now)
+  view_fields = map (λ f. view_field shown f.now)
 
   abbrev pub view_directives_at : List (Bor (Spanning (Directive S) Span)) → List spec.Directive
   view_directives_at = map (λ d. view_directive shown d.now)
