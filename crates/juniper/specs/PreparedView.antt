@@ -40,8 +40,8 @@ module _ {Q M Sub S C N I J K : Type 0} {values : Values Q S C N I} {query : Typ
   IsOfText shown p = Reads (source_of p) (Some (document_of shown p))
 
   -- it is for this root and of this text, which the bounds let pass, and its document is valid for the root
-  abbrev pub IsPreparedFor : (S → Shown) → Bounds →
+  abbrev pub IsPreparedFrom : (S → Shown) → Bounds →
       RootNode Q M Sub S C N I J K values query query_ref mutation mutation_ref subscription subscription_ref scalar equality shows → Text →
       Prepared Q M Sub S C N I J K values query query_ref mutation mutation_ref subscription subscription_ref scalar equality shows → Type 0
-  IsPreparedFor shown b root text p = (root_of p ≡ root) × (source_of p ≡ text)
+  IsPreparedFrom shown b root text p = (root_of p ≡ root) × (source_of p ≡ text)
       × IsAccepted b text (view_schema shown (schema_of root)) (is_disabled root) (document_of shown p)

@@ -8,7 +8,7 @@ ghost use Rattle.juniper_schema.specs.SchemaView.{view_schema};
 ghost use Rattle.juniper_intro.specs.RootView.{is_disabled, schema_of};
 ghost use Rattle.juniper.specs.Answering.{AnswersAs, request_of};
 ghost use Rattle.juniper.specs.Objections.{IsWithin, Objects};
-ghost use Rattle.juniper.specs.PreparedView.{IsOfText, IsPreparedFor, document_of, root_of, source_of};
+ghost use Rattle.juniper.specs.PreparedView.{IsOfText, IsPreparedFrom, document_of, root_of, source_of};
 ghost use Rattle.juniper.specs.Promised.{IsFullOutcome};
 ghost use Rattle.juniper.specs.RootView.{service_of};
 
@@ -84,7 +84,7 @@ pub fn prepare<'r, 'a, Q: GraphQLValue<S>, M: GraphQLType<S>, Sub: GraphQLType<S
     text: &'a str,
     bounds: &Bounds,
 ) -> Result<Prepared<'r, 'a, Q, M, Sub, S>, Objection>
-    ensures { MatchResult result (λ p. IsPreparedFor S.shown bounds.now root.now text.now p)
+    ensures { MatchResult result (λ p. IsPreparedFrom S.shown bounds.now root.now text.now p)
         (λ e. Objects bounds.now text.now (view_schema S.shown (schema_of root.now)) (is_disabled root.now) e) }
 {
     let document = match read_within(alloc, text, bounds) {
