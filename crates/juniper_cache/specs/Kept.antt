@@ -37,6 +37,11 @@ module _ {Q M Sub S C N I J K : Type 0} {values : Values Q S C N I} {query : Typ
   IsPreparedFor shown root b t p =
       (root_of p ≡ root) × (source_of p ≡ t) × IsAccepted b t (view_schema shown (schema_of root)) (is_disabled root) (document_of shown p)
 
+  -- its text is within the bounds, and its document valid for its root
+  abbrev pub IsWithinBounds : (S → Shown) → Bounds →
+      Prepared Q M Sub S C N I J K values query query_ref mutation mutation_ref subscription subscription_ref scalar equality shows → Type 0
+  IsWithinBounds shown b p = IsAccepted b (source_of p) (view_schema shown (schema_of (root_of p))) (is_disabled (root_of p)) (document_of shown p)
+
   -- what is kept of each text is prepared for it
   abbrev pub AreKept : (S → Shown) →
       RootNode Q M Sub S C N I J K values query query_ref mutation mutation_ref subscription subscription_ref scalar equality shows → Bounds →

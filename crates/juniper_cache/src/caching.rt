@@ -1,16 +1,13 @@
 //! What is done with a cache of documents (section 6.1 of the Specification).
 
-ghost use Rattle.std.specs.Prelude.{◌≡◌, ◌&&◌, ◌||◌, MatchResult, false};
-ghost use Rattle.std.specs.Str.{bytes_eq};
+ghost use Rattle.std.specs.Prelude.{◌≡◌, false};
 ghost use Rattle.graphql_spec.specs.Shown.{Text};
 ghost use Rattle.juniper.specs.Answering.{request_of};
-ghost use Rattle.juniper.specs.Objections.{IsAccepted, Objects};
-ghost use Rattle.juniper.specs.PreparedView.{document_of, root_of, source_of};
+ghost use Rattle.juniper.specs.PreparedView.{root_of, source_of};
 ghost use Rattle.juniper.specs.RootView.{service_of};
-ghost use Rattle.juniper_intro.specs.RootView.{is_disabled, schema_of};
-ghost use Rattle.juniper_schema.specs.SchemaView.{view_schema};
 ghost use Rattle.juniper_cache.specs.Answers.{IsAnswer};
-ghost use Rattle.juniper_cache.specs.CacheView.{bounds_of, has_text, root_in};
+ghost use Rattle.juniper_cache.specs.CacheView.{KeepsText, bounds_of, has_text, root_in};
+ghost use Rattle.juniper_cache.specs.Kept.{IsWithinBounds};
 
 use crate::cache::DocumentCache;
 use bumpalo::Bump;
@@ -64,10 +61,7 @@ impl<
     pub fn keep(&mut self, alloc: Global, text: &str) -> Result<bool, Objection>
         ensures root { root_in self.new ≡ root_in self.old }
         ensures bounds { bounds_of self.new ≡ bounds_of self.old }
-        ensures kept { MatchResult result
-            (λ is_kept. (t : Text) → has_text self.new t ≡ (has_text self.old t || (is_kept && bytes_eq text.now t)))
-            (λ e. ((t : Text) → has_text self.new t ≡ has_text self.old t)
-            × Objects (bounds_of self.old) text.now (view_schema S.shown (schema_of (root_in self.old))) (is_disabled (root_in self.old)) e) }
+        ensures kept { KeepsText S.shown self.old text.now result self.new }
     {
         if self.kept.contains_key(text) {
             return Ok(true);
@@ -88,10 +82,7 @@ impl<
     fn keep_held(&mut self, alloc: Global, held: &'t str) -> Result<bool, Objection>
         ensures root { root_in self.new ≡ root_in self.old }
         ensures bounds { bounds_of self.new ≡ bounds_of self.old }
-        ensures kept { MatchResult result
-            (λ is_kept. (t : Text) → has_text self.new t ≡ (has_text self.old t || (is_kept && bytes_eq held.now t)))
-            (λ e. ((t : Text) → has_text self.new t ≡ has_text self.old t)
-            × Objects (bounds_of self.old) held.now (view_schema S.shown (schema_of (root_in self.old))) (is_disabled (root_in self.old)) e) }
+        ensures kept { KeepsText S.shown self.old held.now result self.new }
     {
         match prepare(alloc, self.root, held, &self.bounds) {
             Err(objection) => Err(objection),
@@ -161,8 +152,7 @@ fn execute_kept<
     variables: &Variables<S>,
     context: &mut Q::Context,
 ) -> Result<(Value<S>, Vec<ExecutionError<S>>), Objection>
-    ensures { (b : Bounds) → IsAccepted b (source_of prepared.now) (view_schema S.shown (schema_of (root_of prepared.now)))
-        (is_disabled (root_of prepared.now)) (document_of S.shown prepared.now) →
+    ensures { (b : Bounds) → IsWithinBounds S.shown b prepared.now →
         IsAnswer (service_of Q.concrete Q.answer Q.root M.step M.torn S.shown (root_of prepared.now)) b S.shown
         (request_of S.shown (source_of prepared.now) operation_name.entry variables.now) context.old result context.new }
 {
