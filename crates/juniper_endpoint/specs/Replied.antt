@@ -1,5 +1,5 @@
 -- What is replied to a request over a root, within bounds (6.1, 7.1; "GraphQL over HTTP", status codes).
-use Rattle.std.specs.Prelude.{◌≡◌, ◌≢◌, ◌⊎◌, ℕ, Bool, false, List, [], map, filter, Option, Some, None}
+use Rattle.std.specs.Prelude.{◌≡◌, ◌≢◌, ◌⊎◌, ℕ, Bool, false, List, [], map, filter, string_bytes, Option, Some, None}
 use Rattle.std.specs.List.{list_any}
 use Rattle.std.specs.Str.{bytes_eq}
 use Rattle.graphql_spec.specs.Documents.{Document, Operation, VariableDefinition, mutation, variables_of}
@@ -17,6 +17,7 @@ use Rattle.juniper.specs.RequestErrors.{RequestError, not_valid}
 use Rattle.juniper.specs.declared.prepared.Bounds.{Bounds}
 use Rattle.juniper.specs.declared.prepared.Objection.{Objection}
 use Rattle.juniper.specs.declared.prepared.Objection.TheVariants as objection
+use Rattle.juniper_http.specs.declared.endpoint.Reply.{Reply}
 use Rattle.juniper_http.specs.declared.outcome.Outcome.{Outcome}
 use Rattle.juniper_http.specs.declared.outcome.Outcome.TheVariants.{Executed, Refused, Writes, OutOfMemory}
 use Rattle.juniper_json.specs.AnswerText.{answer_text}
@@ -113,3 +114,7 @@ module _ {C N : Type 0} (S : Service C N) (b : Bounds) (a : Asked) where
     Replies Refused line after = IsRefused line after ⊎ ((after ≡ c) × (IsPastBounds line ⊎ IsUnfitting line))
     Replies Writes line after = (after ≡ c) × (may_write ≡ false) × IsMutation × (line ≡ bare_line writes_text)
     Replies OutOfMemory line after = (after ≡ c) ⊎ (MayRun may_write × ((r : Response) × IsFullOutcome S (request_asked a) c r after))
+
+    -- where the document is taken, this is the reply
+    abbrev pub RepliesWhereTaken : Document → Reply → C → Type 0
+    RepliesWhereTaken d reply after = IsTaken d → Replies reply.outcome (string_bytes reply.line) after

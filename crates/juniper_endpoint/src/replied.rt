@@ -1,6 +1,6 @@
 //! Requests whose document is prepared.
 
-ghost use Rattle.std.specs.Prelude.{◌≡◌, ℕ, string_bytes};
+ghost use Rattle.std.specs.Prelude.{◌≡◌, ℕ};
 ghost use Rattle.juniper.specs.Objections.{IsAccepted};
 ghost use Rattle.juniper.specs.PreparedView.{document_of, root_of, source_of};
 ghost use Rattle.juniper.specs.RootView.{service_of};
@@ -8,7 +8,7 @@ ghost use Rattle.juniper.specs.declared.prepared.Bounds.{Bounds};
 ghost use Rattle.juniper_request.specs.Requests.{view_request};
 ghost use Rattle.juniper_syntax.specs.Scalars.{default_shown};
 ghost use Rattle.juniper_endpoint.specs.Looks.{IsGivenBy};
-ghost use Rattle.juniper_endpoint.specs.Replied.{IsTaken, Replies};
+ghost use Rattle.juniper_endpoint.specs.Replied.{RepliesWhereTaken};
 
 use crate::lines::{answered_reply, bare_reply, without_memory};
 use crate::look::{Finding, look};
@@ -36,10 +36,9 @@ pub fn reply_prepared<
 ) -> Reply
     requires text { source_of prepared.now ≡ request.now.query.now }
     requires given { IsGivenBy (view_request request.now).variables given.now }
-    ensures { (b : Bounds) (most : ℕ) → IsTaken (service_of Q.concrete Q.answer Q.root M.step M.torn default_shown (root_of prepared.now)) b
-        (view_request request.now) (document_of default_shown prepared.now) →
-        Replies (service_of Q.concrete Q.answer Q.root M.step M.torn default_shown (root_of prepared.now)) b (view_request request.now) most may_write
-        context.old result.outcome (string_bytes result.line) context.new }
+    ensures { (b : Bounds) (most : ℕ) →
+        RepliesWhereTaken (service_of Q.concrete Q.answer Q.root M.step M.torn default_shown (root_of prepared.now)) b (view_request request.now) most
+        may_write context.old (document_of default_shown prepared.now) result context.new }
 {
     match look(alloc, request, &given.refused, may_write) {
         Err(_) => without_memory(alloc),
