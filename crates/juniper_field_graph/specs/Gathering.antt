@@ -7,6 +7,8 @@ use Rattle.std.specs.Cmp.Lexicographic.{slice_cmp}
 use Rattle.std.specs.List.{slice_get}
 use Rattle.std.specs.Ordering.{nat_cmp}
 use Rattle.std.specs.Str.{bytes_eq}
+use Rattle.std.specs.declared.cmp.PartialEq.{Ghosts as Equality}
+use Rattle.std.specs.declared.fmt.Debug.{Ghosts as Shows}
 use Rattle.graphql_spec.specs.Shown.{Shown, Name}
 use Rattle.graphql_spec.specs.Documents.{Definition, Document, Fragment, Head, Selections, fragment, operation, written}
 use Rattle.graphql_spec.specs.Fields.{declared_type}
@@ -25,6 +27,7 @@ use Rattle.juniper_merging.specs.Tables.{below_in, set_at}
 use Rattle.juniper_merging.specs.declared.sets.Gathering.{Gathering}
 use Rattle.juniper_meta.specs.MetaView.{view_type}
 use Rattle.juniper_schema.specs.SchemaView.{view_schema}
+use Rattle.juniper_syntax.specs.declared.scalar.ScalarValue.{Ghosts as Scalars}
 use Rattle.juniper_written.specs.Order.{IsInOrder}
 use Rattle.juniper_field_graph.specs.GraphView.{IsGraphOf, IsPushed, WhereFits, heads_of, table_in, vertices_of, written_of}
 use Rattle.juniper_field_graph.specs.declared.gathering.Gathered.{Gathered}
@@ -210,7 +213,7 @@ module _ {S : Type 0} (shown : S → Shown) where
   PushesTo s old new type p h below n m = WhereFits shown s old type p h below ((i : ℕ) × IsPushed shown s old new p h below i
       × ((t : List (List ℕ)) (all : List ℕ) → IsSetOf t n all → IsSetOf t m (all ++ i ∷ [])))
 
-module _ {S : Type 0} (shown : S → Shown) (k : Known S) where
+module _ {S : Type 0} {scalar : Scalars S} {equality : Equality S} {shows : Shows S} (shown : S → Shown) (k : Known S scalar equality shows) where
   -- the schema that is known
   abbrev pub schema_in : Schema
   schema_in = view_schema shown k.schema.now
