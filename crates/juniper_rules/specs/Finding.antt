@@ -1,5 +1,7 @@
 -- What the phases of rules find: errors, definition by definition (5).
 use Rattle.std.specs.Prelude.{◌≡◌, ◌++◌, ℕ, Bool, List, [], map}
+use Rattle.std.specs.declared.cmp.PartialEq.{Ghosts as Equality}
+use Rattle.std.specs.declared.fmt.Debug.{Ghosts as Shows}
 use Rattle.graphql_spec.specs.Shown.{Shown}
 use Rattle.graphql_spec.specs.Documents.{Definition, Document, VariableDefinition}
 use Rattle.graphql_spec.specs.Inputs.{Variables}
@@ -10,6 +12,7 @@ use Rattle.graphql_spec.specs.Schema.{Schema}
 use Rattle.graphql_spec.specs.ValidityLaws.{HasGoodNames}
 use Rattle.juniper_syntax.specs.RuleView.{view_rule_error}
 use Rattle.juniper_syntax.specs.declared.rule.RuleError.{RuleError}
+use Rattle.juniper_syntax.specs.declared.scalar.ScalarValue.{Ghosts as Scalars}
 use Rattle.juniper_schema.specs.SchemaView.{view_schema}
 use Rattle.juniper_written.specs.NamesBefore.{IsEarlier}
 use Rattle.juniper_written.specs.SpreadsView.{AreFragmentsOf}
@@ -65,7 +68,7 @@ module _ {S : Type 0} (shown : S → Shown) where
   ReportsTypes s disabled d before l old new = IsListedOnTypes shown s l →
       Reports old new (rules.type_errors s disabled d before (definition_of shown l.listed.now))
 
-module _ {S : Type 0} (shown : S → Shown) (g : Surroundings S) where
+module _ {S : Type 0} {scalar : Scalars S} {equality : Equality S} {shows : Shows S} (shown : S → Shown) (g : Surroundings S scalar equality shows) where
   -- the schema beside a definition
   abbrev pub schema_beside : Schema
   schema_beside = view_schema shown g.schema.now
