@@ -17,9 +17,9 @@ use Rattle.graphql_spec.specs.Selections.{Forest, Occurrence, all_below, occurre
 use Rattle.graphql_spec.specs.Types.{TypeRef, innermost, required}
 use Rattle.graphql_spec.specs.Values.{Entries, Value, is_null}
 use Rattle.graphql_spec.proofs.Completing.{keys-merge}
-use Rattle.juniper_collect.specs.Collected.{IsReady, expansion, view_all, view_collected}
-use Rattle.juniper_collect.specs.FragmentView.{ExpandAlike, IsMade, fragments_in}
-use Rattle.juniper_collect.specs.declared.collecting.Collector.{Collector}
+use Rattle.juniper_lookahead.specs.Collected.{IsReady, expansion, view_all, view_collected}
+use Rattle.juniper_lookahead.specs.FragmentView.{ExpandAlike, IsMade, fragments_in}
+use Rattle.juniper_lookahead.specs.declared.collecting.Collector.{Collector}
 use Rattle.juniper_lookahead.specs.declared.occurrences.Occurrence.{Occurrence as CodeOccurrence}
 use Rattle.juniper_conversions.specs.declared.field_error.ResolveError.{ResolveError}
 use Rattle.juniper_conversions.specs.declared.field_error.ResolveError.TheVariants.{Field, Memory}

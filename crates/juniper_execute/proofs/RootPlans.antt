@@ -12,8 +12,8 @@ use Rattle.graphql_spec.specs.Schema.{Schema}
 use Rattle.graphql_spec.specs.Selections.{Occurrence, keys, occurrences, with_key}
 use Rattle.graphql_spec.specs.Values.{Entries, Value, no_entries, null, object, put}
 use Rattle.graphql_spec.proofs.Running.{may-stop-at, none-ran, one-more-ran}
-use Rattle.juniper_collect.specs.Collected.{expansion, view_all}
-use Rattle.juniper_collect.specs.declared.collecting.Collector.{Collector}
+use Rattle.juniper_lookahead.specs.Collected.{expansion, view_all}
+use Rattle.juniper_lookahead.specs.declared.collecting.Collector.{Collector}
 use Rattle.juniper_lookahead.specs.declared.occurrences.Enclosing.{Enclosing}
 use Rattle.juniper_walk.specs.declared.plan.GroupRange.{GroupRange}
 use Rattle.juniper_walk.specs.declared.plan.Plan.{Plan}

@@ -8,9 +8,9 @@ use Rattle.graphql_spec.specs.Fragments.{HasNoCycle, expand}
 use Rattle.graphql_spec.specs.Inputs.{Variables}
 use Rattle.graphql_spec.specs.Schema.{Schema}
 use Rattle.graphql_spec.specs.Selections.{Forest, Occurrence, occurrences}
-use Rattle.juniper_collect.specs.Collected.{view_all}
-use Rattle.juniper_collect.specs.FragmentView.{IsMade, fragments_in}
-use Rattle.juniper_collect.specs.declared.collecting.Collector.{Collector}
+use Rattle.juniper_lookahead.specs.Collected.{view_all}
+use Rattle.juniper_lookahead.specs.FragmentView.{IsMade, fragments_in}
+use Rattle.juniper_lookahead.specs.declared.collecting.Collector.{Collector}
 use Rattle.juniper_conversions.specs.PathView.{path_place}
 use Rattle.juniper_syntax.specs.declared.position.Span.{Span}
 use Rattle.juniper_syntax.specs.declared.position.Spanning.{Spanning}

@@ -8,9 +8,9 @@ use Rattle.graphql_spec.specs.Fields.{is_possible}
 use Rattle.graphql_spec.specs.Resolvers.{Reply, World}
 use Rattle.graphql_spec.specs.Selections.{Forest, Occurrence, occurrences}
 use Rattle.graphql_spec.specs.Shown.{Name, Shown}
-use Rattle.juniper_collect.specs.Collected.{expansion, view_all}
-use Rattle.juniper_collect.specs.declared.collecting.Collector.{Collector}
-use Rattle.juniper_collect.specs.declared.fragments.FragmentMap.{FragmentMap}
+use Rattle.juniper_lookahead.specs.Collected.{expansion, view_all}
+use Rattle.juniper_lookahead.specs.declared.collecting.Collector.{Collector}
+use Rattle.juniper_lookahead.specs.declared.fragments.FragmentMap.{FragmentMap}
 use Rattle.juniper_lookahead.specs.declared.occurrences.Enclosing.{Enclosing}
 use Rattle.juniper_schema.specs.SchemaView.{view_schema}
 use Rattle.juniper_syntax.specs.DocumentView.{view_selections}

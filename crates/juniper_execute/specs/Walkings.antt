@@ -19,8 +19,8 @@ use Rattle.graphql_spec.specs.Shown.{Name, Shown}
 use Rattle.graphql_spec.specs.Types.{named}
 use Rattle.graphql_spec.specs.Values.{Value}
 use Rattle.graphql_spec.specs.Walk.{IsAnswerFor, IsMutationAnswerFor}
-use Rattle.juniper_collect.specs.declared.collecting.Collector.{Collector}
-use Rattle.juniper_collect.specs.declared.fragments.FragmentMap.{FragmentMap}
+use Rattle.juniper_lookahead.specs.declared.collecting.Collector.{Collector}
+use Rattle.juniper_lookahead.specs.declared.fragments.FragmentMap.{FragmentMap}
 use Rattle.juniper_conversions.specs.ErrorView.{view_listed}
 use Rattle.juniper_conversions.specs.declared.execution_error.ExecutionError.{ExecutionError}
 use Rattle.juniper_lookahead.specs.Expansion.{VariableMap}

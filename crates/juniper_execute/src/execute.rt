@@ -14,7 +14,7 @@ use crate::node_resolver::{MutationSteps, NodeResolver};
 use crate::root_walk::RootWalk;
 use crate::served::Served;
 use crate::service::Service;
-use juniper_collect::fragments_of;
+use juniper_lookahead::fragments_of;
 use juniper_syntax::{Document, Operation, ScalarValue, Span, Spanning, Value, Variables};
 use juniper_values::ExecutionError;
 use juniper_walk::{root_path, sort_errors};

@@ -1,6 +1,6 @@
 //! What the root groups of a mutation are run with (section 6.2.2 of the Specification).
 
-use juniper_collect::FragmentMap;
+use juniper_lookahead::FragmentMap;
 use juniper_syntax::{Selection, Variables};
 use juniper_types::FieldPath;
 use std::alloc::Global;

@@ -13,7 +13,7 @@ use crate::coerce::kept_arguments;
 use crate::node_resolver::{NodeResolver, NodeTypes, Nodes, all_replies, only_reply};
 use crate::question::{Question, arguments_of, declared_type, shown_type};
 use juniper_assemble::Completer;
-use juniper_collect::Conditions;
+use juniper_lookahead::Conditions;
 use juniper_meta::MetaType;
 use juniper_schema::SchemaType;
 use juniper_syntax::{Field as Written, ScalarValue, Span, Spanning, Type, Variables};

@@ -5,7 +5,7 @@ ghost use Rattle.graphql_spec.specs.Laws.{Merges};
 ghost use Rattle.graphql_spec.specs.Outcomes.{responds};
 ghost use Rattle.graphql_spec.specs.Selections.{all_below};
 ghost use Rattle.graphql_spec.specs.Types.{innermost};
-ghost use Rattle.juniper_collect.specs.Collected.{IsReady, expansion};
+ghost use Rattle.juniper_lookahead.specs.Collected.{IsReady, expansion};
 ghost use Rattle.juniper_conversions.specs.ErrorView.{view_listed};
 ghost use Rattle.juniper_conversions.specs.PathView.{path_place};
 ghost use Rattle.juniper_lookahead.specs.Sites.{IsFirstOf};
@@ -22,8 +22,7 @@ ghost use Rattle.juniper_execute.specs.Serving.{IsServiceMade, IsServicePlan, Is
 use crate::node_resolver::NodeResolver;
 use crate::question::Question;
 use crate::service::Service;
-use juniper_collect::{Collector, FragmentMap};
-use juniper_lookahead::{Enclosing, Occurrence};
+use juniper_lookahead::{Collector, Enclosing, FragmentMap, Occurrence};
 use juniper_syntax::{ScalarValue, Selection, SourcePosition};
 use juniper_twin::Group;
 use juniper_types::{FieldPath, first_of};

@@ -1,48 +1,68 @@
--- The fragment of a name: among a map's fragments, and in the map.
-use Rattle.std.proofs.Common.{◌≡◌, ℕ, Bool, true, false, List, [], ◌∷◌, map, Option, Some, option_map, Bor, refl, sym, ap, inl, inr}
+-- The first fragment of a name: among the entries of a map, and by what counts where it is spread.
+use Rattle.std.proofs.Common.{◌≡◌, ℕ, Bool, true, false, cond, List, [], ◌∷◌, map, Option, Some, None, option_map, is_some, Bor, refl, sym, ap, ◌∙◌}
 use Rattle.std.specs.Map.{lookup}
-use Rattle.std.specs.HashMap.{get_by}
 use Rattle.std.specs.Str.{bytes_eq}
-use Rattle.std.specs.Bool.{Decides}
-use Rattle.std.proofs.lemmas.Bool.{cases_Bool, both_ways}
-use Rattle.std.proofs.lemmas.Slice.Eq.{bytes_eq-Decides}
+use Rattle.std.proofs.lemmas.Bool.{both_ways}
 use Rattle.graphql_spec.specs.Shown.{Shown, Name}
-use Rattle.graphql_spec.specs.Documents as spec
+use Rattle.graphql_spec.specs.Documents.{Fragment}
 use Rattle.graphql_spec.specs.Fragments.{fragment_of}
-use Rattle.juniper_syntax.specs.declared.ast.Fragment.{Fragment}
-use Rattle.juniper_lookahead.specs.Expansion.{FragmentsByName, fragments_among, named_fragment}
-use Rattle.juniper_lookahead.specs.Parts.{fragment_at}
+use Rattle.juniper_syntax.specs.declared.ast.Fragment.{Fragment as FragmentType}
+use Rattle.juniper_lookahead.specs.Choices.{Core, core}
+use Rattle.juniper_lookahead.specs.Expansion.{named_fragment}
+use Rattle.juniper_lookahead.specs.FragmentView.{unplaced, view_lent_fragment}
+use Rattle.juniper_lookahead.specs.Nesting.{view_core}
 
-decided : {P : Type 0} (r : Bool) → Decides r P → r ≡ true → P
-decided true d e = d.0 refl
-decided false d e = absurd (both_ways false refl e)
+-- ## Options
 
-same : (k j : Name) → bytes_eq k j ≡ true → k ≡ j
-same k j e = decided (bytes_eq k j) (bytes_eq-Decides k j) e
+pub cond-map : {A B : Type 0} (f : A → B) (b : Bool) (x : A) (o : Option A) → option_map f (cond b (Some x) o) ≡ cond b (Some (f x)) (option_map f o)
+cond-map f true x o = refl
+cond-map f false x o = refl
 
-module _ {S : Type 0} (shown : S → Shown) (k : Name) where
-  abbrev among : List (Bor (List ℕ) × Bor (Fragment S)) → Option spec.Fragment
-  among es = fragment_of (map (named_fragment shown) es) k
+map-map : {A B C : Type 0} (g : B → C) (f : A → B) (o : Option A) → option_map g (option_map f o) ≡ option_map (λ x. g (f x)) o
+map-map g f None = refl
+map-map g f (Some x) = refl
 
-  abbrev held : List (Bor (List ℕ) × Bor (Fragment S)) → Option spec.Fragment
-  held es = option_map (λ f. fragment_at shown k f.now) (lookup (λ n. bytes_eq k n.now) es)
+core-unplaced : (o : Option Fragment) → option_map core (option_map unplaced o) ≡ option_map core o
+core-unplaced None = refl
+core-unplaced (Some f) = refl
 
-  -- the first entry has the name, or the others decide
-  first-has : (e : Bor (List ℕ) × Bor (Fragment S)) (es : List (Bor (List ℕ) × Bor (Fragment S))) → bytes_eq k e.0.now ≡ true → among (e ∷ es) ≡ held (e ∷ es)
-  unfolding fragment_of named_fragment fragment_at
-  first-has e es q = rw q (ap (λ j. Some (fragment_at shown j e.1.now)) (sym (same k e.0.now q)))
+-- ## What is found among entries
 
-  first-lacks : (e : Bor (List ℕ) × Bor (Fragment S)) (es : List (Bor (List ℕ) × Bor (Fragment S))) → bytes_eq k e.0.now ≡ false → among es ≡ held es
-      → among (e ∷ es) ≡ held (e ∷ es)
-  unfolding fragment_of named_fragment
-  first-lacks e es q others = rw q others
+module _ {S : Type 0} (shown : S → Shown) (es : List (Bor (List ℕ) × Bor (FragmentType S))) (k : Name) where
+  -- the fragments are those of the entries
+  pub named-among : (fs : List Fragment) → option_map (λ f. view_lent_fragment shown f.now) (lookup (λ n. bytes_eq k n.now) es)
+      ≡ option_map unplaced (fragment_of fs k) → option_map core (fragment_of fs k) ≡ option_map (λ f. view_core shown f.now) (lookup (λ n. bytes_eq k n.now) es)
+  named-among fs same = sym (core-unplaced (fragment_of fs k))
+      ∙ (ap (option_map core) (sym same) ∙ map-map core (λ f. view_lent_fragment shown f.now) (lookup (λ n. bytes_eq k n.now) es))
 
-  entries-agree : (es : List (Bor (List ℕ) × Bor (Fragment S))) → among es ≡ held es
-  unfolding fragment_of
-  entries-agree [] = refl
-  entries-agree (e ∷ es) = elim (cases_Bool (bytes_eq k e.0.now)) [ inl q ↦ first-has e es q | inr q ↦ first-lacks e es q (entries-agree es) ]
+pub among-entries : {S : Type 0} (shown : S → Shown) (es : List (Bor (List ℕ) × Bor (FragmentType S))) (k : Name) →
+    option_map core (fragment_of (map (named_fragment shown) es) k) ≡ option_map (λ f. view_core shown f.now) (lookup (λ n. bytes_eq k n.now) es)
+unfolding fragment_of named_fragment
+among-entries shown [] k = refl
+among-entries shown (e ∷ es) k =
+    cond-map core (bytes_eq k e.0.now) (named_fragment shown e) (fragment_of (map (named_fragment shown) es) k)
+    ∙ (ap (cond (bytes_eq k e.0.now) (Some (view_core shown e.1.now))) (among-entries shown es k)
+    ∙ sym (cond-map (λ f. view_core shown f.now) (bytes_eq k e.0.now) e.1 (lookup (λ n. bytes_eq k n.now) es)))
 
-  pub found-by-name : (m : FragmentsByName S) → fragment_of (fragments_among shown m) k
-      ≡ option_map (λ f. fragment_at shown k f.now) (get_by (λ n. bytes_eq k n.now) m)
-  unfolding fragments_among
-  found-by-name m = entries-agree m.entries
+-- ## What was found
+
+true_false : {P : Type 0} (b : Bool) → b ≡ true → b ≡ false → P
+true_false b t f = absurd (both_ways b f t)
+
+abbrev value_or : {A : Type 0} → A → Option A → A
+value_or a None = a
+value_or a (Some x) = x
+
+-- a fragment is found of which this counts
+pub record IsFound (o : Option Fragment) (c : Core) : Type 0 where
+  pub fragment : Fragment
+  pub is : o ≡ Some fragment
+  pub counts : core fragment ≡ c
+
+pub found-fragment : (o : Option Fragment) (c : Core) → option_map core o ≡ Some c → IsFound o c
+found-fragment None c is = true_false true refl (sym (ap is_some is))
+found-fragment (Some x) c is = record { fragment = x; is = refl; counts = ap (value_or (core x)) is }
+
+pub no-fragment : (o : Option Fragment) → option_map core o ≡ None → o ≡ None
+no-fragment None is = refl
+no-fragment (Some x) is = true_false true refl (ap is_some is)

@@ -1,8 +1,14 @@
 pub mod Admitting
 pub mod ByName
+pub mod FragmentMaps
+pub mod Counting
+pub mod Alike
 pub mod Nesting
+pub mod Chosen
 pub mod Holding
 pub mod Gathering
+pub mod ForType
+pub mod Alone
 pub mod Below
 pub mod Going
 pub mod NoSpreads

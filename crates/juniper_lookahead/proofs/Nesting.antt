@@ -9,8 +9,7 @@ use Rattle.juniper_syntax.specs.declared.ast.Fragment.{Fragment}
 use Rattle.juniper_syntax.specs.declared.ast.InlineFragment.{InlineFragment as InlineType, out-InlineFragment}
 use Rattle.juniper_syntax.specs.declared.ast.Selection.{Selection, InlineFragment, size-Selection}
 use Rattle.juniper_syntax.specs.declared.ast.Selection.TheViews.{sized-InlineFragment, size_is-InlineFragment}
-use Rattle.juniper_lookahead.specs.Expansion.{FragmentsByName}
-use Rattle.juniper_lookahead.specs.Parts.{nesting, deepest}
+use Rattle.juniper_lookahead.specs.Nesting.{nesting, deepest_of}
 
 module _ {S : Type 0} where
   shallow_at : (es : List (Bor (List ℕ) × Bor (Fragment S))) (f : Bor (Fragment S)) (i : ℕ) → i < length (values_of es) → f ≡ get_or (values_of es) i f →
@@ -19,9 +18,10 @@ module _ {S : Type 0} where
   shallow_at (e ∷ es) f zero p q = let d = ap (λ (x : Bor (Fragment S)). nesting x.now.selection_set.items) q in omega (arith, d)
   shallow_at (e ∷ es) f (suc i) p q = let d = shallow_at es f i (omega arith) q in omega (arith, d)
 
-  pub value_shallow : (m : FragmentsByName S) (f : Bor (Fragment S)) → IsAmong (values_of m.entries) f → nesting f.now.selection_set.items ≤ deepest m
-  unfolding deepest
-  value_shallow m f h = shallow_at m.entries f h.0 h.1.0 h.1.1
+  pub value_shallow : (es : List (Bor (List ℕ) × Bor (Fragment S))) (f : Bor (Fragment S)) → IsAmong (values_of es) f
+      → nesting f.now.selection_set.items ≤ deepest_of es
+  unfolding deepest_of
+  value_shallow es f h = shallow_at es f h.0 h.1.0 h.1.1
 
   pub inline_deeper : (s : Spanning (InlineType S) Span) → nesting (out-InlineFragment S s.item).selection_set.items < size-Selection S (InlineFragment s)
   unfolding nesting

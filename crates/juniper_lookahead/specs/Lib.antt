@@ -3,6 +3,9 @@ pub mod Expansion
 pub mod SelectionView
 pub mod ChildrenView
 pub mod GoingView
+pub mod Choices
+pub mod Nesting
+pub mod Choosing
 pub mod Parts
 pub mod EqualityLaws
 pub mod InputEquality
@@ -11,3 +14,6 @@ pub mod ValueView
 pub mod Selected
 pub mod Sites
 pub mod OccurrencesView
+pub mod FragmentView
+pub mod Collected
+pub mod Singles

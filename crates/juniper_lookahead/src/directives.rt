@@ -5,7 +5,7 @@ ghost use Rattle.graphql_spec.specs.Directives.{passes, argument_named, conditio
 ghost use Rattle.graphql_spec.specs.Directives as spec;
 ghost use Rattle.graphql_spec.specs.Documents.{written};
 ghost use Rattle.juniper_syntax.specs.InputView.{view_input, view_variables};
-ghost use Rattle.juniper_syntax.specs.DocumentView.{view_arguments, view_directive};
+ghost use Rattle.juniper_syntax.specs.DocumentView.{view_arguments, view_directive, view_directives};
 ghost use Rattle.juniper_lookahead.specs.DirectiveView.{view_lent};
 
 use juniper_syntax::ast::Arguments;
@@ -31,6 +31,28 @@ pub fn admits<S: ScalarValue>(
         }
     }
     true
+}
+
+/// The same of directives that may be written.
+pub(crate) fn is_admitted<S: ScalarValue>(
+    directives: &Option<Vec<Spanning<Directive<'_, S>, Span>>>,
+    variables: &Variables<S>,
+) -> bool
+    ensures { result ≡ spec.admits (passes (view_variables S.shown variables.now)) (view_directives S.shown directives.now) }
+{
+    admits(lent(directives), variables)
+}
+
+/// The directives, lent.
+fn lent<'b, 'a, S: ScalarValue>(
+    directives: &'b Option<Vec<Spanning<Directive<'a, S>, Span>>>,
+) -> Option<&'b [Spanning<Directive<'a, S>, Span>]>
+    ensures { view_lent S.shown result ≡ view_directives S.shown directives.now }
+{
+    match directives {
+        Some(directives) => Some(directives.as_slice()),
+        None => None,
+    }
 }
 
 #[tactic(auto, unfolding(graphql_spec::specs::Directives::passes, graphql_spec::specs::Directives::is_boolean))]

@@ -1,14 +1,19 @@
-//! What a resolver may see of the selections below its field, and which of them are taken.
+//! The fields that selections hold: for an object type (CollectFields, section 6.3.2 of the Specification), and for whatever types as
+//! a resolver sees those below its field.
 #![tactic(auto)]
 
 mod argument;
 mod arguments;
 mod children;
+mod children_below;
 #[cfg(test)]
 mod children_tests;
+mod choosing;
 mod collecting;
+mod conditions;
 mod directives;
 mod equality;
+mod fragments;
 mod going_over;
 pub mod laws;
 pub mod look_ahead_list;
@@ -19,6 +24,7 @@ mod occurrences_iter;
 mod parts;
 mod selection;
 mod showing;
+mod singles;
 #[cfg(test)]
 mod tests;
 mod values;
@@ -26,8 +32,12 @@ mod values;
 pub use argument::LookAheadArgument;
 pub use arguments::ArgumentsIter;
 pub use children::LookAheadChildren;
+pub use collecting::{Collected, Collector, collect_fields};
+pub use conditions::Conditions;
 pub use directives::admits;
+pub use fragments::{FragmentMap, fragments_of};
 pub use going_over::{ChildrenIntoIter, ChildrenIter, NamesIter};
 pub use occurrences::{Enclosing, Occurrence, OccurrencesIter};
 pub use selection::{Applies, LookAheadSelection};
+pub use singles::{Single, collect_singles};
 pub use values::{LookAheadList, LookAheadObject, LookAheadValue};

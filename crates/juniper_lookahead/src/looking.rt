@@ -7,7 +7,8 @@ ghost use Rattle.juniper_lookahead.specs.SelectionView.{view_selection};
 ghost use Rattle.juniper_lookahead.specs.ChildrenView.{applies_to, children_for, children_of, name_of, view_children};
 
 use crate::children::LookAheadChildren;
-use crate::collecting::add_children;
+use crate::children_below::add_children;
+use crate::choosing::{AnyType, Choosing, FragmentSource};
 use crate::selection::{Applies, LookAheadSelection};
 use juniper_syntax::{Field, Fragments, ScalarValue, Variables};
 use std::alloc::{AllocError, Global};
@@ -89,9 +90,15 @@ impl<'r, 'd, 'a, S: ScalarValue> LookAheadSelection<'r, 'd, 'a, S> {
         let mut items = Vec::new(alloc);
         let field = self.field;
         let spreads_left = self.fragments.len();
+        let choosing = Choosing {
+            fragments: FragmentSource::Lent(self.fragments),
+            variables: self.variables,
+            conditions: AnyType,
+        };
         match &field.selection_set {
             Some(selections) => {
-                add_children(self, selections, Applies::All, spreads_left, &mut items)?;
+                let all = Applies::All;
+                add_children(self, &choosing, selections, all, spreads_left, &mut items)?;
             }
             None => {}
         }

@@ -14,8 +14,8 @@ use Rattle.juniper_syntax.specs.declared.ast.Field.{Field as FieldType, out-Fiel
 use Rattle.juniper_syntax.specs.declared.ast.Selection.{Selection}
 use Rattle.juniper_assemble.specs.Keyed.{IsSettled, is_keyed}
 use Rattle.juniper_assemble.specs.SkeletonView.{IsFilledFrom}
-use Rattle.juniper_collect.specs.Collected.{expansion, view_collected}
-use Rattle.juniper_collect.specs.declared.collecting.Collector.{Collector}
+use Rattle.juniper_lookahead.specs.Collected.{expansion, view_collected}
+use Rattle.juniper_lookahead.specs.declared.collecting.Collector.{Collector}
 use Rattle.juniper_twin.specs.Walking.{IsAdded, all_keyed}
 use Rattle.juniper_twin.proofs.FilledKeys.{fill-keyed}
 

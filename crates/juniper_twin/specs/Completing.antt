@@ -14,8 +14,8 @@ use Rattle.juniper_assemble.specs.SkeletonView.{view_skeleton}
 use Rattle.juniper_assemble.specs.SpotView.{view_nodes}
 use Rattle.juniper_conversions.specs.ErrorView.{view_listed}
 use Rattle.juniper_syntax.specs.ValueView.{view_value}
-use Rattle.juniper_collect.specs.Collected.{view_all, view_collected}
-use Rattle.juniper_collect.specs.declared.collecting.Collector.{Collector}
+use Rattle.juniper_lookahead.specs.Collected.{view_all, view_collected}
+use Rattle.juniper_lookahead.specs.declared.collecting.Collector.{Collector}
 use Rattle.graphql_spec.specs.Skeletons.{Spot, Skeleton}
 use Rattle.juniper_walk.specs.Completing.{IsParted, view_errors}
 use Rattle.juniper_walk.specs.declared.parting.Parted.{Parted}

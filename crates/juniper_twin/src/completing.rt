@@ -9,7 +9,7 @@ ghost use Rattle.graphql_spec.specs.Selections.{all_below};
 ghost use Rattle.graphql_spec.specs.Types.{innermost};
 ghost use Rattle.juniper_assemble.specs.Keyed.{is_keyed};
 ghost use Rattle.juniper_assemble.specs.SpotView.{view_nodes};
-ghost use Rattle.juniper_collect.specs.Collected.{view_collected};
+ghost use Rattle.juniper_lookahead.specs.Collected.{view_collected};
 ghost use Rattle.juniper_conversions.specs.PathView.{path_place};
 ghost use Rattle.juniper_syntax.specs.TypeView.{view_type};
 ghost use Rattle.juniper_syntax.specs.ValueView.{view_value};

@@ -2,15 +2,14 @@
 
 ghost use Rattle.std.specs.Prelude.{IfOk};
 ghost use Rattle.juniper_conversions.specs.PathView.{path_place};
-ghost use Rattle.juniper_collect.specs.Collected.{view_collected};
-ghost use Rattle.juniper_collect.specs.Singles.{IsAlone};
+ghost use Rattle.juniper_lookahead.specs.Collected.{view_collected};
+ghost use Rattle.juniper_lookahead.specs.Singles.{IsAlone};
 ghost use Rattle.juniper_walk.specs.Walking.{IsReadyWalk};
 ghost use Rattle.juniper_twin.specs.Walking.{IsPreparedAs};
 
 use juniper_assemble::{Skeleton, Spot};
-use juniper_collect::Single;
 use juniper_conversions::{ExecutionError, FieldPath};
-use juniper_lookahead::{Enclosing, Occurrence};
+use juniper_lookahead::{Enclosing, Occurrence, Single};
 use juniper_syntax::ScalarValue;
 use juniper_walk::{Asked, Parted, Resolver, Site, Walk, list_errors, part_reply, path_below};
 use std::alloc::AllocError;

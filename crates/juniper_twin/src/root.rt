@@ -7,11 +7,11 @@ ghost use Rattle.graphql_spec.specs.Walk.{IsAnswerFor};
 ghost use Rattle.juniper_syntax.specs.DocumentView.{view_selections};
 ghost use Rattle.juniper_syntax.specs.ValueView.{view_value};
 ghost use Rattle.juniper_conversions.specs.ErrorView.{view_listed};
-ghost use Rattle.juniper_collect.specs.Collected.{expansion};
+ghost use Rattle.juniper_lookahead.specs.Collected.{expansion};
 ghost use Rattle.juniper_walk.specs.Walking.{IsReadyWalk, SelectionsAgree};
 
 use crate::walking::execute_selection_set;
-use juniper_collect::collect_singles;
+use juniper_lookahead::collect_singles;
 use juniper_syntax::{ScalarValue, Selection, SourcePosition};
 use juniper_walk::{Resolver, Walk, Walked, root_path, sort_errors};
 use std::alloc::AllocError;

@@ -9,8 +9,8 @@ use Rattle.juniper_syntax.specs.DocumentView.{view_selections}
 use Rattle.juniper_syntax.specs.declared.ast.Field.{Field as FieldType}
 use Rattle.juniper_lookahead.specs.declared.occurrences.Enclosing.{Enclosing}
 use Rattle.juniper_lookahead.specs.declared.occurrences.Occurrence.{Occurrence as CodeOccurrence}
-use Rattle.juniper_collect.specs.Collected.{expansion, view_all, view_collected}
-use Rattle.juniper_collect.specs.declared.collecting.Collector.{Collector}
+use Rattle.juniper_lookahead.specs.Collected.{expansion, view_all, view_collected}
+use Rattle.juniper_lookahead.specs.declared.collecting.Collector.{Collector}
 use Rattle.juniper_walk.specs.declared.plan.Below.{Below}
 use Rattle.juniper_walk.specs.declared.plan.Group.{Group}
 use Rattle.juniper_walk.specs.declared.plan.GroupRange.{GroupRange}

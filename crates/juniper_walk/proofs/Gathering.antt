@@ -13,8 +13,8 @@ use Rattle.graphql_spec.proofs.Lists.{known, known-append, same_refl, same_sym, 
 use Rattle.juniper_walk.specs.Asking.{IsAskedOf}
 use Rattle.juniper_walk.specs.FieldWords.{head_of}
 use Rattle.juniper_walk.proofs.Slices.{split-one, taken-one}
-use Rattle.juniper_collect.specs.Collected.{view_all, view_collected}
-use Rattle.juniper_collect.specs.declared.collecting.Collector.{Collector}
+use Rattle.juniper_lookahead.specs.Collected.{view_all, view_collected}
+use Rattle.juniper_lookahead.specs.declared.collecting.Collector.{Collector}
 use Rattle.juniper_lookahead.specs.declared.occurrences.Occurrence.{Occurrence as CodeOccurrence}
 use Rattle.juniper_walk.proofs.Preparation.{same-head}
 use Rattle.juniper_walk.specs.declared.plan.Group.{Group}

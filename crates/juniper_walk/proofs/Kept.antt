@@ -8,8 +8,8 @@ use Rattle.std.specs.declared.alloc.Global.{Global}
 use Rattle.graphql_spec.specs.Shown.{Shown, Name}
 use Rattle.graphql_spec.specs.Documents.{Head}
 use Rattle.graphql_spec.specs.Selections.{Forest, Occurrence, all_below, occurrences}
-use Rattle.juniper_collect.specs.Collected.{view_all}
-use Rattle.juniper_collect.specs.declared.collecting.Collector.{Collector}
+use Rattle.juniper_lookahead.specs.Collected.{view_all}
+use Rattle.juniper_lookahead.specs.declared.collecting.Collector.{Collector}
 use Rattle.juniper_walk.specs.declared.plan.Below.{Below}
 use Rattle.juniper_walk.specs.declared.plan.GroupRange.{GroupRange}
 use Rattle.juniper_walk.specs.declared.plan.Plan.{Plan}

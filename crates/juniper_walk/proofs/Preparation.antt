@@ -23,9 +23,9 @@ use Rattle.juniper_syntax.specs.declared.ast.Field.{Field as FieldType, out-Fiel
 use Rattle.juniper_syntax.specs.declared.ast.Selection.{Selection}
 use Rattle.juniper_lookahead.specs.Expansion.{FragmentsByName, VariableMap, expanded, fragments_among, occurrence_at}
 use Rattle.juniper_lookahead.specs.Sites.{IsWholeGroup, expanded_each, view_fields}
-use Rattle.juniper_collect.specs.FragmentView.{ExpandAlike, fragments_in}
-use Rattle.juniper_collect.specs.Collected.{expansion, view_collected}
-use Rattle.juniper_collect.specs.declared.collecting.Collector.{Collector}
+use Rattle.juniper_lookahead.specs.FragmentView.{ExpandAlike, fragments_in}
+use Rattle.juniper_lookahead.specs.Collected.{expansion, view_collected}
+use Rattle.juniper_lookahead.specs.declared.collecting.Collector.{Collector}
 use Rattle.juniper_walk.specs.FieldWords.{head_of}
 use Rattle.juniper_walk.specs.Completing.{IsParted}
 

@@ -13,8 +13,8 @@ use Rattle.graphql_spec.specs.Resolvers.{World}
 use Rattle.graphql_spec.proofs.Lists.{IsMore}
 use Rattle.graphql_spec.specs.Skeletons.{Spot, Skeleton}
 use Rattle.graphql_spec.specs.NodeLaws.{AreWalkedOnce}
-use Rattle.juniper_collect.specs.Collected.{view_all}
-use Rattle.juniper_collect.specs.declared.collecting.Collector.{Collector}
+use Rattle.juniper_lookahead.specs.Collected.{view_all}
+use Rattle.juniper_lookahead.specs.declared.collecting.Collector.{Collector}
 use Rattle.juniper_walk.specs.declared.plan.GroupRange.{GroupRange}
 use Rattle.juniper_walk.specs.declared.plan.Plan.{Plan}
 use Rattle.juniper_walk.specs.PlanWalks.{AreObjectsWalked, IsGroupOf, IsObjectWalked, IsPrepared, IsPut, IsWalking}

@@ -15,8 +15,8 @@ use Rattle.graphql_spec.specs.Walk.{Met, count_listed, told}
 use Rattle.graphql_spec.proofs.Answered.{counts_listed, listed_counts, same_listed}
 use Rattle.graphql_spec.proofs.Exact.{walks-exact-answer}
 use Rattle.juniper_syntax.specs.DocumentView.{view_selections}
-use Rattle.juniper_collect.specs.Collected.{expansion}
-use Rattle.juniper_collect.specs.declared.collecting.Collector.{Collector}
+use Rattle.juniper_lookahead.specs.Collected.{expansion}
+use Rattle.juniper_lookahead.specs.declared.collecting.Collector.{Collector}
 use Rattle.juniper_lookahead.specs.declared.occurrences.Enclosing.{Enclosing}
 use Rattle.juniper_walk.specs.declared.plan.Plan.{Plan}
 use Rattle.juniper_walk.specs.Plans.{AllRight, AreWithin, IsBare, IsStanding, all_expanded}

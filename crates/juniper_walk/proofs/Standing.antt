@@ -9,8 +9,8 @@ use Rattle.juniper_walk.specs.PlanLists.{named_in}
 use Rattle.graphql_spec.specs.Shown.{Shown, Name}
 use Rattle.graphql_spec.specs.Documents.{Head}
 use Rattle.graphql_spec.specs.Selections.{Occurrence, all_below, keys, occurrences, with_key}
-use Rattle.juniper_collect.specs.Collected.{view_all}
-use Rattle.juniper_collect.specs.declared.collecting.Collector.{Collector}
+use Rattle.juniper_lookahead.specs.Collected.{view_all}
+use Rattle.juniper_lookahead.specs.declared.collecting.Collector.{Collector}
 use Rattle.juniper_lookahead.specs.declared.occurrences.Occurrence.{Occurrence as CodeOccurrence}
 use Rattle.juniper_walk.specs.declared.plan.Below.{Below}
 use Rattle.juniper_walk.specs.declared.plan.Group.{Group}

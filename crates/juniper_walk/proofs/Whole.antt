@@ -13,9 +13,9 @@ use Rattle.graphql_spec.proofs.Grouping.{in_with_key}
 use Rattle.graphql_spec.specs.Skeletons.{Spot, Skeleton, listed_spots}
 use Rattle.juniper_syntax.specs.DocumentView.{view_selections}
 use Rattle.juniper_lookahead.specs.Expansion.{FragmentsByName, VariableMap, expanded, fragments_among, occurrence_at}
-use Rattle.juniper_collect.specs.FragmentView.{ExpandAlike, fragments_in}
-use Rattle.juniper_collect.specs.Collected.{view_all, view_collected}
-use Rattle.juniper_collect.specs.declared.collecting.Collector.{Collector}
+use Rattle.juniper_lookahead.specs.FragmentView.{ExpandAlike, fragments_in}
+use Rattle.juniper_lookahead.specs.Collected.{view_all, view_collected}
+use Rattle.juniper_lookahead.specs.declared.collecting.Collector.{Collector}
 use Rattle.juniper_lookahead.specs.declared.occurrences.Occurrence.{Occurrence as CodeOccurrence}
 use Rattle.juniper_walk.specs.Completing.{IsParted}
 use Rattle.juniper_walk.specs.Asking.{IsAskedOf}

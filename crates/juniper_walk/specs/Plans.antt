@@ -4,8 +4,8 @@ use Rattle.graphql_spec.specs.Shown.{Shown, Name}
 use Rattle.graphql_spec.specs.Documents.{Head}
 use Rattle.graphql_spec.specs.Selections.{Forest, end, chain, Occurrence, all_below, keys, occurrences, with_key}
 use Rattle.juniper_syntax.specs.DocumentView.{view_selections}
-use Rattle.juniper_collect.specs.Collected.{expansion, view_all}
-use Rattle.juniper_collect.specs.declared.collecting.Collector.{Collector}
+use Rattle.juniper_lookahead.specs.Collected.{expansion, view_all}
+use Rattle.juniper_lookahead.specs.declared.collecting.Collector.{Collector}
 use Rattle.juniper_lookahead.specs.declared.occurrences.Occurrence.{Occurrence as CodeOccurrence}
 use Rattle.juniper_walk.specs.declared.asking.Walk.{Walk}
 use Rattle.juniper_walk.specs.declared.plan.Below.{Below}

@@ -5,7 +5,7 @@ use Rattle.graphql_spec.specs.Selections.{Forest, Occurrence, occurrences}
 use Rattle.graphql_spec.specs.Resolvers.{World}
 use Rattle.graphql_spec.specs.Laws.{Agree}
 use Rattle.juniper_lookahead.specs.Expansion.{VariableMap}
-use Rattle.juniper_collect.specs.Collected.{IsReady}
+use Rattle.juniper_lookahead.specs.Collected.{IsReady}
 use Rattle.juniper_walk.specs.declared.asking.Walk.{Walk}
 
 -- the collector is ready, takes for possible what the world takes, and has the values of variables that the resolver has

@@ -11,9 +11,8 @@ ghost use Rattle.juniper_walk.specs.Asking.{IsAskedOf, IsPathOf};
 ghost use Rattle.juniper_walk.specs.FieldWords.{head_of};
 
 use juniper_assemble::Completer;
-use juniper_collect::{Collector, Conditions};
 use juniper_conversions::{FieldPath, ResolveError};
-use juniper_lookahead::{Enclosing, Occurrence};
+use juniper_lookahead::{Collector, Conditions, Enclosing, Occurrence};
 use juniper_syntax::{Field, Fragments, ScalarValue, Span, Spanning, Type};
 use juniper_values::Resolved;
 use std::alloc::{AllocError, Global};

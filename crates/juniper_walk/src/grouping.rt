@@ -9,8 +9,7 @@ ghost use Rattle.juniper_syntax.specs.DocumentView.{view_selections, view_set};
 ghost use Rattle.juniper_syntax.specs.declared.ast.Field.{out-Field};
 ghost use Rattle.juniper_walk.specs.FieldWords.{fields_at, head_of};
 
-use juniper_collect::Collected;
-use juniper_lookahead::Occurrence;
+use juniper_lookahead::{Collected, Occurrence};
 use juniper_syntax::{Field, ScalarValue, Selection, Span, Spanning};
 use std::alloc::{AllocError, Global};
 use std::collections::BTreeMap;

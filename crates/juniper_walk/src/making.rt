@@ -7,7 +7,7 @@ ghost use Rattle.std.specs.Str.{bytes_eq};
 ghost use Rattle.graphql_spec.specs.Documents.{response_key};
 ghost use Rattle.graphql_spec.specs.Shown.{Name};
 ghost use Rattle.graphql_spec.specs.Selections.{all_below, occurrences};
-ghost use Rattle.juniper_collect.specs.Collected.{IsReady, expansion, view_all};
+ghost use Rattle.juniper_lookahead.specs.Collected.{IsReady, expansion, view_all};
 ghost use Rattle.juniper_syntax.specs.DocumentView.{view_selections};
 ghost use Rattle.juniper_walk.specs.FieldWords.{fields_at as fields_in, head_of};
 ghost use Rattle.juniper_walk.specs.PlanLists.{rises};
@@ -15,8 +15,7 @@ ghost use Rattle.juniper_walk.specs.Plans.{AreAdded, IsGroupAdded, IsMade, IsSta
 
 use crate::plan::{GroupNo, GroupRange, Plan};
 use crate::{Groups, Resolver, Walk, group_fields, selections_of};
-use juniper_collect::{Collected, Collector, Conditions, collect_fields};
-use juniper_lookahead::{Enclosing, Occurrence};
+use juniper_lookahead::{Collected, Collector, Conditions, Enclosing, Occurrence, collect_fields};
 use juniper_syntax::{Field, ScalarValue, name_number};
 use std::alloc::{AllocError, Global};
 

@@ -7,8 +7,7 @@ ghost use Rattle.juniper_syntax.specs.ValueView.{view_object};
 ghost use Rattle.juniper_walk.specs.Plans.{IsBare, IsEnded, IsKept, IsOneAdded, IsWithin, fields_at, group_count, key_at, made_at};
 ghost use Rattle.juniper_walk.specs.PlanLists.{named_in};
 
-use juniper_collect::Collected;
-use juniper_lookahead::Occurrence;
+use juniper_lookahead::{Collected, Occurrence};
 use juniper_syntax::{Field, Object, ScalarValue, SharedKeys, Span, Spanning};
 use std::alloc::{AllocError, Global};
 

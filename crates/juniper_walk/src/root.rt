@@ -5,7 +5,7 @@ ghost use Rattle.graphql_spec.specs.ExactAnswers.{IsExactAnswerFor};
 ghost use Rattle.juniper_syntax.specs.DocumentView.{view_selections};
 ghost use Rattle.juniper_syntax.specs.ValueView.{view_value};
 ghost use Rattle.juniper_conversions.specs.ErrorView.{view_listed};
-ghost use Rattle.juniper_collect.specs.Collected.{expansion};
+ghost use Rattle.juniper_lookahead.specs.Collected.{expansion};
 ghost use Rattle.juniper_walk.specs.PlanWalks.{IsFirstsAnswer};
 ghost use Rattle.juniper_walk.specs.Walking.{IsReadyWalk};
 

@@ -6,7 +6,7 @@ use Rattle.graphql_spec.specs.Requests.{selected}
 use Rattle.juniper_syntax.specs.DocumentView.{view_definition, view_document, view_operation, view_selections}
 use Rattle.juniper_syntax.specs.InputView.{view_variables}
 use Rattle.juniper_schema.specs.SchemaView.{view_schema}
-use Rattle.juniper_collect.specs.Collected.{expansion}
+use Rattle.juniper_lookahead.specs.Collected.{expansion}
 use Rattle.juniper_execute.specs.Meanings.{world_at}
 use Rattle.juniper_execute.proofs.Executing.{answer-moves, no-cycle, query-agrees, tells-move}
 use Rattle.juniper_execute.proofs.execute.execute_query.Goals as goal

@@ -2,7 +2,7 @@ use Rattle.std.proofs.Common.{◌∷◌, sym, ap, ◌∙◌, subst}
 use Rattle.graphql_spec.specs.Fields.{is_possible}
 use Rattle.graphql_spec.specs.Mutation.{step_of}
 use Rattle.graphql_spec.specs.Resolvers.{world_of}
-use Rattle.juniper_collect.specs.Collected.{view_all}
+use Rattle.juniper_lookahead.specs.Collected.{view_all}
 use Rattle.juniper_conversions.specs.PathView.{path_place}
 use Rattle.juniper_walk.specs.PlanWalks.{IsGroupOf}
 use Rattle.juniper_walk.specs.Plans.{fields_at, key_at}

@@ -1,6 +1,6 @@
 use Rattle.std.proofs.Common.{◌+◌, ◌∷◌, drop, map, take, refl, sym, ap, ◌∙◌, inr}
 use Rattle.std.proofs.lemmas.List.{map-append, take-append-drop}
-use Rattle.juniper_collect.specs.Collected.{view_collected}
+use Rattle.juniper_lookahead.specs.Collected.{view_collected}
 use Rattle.juniper_lookahead.specs.declared.occurrences.Occurrence.{Occurrence}
 use Rattle.juniper_conversions.specs.ErrorView.{view_listed}
 use Rattle.juniper_twin.proofs.Occurrences.{some-first, some-more}

@@ -1,7 +1,7 @@
 use Rattle.std.proofs.Common.{◌∷◌, map, take}
 use Rattle.juniper_assemble.specs.SkeletonView.{view_skeleton}
 use Rattle.juniper_assemble.specs.SpotView.{view_nodes}
-use Rattle.juniper_collect.specs.Collected.{view_all, view_collected}
+use Rattle.juniper_lookahead.specs.Collected.{view_all, view_collected}
 use Rattle.juniper_conversions.specs.ErrorView.{view_listed}
 use Rattle.juniper_syntax.specs.ValueView.{view_value}
 use Rattle.juniper_walk.specs.Completing.{view_errors}

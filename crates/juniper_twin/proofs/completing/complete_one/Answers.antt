@@ -2,7 +2,7 @@ use Rattle.std.proofs.Common.{◌++◌, map, sym, ap, ◌∙◌}
 use Rattle.std.proofs.lemmas.List.{map-append}
 use Rattle.graphql_spec.specs.ExactAnswers.{whole}
 use Rattle.juniper_assemble.specs.SpotView.{view_nodes}
-use Rattle.juniper_collect.specs.Collected.{view_collected}
+use Rattle.juniper_lookahead.specs.Collected.{view_collected}
 use Rattle.graphql_spec.specs.Skeletons.{listed_spots}
 use Rattle.juniper_conversions.specs.ErrorView.{view_listed}
 use Rattle.juniper_syntax.specs.ValueView.{view_value}

@@ -6,7 +6,7 @@ use Rattle.graphql_spec.specs.Execution.{reply_of, type_of}
 use Rattle.graphql_spec.specs.Skeletons.{listed_spots}
 use Rattle.juniper_walk.specs.Completing.{view_errors}
 use Rattle.juniper_conversions.specs.PathView.{path_place}
-use Rattle.juniper_collect.specs.Collected.{view_collected}
+use Rattle.juniper_lookahead.specs.Collected.{view_collected}
 use Rattle.juniper_values.specs.ResolvedView.{Answers}
 use Rattle.juniper_walk.proofs.Preparation.{alone-whole, listed-same, same-head, same-single}
 use Rattle.juniper_twin.proofs.PreparedReplies.{prepared-reply}

@@ -1,8 +1,8 @@
 use Rattle.std.proofs.Common.{sym, ap, ◌∙◌, subst}
 use Rattle.graphql_spec.specs.Selections.{occurrences}
 use Rattle.juniper_syntax.specs.DocumentView.{view_selections}
-use Rattle.juniper_collect.specs.Collected.{expansion}
-use Rattle.juniper_collect.specs.Singles.{AreAlone, view_singles}
+use Rattle.juniper_lookahead.specs.Collected.{expansion}
+use Rattle.juniper_lookahead.specs.Singles.{AreAlone, view_singles}
 use Rattle.juniper_twin.proofs.Answering.{root-agrees, walk-is-answer}
 use Rattle.juniper_twin.proofs.root.answer.Goals as goal
 

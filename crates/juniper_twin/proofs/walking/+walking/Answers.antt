@@ -5,9 +5,9 @@ use Rattle.juniper_syntax.specs.ValueView.{view_value}
 use Rattle.juniper_syntax.proofs.Values.{view-Null, view-Object}
 use Rattle.juniper_conversions.specs.ErrorView.{view_listed}
 use Rattle.juniper_assemble.specs.SpotView.{view_nodes, view_spot}
-use Rattle.juniper_collect.specs.Collected.{view_collected}
-use Rattle.juniper_collect.specs.Singles.{AreAlone, IsAlone, view_singles}
-use Rattle.juniper_collect.specs.declared.singles.Single.{Single}
+use Rattle.juniper_lookahead.specs.Collected.{view_collected}
+use Rattle.juniper_lookahead.specs.Singles.{AreAlone, IsAlone, view_singles}
+use Rattle.juniper_lookahead.specs.declared.singles.Single.{Single}
 use Rattle.juniper_walk.specs.Walking.{AllAgree}
 use Rattle.juniper_twin.specs.Walking.{AreReached, deepest}
 use Rattle.juniper_twin.proofs.Additions.{collected-below}

@@ -4,8 +4,8 @@ use Rattle.juniper_syntax.specs.ValueView.{view_object, view_value}
 use Rattle.juniper_conversions.specs.ErrorView.{view_listed}
 use Rattle.juniper_conversions.specs.PathView.{path_place}
 use Rattle.juniper_assemble.specs.SpotView.{view_nodes}
-use Rattle.juniper_collect.specs.Collected.{view_collected}
-use Rattle.juniper_collect.specs.Singles.{view_singles}
+use Rattle.juniper_lookahead.specs.Collected.{view_collected}
+use Rattle.juniper_lookahead.specs.Singles.{view_singles}
 use Rattle.juniper_twin.specs.Walking.{AreAllWalked, IsWalking, deepest}
 use Rattle.juniper_twin.proofs.walking.+walking.Given as goal
 

@@ -4,7 +4,7 @@ use Rattle.graphql_spec.specs.ExactAnswers.{whole}
 use Rattle.juniper_assemble.specs.SkeletonView.{view_skeleton}
 use Rattle.juniper_assemble.specs.SpotView.{view_nodes}
 use Rattle.graphql_spec.specs.Skeletons.{listed_spots}
-use Rattle.juniper_collect.specs.Collected.{view_all}
+use Rattle.juniper_lookahead.specs.Collected.{view_all}
 use Rattle.juniper_walk.specs.Completing.{view_errors}
 use Rattle.juniper_conversions.specs.PathView.{path_place}
 use Rattle.juniper_walk.proofs.Preparation.{listed-same}

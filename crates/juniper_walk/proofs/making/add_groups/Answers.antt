@@ -1,5 +1,5 @@
 use Rattle.std.proofs.Common.{◌∙◌, subst, sym}
-use Rattle.juniper_collect.specs.Collected.{view_all}
+use Rattle.juniper_lookahead.specs.Collected.{view_all}
 use Rattle.juniper_walk.specs.Plans.{AreAdded}
 use Rattle.juniper_walk.proofs.Gathering.{made-added}
 use Rattle.juniper_walk.proofs.making.add_groups.Goals as goal

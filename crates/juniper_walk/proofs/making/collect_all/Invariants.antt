@@ -1,6 +1,6 @@
 use Rattle.std.proofs.Common.{◌≡◌, take}
 use Rattle.graphql_spec.specs.Selections.{occurrences}
-use Rattle.juniper_collect.specs.Collected.{view_all}
+use Rattle.juniper_lookahead.specs.Collected.{view_all}
 use Rattle.juniper_walk.specs.Plans.{all_expanded}
 use Rattle.juniper_walk.proofs.making.collect_all.Given as goal
 

@@ -1,7 +1,7 @@
 use Rattle.std.proofs.Common.{refl, ap, ◌∙◌}
 use Rattle.std.proofs.lemmas.List.{take_all}
 use Rattle.graphql_spec.specs.Selections.{all_below}
-use Rattle.juniper_collect.specs.Collected.{view_all}
+use Rattle.juniper_lookahead.specs.Collected.{view_all}
 use Rattle.juniper_walk.proofs.Enclosed.{none-selected, one-selected}
 use Rattle.juniper_walk.proofs.making.merge_selection_sets.Goals as goal
 

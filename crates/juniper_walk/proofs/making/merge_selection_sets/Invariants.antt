@@ -1,6 +1,6 @@
 use Rattle.std.proofs.Common.{◌≡◌, take}
 use Rattle.graphql_spec.specs.Selections.{all_below}
-use Rattle.juniper_collect.specs.Collected.{view_all}
+use Rattle.juniper_lookahead.specs.Collected.{view_all}
 use Rattle.juniper_walk.specs.Plans.{all_expanded}
 use Rattle.juniper_walk.proofs.making.merge_selection_sets.Given as goal
 

@@ -1,5 +1,5 @@
 use Rattle.std.proofs.Common.{ap, ◌∙◌}
-use Rattle.juniper_collect.specs.Collected.{view_all}
+use Rattle.juniper_lookahead.specs.Collected.{view_all}
 use Rattle.juniper_walk.proofs.Kept.{same-made}
 use Rattle.juniper_walk.proofs.making.root_groups.Goals as goal
 

@@ -4,7 +4,7 @@ use Rattle.graphql_spec.specs.Errors.{key}
 use Rattle.graphql_spec.specs.Execution.{reply_of, type_of}
 use Rattle.graphql_spec.specs.Selections.{occurrences}
 use Rattle.juniper_conversions.specs.PathView.{path_place}
-use Rattle.juniper_collect.specs.Collected.{view_all}
+use Rattle.juniper_lookahead.specs.Collected.{view_all}
 use Rattle.juniper_values.specs.ResolvedView.{Answers}
 use Rattle.juniper_walk.specs.Plans.{all_expanded, key_at}
 use Rattle.juniper_walk.specs.PlanWalks.{IsGroupOf}

@@ -6,7 +6,7 @@ use Rattle.graphql_spec.specs.Skeletons.{listed_spots}
 use Rattle.juniper_walk.specs.Completing.{view_errors}
 use Rattle.juniper_conversions.specs.PathView.{path_place}
 use Rattle.juniper_syntax.specs.TypeView.{view_type}
-use Rattle.juniper_collect.specs.Collected.{view_all}
+use Rattle.juniper_lookahead.specs.Collected.{view_all}
 use Rattle.juniper_values.specs.ResolvedView.{Answers}
 use Rattle.juniper_walk.proofs.Preparation.{listed-same}
 use Rattle.juniper_walk.specs.Plans.{fields_at, key_at}

@@ -5,7 +5,7 @@ use Rattle.graphql_spec.specs.Execution.{reply_of}
 use Rattle.graphql_spec.specs.Selections.{occurrences}
 use Rattle.juniper_assemble.proofs.ByKind.{none_left}
 use Rattle.juniper_assemble.specs.SpotView.{view_nodes, view_spot}
-use Rattle.juniper_collect.specs.Collected.{view_all}
+use Rattle.juniper_lookahead.specs.Collected.{view_all}
 use Rattle.juniper_walk.proofs.Slices.{taken-all}
 use Rattle.juniper_walk.specs.Lists.{picked}
 use Rattle.juniper_values.specs.ResolvedView.{AllAnswer}

@@ -1,7 +1,7 @@
 use Rattle.std.proofs.Common.{◌≡◌, drop, is_some, length, map, take}
 use Rattle.graphql_spec.specs.Shown.{Name}
 use Rattle.juniper_assemble.specs.SpotView.{view_nodes}
-use Rattle.juniper_collect.specs.Collected.{view_all}
+use Rattle.juniper_lookahead.specs.Collected.{view_all}
 use Rattle.std.specs.Prelude.{List}
 use Rattle.juniper_walk.specs.Plans.{all_expanded, fields_at, key_at}
 use Rattle.graphql_spec.specs.Execution.{reply_of}

@@ -4,7 +4,7 @@ use Rattle.graphql_spec.specs.Errors.{key}
 use Rattle.graphql_spec.specs.Execution.{reply_of, type_of}
 use Rattle.graphql_spec.specs.Selections.{occurrences}
 use Rattle.juniper_assemble.specs.SpotView.{view_nodes}
-use Rattle.juniper_collect.specs.Collected.{view_all}
+use Rattle.juniper_lookahead.specs.Collected.{view_all}
 use Rattle.juniper_conversions.specs.PathView.{path_place}
 use Rattle.juniper_lookahead.specs.Sites.{view_fields}
 use Rattle.juniper_walk.specs.Lists.{picked}

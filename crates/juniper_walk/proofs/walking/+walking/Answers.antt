@@ -8,7 +8,7 @@ use Rattle.juniper_syntax.specs.ValueView.{view_object}
 use Rattle.juniper_syntax.proofs.Values.{view-Null, view-Object}
 use Rattle.juniper_conversions.specs.ErrorView.{view_listed}
 use Rattle.juniper_assemble.specs.SpotView.{view_nodes, view_spot}
-use Rattle.juniper_collect.specs.Collected.{view_all}
+use Rattle.juniper_lookahead.specs.Collected.{view_all}
 use Rattle.graphql_spec.specs.NodeLaws.{AreWalkedOnce}
 use Rattle.juniper_walk.proofs.Slices.{taken-all, taken-one}
 use Rattle.juniper_walk.specs.Plans.{IsStanding, IsStep, StandsFor, all_expanded, fields_at, key_at}

@@ -6,7 +6,7 @@ use Rattle.juniper_syntax.specs.ValueView.{view_object}
 use Rattle.juniper_conversions.specs.ErrorView.{view_listed}
 use Rattle.juniper_conversions.specs.PathView.{path_place}
 use Rattle.juniper_assemble.specs.SpotView.{view_nodes}
-use Rattle.juniper_collect.specs.Collected.{view_all}
+use Rattle.juniper_lookahead.specs.Collected.{view_all}
 use Rattle.juniper_walk.specs.Plans.{IsStep, all_expanded, fields_at}
 use Rattle.graphql_spec.specs.NodeLaws.{AreWalkedOnce}
 use Rattle.juniper_walk.specs.PlanWalks.{IsWalking}

@@ -1,0 +1,23 @@
+use Rattle.std.proofs.Common.{◌≡◌, ◌++◌, drop}
+use Rattle.juniper_syntax.specs.DocumentView.{view_selections}
+use Rattle.juniper_lookahead.specs.Choices.{IsWithin}
+use Rattle.juniper_lookahead.specs.Choosing.{choice_of, source_deepest}
+use Rattle.juniper_lookahead.specs.Collected.{all_found}
+use Rattle.juniper_lookahead.specs.Nesting.{nesting, work_left}
+use Rattle.juniper_lookahead.specs.Singles.{AreFoundAlone, view_found_singles}
+use Rattle.juniper_lookahead.proofs.singles.+add_singles.Given as goal
+
+abbrev pub decreases-add_singles : goal.decreases-add_singles
+decreases-add_singles g l = work_left (source_deepest l.choosing.now.fragments) l.spreads_left (nesting l.selections.now)
+
+-- what is left still holds what is missing
+abbrev pub invariant-loop-number : goal.invariant-loop-number
+invariant-loop-number g l =
+    let shown = g.S.ScalarValue.shown in
+    let h = choice_of shown g.M.Meets.met l.choosing in
+    record {
+      within : IsWithin h l.spreads_left (view_selections shown (drop l.number l.selections));
+      so_far : view_found_singles shown h l.fields.items ++ all_found h (view_selections shown (drop l.number l.selections))
+          ≡ view_found_singles shown h l.initial.fields.items ++ all_found h (view_selections shown l.selections);
+      alone : AreFoundAlone shown h l.fields.items;
+    }
