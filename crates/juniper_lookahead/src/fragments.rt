@@ -1,7 +1,7 @@
 //! The fragments of a document, each found by its name (section 2.8 of the Specification).
 //!
 //! Names are chosen by whoever sends the document, and a hash map takes a step for each name of the same hash: so fragments
-//! are looked up by the order of their names, and the hash map that look-ahead is lent is only inserted into.
+//! are collected by the order of their names. The hash map is for look-ahead, which is lent one, and is here only inserted into.
 
 ghost use Rattle.std.specs.Prelude.{◌≡◌, ◌≤◌, [], ◌∷◌, IfOk, OnOk, IfSome, map, length};
 ghost use Rattle.std.specs.Option.{option_or, option_map};
