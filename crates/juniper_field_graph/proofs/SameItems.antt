@@ -18,14 +18,14 @@ use Rattle.juniper_field_graph.proofs.NamedValues.{named-fields}
 use Rattle.juniper_field_graph.specs.SameValues.{all_keyed, field_at, same_value, same_items, same_fields, passes}
 
 -- null means the same as null alone
-pub null-is-same : (v : Input) → is_null (meaning v) ≡ same_value inputs.null v
+pub null_is_same : (v : Input) → is_null (meaning v) ≡ same_value inputs.null v
 unfolding meaning same_value
-null-is-same inputs.null = refl
-null-is-same (inputs.scalar s) = refl
-null-is-same (inputs.enumerated e) = refl
-null-is-same (inputs.variable x) = refl
-null-is-same (inputs.list is) = refl
-null-is-same (inputs.object fs) = refl
+null_is_same inputs.null = refl
+null_is_same (inputs.scalar s) = refl
+null_is_same (inputs.enumerated e) = refl
+null_is_same (inputs.variable x) = refl
+null_is_same (inputs.list is) = refl
+null_is_same (inputs.object fs) = refl
 
 -- ## Items
 
