@@ -1,3 +1,4 @@
+pub mod Adding
 pub mod Explanations
 pub mod GivenValues
 pub mod NearView

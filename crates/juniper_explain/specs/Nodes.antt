@@ -146,6 +146,13 @@ unfoldable pub other_variable : Schema → VariableDefinition → List Explanati
 other_variable s v = found (not (is_input (type_named s (innermost v.of_type.item)))) rule.VariablesAreInputTypes v.name.span.start
     (codes "Variable `$" ++ (v.name.item ++ (codes "` is of `" ++ (type_text v.of_type.item ++ codes "`, which is no input type"))))
 
+-- those among the conditions and the variables of a definition
+abbrev pub other_conditions : Schema → Definition → List Explanation
+other_conditions s x = flat_map (other_condition s) (condition_words x)
+
+abbrev pub other_variables : Schema → Definition → List Explanation
+other_variables s x = flat_map (other_variable s) (defined_variables x)
+
 -- a name that may have been meant
 unfoldable pub suggestion : Option Name → Text
 suggestion None = []
@@ -184,6 +191,10 @@ wrong_argument s i a None = []
 wrong_argument s i a (Some d) = found (not (fits s false a.value.item d.of_type)) rule.ArgumentsOfCorrectType a.value.span.start
     (codes "Value `" ++ (display a.value.item ++ (codes "` of `" ++ (a.name.item ++ (codes "` is no `" ++ (type_text d.of_type ++ codes "`"))))))
 
+-- the same, where it is declared
+abbrev pub wrong_at : Schema → Site → Argument → List Explanation
+wrong_at s i = λ a. wrong_argument s i a (declaration_in i.declared a.name.item)
+
 -- a default that does not fit the type of the variable of a name
 unfoldable pub misfit : Schema → Name → Spanned Input → TypeRef → List Explanation
 misfit s n w t = found (not (fits s false w.item t)) rule.DefaultValuesOfCorrectType w.span.start
@@ -202,13 +213,13 @@ unfoldable pub missing_arguments : List Site → List Explanation
 missing_arguments is = flat_map (λ i. flat_map (missing_argument i) i.declared) is
 
 unfoldable pub wrong_arguments : Schema → List Site → List Explanation
-wrong_arguments s is = flat_map (λ i. flat_map (λ a. wrong_argument s i a (declaration_in i.declared a.name.item)) i.given) is
+wrong_arguments s is = flat_map (λ i. flat_map (wrong_at s i) i.given) is
 
 -- what the rules on types find at a definition, rule by rule
 unfoldable pub type_findings : Schema → List Definition → Definition → List (List Explanation)
 type_findings s earlier x =
-    flat_map (other_condition s) (condition_words x)
-    ∷ flat_map (other_variable s) (defined_variables x)
+    other_conditions s x
+    ∷ other_variables s x
     ∷ flat_map (unknown_field s) (placed_in s x)
     ∷ flat_map (λ p. wrong_set s p p.declared) (placed_in s x)
     ∷ unknown_arguments (sites s x)

@@ -4,7 +4,7 @@ ghost use Rattle.std.specs.Prelude.{◌≡◌, ◌++◌, IfOk, OnOk, codes, stri
 ghost use Rattle.std.specs.List.{flat_map};
 ghost use Rattle.graphql_spec.specs.Types.{type_text};
 ghost use Rattle.juniper_meta.specs.MetaView.{view_argument, view_type};
-ghost use Rattle.juniper_explain.specs.Explanations.{view_explanations};
+ghost use Rattle.juniper_explain.specs.Adding.{Adds};
 ghost use Rattle.juniper_explain.specs.Nodes.{missing_argument, missing_arguments};
 ghost use Rattle.juniper_explain.specs.SitesView.{owner_text, view_site, view_sites};
 
@@ -22,8 +22,7 @@ pub(crate) fn explain_missing_arguments<'d, 'a, S: ScalarValue>(
     sites: &[Site<'d, 'a, S>],
     explanations: &mut Vec<Explanation>,
 ) -> Result<(), AllocError>
-    ensures { OnOk result (view_explanations explanations.new.items ≡ view_explanations explanations.old.items
-        ++ missing_arguments (view_sites S.shown sites.now)) }
+    ensures { OnOk result (Adds explanations.old.items explanations.new.items (missing_arguments (view_sites S.shown sites.now))) }
 {
     for site in sites {
         explain_missing_at(alloc, site, explanations)?;
@@ -37,8 +36,8 @@ fn explain_missing_at<'d, 'a, S: ScalarValue>(
     site: &Site<'d, 'a, S>,
     explanations: &mut Vec<Explanation>,
 ) -> Result<(), AllocError>
-    ensures { OnOk result (view_explanations explanations.new.items ≡ view_explanations explanations.old.items
-        ++ flat_map (missing_argument (view_site S.shown site.now)) (view_site S.shown site.now).declared) }
+    ensures { OnOk result (Adds explanations.old.items explanations.new.items
+        (flat_map (missing_argument (view_site S.shown site.now)) (view_site S.shown site.now).declared)) }
 {
     for argument in site.declared {
         explain_missing_argument(alloc, site, argument, explanations)?;
@@ -54,8 +53,8 @@ fn explain_missing_argument<'d, 'a, S: ScalarValue>(
     argument: &Argument<S>,
     explanations: &mut Vec<Explanation>,
 ) -> Result<(), AllocError>
-    ensures { OnOk result (view_explanations explanations.new.items ≡ view_explanations explanations.old.items
-        ++ missing_argument (view_site S.shown site.now) (view_argument S.shown argument.now)) }
+    ensures { OnOk result (Adds explanations.old.items explanations.new.items
+        (missing_argument (view_site S.shown site.now) (view_argument S.shown argument.now))) }
 {
     if !is_left_out(argument, site.given) {
         return Ok(());

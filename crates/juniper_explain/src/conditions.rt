@@ -1,11 +1,11 @@
 //! The names of types in conditions: KnownTypeNames and FragmentsOnCompositeTypes (sections 5.5.1.2 and 5.5.1.3 of the
 //! Specification).
 
-ghost use Rattle.std.specs.Prelude.{◌≡◌, ◌++◌, OnOk};
+ghost use Rattle.std.specs.Prelude.{OnOk};
 ghost use Rattle.std.specs.List.{flat_map};
 ghost use Rattle.juniper_schema.specs.SchemaView.{view_schema};
 ghost use Rattle.juniper_syntax.specs.DocumentView.{view_word};
-ghost use Rattle.juniper_explain.specs.Explanations.{view_explanations};
+ghost use Rattle.juniper_explain.specs.Adding.{Adds};
 ghost use Rattle.juniper_explain.specs.Nodes.{other_condition, unknown_type};
 ghost use Rattle.juniper_explain.specs.Words.{view_words};
 
@@ -36,8 +36,8 @@ pub(crate) fn explain_unknown_conditions<S: ScalarValue>(
     conditions: &Vec<Spanning<&str, Span>>,
     explanations: &mut Vec<Explanation>,
 ) -> Result<(), AllocError>
-    ensures { OnOk result (view_explanations explanations.new.items ≡ view_explanations explanations.old.items
-        ++ flat_map (unknown_type (view_schema S.shown schema.now)) (view_words conditions.now.items)) }
+    ensures { OnOk result (Adds explanations.old.items explanations.new.items
+        (flat_map (unknown_type (view_schema S.shown schema.now)) (view_words conditions.now.items))) }
 {
     for index in 0..conditions.len() {
         let condition = conditions[index];
@@ -54,8 +54,7 @@ pub(crate) fn explain_type<S: ScalarValue>(
     word: &Spanning<&str, Span>,
     explanations: &mut Vec<Explanation>,
 ) -> Result<(), AllocError>
-    ensures { OnOk result (view_explanations explanations.new.items ≡ view_explanations explanations.old.items
-        ++ unknown_type (view_schema S.shown schema.now) (view_word word.now)) }
+    ensures { OnOk result (Adds explanations.old.items explanations.new.items (unknown_type (view_schema S.shown schema.now) (view_word word.now))) }
 {
     let is_unknown = schema.is_unknown(word.item);
     add_named(alloc, explanations, is_unknown, word, &UNKNOWN_TYPE)
@@ -68,8 +67,8 @@ pub(crate) fn explain_other_conditions<S: ScalarValue>(
     conditions: &Vec<Spanning<&str, Span>>,
     explanations: &mut Vec<Explanation>,
 ) -> Result<(), AllocError>
-    ensures { OnOk result (view_explanations explanations.new.items ≡ view_explanations explanations.old.items
-        ++ flat_map (other_condition (view_schema S.shown schema.now)) (view_words conditions.now.items)) }
+    ensures { OnOk result (Adds explanations.old.items explanations.new.items
+        (flat_map (other_condition (view_schema S.shown schema.now)) (view_words conditions.now.items))) }
 {
     for index in 0..conditions.len() {
         let condition = conditions[index];
@@ -86,8 +85,7 @@ fn explain_other_condition<S: ScalarValue>(
     word: &Spanning<&str, Span>,
     explanations: &mut Vec<Explanation>,
 ) -> Result<(), AllocError>
-    ensures { OnOk result (view_explanations explanations.new.items ≡ view_explanations explanations.old.items
-        ++ other_condition (view_schema S.shown schema.now) (view_word word.now)) }
+    ensures { OnOk result (Adds explanations.old.items explanations.new.items (other_condition (view_schema S.shown schema.now) (view_word word.now))) }
 {
     let is_other = !schema.is_composite(word.item);
     add_named(alloc, explanations, is_other, word, &OTHER_CONDITION)

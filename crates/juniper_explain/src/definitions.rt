@@ -1,13 +1,12 @@
 //! UniqueOperationNames, LoneAnonymousOperation and UniqueFragmentNames (sections 5.2.1.1, 5.2.2.1 and 5.5.1.1 of the
 //! Specification).
 
-ghost use Rattle.std.specs.Prelude.{◌≡◌, ◌++◌, List, OnOk};
+ghost use Rattle.std.specs.Prelude.{List, OnOk};
 ghost use Rattle.graphql_spec.specs.Documents as documents;
 ghost use Rattle.juniper_written.specs.NamesBefore.{IsEarlier};
 ghost use Rattle.juniper_rules.specs.Operations.{OperationsOf};
 ghost use Rattle.juniper_syntax.specs.DocumentView.{view_definition};
-ghost use Rattle.juniper_explain.specs.Explanations.{view_explanations};
-ghost use Rattle.juniper_explain.specs.Nodes.{other_operation, repeated_fragment, repeated_operation};
+ghost use Rattle.juniper_explain.specs.Adding.{AddsOfName};
 
 use crate::explanation::{Explanation, Wording, add_named, add_whole};
 use crate::rule::Rule;
@@ -39,8 +38,7 @@ pub(crate) fn explain_definition<'a, S: ScalarValue>(
     explanations: &mut Vec<Explanation>,
 ) -> Result<(), AllocError>
     ensures { OnOk result ((d : documents.Document) (ds : List documents.Definition) → OperationsOf operation_count d → IsEarlier earlier.now ds →
-        view_explanations explanations.new.items ≡ ((view_explanations explanations.old.items ++ repeated_operation ds (view_definition S.shown definition.now))
-        ++ other_operation d (view_definition S.shown definition.now)) ++ repeated_fragment ds (view_definition S.shown definition.now)) }
+        AddsOfName explanations.old.items explanations.new.items d ds (view_definition S.shown definition.now)) }
 {
     let word = word_of(definition);
     let repeats_operation = earlier.repeats_operation(definition);

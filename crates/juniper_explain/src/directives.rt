@@ -1,14 +1,13 @@
 //! KnownDirectives (section 5.7.1 of the Specification).
 
-ghost use Rattle.std.specs.Prelude.{◌≡◌, ◌++◌, OnOk};
+ghost use Rattle.std.specs.Prelude.{◌≡◌, OnOk};
 ghost use Rattle.std.specs.List.{flat_map};
 ghost use Rattle.std.specs.Option.{is_none};
 ghost use Rattle.graphql_spec.specs.Placed.{directive_named};
 ghost use Rattle.juniper_syntax.specs.DocumentView.{view_directive};
 ghost use Rattle.juniper_written.specs.WrittenView.{view_directives_at};
-ghost use Rattle.juniper_explain.specs.Explanations.{view_explanations};
+ghost use Rattle.juniper_explain.specs.Adding.{Adds};
 ghost use Rattle.juniper_explain.specs.Nodes.{unknown_directive};
-ghost use Rattle.juniper_explain.specs.Words.{directive_word};
 
 use crate::explanation::{Explanation, Wording, add_named};
 use crate::rule::Rule;
@@ -30,8 +29,7 @@ pub(crate) fn explain_directives<'d, 'a, S: ScalarValue>(
     directives: &Vec<&'d Spanning<Directive<'a, S>, Span>>,
     explanations: &mut Vec<Explanation>,
 ) -> Result<(), AllocError>
-    ensures { OnOk result (view_explanations explanations.new.items ≡ view_explanations explanations.old.items
-        ++ flat_map unknown_directive (view_directives_at S.shown directives.now.items)) }
+    ensures { OnOk result (Adds explanations.old.items explanations.new.items (flat_map unknown_directive (view_directives_at S.shown directives.now.items))) }
 {
     for index in 0..directives.len() {
         let directive = directives[index];
@@ -48,8 +46,7 @@ fn explain_directive<S: ScalarValue>(
     directive: &Spanning<Directive<'_, S>, Span>,
     explanations: &mut Vec<Explanation>,
 ) -> Result<(), AllocError>
-    ensures { OnOk result (view_explanations explanations.new.items ≡ view_explanations explanations.old.items
-        ++ unknown_directive (view_directive S.shown directive.now)) }
+    ensures { OnOk result (Adds explanations.old.items explanations.new.items (unknown_directive (view_directive S.shown directive.now))) }
 {
     let name = directive.item.name.item;
     let is_unknown = is_unknown(schema, name);

@@ -1,11 +1,10 @@
 //! Explanations of a whole document (section 5 of the Specification).
 
-ghost use Rattle.std.specs.Prelude.{◌≡◌, IfOk, [], map};
+ghost use Rattle.std.specs.Prelude.{◌≡◌, IfOk, []};
 ghost use Rattle.std.specs.List.{flat_map};
-ghost use Rattle.juniper_rules.specs.Listing.{AreListed};
 ghost use Rattle.juniper_schema.specs.SchemaView.{view_schema};
-ghost use Rattle.juniper_syntax.specs.DocumentView.{view_definition, view_document};
-ghost use Rattle.juniper_written.specs.SpreadsView.{AreFragmentsOf};
+ghost use Rattle.juniper_syntax.specs.DocumentView.{view_document};
+ghost use Rattle.juniper_explain.specs.Adding.{WhereListed};
 ghost use Rattle.juniper_explain.specs.Explanations.{explanations_at, judged, view_explanations};
 ghost use Rattle.juniper_explain.specs.Nodes.{explanations, name_findings};
 
@@ -58,11 +57,9 @@ fn explain_later<'d, 'a, S: ScalarValue>(
     fragments: &FragmentsByName<'d, 'a, S>,
     is_introspection_disabled: bool,
 ) -> Result<Vec<Explanation>, AllocError>
-    ensures { IfOk result (λ es. AreListed S.shown listed.now (map (view_definition S.shown) document.now) →
-        AreFragmentsOf S.shown fragments.now (map (view_definition S.shown) document.now) →
-        [] ≡ flat_map explanations_at (judged (name_findings (view_schema S.shown schema.now) (map (view_definition S.shown) document.now)) []
-        (map (view_definition S.shown) document.now)) → view_explanations es.items
-        ≡ explanations (view_schema S.shown schema.now) is_introspection_disabled (map (view_definition S.shown) document.now)) }
+    ensures { IfOk result (λ es. WhereListed S.shown document.now listed.now fragments.now (λ d.
+        [] ≡ flat_map explanations_at (judged (name_findings (view_schema S.shown schema.now) d) [] d) →
+        view_explanations es.items ≡ explanations (view_schema S.shown schema.now) is_introspection_disabled d)) }
 {
     let on_types = listed_on_types(alloc, schema, listed)?;
     let explained = explain_types(alloc, schema, &on_types)?;

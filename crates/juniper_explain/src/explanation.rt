@@ -3,7 +3,8 @@
 ghost use Rattle.std.specs.Prelude.{◌≡◌, ◌++◌, ◌∷◌, [], IfOk, OnOk, string_bytes};
 ghost use Rattle.juniper_syntax.specs.Positions.{view_position};
 ghost use Rattle.juniper_syntax.specs.DocumentView.{view_definition, view_word};
-ghost use Rattle.juniper_explain.specs.Explanations.{found, named, view_explanations, whole};
+ghost use Rattle.juniper_explain.specs.Adding.{Adds};
+ghost use Rattle.juniper_explain.specs.Explanations.{named, whole};
 
 use crate::rule::Rule;
 use juniper_rules::start_of;
@@ -28,8 +29,8 @@ pub(crate) fn add(
     location: SourcePosition,
     message: String,
 ) -> Result<(), AllocError>
-    ensures { OnOk result (view_explanations explanations.new.items ≡ view_explanations explanations.old.items
-        ++ record { rule = rule; place = view_position location; text = string_bytes message } ∷ []) }
+    ensures { OnOk result (Adds explanations.old.items explanations.new.items
+        (record { rule = rule; place = view_position location; text = string_bytes message } ∷ [])) }
 {
     explanations.push(Explanation {
         rule,
@@ -59,8 +60,8 @@ pub(crate) fn add_named(
     word: &Spanning<&str, Span>,
     wording: &Wording<'_>,
 ) -> Result<(), AllocError>
-    ensures { OnOk result (view_explanations explanations.new.items ≡ view_explanations explanations.old.items
-        ++ named is_violated wording.now.rule (view_word word.now) wording.now.before.now wording.now.after.now) }
+    ensures { OnOk result (Adds explanations.old.items explanations.new.items
+        (named is_violated wording.now.rule (view_word word.now) wording.now.before.now wording.now.after.now)) }
 {
     if !is_violated {
         return Ok(());
@@ -85,8 +86,7 @@ pub(crate) fn add_whole<S: ScalarValue>(
     rule: Rule,
     definition: &Definition<'_, S>,
 ) -> Result<(), AllocError>
-    ensures { OnOk result (view_explanations explanations.new.items ≡ view_explanations explanations.old.items
-        ++ whole is_violated rule (view_definition S.shown definition.now)) }
+    ensures { OnOk result (Adds explanations.old.items explanations.new.items (whole is_violated rule (view_definition S.shown definition.now))) }
 {
     if !is_violated {
         return Ok(());

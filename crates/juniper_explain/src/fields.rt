@@ -8,7 +8,7 @@ ghost use Rattle.juniper_meta.specs.MetaView as metas;
 ghost use Rattle.juniper_placed.specs.PlacedView.{view_parts, view_placed};
 ghost use Rattle.juniper_schema.specs.SchemaView.{view_schema};
 ghost use Rattle.juniper_written.specs.WrittenView.{view_names};
-ghost use Rattle.juniper_explain.specs.Explanations.{view_explanations};
+ghost use Rattle.juniper_explain.specs.Adding.{Adds};
 ghost use Rattle.juniper_explain.specs.Nearest.{suggested};
 ghost use Rattle.juniper_explain.specs.Nodes.{set_text, suggestion, unknown_field, wrong_set};
 
@@ -28,8 +28,8 @@ pub(crate) fn explain_unknown_fields<'d, 'a, S: ScalarValue>(
     parts: &PlacedParts<'d, 'a, S>,
     explanations: &mut Vec<Explanation>,
 ) -> Result<(), AllocError>
-    ensures { OnOk result (view_explanations explanations.new.items ≡ view_explanations explanations.old.items
-        ++ flat_map (unknown_field (view_schema S.shown schema.now)) (view_parts S.shown parts.now).fields) }
+    ensures { OnOk result (Adds explanations.old.items explanations.new.items
+        (flat_map (unknown_field (view_schema S.shown schema.now)) (view_parts S.shown parts.now).fields)) }
 {
     for placed in &parts.fields {
         explain_unknown_field(alloc, schema, placed, explanations)?;
@@ -45,8 +45,8 @@ fn explain_unknown_field<'d, 'a, S: ScalarValue>(
     placed: &Placed<'d, 'a, S>,
     explanations: &mut Vec<Explanation>,
 ) -> Result<(), AllocError>
-    ensures { OnOk result (view_explanations explanations.new.items ≡ view_explanations explanations.old.items
-        ++ unknown_field (view_schema S.shown schema.now) (view_placed S.shown placed.now)) }
+    ensures { OnOk result (Adds explanations.old.items explanations.new.items
+        (unknown_field (view_schema S.shown schema.now) (view_placed S.shown placed.now))) }
 {
     let field = placed.field;
     match placed.declared {
@@ -115,8 +115,8 @@ pub(crate) fn explain_sets<'d, 'a, S: ScalarValue>(
     parts: &PlacedParts<'d, 'a, S>,
     explanations: &mut Vec<Explanation>,
 ) -> Result<(), AllocError>
-    ensures { OnOk result (view_explanations explanations.new.items ≡ view_explanations explanations.old.items
-        ++ flat_map (λ p. wrong_set (view_schema S.shown schema.now) p p.declared) (view_parts S.shown parts.now).fields) }
+    ensures { OnOk result (Adds explanations.old.items explanations.new.items
+        (flat_map (λ p. wrong_set (view_schema S.shown schema.now) p p.declared) (view_parts S.shown parts.now).fields)) }
 {
     for placed in &parts.fields {
         explain_set(alloc, schema, placed, explanations)?;
@@ -132,8 +132,8 @@ fn explain_set<'d, 'a, S: ScalarValue>(
     placed: &Placed<'d, 'a, S>,
     explanations: &mut Vec<Explanation>,
 ) -> Result<(), AllocError>
-    ensures { OnOk result (view_explanations explanations.new.items ≡ view_explanations explanations.old.items
-        ++ wrong_set (view_schema S.shown schema.now) (view_placed S.shown placed.now) (view_placed S.shown placed.now).declared) }
+    ensures { OnOk result (Adds explanations.old.items explanations.new.items
+        (wrong_set (view_schema S.shown schema.now) (view_placed S.shown placed.now) (view_placed S.shown placed.now).declared)) }
 {
     let field = placed.field;
     match placed.declared {

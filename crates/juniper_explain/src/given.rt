@@ -3,16 +3,15 @@
 ghost use Rattle.std.specs.Prelude.{◌≡◌, ◌++◌, IfOk, OnOk, codes, map, string_bytes};
 ghost use Rattle.std.specs.List.{flat_map};
 ghost use Rattle.graphql_spec.specs.Display.{display};
-ghost use Rattle.graphql_spec.specs.Fields.{declaration_in};
 ghost use Rattle.graphql_spec.specs.Types.{type_text};
 ghost use Rattle.juniper_meta.specs.MetaView as metas;
 ghost use Rattle.juniper_schema.specs.SchemaView.{view_schema};
 ghost use Rattle.juniper_syntax.specs.DocumentView.{view_argument};
 ghost use Rattle.juniper_syntax.specs.InputView.{view_input};
 ghost use Rattle.juniper_written.specs.WrittenView.{view_names};
-ghost use Rattle.juniper_explain.specs.Explanations.{view_explanations};
+ghost use Rattle.juniper_explain.specs.Adding.{Adds};
 ghost use Rattle.juniper_explain.specs.Nearest.{suggested};
-ghost use Rattle.juniper_explain.specs.Nodes.{suggestion, unknown_argument, unknown_arguments, wrong_argument, wrong_arguments};
+ghost use Rattle.juniper_explain.specs.Nodes.{suggestion, unknown_argument, unknown_arguments, wrong_arguments, wrong_at};
 ghost use Rattle.juniper_explain.specs.SitesView.{owner_text, view_site, view_sites};
 
 use crate::explanation::{Explanation, add};
@@ -33,8 +32,7 @@ pub(crate) fn explain_unknown_arguments<'d, 'a, S: ScalarValue>(
     sites: &[Site<'d, 'a, S>],
     explanations: &mut Vec<Explanation>,
 ) -> Result<(), AllocError>
-    ensures { OnOk result (view_explanations explanations.new.items ≡ view_explanations explanations.old.items
-        ++ unknown_arguments (view_sites S.shown sites.now)) }
+    ensures { OnOk result (Adds explanations.old.items explanations.new.items (unknown_arguments (view_sites S.shown sites.now))) }
 {
     for site in sites {
         explain_unknown_at(alloc, site, explanations)?;
@@ -48,8 +46,8 @@ fn explain_unknown_at<'d, 'a, S: ScalarValue>(
     site: &Site<'d, 'a, S>,
     explanations: &mut Vec<Explanation>,
 ) -> Result<(), AllocError>
-    ensures { OnOk result (view_explanations explanations.new.items ≡ view_explanations explanations.old.items
-        ++ flat_map (unknown_argument (view_site S.shown site.now)) (view_site S.shown site.now).given) }
+    ensures { OnOk result (Adds explanations.old.items explanations.new.items
+        (flat_map (unknown_argument (view_site S.shown site.now)) (view_site S.shown site.now).given)) }
 {
     match site.given {
         Some(arguments) => {
@@ -70,8 +68,8 @@ fn explain_unknown_argument<'d, 'a, S: ScalarValue>(
     argument: &Given<'a, S>,
     explanations: &mut Vec<Explanation>,
 ) -> Result<(), AllocError>
-    ensures { OnOk result (view_explanations explanations.new.items ≡ view_explanations explanations.old.items
-        ++ unknown_argument (view_site S.shown site.now) (view_argument S.shown argument.now)) }
+    ensures { OnOk result (Adds explanations.old.items explanations.new.items
+        (unknown_argument (view_site S.shown site.now) (view_argument S.shown argument.now))) }
 {
     let name = argument.0.item;
     match find_argument(site.declared, name) {
@@ -125,8 +123,8 @@ pub(crate) fn explain_wrong_arguments<'d, 'a, S: ScalarValue>(
     sites: &[Site<'d, 'a, S>],
     explanations: &mut Vec<Explanation>,
 ) -> Result<(), AllocError>
-    ensures { OnOk result (view_explanations explanations.new.items ≡ view_explanations explanations.old.items
-        ++ wrong_arguments (view_schema S.shown schema.now) (view_sites S.shown sites.now)) }
+    ensures { OnOk result (Adds explanations.old.items explanations.new.items
+        (wrong_arguments (view_schema S.shown schema.now) (view_sites S.shown sites.now))) }
 {
     for site in sites {
         explain_wrong_at(alloc, schema, site, explanations)?;
@@ -141,9 +139,8 @@ fn explain_wrong_at<'d, 'a, S: ScalarValue>(
     site: &Site<'d, 'a, S>,
     explanations: &mut Vec<Explanation>,
 ) -> Result<(), AllocError>
-    ensures { OnOk result (view_explanations explanations.new.items ≡ view_explanations explanations.old.items
-        ++ flat_map (λ a. wrong_argument (view_schema S.shown schema.now) (view_site S.shown site.now) a
-        (declaration_in (view_site S.shown site.now).declared a.name.item)) (view_site S.shown site.now).given) }
+    ensures { OnOk result (Adds explanations.old.items explanations.new.items
+        (flat_map (wrong_at (view_schema S.shown schema.now) (view_site S.shown site.now)) (view_site S.shown site.now).given)) }
 {
     match site.given {
         Some(arguments) => {
@@ -165,9 +162,8 @@ fn explain_wrong_argument<'d, 'a, S: ScalarValue>(
     argument: &Given<'a, S>,
     explanations: &mut Vec<Explanation>,
 ) -> Result<(), AllocError>
-    ensures { OnOk result (view_explanations explanations.new.items ≡ view_explanations explanations.old.items
-        ++ wrong_argument (view_schema S.shown schema.now) (view_site S.shown site.now) (view_argument S.shown argument.now)
-        (declaration_in (view_site S.shown site.now).declared (view_argument S.shown argument.now).name.item)) }
+    ensures { OnOk result (Adds explanations.old.items explanations.new.items
+        (wrong_at (view_schema S.shown schema.now) (view_site S.shown site.now) (view_argument S.shown argument.now))) }
 {
     let value = &argument.1;
     match find_argument(site.declared, argument.0.item) {

@@ -1,13 +1,13 @@
 //! UniqueInputFieldNames (section 5.6.3 of the Specification).
 
-ghost use Rattle.std.specs.Prelude.{◌≡◌, ◌++◌, IfOk, OnOk, map, option_map};
+ghost use Rattle.std.specs.Prelude.{◌≡◌, IfOk, OnOk, map, option_map};
 ghost use Rattle.std.specs.List.{flat_map};
 ghost use Rattle.graphql_spec.specs.Documents.{written};
 ghost use Rattle.juniper_syntax.specs.Positions.{view_spanning};
 ghost use Rattle.juniper_syntax.specs.DocumentView.{view_arguments, view_variable};
 ghost use Rattle.juniper_syntax.specs.InputView.{view_fields, view_input, view_items};
 ghost use Rattle.juniper_written.specs.WrittenView.{view_list};
-ghost use Rattle.juniper_explain.specs.Explanations.{view_explanations};
+ghost use Rattle.juniper_explain.specs.Adding.{Adds};
 ghost use Rattle.juniper_explain.specs.Nodes.{repeated_fields, repeated_in_default, repeated_in_items, repeated_in_values, repeated_within};
 ghost use Rattle.juniper_explain.specs.Words.{field_words, view_words};
 
@@ -35,8 +35,8 @@ pub(crate) fn explain_in_arguments<'d, 'a, S: ScalarValue>(
     lists: &Vec<&'d Option<Spanning<Arguments<'a, S>, Span>>>,
     explanations: &mut Vec<Explanation>,
 ) -> Result<(), AllocError>
-    ensures { OnOk result (view_explanations explanations.new.items ≡ view_explanations explanations.old.items
-        ++ flat_map (flat_map (λ a. repeated_within a.value.item)) (view_list S.shown lists.now.items)) }
+    ensures { OnOk result (Adds explanations.old.items explanations.new.items
+        (flat_map (flat_map (λ a. repeated_within a.value.item)) (view_list S.shown lists.now.items))) }
 {
     for index in 0..lists.len() {
         let given = lists[index];
@@ -51,8 +51,8 @@ fn explain_in_given<'a, S: ScalarValue>(
     given: &Option<Spanning<Arguments<'a, S>, Span>>,
     explanations: &mut Vec<Explanation>,
 ) -> Result<(), AllocError>
-    ensures { OnOk result (view_explanations explanations.new.items ≡ view_explanations explanations.old.items
-        ++ flat_map (λ a. repeated_within a.value.item) (written (view_arguments S.shown given.now))) }
+    ensures { OnOk result (Adds explanations.old.items explanations.new.items
+        (flat_map (λ a. repeated_within a.value.item) (written (view_arguments S.shown given.now)))) }
 {
     match given {
         Some(arguments) => {
@@ -71,8 +71,8 @@ pub(crate) fn explain_in_defaults<S: ScalarValue>(
     variables: &[Variable<'_, S>],
     explanations: &mut Vec<Explanation>,
 ) -> Result<(), AllocError>
-    ensures { OnOk result (view_explanations explanations.new.items ≡ view_explanations explanations.old.items
-        ++ flat_map (λ v. repeated_in_default v.default) (map (view_variable S.shown) variables.now)) }
+    ensures { OnOk result (Adds explanations.old.items explanations.new.items
+        (flat_map (λ v. repeated_in_default v.default) (map (view_variable S.shown) variables.now))) }
 {
     for variable in variables {
         explain_in_default(alloc, &variable.1.default_value, explanations)?;
@@ -86,8 +86,8 @@ fn explain_in_default<S: ScalarValue>(
     default: &Option<Spanning<InputValue<S>, Span>>,
     explanations: &mut Vec<Explanation>,
 ) -> Result<(), AllocError>
-    ensures { OnOk result (view_explanations explanations.new.items ≡ view_explanations explanations.old.items
-        ++ repeated_in_default (option_map (view_spanning (view_input S.shown)) default.now)) }
+    ensures { OnOk result (Adds explanations.old.items explanations.new.items
+        (repeated_in_default (option_map (view_spanning (view_input S.shown)) default.now))) }
 {
     match default {
         Some(value) => explain_in_value(alloc, &value.item, explanations),
@@ -102,8 +102,7 @@ fn explain_in_value<S: ScalarValue>(
     value: &InputValue<S>,
     explanations: &mut Vec<Explanation>,
 ) -> Result<(), AllocError>
-    ensures { OnOk result (view_explanations explanations.new.items ≡ view_explanations explanations.old.items
-        ++ repeated_within (view_input S.shown value.now)) }
+    ensures { OnOk result (Adds explanations.old.items explanations.new.items (repeated_within (view_input S.shown value.now))) }
 {
     match value {
         InputValue::Null => Ok(()),
@@ -130,8 +129,7 @@ fn explain_in_items<S: ScalarValue>(
     items: &[Spanning<InputValue<S>, Span>],
     explanations: &mut Vec<Explanation>,
 ) -> Result<(), AllocError>
-    ensures { OnOk result (view_explanations explanations.new.items ≡ view_explanations explanations.old.items
-        ++ repeated_in_items (view_items S.shown items.now)) }
+    ensures { OnOk result (Adds explanations.old.items explanations.new.items (repeated_in_items (view_items S.shown items.now))) }
 {
     for item in items {
         explain_in_value(alloc, &item.item, explanations)?;
@@ -146,8 +144,7 @@ fn explain_in_fields<S: ScalarValue>(
     fields: &[InputField<S>],
     explanations: &mut Vec<Explanation>,
 ) -> Result<(), AllocError>
-    ensures { OnOk result (view_explanations explanations.new.items ≡ view_explanations explanations.old.items
-        ++ repeated_in_values (view_fields S.shown fields.now)) }
+    ensures { OnOk result (Adds explanations.old.items explanations.new.items (repeated_in_values (view_fields S.shown fields.now))) }
 {
     for field in fields {
         explain_in_value(alloc, &field.1.item, explanations)?;
@@ -162,8 +159,7 @@ fn explain_names<S: ScalarValue>(
     fields: &[InputField<S>],
     explanations: &mut Vec<Explanation>,
 ) -> Result<(), AllocError>
-    ensures { OnOk result (view_explanations explanations.new.items ≡ view_explanations explanations.old.items
-        ++ repeated_fields (view_fields S.shown fields.now)) }
+    ensures { OnOk result (Adds explanations.old.items explanations.new.items (repeated_fields (view_fields S.shown fields.now))) }
 {
     let words = words_of_fields(alloc, fields)?;
     explain_repeated(alloc, &words, &REPEATED_FIELD, explanations)

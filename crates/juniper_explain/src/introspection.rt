@@ -1,10 +1,10 @@
 //! Introspection, where it is disabled (section 4.2 of the Specification). The rule is this project's own.
 
-ghost use Rattle.std.specs.Prelude.{◌≡◌, ◌++◌, OnOk};
+ghost use Rattle.std.specs.Prelude.{OnOk};
 ghost use Rattle.std.specs.List.{flat_map};
 ghost use Rattle.juniper_syntax.specs.DocumentView.{view_field};
 ghost use Rattle.juniper_written.specs.WrittenView.{view_fields, view_written};
-ghost use Rattle.juniper_explain.specs.Explanations.{view_explanations};
+ghost use Rattle.juniper_explain.specs.Adding.{Adds};
 ghost use Rattle.juniper_explain.specs.Nodes.{introspection_field, where_found};
 
 use crate::explanation::{Explanation, Wording, add_named};
@@ -29,8 +29,8 @@ pub(crate) fn explain_introspection<'d, 'a, S: ScalarValue>(
     is_violated: bool,
     explanations: &mut Vec<Explanation>,
 ) -> Result<(), AllocError>
-    ensures { OnOk result (view_explanations explanations.new.items ≡ view_explanations explanations.old.items
-        ++ where_found is_violated (flat_map introspection_field (view_written S.shown written.now).fields)) }
+    ensures { OnOk result (Adds explanations.old.items explanations.new.items
+        (where_found is_violated (flat_map introspection_field (view_written S.shown written.now).fields))) }
 {
     if is_violated {
         explain_fields(alloc, &written.fields, explanations)
@@ -45,8 +45,7 @@ fn explain_fields<'d, 'a, S: ScalarValue>(
     fields: &Vec<&'d Spanning<Field<'a, S>, Span>>,
     explanations: &mut Vec<Explanation>,
 ) -> Result<(), AllocError>
-    ensures { OnOk result (view_explanations explanations.new.items ≡ view_explanations explanations.old.items
-        ++ flat_map introspection_field (view_fields S.shown fields.now.items)) }
+    ensures { OnOk result (Adds explanations.old.items explanations.new.items (flat_map introspection_field (view_fields S.shown fields.now.items))) }
 {
     for index in 0..fields.len() {
         let field = fields[index];
@@ -62,8 +61,7 @@ fn explain_field<'a, S: ScalarValue>(
     field: &Spanning<Field<'a, S>, Span>,
     explanations: &mut Vec<Explanation>,
 ) -> Result<(), AllocError>
-    ensures { OnOk result (view_explanations explanations.new.items ≡ view_explanations explanations.old.items
-        ++ introspection_field (view_field S.shown field.now)) }
+    ensures { OnOk result (Adds explanations.old.items explanations.new.items (introspection_field (view_field S.shown field.now))) }
 {
     let word = field.item.name;
     let is_introspection = is_introspection(word.item);

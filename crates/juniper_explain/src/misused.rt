@@ -3,16 +3,13 @@
 ghost use Rattle.std.specs.Prelude.{◌≡◌, ◌++◌, IfOk, OnOk, codes, map, option_map, string_bytes};
 ghost use Rattle.std.specs.List.{flat_map};
 ghost use Rattle.graphql_spec.specs.Documents as documents;
-ghost use Rattle.graphql_spec.specs.Documents.{variables_of};
 ghost use Rattle.graphql_spec.specs.Types.{type_text};
 ghost use Rattle.graphql_spec.specs.VariableUses as variable_uses;
 ghost use Rattle.juniper_meta.specs.MetaView as metas;
-ghost use Rattle.juniper_rules.specs.Listing.{AreListedOnTypes, IsListedOnTypes, definition_of};
 ghost use Rattle.juniper_schema.specs.SchemaView.{view_schema};
-ghost use Rattle.juniper_written.specs.SpreadsView.{AreFragmentsOf};
 ghost use Rattle.juniper_syntax.specs.DocumentView.{view_variable};
 ghost use Rattle.juniper_syntax.specs.TypeView.{view_type};
-ghost use Rattle.juniper_explain.specs.Explanations.{view_explanations};
+ghost use Rattle.juniper_explain.specs.Adding.{Adds, WherePlaced};
 ghost use Rattle.juniper_explain.specs.Nodes.{misused_at, misused_by, misused_variables, where_found};
 ghost use Rattle.juniper_explain.specs.PositionsView.{view_place, view_places};
 
@@ -40,10 +37,8 @@ pub(crate) fn explain_misused<'u, 'p, 'l, 'd: 'u, 'a, S: ScalarValue>(
     is_violated: bool,
     explanations: &mut Vec<Explanation>,
 ) -> Result<(), AllocError>
-    ensures { OnOk result ((d : documents.Document) → AreListedOnTypes S.shown (view_schema S.shown schema.now) document.now d →
-        AreFragmentsOf S.shown fragments.now d → IsListedOnTypes S.shown (view_schema S.shown schema.now) one.now →
-        view_explanations explanations.new.items ≡ view_explanations explanations.old.items
-        ++ where_found is_violated (misused_variables (view_schema S.shown schema.now) d (definition_of S.shown one.now.listed.now))) }
+    ensures { OnOk result ((d : documents.Document) → WherePlaced S.shown (view_schema S.shown schema.now) document.now fragments.now one.now d (λ x.
+        Adds explanations.old.items explanations.new.items (where_found is_violated (misused_variables (view_schema S.shown schema.now) d x)))) }
 {
     if is_violated {
         explain_all(alloc, schema, document, fragments, one, explanations)
@@ -61,10 +56,8 @@ fn explain_all<'u, 'p, 'l, 'd: 'u, 'a, S: ScalarValue>(
     one: &'p ListedOnTypes<'l, 'd, 'a, S>,
     explanations: &mut Vec<Explanation>,
 ) -> Result<(), AllocError>
-    ensures { OnOk result ((d : documents.Document) → AreListedOnTypes S.shown (view_schema S.shown schema.now) document.now d →
-        AreFragmentsOf S.shown fragments.now d → IsListedOnTypes S.shown (view_schema S.shown schema.now) one.now →
-        view_explanations explanations.new.items ≡ view_explanations explanations.old.items
-        ++ misused_variables (view_schema S.shown schema.now) d (definition_of S.shown one.now.listed.now)) }
+    ensures { OnOk result ((d : documents.Document) → WherePlaced S.shown (view_schema S.shown schema.now) document.now fragments.now one.now d (λ x.
+        Adds explanations.old.items explanations.new.items (misused_variables (view_schema S.shown schema.now) d x))) }
 {
     let own = one.listed;
     match own.definition {
@@ -85,8 +78,8 @@ fn explain_places<'a, S: ScalarValue>(
     places: &[Place<'_>],
     explanations: &mut Vec<Explanation>,
 ) -> Result<(), AllocError>
-    ensures { OnOk result (view_explanations explanations.new.items ≡ view_explanations explanations.old.items
-        ++ flat_map (misused_by (map (view_variable S.shown) variables.now)) (view_places places.now)) }
+    ensures { OnOk result (Adds explanations.old.items explanations.new.items
+        (flat_map (misused_by (map (view_variable S.shown) variables.now)) (view_places places.now))) }
 {
     for place in places {
         explain_place(alloc, variables, place, explanations)?;
@@ -101,8 +94,7 @@ fn explain_place<'a, S: ScalarValue>(
     place: &Place<'_>,
     explanations: &mut Vec<Explanation>,
 ) -> Result<(), AllocError>
-    ensures { OnOk result (view_explanations explanations.new.items ≡ view_explanations explanations.old.items
-        ++ misused_by (map (view_variable S.shown) variables.now) (view_place place.now)) }
+    ensures { OnOk result (Adds explanations.old.items explanations.new.items (misused_by (map (view_variable S.shown) variables.now) (view_place place.now))) }
 {
     match first_of(variables, place.variable.item) {
         Some(variable) => explain_variable(alloc, variable, place, explanations),
@@ -133,8 +125,7 @@ fn explain_variable<S: ScalarValue>(
     place: &Place<'_>,
     explanations: &mut Vec<Explanation>,
 ) -> Result<(), AllocError>
-    ensures { OnOk result (view_explanations explanations.new.items ≡ view_explanations explanations.old.items
-        ++ misused_at (view_variable S.shown variable.now) (view_place place.now)) }
+    ensures { OnOk result (Adds explanations.old.items explanations.new.items (misused_at (view_variable S.shown variable.now) (view_place place.now))) }
 {
     if may_stand(variable, place.expected, place.has_default) {
         return Ok(());

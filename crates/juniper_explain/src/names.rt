@@ -1,14 +1,12 @@
 //! What the rules on names find, with their nodes: the first phase.
 
-ghost use Rattle.std.specs.Prelude.{◌≡◌, ◌++◌, IfOk, List, OnOk, map, []};
+ghost use Rattle.std.specs.Prelude.{◌≡◌, IfOk, OnOk};
 ghost use Rattle.std.specs.List.{flat_map};
 ghost use Rattle.graphql_spec.specs.Documents as documents;
 ghost use Rattle.graphql_spec.specs.Written.{all_directives};
-ghost use Rattle.juniper_rules.specs.Listing.{AreListed, IsListed, definition_of};
 ghost use Rattle.juniper_schema.specs.SchemaView.{view_schema};
 ghost use Rattle.juniper_written.specs.SpreadsView.{AreFragmentsOf};
-ghost use Rattle.juniper_syntax.specs.DocumentView.{view_definition};
-ghost use Rattle.juniper_explain.specs.Explanations.{explanations_at, judged, view_explanations};
+ghost use Rattle.juniper_explain.specs.Adding.{AddsAll, AddsThree, AddsTwo, Explain, WhereListed, WhereOneListed};
 ghost use Rattle.juniper_explain.specs.Nodes.{inside_findings, name_findings, repeated_arguments, repeated_input_fields, repeated_variables};
 ghost use Rattle.juniper_explain.specs.Nodes.{unknown_directive, unknown_types};
 ghost use Rattle.juniper_explain.specs.Words.{view_marked, words_of};
@@ -37,11 +35,8 @@ pub(crate) fn explain_names<'d, 'a, S: ScalarValue>(
     listed: &[Listed<'d, 'a, S>],
     fragments: &FragmentsByName<'d, 'a, S>,
 ) -> Result<Vec<Explanation>, AllocError>
-    ensures { IfOk result (λ es. AreListed S.shown listed.now (map (view_definition S.shown) document.now) →
-        AreFragmentsOf S.shown fragments.now (map (view_definition S.shown) document.now) →
-        view_explanations es.items ≡ flat_map explanations_at
-        (judged (name_findings (view_schema S.shown schema.now) (map (view_definition S.shown) document.now))
-        [] (map (view_definition S.shown) document.now))) }
+    ensures { IfOk result (λ es. WhereListed S.shown document.now listed.now fragments.now (λ d.
+        Explain es.items (name_findings (view_schema S.shown schema.now) d) d)) }
 {
     let operation_count = count_operations(document);
     let mut explanations = Vec::new(alloc);
@@ -68,9 +63,8 @@ fn explain_inside<'d, 'a, S: ScalarValue>(
     listed: &Listed<'d, 'a, S>,
     explanations: &mut Vec<Explanation>,
 ) -> Result<(), AllocError>
-    ensures { OnOk result ((d : documents.Document) → AreFragmentsOf S.shown fragments.now d → IsListed S.shown listed.now →
-        view_explanations explanations.new.items ≡ view_explanations explanations.old.items
-        ++ flat_map (λ es. es) (inside_findings (view_schema S.shown schema.now) d (definition_of S.shown listed.now))) }
+    ensures { OnOk result ((d : documents.Document) → AreFragmentsOf S.shown fragments.now d → WhereOneListed S.shown listed.now (λ x.
+        AddsAll explanations.old.items explanations.new.items (inside_findings (view_schema S.shown schema.now) d x))) }
 {
     let definition = listed.definition;
     let words = words_in(alloc, definition)?;
@@ -92,9 +86,8 @@ fn explain_repeats<'d, 'a, S: ScalarValue>(
     listed: &Listed<'d, 'a, S>,
     explanations: &mut Vec<Explanation>,
 ) -> Result<(), AllocError>
-    ensures { OnOk result (IsListed S.shown listed.now → view_explanations explanations.new.items
-        ≡ ((view_explanations explanations.old.items ++ repeated_variables (definition_of S.shown listed.now))
-        ++ repeated_arguments (definition_of S.shown listed.now)) ++ repeated_input_fields (definition_of S.shown listed.now)) }
+    ensures { OnOk result (WhereOneListed S.shown listed.now (λ x.
+        AddsThree explanations.old.items explanations.new.items (repeated_variables x) (repeated_arguments x) (repeated_input_fields x))) }
 {
     let lists = &listed.arguments.lists;
     let variables = variables_of(listed.definition);
@@ -112,10 +105,9 @@ fn explain_unknown<'d, 'a, S: ScalarValue>(
     words: &Words<'a>,
     explanations: &mut Vec<Explanation>,
 ) -> Result<(), AllocError>
-    ensures { OnOk result (IsListed S.shown listed.now → view_marked words.now ≡ words_of (definition_of S.shown listed.now) →
-        view_explanations explanations.new.items
-        ≡ (view_explanations explanations.old.items ++ flat_map unknown_directive (all_directives (definition_of S.shown listed.now)))
-        ++ unknown_types (view_schema S.shown schema.now) (definition_of S.shown listed.now)) }
+    ensures { OnOk result (WhereOneListed S.shown listed.now (λ x. view_marked words.now ≡ words_of x →
+        AddsTwo explanations.old.items explanations.new.items
+        (flat_map unknown_directive (all_directives x)) (unknown_types (view_schema S.shown schema.now) x))) }
 {
     explain_directives(alloc, schema, &listed.written.directives, explanations)?;
     explain_unknown_conditions(alloc, schema, &words.conditions, explanations)?;

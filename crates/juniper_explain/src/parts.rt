@@ -4,9 +4,9 @@ ghost use Rattle.std.specs.Prelude.{◌≡◌, ◌++◌, IfOk, OnOk, map};
 ghost use Rattle.graphql_spec.specs.Documents as documents;
 ghost use Rattle.graphql_spec.specs.Schema.{Schema};
 ghost use Rattle.graphql_spec.specs.VariableUses.{parts};
-ghost use Rattle.juniper_rules.specs.Listing.{AreListedOnTypes, IsListedOnTypes, definition_of, placed_listing_of, view_listed_on_types};
-ghost use Rattle.juniper_written.specs.SpreadsView.{AreFragmentsOf};
+ghost use Rattle.juniper_rules.specs.Listing.{definition_of, placed_listing_of, view_listed_on_types};
 ghost use Rattle.juniper_written.specs.WrittenView.{has_name};
+ghost use Rattle.juniper_explain.specs.Adding.{WherePlaced};
 ghost use Rattle.juniper_explain.specs.Parts.{view_each, where_reached};
 
 use juniper_rules::ListedOnTypes;
@@ -22,10 +22,9 @@ pub(crate) fn parts_of<'p, 'l, 'd, 'a, S: ScalarValue>(
     fragments: &FragmentsByName<'d, 'a, S>,
     operation: &'p ListedOnTypes<'l, 'd, 'a, S>,
 ) -> Result<Vec<&'p ListedOnTypes<'l, 'd, 'a, S>>, AllocError>
-    ensures { IfOk result (λ ps. (s : Schema) (d : documents.Document) (o : documents.Operation) → AreListedOnTypes S.shown s document.now d →
-        AreFragmentsOf S.shown fragments.now d → IsListedOnTypes S.shown s operation.now →
-        definition_of S.shown operation.now.listed.now ≡ documents.operation o →
-        view_each S.shown ps.items ≡ map (placed_listing_of s) (parts d o)) }
+    ensures { IfOk result (λ ps. (s : Schema) (d : documents.Document) (o : documents.Operation) →
+        WherePlaced S.shown s document.now fragments.now operation.now d (λ x. x ≡ documents.operation o →
+        view_each S.shown ps.items ≡ map (placed_listing_of s) (parts d o))) }
 {
     let listed = operation.listed;
     let reached = fragments.reached(alloc, &listed.written.spreads)?;

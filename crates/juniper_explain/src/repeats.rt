@@ -1,13 +1,14 @@
 //! UniqueVariableNames and UniqueArgumentNames (sections 5.8.1 and 5.4.2 of the Specification).
 
-ghost use Rattle.std.specs.Prelude.{◌≡◌, ◌++◌, IfOk, OnOk, cond, false, map, true};
+ghost use Rattle.std.specs.Prelude.{◌≡◌, IfOk, OnOk, cond, false, map, true};
 ghost use Rattle.std.specs.List.{flat_map};
 ghost use Rattle.std.specs.Str.{bytes_eq};
 ghost use Rattle.graphql_spec.specs.Documents.{written};
 ghost use Rattle.graphql_spec.specs.Shown.{Name};
 ghost use Rattle.juniper_syntax.specs.DocumentView.{view_arguments, view_variable, view_word};
 ghost use Rattle.juniper_written.specs.WrittenView.{has_name, view_list};
-ghost use Rattle.juniper_explain.specs.Explanations.{named, view_explanations};
+ghost use Rattle.juniper_explain.specs.Adding.{Adds};
+ghost use Rattle.juniper_explain.specs.Explanations.{named};
 ghost use Rattle.juniper_explain.specs.Nodes.{repeated, repeated_in, repeated_of};
 ghost use Rattle.juniper_explain.specs.Words.{view_words};
 
@@ -40,8 +41,7 @@ pub(crate) fn explain_repeated_variables<'a, S: ScalarValue>(
     variables: &[Variable<'a, S>],
     explanations: &mut Vec<Explanation>,
 ) -> Result<(), AllocError>
-    ensures { OnOk result (view_explanations explanations.new.items ≡ view_explanations explanations.old.items
-        ++ repeated_of (map (view_variable S.shown) variables.now)) }
+    ensures { OnOk result (Adds explanations.old.items explanations.new.items (repeated_of (map (view_variable S.shown) variables.now))) }
 {
     let words = variable_words(alloc, variables)?;
     explain_repeated(alloc, &words, &REPEATED_VARIABLE, explanations)
@@ -67,8 +67,7 @@ pub(crate) fn explain_repeated_arguments<'d, 'a, S: ScalarValue>(
     lists: &Vec<&'d Option<Spanning<Arguments<'a, S>, Span>>>,
     explanations: &mut Vec<Explanation>,
 ) -> Result<(), AllocError>
-    ensures { OnOk result (view_explanations explanations.new.items ≡ view_explanations explanations.old.items
-        ++ flat_map repeated_in (view_list S.shown lists.now.items)) }
+    ensures { OnOk result (Adds explanations.old.items explanations.new.items (flat_map repeated_in (view_list S.shown lists.now.items))) }
 {
     for index in 0..lists.len() {
         let given = lists[index];
@@ -84,8 +83,7 @@ fn explain_repeated_in<'a, S: ScalarValue>(
     given: &Option<Spanning<Arguments<'a, S>, Span>>,
     explanations: &mut Vec<Explanation>,
 ) -> Result<(), AllocError>
-    ensures { OnOk result (view_explanations explanations.new.items ≡ view_explanations explanations.old.items
-        ++ repeated_in (written (view_arguments S.shown given.now))) }
+    ensures { OnOk result (Adds explanations.old.items explanations.new.items (repeated_in (written (view_arguments S.shown given.now)))) }
 {
     let words = argument_words(alloc, given)?;
     explain_repeated(alloc, &words, &REPEATED_ARGUMENT, explanations)
@@ -117,8 +115,8 @@ pub(crate) fn explain_repeated<'a>(
     wording: &Wording<'_>,
     explanations: &mut Vec<Explanation>,
 ) -> Result<(), AllocError>
-    ensures { OnOk result (view_explanations explanations.new.items ≡ view_explanations explanations.old.items
-        ++ repeated wording.now.rule wording.now.before.now wording.now.after.now (λ n. false) (view_words words.now.items)) }
+    ensures { OnOk result (Adds explanations.old.items explanations.new.items
+        (repeated wording.now.rule wording.now.before.now wording.now.after.now (λ n. false) (view_words words.now.items))) }
 {
     let mut seen = NameSet::new(alloc);
     for index in 0..words.len() {
@@ -137,8 +135,8 @@ fn explain_repeat<'a>(
     explanations: &mut Vec<Explanation>,
 ) -> Result<(), AllocError>
     ensures seen { OnOk result ((n : Name) → has_name seen.new n ≡ cond (bytes_eq (view_word word.now).item n) true (has_name seen.old n)) }
-    ensures told { OnOk result (view_explanations explanations.new.items ≡ view_explanations explanations.old.items
-        ++ named (has_name seen.old (view_word word.now).item) wording.now.rule (view_word word.now) wording.now.before.now wording.now.after.now) }
+    ensures told { OnOk result (Adds explanations.old.items explanations.new.items
+        (named (has_name seen.old (view_word word.now).item) wording.now.rule (view_word word.now) wording.now.before.now wording.now.after.now)) }
 {
     let is_new = seen.insert(word.item)?;
     add_named(alloc, explanations, !is_new, word, wording)

@@ -1,6 +1,6 @@
 //! KnownFragmentNames and NoFragmentCycles (sections 5.5.2.1 and 5.5.2.2 of the Specification).
 
-ghost use Rattle.std.specs.Prelude.{◌≡◌, ◌++◌, OnOk};
+ghost use Rattle.std.specs.Prelude.{◌≡◌, OnOk};
 ghost use Rattle.std.specs.List.{flat_map};
 ghost use Rattle.std.specs.Option.{is_none};
 ghost use Rattle.graphql_spec.specs.Documents as documents;
@@ -10,7 +10,7 @@ ghost use Rattle.graphql_spec.specs.Written.{selections_of};
 ghost use Rattle.juniper_written.specs.SpreadsView.{AreFragmentsOf};
 ghost use Rattle.juniper_syntax.specs.DocumentView.{view_definition, view_word};
 ghost use Rattle.juniper_written.specs.WrittenView.{view_names};
-ghost use Rattle.juniper_explain.specs.Explanations.{view_explanations};
+ghost use Rattle.juniper_explain.specs.Adding.{Adds};
 ghost use Rattle.juniper_explain.specs.Nodes.{own_spread, unknown_spread};
 ghost use Rattle.juniper_explain.specs.Words.{view_words};
 
@@ -43,7 +43,7 @@ pub(crate) fn explain_spreads<'d, 'a, S: ScalarValue>(
     explanations: &mut Vec<Explanation>,
 ) -> Result<(), AllocError>
     ensures { OnOk result ((d : documents.Document) → AreFragmentsOf S.shown fragments.now d →
-        view_explanations explanations.new.items ≡ view_explanations explanations.old.items ++ flat_map (unknown_spread d) (view_words spreads.now.items)) }
+        Adds explanations.old.items explanations.new.items (flat_map (unknown_spread d) (view_words spreads.now.items))) }
 {
     for index in 0..spreads.len() {
         let spread = spreads[index];
@@ -61,7 +61,7 @@ fn explain_spread<'d, 'a, S: ScalarValue>(
     explanations: &mut Vec<Explanation>,
 ) -> Result<(), AllocError>
     ensures { OnOk result ((d : documents.Document) → AreFragmentsOf S.shown fragments.now d →
-        view_explanations explanations.new.items ≡ view_explanations explanations.old.items ++ unknown_spread d (view_word word.now)) }
+        Adds explanations.old.items explanations.new.items (unknown_spread d (view_word word.now))) }
 {
     let is_unknown = is_unknown(fragments, word.item);
     add_named(alloc, explanations, is_unknown, word, &UNKNOWN_SPREAD)
@@ -88,7 +88,7 @@ pub(crate) fn explain_own_spread<'d, 'a, S: ScalarValue>(
 ) -> Result<(), AllocError>
     ensures { OnOk result ((d : documents.Document) → AreFragmentsOf S.shown fragments.now d →
         view_names names.now ≡ spreads (selections_of (view_definition S.shown definition.now)) →
-        view_explanations explanations.new.items ≡ view_explanations explanations.old.items ++ own_spread d (view_definition S.shown definition.now)) }
+        Adds explanations.old.items explanations.new.items (own_spread d (view_definition S.shown definition.now))) }
 {
     let spreads_itself = fragments.spreads_itself(alloc, definition, names)?;
     let word = word_of(definition);

@@ -1,18 +1,14 @@
 //! What the rules on types find, with their nodes: the second phase.
 
-ghost use Rattle.std.specs.Prelude.{◌≡◌, ◌++◌, IfOk, List, OnOk, []};
-ghost use Rattle.std.specs.List.{flat_map};
+ghost use Rattle.std.specs.Prelude.{◌≡◌, IfOk, List, OnOk};
 ghost use Rattle.graphql_spec.specs.Documents as documents;
-ghost use Rattle.graphql_spec.specs.Written.{defined_variables};
 ghost use Rattle.juniper_rules.specs.Listing.{AreListedOnTypes, IsListedOnTypes, definition_of};
 ghost use Rattle.juniper_placed.specs.PlacedView.{view_parts};
 ghost use Rattle.juniper_placed.specs.Placing.{parts_of};
 ghost use Rattle.juniper_schema.specs.SchemaView.{view_schema};
 ghost use Rattle.juniper_syntax.specs.DocumentView.{view_definition};
-ghost use Rattle.juniper_explain.specs.Explanations.{explanations_at, judged, view_explanations};
-ghost use Rattle.juniper_explain.specs.Nodes.{missing_arguments, other_condition, other_variable, type_findings, unknown_arguments, wrong_arguments};
-ghost use Rattle.juniper_explain.specs.Sites as spec;
-ghost use Rattle.juniper_explain.specs.Words.{condition_words};
+ghost use Rattle.juniper_explain.specs.Adding.{AddsAll, AddsOfArguments, AddsTwo, Explain};
+ghost use Rattle.juniper_explain.specs.Nodes.{other_conditions, other_variables, type_findings};
 
 use crate::arguments::explain_missing_arguments;
 use crate::conditions::explain_other_conditions;
@@ -36,7 +32,7 @@ pub(crate) fn explain_types<'d, 'a, S: ScalarValue>(
     listed: &[ListedOnTypes<'_, 'd, 'a, S>],
 ) -> Result<Vec<Explanation>, AllocError>
     ensures { IfOk result (λ es. (d : documents.Document) → AreListedOnTypes S.shown (view_schema S.shown schema.now) listed.now d →
-        view_explanations es.items ≡ flat_map explanations_at (judged (type_findings (view_schema S.shown schema.now)) [] d)) }
+        Explain es.items (type_findings (view_schema S.shown schema.now)) d) }
 {
     let mut explanations = Vec::new(alloc);
     for one in listed {
@@ -53,8 +49,8 @@ fn explain_definition<'d, 'a, S: ScalarValue>(
     explanations: &mut Vec<Explanation>,
 ) -> Result<(), AllocError>
     ensures { OnOk result ((ds : List documents.Definition) → IsListedOnTypes S.shown (view_schema S.shown schema.now) on_types.now →
-        view_explanations explanations.new.items ≡ view_explanations explanations.old.items
-        ++ flat_map (λ es. es) (type_findings (view_schema S.shown schema.now) ds (definition_of S.shown on_types.now.listed.now))) }
+        AddsAll explanations.old.items explanations.new.items
+        (type_findings (view_schema S.shown schema.now) ds (definition_of S.shown on_types.now.listed.now))) }
 {
     let listed = on_types.listed;
     let definition = listed.definition;
@@ -72,9 +68,9 @@ fn explain_references<S: ScalarValue>(
     definition: &Definition<'_, S>,
     explanations: &mut Vec<Explanation>,
 ) -> Result<(), AllocError>
-    ensures { OnOk result (view_explanations explanations.new.items ≡ (view_explanations explanations.old.items
-        ++ flat_map (other_condition (view_schema S.shown schema.now)) (condition_words (view_definition S.shown definition.now)))
-        ++ flat_map (other_variable (view_schema S.shown schema.now)) (defined_variables (view_definition S.shown definition.now))) }
+    ensures { OnOk result (AddsTwo explanations.old.items explanations.new.items
+        (other_conditions (view_schema S.shown schema.now) (view_definition S.shown definition.now))
+        (other_variables (view_schema S.shown schema.now) (view_definition S.shown definition.now))) }
 {
     let words = words_in(alloc, definition)?;
     explain_other_conditions(alloc, schema, &words.conditions, explanations)?;
@@ -89,10 +85,7 @@ fn explain_arguments<'d, 'a, S: ScalarValue>(
     explanations: &mut Vec<Explanation>,
 ) -> Result<(), AllocError>
     ensures { OnOk result ((x : documents.Definition) → view_parts S.shown parts.now ≡ parts_of (view_schema S.shown schema.now) x →
-        view_explanations explanations.new.items
-        ≡ ((view_explanations explanations.old.items ++ unknown_arguments (spec.sites (view_schema S.shown schema.now) x))
-        ++ missing_arguments (spec.sites (view_schema S.shown schema.now) x))
-        ++ wrong_arguments (view_schema S.shown schema.now) (spec.sites (view_schema S.shown schema.now) x)) }
+        AddsOfArguments explanations.old.items explanations.new.items (view_schema S.shown schema.now) x) }
 {
     let sites = sites(alloc, schema, parts)?;
     explain_unknown_arguments(alloc, &sites, explanations)?;

@@ -8,10 +8,9 @@ ghost use Rattle.graphql_spec.specs.Documents as documents;
 ghost use Rattle.graphql_spec.specs.Documents.{word_name};
 ghost use Rattle.graphql_spec.specs.Schema.{Schema};
 ghost use Rattle.graphql_spec.specs.VariableUses as variable_uses;
-ghost use Rattle.juniper_rules.specs.Listing.{AreListedOnTypes, IsListedOnTypes, definition_of};
-ghost use Rattle.juniper_written.specs.SpreadsView.{AreFragmentsOf};
 ghost use Rattle.juniper_syntax.specs.DocumentView.{view_operation, view_variable, view_word};
-ghost use Rattle.juniper_explain.specs.Explanations.{named, view_explanations};
+ghost use Rattle.juniper_explain.specs.Adding.{Adds, WherePlaced};
+ghost use Rattle.juniper_explain.specs.Explanations.{named};
 ghost use Rattle.juniper_explain.specs.Nodes.{undefined_name, undefined_text, undefined_variables, where_found};
 ghost use Rattle.juniper_explain.specs.Words.{view_words};
 
@@ -36,9 +35,8 @@ pub(crate) fn explain_undefined<'p, 'l, 'd, 'a, S: ScalarValue>(
     is_violated: bool,
     explanations: &mut Vec<Explanation>,
 ) -> Result<(), AllocError>
-    ensures { OnOk result ((s : Schema) (d : documents.Document) → AreListedOnTypes S.shown s document.now d → AreFragmentsOf S.shown fragments.now d →
-        IsListedOnTypes S.shown s one.now → view_explanations explanations.new.items ≡ view_explanations explanations.old.items
-        ++ where_found is_violated (undefined_variables d (definition_of S.shown one.now.listed.now))) }
+    ensures { OnOk result ((s : Schema) (d : documents.Document) → WherePlaced S.shown s document.now fragments.now one.now d (λ x.
+        Adds explanations.old.items explanations.new.items (where_found is_violated (undefined_variables d x)))) }
 {
     if is_violated {
         explain_all(alloc, document, fragments, one, explanations)
@@ -55,9 +53,8 @@ fn explain_all<'p, 'l, 'd, 'a, S: ScalarValue>(
     one: &'p ListedOnTypes<'l, 'd, 'a, S>,
     explanations: &mut Vec<Explanation>,
 ) -> Result<(), AllocError>
-    ensures { OnOk result ((s : Schema) (d : documents.Document) → AreListedOnTypes S.shown s document.now d → AreFragmentsOf S.shown fragments.now d →
-        IsListedOnTypes S.shown s one.now → view_explanations explanations.new.items ≡ view_explanations explanations.old.items
-        ++ undefined_variables d (definition_of S.shown one.now.listed.now)) }
+    ensures { OnOk result ((s : Schema) (d : documents.Document) → WherePlaced S.shown s document.now fragments.now one.now d (λ x.
+        Adds explanations.old.items explanations.new.items (undefined_variables d x))) }
 {
     let listed = one.listed;
     match listed.definition {
@@ -77,8 +74,8 @@ fn explain_words<'a, S: ScalarValue>(
     words: &Vec<Spanning<&str, Span>>,
     explanations: &mut Vec<Explanation>,
 ) -> Result<(), AllocError>
-    ensures { OnOk result (view_explanations explanations.new.items ≡ view_explanations explanations.old.items
-        ++ flat_map (undefined_name (view_operation S.shown operation.now)) (view_words words.now.items)) }
+    ensures { OnOk result (Adds explanations.old.items explanations.new.items
+        (flat_map (undefined_name (view_operation S.shown operation.now)) (view_words words.now.items))) }
 {
     let variables = listed(&operation.item.variable_definitions);
     let after = undefined_text(alloc, &operation.item.name)?;
@@ -123,9 +120,9 @@ fn explain_name<'a, S: ScalarValue>(
     wording: &Wording<'_>,
     explanations: &mut Vec<Explanation>,
 ) -> Result<(), AllocError>
-    ensures { OnOk result (view_explanations explanations.new.items ≡ view_explanations explanations.old.items
-        ++ named (is_none (variable_uses.definition_of (map (view_variable S.shown) variables.now) (view_word word.now).item)) wording.now.rule
-        (view_word word.now) wording.now.before.now wording.now.after.now) }
+    ensures { OnOk result (Adds explanations.old.items explanations.new.items
+        (named (is_none (variable_uses.definition_of (map (view_variable S.shown) variables.now) (view_word word.now).item))
+        wording.now.rule (view_word word.now) wording.now.before.now wording.now.after.now)) }
 {
     let is_undefined = is_undefined(variables, word.item);
     add_named(alloc, explanations, is_undefined, word, wording)

@@ -1,14 +1,9 @@
 //! What the rules on variables, merging and introspection find, with their nodes where these are known: the third phase.
 
-ghost use Rattle.std.specs.Prelude.{◌≡◌, ◌++◌, IfOk, List, OnOk, map, []};
+ghost use Rattle.std.specs.Prelude.{IfOk, OnOk};
 ghost use Rattle.graphql_spec.specs.Documents as documents;
-ghost use Rattle.graphql_spec.specs.Rules as rules;
-ghost use Rattle.std.specs.List.{flat_map};
 ghost use Rattle.juniper_schema.specs.SchemaView.{view_schema};
-ghost use Rattle.juniper_written.specs.SpreadsView.{AreFragmentsOf};
-ghost use Rattle.juniper_type_rules.specs.UsesView.{AreUsesOfFragments, usage_of, view_used};
-ghost use Rattle.juniper_rules.specs.Listing.{AreListedOnTypes, IsListedOnTypes, definition_of};
-ghost use Rattle.juniper_explain.specs.Explanations.{explanations_at, judged, view_explanations};
+ghost use Rattle.juniper_explain.specs.Adding.{AddsAll, Explain, WhereMerged, WhereUsed};
 ghost use Rattle.juniper_explain.specs.Nodes.{use_findings};
 
 use crate::explanation::{Explanation, add_whole};
@@ -33,9 +28,8 @@ pub(crate) fn explain_uses<'d, 'a, S: ScalarValue>(
     cannot_merge: &[bool],
     introspection_disabled: bool,
 ) -> Result<Vec<Explanation>, AllocError>
-    ensures { IfOk result (λ es. (d : documents.Document) → AreListedOnTypes S.shown (view_schema S.shown schema.now) listed.now d →
-        AreFragmentsOf S.shown fragments.now d → cannot_merge.now ≡ map (rules.cannot_merge (view_schema S.shown schema.now) d) d →
-        view_explanations es.items ≡ flat_map explanations_at (judged (use_findings (view_schema S.shown schema.now) introspection_disabled d) [] d)) }
+    ensures { IfOk result (λ es. (d : documents.Document) → WhereMerged S.shown (view_schema S.shown schema.now) listed.now fragments.now
+        cannot_merge.now d (Explain es.items (use_findings (view_schema S.shown schema.now) introspection_disabled d) d)) }
 {
     let used = used_by_each(alloc, schema, listed)?;
     let used_by_fragments = uses_of_fragments(alloc, &used, &fragments.spreads)?;
@@ -74,14 +68,9 @@ fn explain_definition<'r, 'u, 'p, 'l, 'd: 'r, 'a, S: ScalarValue>(
     cannot_merge: bool,
     explanations: &mut Vec<Explanation>,
 ) -> Result<(), AllocError>
-    ensures { OnOk result ((d : documents.Document) (ds : List documents.Definition) →
-        AreUsesOfFragments (view_schema S.shown given.now.schema.now) given.now.used_by_fragments.now d →
-        AreListedOnTypes S.shown (view_schema S.shown given.now.schema.now) document.now d → AreFragmentsOf S.shown fragments.now d →
-        IsListedOnTypes S.shown (view_schema S.shown given.now.schema.now) one.now →
-        view_used own.now ≡ usage_of (view_schema S.shown given.now.schema.now) (definition_of S.shown one.now.listed.now) →
-        cannot_merge ≡ rules.cannot_merge (view_schema S.shown given.now.schema.now) d (definition_of S.shown one.now.listed.now) →
-        view_explanations explanations.new.items ≡ view_explanations explanations.old.items ++ flat_map (λ es. es)
-        (use_findings (view_schema S.shown given.now.schema.now) given.now.introspection_disabled d ds (definition_of S.shown one.now.listed.now))) }
+    ensures { OnOk result (WhereUsed S.shown (view_schema S.shown given.now.schema.now) given.now.used_by_fragments.now document.now fragments.now
+        one.now own.now cannot_merge (λ s d ds x.
+        AddsAll explanations.old.items explanations.new.items (use_findings s given.now.introspection_disabled d ds x))) }
 {
     let listed = one.listed;
     let definition = listed.definition;

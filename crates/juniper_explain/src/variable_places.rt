@@ -13,7 +13,7 @@ ghost use Rattle.juniper_schema.specs.SchemaView.{view_schema};
 ghost use Rattle.juniper_placed.specs.CallView.{view_call, view_calls};
 ghost use Rattle.juniper_explain.specs.Parts.{view_each};
 ghost use Rattle.juniper_explain.specs.Positions.{places_at, places_in_call, places_in_fields, places_in_items};
-ghost use Rattle.juniper_explain.specs.PositionsView.{view_places};
+ghost use Rattle.juniper_explain.specs.PositionsView.{place_at, view_places};
 
 use juniper_meta::{Argument, find_argument};
 use juniper_placed::Call;
@@ -196,10 +196,8 @@ fn push_place<'u>(
     has_default: bool,
     places: &mut Vec<Place<'u>>,
 ) -> Result<(), AllocError>
-    ensures { OnOk result (view_places places.new.items ≡ view_places places.old.items ++ record {
-      used = record { variable = variable.entry.item.now; place = view_type expected.now; has_default = has_default };
-      span = view_span variable.entry.span;
-    } ∷ []) }
+    ensures { OnOk result (view_places places.new.items ≡ view_places places.old.items
+        ++ place_at variable.entry.item.now (view_span variable.entry.span) (view_type expected.now) has_default ∷ []) }
 {
     places.push(Place {
         variable,

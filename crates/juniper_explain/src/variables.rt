@@ -12,7 +12,7 @@ ghost use Rattle.juniper_syntax.specs.DocumentView.{view_definition, view_variab
 ghost use Rattle.juniper_syntax.specs.InputView.{view_input};
 ghost use Rattle.juniper_syntax.specs.TypeView.{view_type};
 ghost use Rattle.juniper_written.specs.WrittenView.{view_variables};
-ghost use Rattle.juniper_explain.specs.Explanations.{view_explanations};
+ghost use Rattle.juniper_explain.specs.Adding.{Adds};
 ghost use Rattle.juniper_explain.specs.Nodes.{misfit, other_variable, unknown_type, wrong_default};
 ghost use Rattle.juniper_explain.specs.Words.{type_word};
 
@@ -78,8 +78,8 @@ pub(crate) fn explain_unknown_variables<S: ScalarValue>(
     variables: &[Variable<'_, S>],
     explanations: &mut Vec<Explanation>,
 ) -> Result<(), AllocError>
-    ensures { OnOk result (view_explanations explanations.new.items ≡ view_explanations explanations.old.items
-        ++ flat_map (λ v. unknown_type (view_schema S.shown schema.now) (type_word v)) (map (view_variable S.shown) variables.now)) }
+    ensures { OnOk result (Adds explanations.old.items explanations.new.items
+        (flat_map (λ v. unknown_type (view_schema S.shown schema.now) (type_word v)) (map (view_variable S.shown) variables.now))) }
 {
     for variable in variables {
         explain_unknown_variable(alloc, schema, variable, explanations)?;
@@ -94,8 +94,8 @@ fn explain_unknown_variable<S: ScalarValue>(
     variable: &Variable<'_, S>,
     explanations: &mut Vec<Explanation>,
 ) -> Result<(), AllocError>
-    ensures { OnOk result (view_explanations explanations.new.items ≡ view_explanations explanations.old.items
-        ++ unknown_type (view_schema S.shown schema.now) (type_word (view_variable S.shown variable.now))) }
+    ensures { OnOk result (Adds explanations.old.items explanations.new.items
+        (unknown_type (view_schema S.shown schema.now) (type_word (view_variable S.shown variable.now)))) }
 {
     let reference = &variable.1.var_type;
     let word = Spanning::new(reference.span, reference.item.innermost_name());
@@ -109,8 +109,8 @@ pub(crate) fn explain_other_variables<S: ScalarValue>(
     variables: &[Variable<'_, S>],
     explanations: &mut Vec<Explanation>,
 ) -> Result<(), AllocError>
-    ensures { OnOk result (view_explanations explanations.new.items ≡ view_explanations explanations.old.items
-        ++ flat_map (other_variable (view_schema S.shown schema.now)) (map (view_variable S.shown) variables.now)) }
+    ensures { OnOk result (Adds explanations.old.items explanations.new.items
+        (flat_map (other_variable (view_schema S.shown schema.now)) (map (view_variable S.shown) variables.now))) }
 {
     for variable in variables {
         explain_other_variable(alloc, schema, variable, explanations)?;
@@ -126,8 +126,8 @@ fn explain_other_variable<S: ScalarValue>(
     variable: &Variable<'_, S>,
     explanations: &mut Vec<Explanation>,
 ) -> Result<(), AllocError>
-    ensures { OnOk result (view_explanations explanations.new.items ≡ view_explanations explanations.old.items
-        ++ other_variable (view_schema S.shown schema.now) (view_variable S.shown variable.now)) }
+    ensures { OnOk result (Adds explanations.old.items explanations.new.items
+        (other_variable (view_schema S.shown schema.now) (view_variable S.shown variable.now))) }
 {
     let reference = &variable.1.var_type.item;
     if schema.is_input(reference.innermost_name()) {
@@ -157,8 +157,8 @@ pub(crate) fn explain_defaults<S: ScalarValue>(
     variables: &[Variable<'_, S>],
     explanations: &mut Vec<Explanation>,
 ) -> Result<(), AllocError>
-    ensures { OnOk result (view_explanations explanations.new.items ≡ view_explanations explanations.old.items
-        ++ flat_map (λ v. wrong_default (view_schema S.shown schema.now) v v.default) (map (view_variable S.shown) variables.now)) }
+    ensures { OnOk result (Adds explanations.old.items explanations.new.items
+        (flat_map (λ v. wrong_default (view_schema S.shown schema.now) v v.default) (map (view_variable S.shown) variables.now))) }
 {
     for variable in variables {
         explain_default(alloc, schema, variable, explanations)?;
@@ -173,8 +173,8 @@ fn explain_default<S: ScalarValue>(
     variable: &Variable<'_, S>,
     explanations: &mut Vec<Explanation>,
 ) -> Result<(), AllocError>
-    ensures { OnOk result (view_explanations explanations.new.items ≡ view_explanations explanations.old.items
-        ++ wrong_default (view_schema S.shown schema.now) (view_variable S.shown variable.now) (view_variable S.shown variable.now).default) }
+    ensures { OnOk result (Adds explanations.old.items explanations.new.items
+        (wrong_default (view_schema S.shown schema.now) (view_variable S.shown variable.now) (view_variable S.shown variable.now).default)) }
 {
     match &variable.1.default_value {
         Some(value) => {
@@ -196,8 +196,8 @@ fn explain_misfit<S: ScalarValue>(
     reference: &Type<String>,
     explanations: &mut Vec<Explanation>,
 ) -> Result<(), AllocError>
-    ensures { OnOk result (view_explanations explanations.new.items ≡ view_explanations explanations.old.items
-        ++ misfit (view_schema S.shown schema.now) name.now (view_spanning (view_input S.shown) value.now) (view_type (λ n. string_bytes n) reference.now)) }
+    ensures { OnOk result (Adds explanations.old.items explanations.new.items
+        (misfit (view_schema S.shown schema.now) name.now (view_spanning (view_input S.shown) value.now) (view_type (λ n. string_bytes n) reference.now))) }
 {
     if schema.fits(&value.item, reference, false) {
         return Ok(());
