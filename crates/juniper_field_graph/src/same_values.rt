@@ -13,7 +13,7 @@ use juniper_syntax::{InputValue, ScalarValue, Span, Spanning};
 /// Whether two values are the same up to places and the order of object fields, where no object has two fields of one
 /// name (2.9).
 #[cycle(same)]
-#[tactic(auto, using(juniper_syntax::proofs::Inputs::input_views, crate::proofs::SameItems::null_is_same), unfolding(crate::specs::SameValues::same_value))]
+#[tactic(auto, using(juniper_syntax::proofs::Inputs::input_views), unfolding(crate::specs::SameValues::same_value))]
 pub(crate) fn same_value<S: ScalarValue>(first: &InputValue<S>, second: &InputValue<S>) -> bool
     ensures { result ≡ same.same_value (view_input S.shown first.now) (view_input S.shown second.now) }
 {

@@ -1,12 +1,18 @@
 use Rattle.std.proofs.Common.{◌≤◌, length, option_map, string_bytes, sym, ap, refl, ◌∙◌, arith}
 use Rattle.graphql_spec.specs.Inputs as inputs
 use Rattle.juniper_syntax.specs.InputView.{view_fields, view_input}
-use Rattle.juniper_syntax.proofs.Inputs.{view-Object}
+use Rattle.juniper_syntax.proofs.Inputs.{view-Null, view-Object}
 use Rattle.juniper_field_graph.specs.NamedValues.{view_named}
 use Rattle.juniper_field_graph.specs.SameValues.{passes, same_value}
-use Rattle.juniper_field_graph.proofs.SameItems.{both-keyed, items-differ, items-done, items-pass, items-stop, one-differs, value-found, values-done}
-use Rattle.juniper_field_graph.proofs.SameItems.{values-pass, values-stop}
+use Rattle.juniper_field_graph.proofs.SameItems.{both-keyed, items-differ, items-done, items-pass, items-stop, null_is_same, one-differs, value-found}
+use Rattle.juniper_field_graph.proofs.SameItems.{values-done, values-pass, values-stop}
 use Rattle.juniper_field_graph.proofs.same_values.+same.Goals as goal
+
+pub same_value-returns-in-Null : goal.same_value-returns-in-Null
+same_value-returns-in-Null g t c =
+    let shown = g.S.ScalarValue.shown in
+    let second = view_input shown c.args.second.now in
+    c.is_null.ensures ∙ (null_is_same second ∙ ap (λ v. same_value v second) (sym (ap (view_input shown) c.in-Null.is ∙ view-Null shown)))
 
 pub same_value-returns-in-Object : goal.same_value-returns-in-Object
 same_value-returns-in-Object g t c =
