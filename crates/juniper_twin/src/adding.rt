@@ -14,7 +14,7 @@ use crate::walking::AllWalked;
 use juniper_assemble::{fill, settle};
 use juniper_conversions::ExecutionError;
 use juniper_syntax::{Field, Object, ScalarValue, Span, Spanning, Value};
-use juniper_walk::{Walked, does_rise, response_key};
+use juniper_walk::{Walked, does_rise};
 use std::alloc::{AllocError, Global};
 
 /// Adds a field's answer, with the objects of its nodes, to the object; whether its null rises past it (6.4.4).
@@ -41,7 +41,7 @@ pub(crate) fn add_field<'a, N: Drop, S: ScalarValue>(
     if rises {
         return Ok(true);
     }
-    let key = String::from_str(alloc, response_key(field))?;
+    let key = String::from_str(alloc, Field::response_key(field))?;
     settle(alloc, entries, key, value)?;
     Ok(false)
 }
