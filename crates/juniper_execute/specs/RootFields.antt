@@ -15,7 +15,8 @@ use Rattle.juniper_conversions.specs.PathView.{path_place}
 use Rattle.juniper_syntax.specs.declared.position.Span.{Span}
 use Rattle.juniper_syntax.specs.declared.position.Spanning.{Spanning}
 use Rattle.juniper_lookahead.specs.declared.occurrences.Enclosing.{Enclosing}
-use Rattle.juniper_walk.specs.Plans.{IsAskedAt, IsMade, IsStanding, IsStep, all_expanded, fields_at, key_at}
+use Rattle.juniper_walk.specs.Plans as plans
+use Rattle.juniper_walk.specs.Plans.{IsAskedAt, IsStanding, IsStep, all_expanded, fields_at, key_at}
 use Rattle.juniper_walk.specs.PlanWalks.{IsGroupOf}
 use Rattle.juniper_walk.specs.declared.plan.GroupRange.{GroupRange}
 use Rattle.juniper_walk.specs.declared.plan.Plan.{Plan}
@@ -86,5 +87,5 @@ module _ {M S : Type 0} (shown : S → Shown) (w : RootWalk M S) where
 
   -- these groups of a plan stand for what selections hold for the mutation type
   abbrev pub IsRootMade : Schema → List (Enclosing S) → Plan S (Question S) → Plan S (Question S) → GroupRange → Type 0
-  IsRootMade s es = IsMade shown collector_in (asks_in s) (is_possible s) w.concrete.now
+  IsRootMade s es = plans.IsMade shown collector_in (asks_in s) (is_possible s) w.concrete.now
       (occurrences (is_possible s) w.concrete.now (all_expanded shown collector_in es))
