@@ -2,26 +2,29 @@
 use Rattle.std.proofs.Common.{◌≡◌, ℕ, Bool, true, false, cond, List, [], ◌∷◌, ◌++◌, map, Option, Some, None, refl, sym, ap, append-nil, append_assoc, ◌∙◌}
 use Rattle.std.proofs.Common.{inl, inr}
 use Rattle.std.proofs.lemmas.List.{map-append}
-use Rattle.graphql_spec.specs.Documents.{Document}
-use Rattle.graphql_spec.specs.Outcomes.{Reads}
+use Rattle.graphql_spec.specs.Documents.{Document, Operation, variables_of}
+use Rattle.graphql_spec.specs.Inputs.{Variables}
+use Rattle.graphql_spec.specs.Outcomes.{Reads, Request}
 use Rattle.graphql_spec.specs.Requests as spec
-use Rattle.graphql_spec.specs.Requests.{Refusal}
+use Rattle.graphql_spec.specs.Requests.{Choice, Refusal, choose, chosen, many, unknown}
 use Rattle.graphql_spec.specs.Rules.{RuleError, rule_errors}
 use Rattle.graphql_spec.specs.Schema.{Schema}
 use Rattle.graphql_spec.specs.Shown.{Text}
-use Rattle.juniper.specs.Answering.{StandsFor, parse_refusal, refusal_of}
+use Rattle.juniper.specs.Answering.{IsUnchosen, StandsFor}
 use Rattle.juniper.specs.Objections.{IsRefusal}
 use Rattle.juniper.specs.RequestErrors.{RequestError, not_parsed, not_valid, no_operation, multiple_operations, unknown_operation}
 use Rattle.juniper.specs.RequestErrors.{is_subscription, not_subscription, no_mutation_type, variable_not_constant, out_of_memory}
 use Rattle.juniper.specs.declared.prepared.Bounds.{Bounds}
-use Rattle.juniper_explain.proofs.Valid.{none-explained}
+use Rattle.juniper_explain.proofs.TellingValues.{no-values-listed}
+use Rattle.juniper_explain.proofs.Valid.{none-listed}
+use Rattle.juniper_explain.specs.GivenValues.{variable_explanations}
 use Rattle.juniper_explain.specs.Nodes.{explanations}
 use Rattle.juniper_json.specs.Refusals.{refusals_of}
 use Rattle.juniper_json.specs.RefusalText as lines
-use Rattle.juniper_json.specs.RefusalText.{explained_text, refusals_text}
-use Rattle.juniper_syntax.specs.Refusals as parser
-use Rattle.juniper_endpoint.specs.Explained.{TellsRefusal, explained_as, is_left_out, of_explanation}
-use Rattle.juniper_endpoint.specs.Looks.{IsExplained}
+use Rattle.juniper_json.specs.RefusalText.{explained_text}
+use Rattle.juniper_endpoint.specs.Explained.{IsFaultless, TellsRefusal, explained_as, is_left_out, misfits, nodes_explained}
+use Rattle.juniper_endpoint.specs.Explained.{of_explanation, of_value, values_explained, where_valid}
+use Rattle.juniper_endpoint.specs.Looks.{AreMisfits, IsExplained}
 
 -- ## How explanations are written, one after the other
 
@@ -41,79 +44,115 @@ module _ {A B C : Type 0} (f : A → C) (view : B → C) (all : List C) where
   pub moved-all : (made : List B) (left : List A) → left ≡ [] → AreMoved made left → map view made ≡ all
   moved-all made left none so_far = sym (append-nil (map view made)) ∙ (ap (λ l. map view made ++ map f l) (sym none) ∙ so_far)
 
--- ## Which refusals are for broken rules
+-- ## What is left out
 
-is-for-rules : Option Refusal → Bool
-is-for-rules (Some (spec.not_valid xs)) = true
-is-for-rules r = false
+module _ (s : Schema) (disabled : Bool) (most : ℕ) where
+  -- the nodes of the document that the text is are explained, or left out
+  module _ (text : Text) where
+    pub nodes-read : (d e : Document) → d ≡ e → is_left_out disabled most text ≡ false →
+        map of_explanation (explanations s disabled e) ≡ nodes_explained s disabled most text d
+    unfolding nodes_explained
+    nodes-read d e same passes =
+        ap (λ x. map of_explanation (explanations s disabled x)) (sym same)
+        ∙ sym (ap (λ b. cond b [] (map of_explanation (explanations s disabled d))) passes)
 
-parsed-not-for-rules : (r : parser.Refusal) → is-for-rules (parse_refusal r) ≡ false
-unfolding is-for-rules
-parsed-not-for-rules (parser.lexical f) = refl
-parsed-not-for-rules parser.unexpected_token = refl
-parsed-not-for-rules parser.unexpected_end = refl
-parsed-not-for-rules parser.float_literal = refl
-parsed-not-for-rules parser.block_string = refl
-parsed-not-for-rules parser.too_deep = refl
-parsed-not-for-rules parser.out_of_memory = refl
+    pub nodes-left-out : (d : Document) → is_left_out disabled most text ≡ true → [] ≡ nodes_explained s disabled most text d
+    unfolding nodes_explained
+    nodes-left-out d is = sym (ap (λ b. cond b [] (map of_explanation (explanations s disabled d))) is)
+
+  -- and so the values
+  module _ (q : Request) where
+    pub values-read : (d e : Document) → d ≡ e → is_left_out disabled most q.text ≡ false →
+        misfits s q.variables (choose e q.operation) ≡ values_explained s disabled most q d
+    unfolding values_explained
+    values-read d e same passes =
+        ap (λ x. misfits s q.variables (choose x q.operation)) (sym same)
+        ∙ sym (ap (λ b. cond b [] (misfits s q.variables (choose d q.operation))) passes)
+
+    pub values-left-out : (d : Document) → is_left_out disabled most q.text ≡ true → [] ≡ values_explained s disabled most q d
+    unfolding values_explained
+    values-left-out d is = sym (ap (λ b. cond b [] (misfits s q.variables (choose d q.operation))) is)
+
+-- ## The values
+
+-- where no operation is chosen, none has a misfit
+pub unchosen-fit : (s : Schema) (given : Variables) (c : Choice) (e : RequestError) → IsUnchosen c e → [] ≡ misfits s given c
+unfolding misfits
+unchosen-fit s given (chosen o) e u = absurd u
+unchosen-fit s given many e u = refl
+unchosen-fit s given unknown e u = refl
+
+-- and else those of that operation are told
+pub chosen-misfits : (s : Schema) (given : Variables) (c : Choice) (o : Operation) → c ≡ chosen o →
+    map of_value (variable_explanations s (variables_of o) given) ≡ misfits s given c
+unfolding misfits
+chosen-misfits s given c o is = sym (ap (misfits s given) is)
+
+none-mapped : {A B : Type 0} (f : A → B) (xs : List A) → map f xs ≡ [] → xs ≡ []
+none-mapped f [] none = refl
+none-mapped f (x ∷ xs) none = cc
 
 -- ## The line
 
-no-members : {A : Type 0} (b : Bool) (xs : List A) → xs ≡ [] → cond b [] xs ≡ []
-no-members true xs none = refl
-no-members false xs none = none
+module _ (s : Schema) (disabled : Bool) (most : ℕ) (q : Request) where
+  -- of a valid document the values are told, and of another its nodes
+  valid-values : (d : Document) → rule_errors s disabled d ≡ [] → values_explained s disabled most q d ≡ explained_as s disabled most q d
+  unfolding explained_as where_valid
+  valid-values d valid = sym (ap (λ es. where_valid es (values_explained s disabled most q d) (nodes_explained s disabled most q.text d)) valid)
 
-module _ (s : Schema) (disabled : Bool) (most : ℕ) (text : Text) where
-  -- the document that the text is, is explained, or left out
-  pub read-explained : (d e : Document) → d ≡ e → is_left_out disabled most text ≡ false →
-      map of_explanation (explanations s disabled e) ≡ explained_as s disabled most text (Some d)
-  unfolding explained_as
-  read-explained d e same passes =
-      ap (λ x. map of_explanation (explanations s disabled x)) (sym same)
-      ∙ sym (ap (λ b. cond b [] (map of_explanation (explanations s disabled d))) passes)
+  invalid-nodes : (d : Document) (x : RuleError) (xs : List RuleError) → rule_errors s disabled d ≡ x ∷ xs →
+      nodes_explained s disabled most q.text d ≡ explained_as s disabled most q d
+  unfolding explained_as where_valid
+  invalid-nodes d x xs found = sym (ap (λ es. where_valid es (values_explained s disabled most q d) (nodes_explained s disabled most q.text d)) found)
 
-  pub left-out : (d : Document) → is_left_out disabled most text ≡ true → [] ≡ explained_as s disabled most text (Some d)
-  unfolding explained_as
-  left-out d is = sym (ap (λ b. cond b [] (map of_explanation (explanations s disabled d))) is)
+  -- where nothing is explained of a text that is not left out, there is nothing to explain
+  pub nothing-explained : (d : Document) → is_left_out disabled most q.text ≡ false → explained_as s disabled most q d ≡ [] → IsFaultless s disabled q d
+  unfolding explained_as where_valid
+  nothing-explained d passes none = go (rule_errors s disabled d) refl none
+    where
+      go : (es : List RuleError) → rule_errors s disabled d ≡ es →
+          where_valid es (values_explained s disabled most q d) (nodes_explained s disabled most q.text d) ≡ [] → IsFaultless s disabled q d
+      go [] valid none = (
+        valid,
+        λ o choice. no-values-listed s q.variables (variables_of o)
+            (none-mapped of_value _ (chosen-misfits s q.variables (choose d q.operation) o choice ∙ (values-read s disabled most q d d refl passes ∙ none))),
+      )
+      go (x ∷ xs) found none =
+          absurd (cc (sym found ∙ none-listed s disabled d (none-mapped of_explanation _ (nodes-read s disabled most q.text d d refl passes ∙ none))))
 
-  -- a valid document is not explained
-  valid-plain : (d : Document) → rule_errors s disabled d ≡ [] → explained_as s disabled most text (Some d) ≡ []
-  unfolding explained_as
-  valid-plain d valid =
-      no-members (is_left_out disabled most text) (map of_explanation (explanations s disabled d)) (ap (map of_explanation) (none-explained s disabled d valid))
-
-  -- so the line of a refusal for other reasons tells the errors alone
-  pub taken-line : (d : Document) → Reads text (Some d) → rule_errors s disabled d ≡ [] → (e : RequestError) (line : Text) →
-      line ≡ refusals_text (refusals_of e) → TellsRefusal s disabled most text e line
-  taken-line d reads valid e line is = (Some d, reads, is ∙ ap (explained_text (refusals_of e)) (sym (valid-plain d valid)))
+  -- an error of the request of a valid document
+  pub taken-line : (d : Document) → Reads q.text (Some d) → rule_errors s disabled d ≡ [] → (e : RequestError) (es : List lines.Refusal) →
+      AreMisfits s disabled most q e es → (line : Text) → line ≡ explained_text (refusals_of e) es → TellsRefusal s disabled most q e line
+  taken-line d reads valid (not_valid ys) es are line told =
+      (d, reads, told ∙ ap (explained_text (refusals_of (not_valid ys))) (are d reads ∙ valid-values d valid))
+  taken-line d reads valid (not_parsed x) es none line told = told ∙ ap (explained_text (refusals_of (not_parsed x))) none
+  taken-line d reads valid no_operation es none line told = told ∙ ap (explained_text (refusals_of no_operation)) none
+  taken-line d reads valid multiple_operations es none line told = told ∙ ap (explained_text (refusals_of multiple_operations)) none
+  taken-line d reads valid unknown_operation es none line told = told ∙ ap (explained_text (refusals_of unknown_operation)) none
+  taken-line d reads valid is_subscription es none line told = told ∙ ap (explained_text (refusals_of is_subscription)) none
+  taken-line d reads valid not_subscription es none line told = told ∙ ap (explained_text (refusals_of not_subscription)) none
+  taken-line d reads valid no_mutation_type es none line told = told ∙ ap (explained_text (refusals_of no_mutation_type)) none
+  taken-line d reads valid (variable_not_constant n) es none line told = told ∙ ap (explained_text (refusals_of (variable_not_constant n))) none
+  taken-line d reads valid out_of_memory es none line told = told ∙ ap (explained_text (refusals_of out_of_memory)) none
 
   module _ (b : Bounds) where
-    -- where the text is no document, or where it is one and not valid
-    apart : (e : RequestError) (r : Refusal) → refusal_of e ≡ Some r → is-for-rules (refusal_of e) ≡ false → (es : List lines.Refusal) → es ≡ [] →
-        IsRefusal b text s disabled r → (line : Text) → line ≡ explained_text (refusals_of e) es → TellsRefusal s disabled most text e line
-    unfolding explained_as is-for-rules
-    apart e r stands other es none (inl (is, unread)) line told = (None, unread, told ∙ ap (explained_text (refusals_of e)) none)
-    apart e r stands other es none (inr (d, within, (x, xs, is, found))) line told =
-        let for_rules : is-for-rules (refusal_of e) ≡ true = ap is-for-rules stands ∙ ap (λ q. is-for-rules (Some q)) is in
-        absurd (cc (sym other ∙ for_rules))
-
     invalid : (ys : List RuleError) (r : Refusal) → Some (spec.not_valid ys) ≡ Some r → (es : List lines.Refusal) →
-        IsExplained s disabled most text (not_valid ys) es → IsRefusal b text s disabled r → (line : Text) →
-        line ≡ explained_text (refusals_of (not_valid ys)) es → TellsRefusal s disabled most text (not_valid ys) line
+        IsExplained s disabled most q.text (not_valid ys) es → IsRefusal b q.text s disabled r → (line : Text) →
+        line ≡ explained_text (refusals_of (not_valid ys)) es → TellsRefusal s disabled most q (not_valid ys) line
     invalid ys r stands es explained (inl (is, unread)) line told = absurd cc
-    invalid ys r stands es explained (inr (d, within, found)) line told =
-        (Some d, within.0.1, told ∙ ap (explained_text (refusals_of (not_valid ys))) (explained d within.0.1))
+    invalid ys r stands es explained (inr (d, within, (x, xs, is, found))) line told =
+        (d, within.0.1, told ∙ ap (explained_text (refusals_of (not_valid ys))) (explained d within.0.1 ∙ invalid-nodes d x xs found))
 
-    pub objected-line : (e : RequestError) → StandsFor (IsRefusal b text s disabled) e → (es : List lines.Refusal) → IsExplained s disabled most text e es →
-        (line : Text) → line ≡ explained_text (refusals_of e) es → (r : Refusal) → refusal_of e ≡ Some r → TellsRefusal s disabled most text e line
-    unfolding is-for-rules
-    objected-line out_of_memory u es explained line told r stands = absurd (cc stands)
-    objected-line (not_parsed x) (q, is, p) es none line told r stands = apart (not_parsed x) q is (parsed-not-for-rules x.item) es none p line told
-    objected-line (not_valid ys) (q, is, p) es explained line told r stands = invalid ys q is es explained p line told
-    objected-line no_operation (q, is, p) es none line told r stands = apart no_operation q is refl es none p line told
-    objected-line multiple_operations (q, is, p) es none line told r stands = apart multiple_operations q is refl es none p line told
-    objected-line unknown_operation (q, is, p) es none line told r stands = apart unknown_operation q is refl es none p line told
-    objected-line is_subscription (q, is, p) es none line told r stands = apart is_subscription q is refl es none p line told
-    objected-line not_subscription (q, is, p) es none line told r stands = apart not_subscription q is refl es none p line told
-    objected-line no_mutation_type (q, is, p) es none line told r stands = apart no_mutation_type q is refl es none p line told
-    objected-line (variable_not_constant n) (q, is, p) es none line told r stands = apart (variable_not_constant n) q is refl es none p line told
+    -- an error of a text that is not taken
+    pub objected-line : (e : RequestError) → StandsFor (IsRefusal b q.text s disabled) e → (es : List lines.Refusal) →
+        IsExplained s disabled most q.text e es → (line : Text) → line ≡ explained_text (refusals_of e) es → TellsRefusal s disabled most q e line
+    objected-line (not_valid ys) (r, stands, p) es explained line told = invalid ys r stands es explained p line told
+    objected-line (not_parsed x) stands es none line told = told ∙ ap (explained_text (refusals_of (not_parsed x))) none
+    objected-line no_operation stands es none line told = told ∙ ap (explained_text (refusals_of no_operation)) none
+    objected-line multiple_operations stands es none line told = told ∙ ap (explained_text (refusals_of multiple_operations)) none
+    objected-line unknown_operation stands es none line told = told ∙ ap (explained_text (refusals_of unknown_operation)) none
+    objected-line is_subscription stands es none line told = told ∙ ap (explained_text (refusals_of is_subscription)) none
+    objected-line not_subscription stands es none line told = told ∙ ap (explained_text (refusals_of not_subscription)) none
+    objected-line no_mutation_type stands es none line told = told ∙ ap (explained_text (refusals_of no_mutation_type)) none
+    objected-line (variable_not_constant n) stands es none line told = told ∙ ap (explained_text (refusals_of (variable_not_constant n))) none
+    objected-line out_of_memory stands es none line told = told ∙ ap (explained_text (refusals_of out_of_memory)) none

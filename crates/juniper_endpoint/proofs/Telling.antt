@@ -8,7 +8,7 @@ use Rattle.graphql_spec.specs.Outcomes.{Request, Service, Response, refuses, res
 use Rattle.graphql_spec.specs.Requests.{Refusal, refused}
 use Rattle.graphql_spec.specs.Shown.{Name, Text}
 use Rattle.graphql_spec.proofs.Deciding.{steps-decide}
-use Rattle.juniper.specs.Answering.{AnswersAs, Responds, StandsFor, refusal_of}
+use Rattle.juniper.specs.Answering.{AnswersAs, Responds, StandsFor}
 use Rattle.juniper.specs.Objections.{IsRefusal, Objects}
 use Rattle.juniper.specs.Promised.{IsFullOutcome}
 use Rattle.juniper.specs.RequestErrors.{RequestError, view_request_error, not_parsed, not_valid, no_operation, multiple_operations, unknown_operation}
@@ -24,7 +24,9 @@ use Rattle.juniper_http.specs.declared.outcome.Outcome.{Outcome}
 use Rattle.juniper_http.specs.declared.outcome.Outcome.TheVariants.{Refused, Writes, OutOfMemory}
 use Rattle.juniper_json.specs.Refusals.{refusals_of}
 use Rattle.juniper_json.specs.declared.read.VariablesError.{VariablesError}
-use Rattle.juniper_json.specs.RefusalText.{refusals_text}
+use Rattle.juniper_json.specs.RefusalText as lines
+use Rattle.juniper_json.specs.RefusalText.{explained_text, refusals_text}
+use Rattle.juniper_schema.specs.SchemaView.{view_schema}
 use Rattle.juniper_syntax.specs.RuleView.{view_rule_error}
 use Rattle.juniper_request.specs.Requests.{Asked}
 use Rattle.juniper_syntax.specs.Scalars.{default_shown}
@@ -34,8 +36,9 @@ use Rattle.juniper_syntax.specs.declared.value.Value.{Value}
 use Rattle.juniper_endpoint.proofs.Explaining.{objected-line, taken-line}
 use Rattle.juniper_endpoint.specs.Explained.{TellsRefusal}
 use Rattle.juniper_endpoint.specs.Lines.{IsTold, bare_line, outcome_of, outcome_text, refused_outcome, writes_text}
-use Rattle.juniper_endpoint.specs.Looks.{IsObjected, IsSeen}
+use Rattle.juniper_endpoint.specs.Looks.{AreMisfits, ExplainsFor, IsAnswerTold, IsObjected, IsSeen}
 use Rattle.juniper_endpoint.specs.Replied.{IsTaken, MayRun, Replies, given_among, refused_among, request_asked}
+use Rattle.juniper_endpoint.specs.declared.explained.Explainer.{Explainer}
 use Rattle.juniper_endpoint.specs.declared.look.Finding.{Finding}
 use Rattle.juniper_endpoint.specs.declared.look.Finding.TheVariants as look
 
@@ -70,28 +73,37 @@ pub seen-so : (among rs : List (Name × VariablesError)) (w : Bool) (name : Opti
     IsSeen rs w name d x → IsSeen among w name d y
 seen-so among rs w name d x y e f i = subst (IsSeen among w name d) f (subst (λ r. IsSeen r w name d x) e i)
 
+-- what is told of an answer, by what explains for this service and of the request that is asked
+pub told-of : {C N : Type 0} (S : Service C N) (q asked : Request) (x : Explainer) (r : Answered) (reply : Reply) → ExplainsFor S x → q ≡ asked →
+    IsAnswerTold (view_schema default_shown x.schema.now) x.is_introspection_disabled x.most_bytes q r reply →
+    IsAnswerTold S.schema S.introspection_disabled x.most_bytes asked r reply
+told-of S q asked x r reply explains same t =
+    subst (λ p. IsAnswerTold S.schema S.introspection_disabled x.most_bytes p r reply) same
+    (subst (λ u. IsAnswerTold S.schema u x.most_bytes q r reply) explains.1
+    (subst (λ s. IsAnswerTold s x.is_introspection_disabled x.most_bytes q r reply) explains.0 t))
+
 module _ {C N : Type 0} (S : Service C N) (b : Bounds) (a : Asked) (most : ℕ) (w : Bool) (c : C) where
   -- that memory is refused may be told
   abbrev Left : C → Type 0
   Left after = Replies S b a most w c OutOfMemory [] after
 
-  -- the line tells an error that stands for a refusal
+  -- the line tells an error
   abbrev TellsError : RequestError → Text → Type 0
-  TellsError e line = (r : Refusal) → refusal_of e ≡ Some r → TellsRefusal S.schema S.introspection_disabled most a.query e line
+  TellsError e line = TellsRefusal S.schema S.introspection_disabled most (request_asked a) e line
 
   -- an error of the executor
   error-told : (after : C) → Left after → (e : RequestError) → Responds (λ r. IsFullOutcome S (request_asked a) c r after) e → (line : Text) →
       TellsError e line → Replies S b a most w c (refused_outcome e) line after
   error-told after left out_of_memory p line tells = left
-  error-told after left (not_parsed e) (r, x, p) line tells = inl (not_parsed e, r, x, p, tells r x)
-  error-told after left (not_valid es) (r, x, p) line tells = inl (not_valid es, r, x, p, tells r x)
-  error-told after left no_operation (r, x, p) line tells = inl (no_operation, r, x, p, tells r x)
-  error-told after left multiple_operations (r, x, p) line tells = inl (multiple_operations, r, x, p, tells r x)
-  error-told after left unknown_operation (r, x, p) line tells = inl (unknown_operation, r, x, p, tells r x)
-  error-told after left is_subscription (r, x, p) line tells = inl (is_subscription, r, x, p, tells r x)
-  error-told after left not_subscription (r, x, p) line tells = inl (not_subscription, r, x, p, tells r x)
-  error-told after left no_mutation_type (r, x, p) line tells = inl (no_mutation_type, r, x, p, tells r x)
-  error-told after left (variable_not_constant n) (r, x, p) line tells = inl (variable_not_constant n, r, x, p, tells r x)
+  error-told after left (not_parsed e) (r, x, p) line tells = inl (not_parsed e, r, x, p, tells)
+  error-told after left (not_valid es) (r, x, p) line tells = inl (not_valid es, r, x, p, tells)
+  error-told after left no_operation (r, x, p) line tells = inl (no_operation, r, x, p, tells)
+  error-told after left multiple_operations (r, x, p) line tells = inl (multiple_operations, r, x, p, tells)
+  error-told after left unknown_operation (r, x, p) line tells = inl (unknown_operation, r, x, p, tells)
+  error-told after left is_subscription (r, x, p) line tells = inl (is_subscription, r, x, p, tells)
+  error-told after left not_subscription (r, x, p) line tells = inl (not_subscription, r, x, p, tells)
+  error-told after left no_mutation_type (r, x, p) line tells = inl (no_mutation_type, r, x, p, tells)
+  error-told after left (variable_not_constant n) (r, x, p) line tells = inl (variable_not_constant n, r, x, p, tells)
 
   -- a reply that says so, or that memory is refused
   told : (after : C) → Left after → (o : Outcome) (line : Text) (reply : Reply) → IsTold o line reply →
@@ -106,22 +118,24 @@ module _ {C N : Type 0} (S : Service C N) (b : Bounds) (a : Asked) (most : ℕ) 
 
   -- ## A request that is executed
 
-  plain-line : MayRun S b a w → (e : RequestError) (line : Text) → line ≡ refusals_text (refusals_of e) →
-      TellsRefusal S.schema S.introspection_disabled most a.query e line
-  plain-line (d, taken, free) e line is = taken-line S.schema S.introspection_disabled most a.query d taken.0.0.1 taken.1 e line is
+  misfit-line : MayRun S b a w → (e : RequestError) (es : List lines.Refusal) → AreMisfits S.schema S.introspection_disabled most (request_asked a) e es →
+      (line : Text) → line ≡ explained_text (refusals_of e) es → TellsError e line
+  misfit-line (d, taken, free) e es are line is =
+      taken-line S.schema S.introspection_disabled most (request_asked a) d taken.0.0.1 taken.1 e es are line is
 
-  answered-line : MayRun S b a w → (after : C) (r : Answered) → AnswersAs default_shown (λ x. IsFullOutcome S (request_asked a) c x after) r →
-      (l : Text) → l ≡ outcome_text r → Replies S b a most w c (outcome_of r) l after
-  answered-line may after (Ok p) full l is = (may, (view_value default_shown p.0, map (view_listed default_shown) p.1.items, full, is))
-  answered-line may after (Err e) full l is =
-      error-told after (inr (may, some-response (λ x. IsFullOutcome S (request_asked a) c x after) (Err e) full)) (view_request_error e) full l
-      (λ r stands. plain-line may (view_request_error e) l is)
+  -- want of memory, behind what is promised
+  left-by : MayRun S b a w → (after : C) (r : Answered) → AnswersAs default_shown (λ x. IsFullOutcome S (request_asked a) c x after) r → Left after
+  left-by may after r full = inr (may, some-response (λ x. IsFullOutcome S (request_asked a) c x after) r full)
 
   pub answered-told : MayRun S b a w → (after : C) (r : Answered) → AnswersAs default_shown (λ x. IsFullOutcome S (request_asked a) c x after) r →
-      (reply : Reply) → IsTold (outcome_of r) (outcome_text r) reply → Replies S b a most w c reply.outcome (string_bytes reply.line) after
-  answered-told may after r full reply t =
-      told after (inr (may, some-response (λ x. IsFullOutcome S (request_asked a) c x after) r full)) (outcome_of r) (outcome_text r) reply t
-      (answered-line may after r full)
+      (reply : Reply) → IsAnswerTold S.schema S.introspection_disabled most (request_asked a) r reply →
+      Replies S b a most w c reply.outcome (string_bytes reply.line) after
+  answered-told may after (Ok p) full reply t = told after (left-by may after (Ok p) full) (outcome_of (Ok p)) (outcome_text (Ok p)) reply t
+      (λ l is. (may, (view_value default_shown p.0, map (view_listed default_shown) p.1.items, full, is)))
+  answered-told may after (Err e) full reply (inl (es, are, t)) = told after (left-by may after (Err e) full) (refused_outcome (view_request_error e)) _
+      reply t (λ l is. error-told after (left-by may after (Err e) full) (view_request_error e) full l (misfit-line may (view_request_error e) es are l is))
+  answered-told may after (Err e) full reply (inr is) =
+      told after (left-by may after (Err e) full) OutOfMemory [] reply (inr is) (λ l same. left-by may after (Err e) full)
 
   -- ## A text that is objected to
 
@@ -150,7 +164,7 @@ module _ {C N : Type 0} (S : Service C N) (b : Bounds) (a : Asked) (most : ℕ) 
   objection-told objection.TooDeep o reply t = told c (inl refl) Refused _ reply t (λ l is. inr (refl, inl (objection.TooDeep, tt, o, is)))
   objection-told (objection.Refused e) o reply (inl (es, explained, t)) = told c (inl refl) _ _ reply t (λ l is.
       error-told c (inl refl) (view_request_error e) (refusal-full (view_request_error e) o.1) l
-      (objected-line S.schema S.introspection_disabled most a.query b (view_request_error e) o.1 es explained l is))
+      (objected-line S.schema S.introspection_disabled most (request_asked a) b (view_request_error e) o.1 es explained l is))
   objection-told (objection.Refused e) o reply (inr is) = memory-told c refl reply is
 
   -- ## What a look shows

@@ -1,14 +1,18 @@
 -- What a look at a request shows, and what its values and its text are found to be. Only private clauses cite these words.
-use Rattle.std.specs.Prelude.{◌≡◌, ◌≢◌, ◌⊎◌, ℕ, Bool, false, List, [], map, Option, Some}
+use Rattle.std.specs.Prelude.{◌≡◌, ◌≢◌, ◌⊎◌, ℕ, Bool, false, List, [], map, string_bytes, Option, Some, Result, Ok, Err, Vec}
+use Rattle.std.specs.declared.alloc.Global.{Global}
 use Rattle.graphql_spec.specs.Documents.{Document, Operation, mutation, variables_of}
-use Rattle.graphql_spec.specs.Outcomes.{Reads}
+use Rattle.graphql_spec.specs.Outcomes.{Reads, Request, Service}
 use Rattle.graphql_spec.specs.Requests.{choose, chosen}
 use Rattle.graphql_spec.specs.Schema.{Schema}
 use Rattle.graphql_spec.specs.Shown.{Name, Text}
 use Rattle.juniper.specs.Objections.{objection_text}
 use Rattle.juniper.specs.RequestErrors.{RequestError, not_valid, view_request_error}
+use Rattle.juniper.specs.declared.error.GraphQLError.{GraphQLError}
+use Rattle.juniper.specs.declared.prepared.Bounds.{Bounds}
 use Rattle.juniper.specs.declared.prepared.Objection.{Objection}
 use Rattle.juniper.specs.declared.prepared.Objection.TheVariants as objection
+use Rattle.juniper_conversions.specs.declared.execution_error.ExecutionError.{ExecutionError}
 use Rattle.juniper_http.specs.declared.endpoint.Reply.{Reply}
 use Rattle.juniper_http.specs.declared.outcome.Outcome.TheVariants as outcome
 use Rattle.juniper_json.specs.Each.{view_refused}
@@ -16,13 +20,18 @@ use Rattle.juniper_json.specs.Refusals.{refusals_of}
 use Rattle.juniper_json.specs.RefusalText.{Refusal, explained_text}
 use Rattle.juniper_json.specs.declared.given.GivenVariables.{GivenVariables}
 use Rattle.juniper_json.specs.declared.read.VariablesError.{VariablesError}
+use Rattle.juniper_request.specs.Requests.{Asked}
+use Rattle.juniper_schema.specs.SchemaView.{view_schema}
 use Rattle.juniper_syntax.specs.RuleView.{view_rule_error}
 use Rattle.juniper_syntax.specs.InputView.{view_variables}
 use Rattle.juniper_syntax.specs.Scalars.{default_shown}
+use Rattle.juniper_syntax.specs.declared.scalar.DefaultScalarValue.{DefaultScalarValue}
+use Rattle.juniper_syntax.specs.declared.value.Value.{Value}
 use Rattle.serde_json.specs.Data.{Members}
-use Rattle.juniper_endpoint.specs.Explained.{explained_as}
-use Rattle.juniper_endpoint.specs.Lines.{IsTold, bare_line, refused_outcome}
-use Rattle.juniper_endpoint.specs.Replied.{IsFree, given_among, refused_among, refused_errors}
+use Rattle.juniper_endpoint.specs.Explained.{nodes_explained, values_explained}
+use Rattle.juniper_endpoint.specs.Lines.{IsTold, bare_line, outcome_of, outcome_text, refused_outcome}
+use Rattle.juniper_endpoint.specs.Replied.{IsFree, IsTaken, Replies, given_among, refused_among, refused_errors}
+use Rattle.juniper_endpoint.specs.declared.explained.Explainer.{Explainer}
 use Rattle.juniper_endpoint.specs.declared.look.Finding.{Finding}
 use Rattle.juniper_endpoint.specs.declared.look.Finding.TheVariants.{Passes, Writes, Unfitting}
 
@@ -44,16 +53,20 @@ module _ (refused : List (Name × VariablesError)) (may_write : Bool) where
   IsSeen name d Writes = (o : Operation) × (choose d name ≡ chosen o) × IsSeenIn o Writes
   IsSeen name d (Unfitting errors) = (o : Operation) × (choose d name ≡ chosen o) × IsSeenIn o (Unfitting errors)
 
+-- what is told of an error and what explains it, which is so, or that memory is refused
+abbrev pub IsToldWith : (List Refusal → Type 0) → RequestError → Reply → Type 0
+IsToldWith P e reply =
+    ((es : List Refusal) × P es × IsTold (refused_outcome e) (explained_text (refusals_of e) es) reply) ⊎ (reply.outcome ≡ outcome.OutOfMemory)
+
 module _ (s : Schema) (disabled : Bool) (most : ℕ) (text : Text) where
   -- what is found that explains an error of the text: that it is not valid, its nodes
   abbrev pub IsExplained : RequestError → List Refusal → Type 0
-  IsExplained (not_valid errors) es = (d : Document) → Reads text (Some d) → es ≡ explained_as s disabled most text (Some d)
+  IsExplained (not_valid errors) es = (d : Document) → Reads text (Some d) → es ≡ nodes_explained s disabled most text d
   IsExplained e es = es ≡ []
 
-  -- what is told of an error of the text, or that memory is refused
+  -- what is told of an error of the text
   abbrev pub IsErrorTold : RequestError → Reply → Type 0
-  IsErrorTold e reply =
-      ((es : List Refusal) × IsExplained e es × IsTold (refused_outcome e) (explained_text (refusals_of e) es) reply) ⊎ (reply.outcome ≡ outcome.OutOfMemory)
+  IsErrorTold e reply = IsToldWith (IsExplained e) e reply
 
   -- what is told of an objection
   abbrev pub IsObjected : Objection → Reply → Type 0
@@ -61,3 +74,27 @@ module _ (s : Schema) (disabled : Bool) (most : ℕ) (text : Text) where
   IsObjected objection.TooManyFields reply = IsTold outcome.Refused (bare_line (objection_text objection.TooManyFields)) reply
   IsObjected objection.TooDeep reply = IsTold outcome.Refused (bare_line (objection_text objection.TooDeep)) reply
   IsObjected (objection.Refused e) reply = IsErrorTold (view_request_error e) reply
+
+module _ (s : Schema) (disabled : Bool) (most : ℕ) (q : Request) where
+  -- what is found that explains an error of a valid document's request: that given values do not fit, why
+  abbrev pub AreMisfits : RequestError → List Refusal → Type 0
+  AreMisfits (not_valid errors) es = (d : Document) → Reads q.text (Some d) → es ≡ values_explained s disabled most q d
+  AreMisfits e es = es ≡ []
+
+  -- what is told of such an error
+  abbrev pub IsMisfitTold : RequestError → Reply → Type 0
+  IsMisfitTold e reply = IsToldWith (AreMisfits e) e reply
+
+  -- what is told of what the executor answers
+  abbrev pub IsAnswerTold : Result (Value DefaultScalarValue × Vec (ExecutionError DefaultScalarValue) Global) GraphQLError → Reply → Type 0
+  IsAnswerTold (Ok p) reply = IsTold (outcome_of (Ok p)) (outcome_text (Ok p)) reply
+  IsAnswerTold (Err e) reply = IsMisfitTold (view_request_error e) reply
+
+-- it explains what is refused on this service
+abbrev pub ExplainsFor : {C N : Type 0} → Service C N → Explainer → Type 0
+ExplainsFor S e = (view_schema default_shown e.schema.now ≡ S.schema) × (e.is_introspection_disabled ≡ S.introspection_disabled)
+
+-- what is replied to what is asked of a prepared document, whatever the bounds within which it was taken
+abbrev pub RepliesPrepared : {C N : Type 0} → Service C N → Explainer → Asked → Document → Bool → C → Reply → C → Type 0
+RepliesPrepared S e a d may_write c reply after = (b : Bounds) → ExplainsFor S e → IsTaken S b a d →
+    Replies S b a e.most_bytes may_write c reply.outcome (string_bytes reply.line) after

@@ -1,5 +1,5 @@
 -- What is replied to a request over a root, within bounds (6.1, 7.1; "GraphQL over HTTP", status codes).
-use Rattle.std.specs.Prelude.{◌≡◌, ◌≢◌, ◌⊎◌, ℕ, Bool, false, List, [], map, filter, string_bytes, Option, Some, None}
+use Rattle.std.specs.Prelude.{◌≡◌, ◌≢◌, ◌⊎◌, ℕ, Bool, false, List, [], map, filter, Option, Some, None}
 use Rattle.std.specs.List.{list_any}
 use Rattle.std.specs.Str.{bytes_eq}
 use Rattle.graphql_spec.specs.Documents.{Document, Operation, VariableDefinition, mutation, variables_of}
@@ -17,7 +17,6 @@ use Rattle.juniper.specs.RequestErrors.{RequestError, not_valid}
 use Rattle.juniper.specs.declared.prepared.Bounds.{Bounds}
 use Rattle.juniper.specs.declared.prepared.Objection.{Objection}
 use Rattle.juniper.specs.declared.prepared.Objection.TheVariants as objection
-use Rattle.juniper_http.specs.declared.endpoint.Reply.{Reply}
 use Rattle.juniper_http.specs.declared.outcome.Outcome.{Outcome}
 use Rattle.juniper_http.specs.declared.outcome.Outcome.TheVariants.{Executed, Refused, Writes, OutOfMemory}
 use Rattle.juniper_json.specs.AnswerText.{answer_text}
@@ -103,7 +102,7 @@ module _ {C N : Type 0} (S : Service C N) (b : Bounds) (a : Asked) where
     -- the executor refuses the request by its first step that fails, and the line tells its errors and what explains them (6.1, 7.1)
     abbrev pub IsRefused : Text → C → Type 0
     IsRefused line after = (e : RequestError) × (r : Refusal) × (refusal_of e ≡ Some r)
-        × IsFullOutcome S (request_asked a) c (refuses r) after × TellsRefusal S.schema S.introspection_disabled most a.query e line
+        × IsFullOutcome S (request_asked a) c (refuses r) after × TellsRefusal S.schema S.introspection_disabled most (request_asked a) e line
 
     -- What is replied, and the context after. Where it is executed, the line is the text of the response that the Specification's execution
     -- has (7.1). Else the context is as it was, but for want of memory, which may stand in place of each and leave what it leaves.
@@ -114,7 +113,3 @@ module _ {C N : Type 0} (S : Service C N) (b : Bounds) (a : Asked) where
     Replies Refused line after = IsRefused line after ⊎ ((after ≡ c) × (IsPastBounds line ⊎ IsUnfitting line))
     Replies Writes line after = (after ≡ c) × (may_write ≡ false) × IsMutation × (line ≡ bare_line writes_text)
     Replies OutOfMemory line after = (after ≡ c) ⊎ (MayRun may_write × ((r : Response) × IsFullOutcome S (request_asked a) c r after))
-
-    -- where the document is taken, this is the reply
-    abbrev pub RepliesWhereTaken : Document → Reply → C → Type 0
-    RepliesWhereTaken d reply after = IsTaken d → Replies reply.outcome (string_bytes reply.line) after

@@ -33,8 +33,9 @@ pub struct RootEndpoint<
     pub context: Q::Context,
     /// What is taken of a text.
     pub bounds: Bounds,
-    /// The most bytes of a text that is explained where it is no valid document: what explains it may grow with the square of its length.
-    /// Nothing is explained where introspection is disabled, since explanations name what the schema has.
+    /// The most bytes of a text that is explained where it is no valid document, or where the values that are given with it do not fit: what
+    /// explains it may grow with the square of its length. Nothing is explained where introspection is disabled, since explanations name what
+    /// the schema has.
     pub explained_bytes: usize,
 }
 
@@ -73,17 +74,16 @@ impl<
         ensures said { Replies (service_of Q.concrete Q.answer Q.root M.step M.torn default_shown self.old.root.now) self.old.bounds (view_request request.now)
             self.old.explained_bytes may_write self.old.context result.outcome (string_bytes result.line) self.new.context }
     {
+        let explainer = Explainer {
+            schema: self.root.schema(),
+            is_introspection_disabled: self.root.is_introspection_disabled(),
+            most_bytes: self.explained_bytes,
+        };
         match prepare(alloc, self.root, request.query, &self.bounds) {
-            Err(objection) => {
-                let explainer = Explainer {
-                    schema: self.root.schema(),
-                    is_introspection_disabled: self.root.is_introspection_disabled(),
-                    most_bytes: self.explained_bytes,
-                };
-                objection_reply(alloc, &explainer, request.query, objection)
-            }
+            Err(objection) => objection_reply(alloc, &explainer, request.query, objection),
             Ok(prepared) => reply_prepared(
                 alloc,
+                &explainer,
                 &prepared,
                 request,
                 given,

@@ -10,7 +10,7 @@ ghost use Rattle.juniper_json.specs.RefusalText.{view_refusal};
 ghost use Rattle.juniper_schema.specs.SchemaView.{view_schema};
 ghost use Rattle.juniper_syntax.specs.DocumentView.{view_document};
 ghost use Rattle.juniper_syntax.specs.Scalars.{default_shown};
-ghost use Rattle.juniper_endpoint.specs.Explained.{explained_as, is_left_out, of_explanation};
+ghost use Rattle.juniper_endpoint.specs.Explained.{is_left_out, nodes_explained, of_explanation};
 ghost use Rattle.juniper_endpoint.specs.Looks.{IsErrorTold, IsExplained, IsObjected};
 
 use crate::lines::{bare_reply, explained_reply, without_memory};
@@ -93,8 +93,8 @@ fn explained(
     explainer: &Explainer<'_>,
     text: &str,
 ) -> Result<Vec<Refusal>, AllocError>
-    ensures { IfOk result (λ made. (d : spec.Document) → Reads text.now (Some d) → map view_refusal made.items ≡ explained_as
-        (view_schema default_shown explainer.now.schema.now) explainer.now.is_introspection_disabled explainer.now.most_bytes text.now (Some d)) }
+    ensures { IfOk result (λ made. (d : spec.Document) → Reads text.now (Some d) → map view_refusal made.items ≡ nodes_explained
+        (view_schema default_shown explainer.now.schema.now) explainer.now.is_introspection_disabled explainer.now.most_bytes text.now d) }
 {
     if is_left_out(explainer, text) {
         return Ok(Vec::new(alloc));
@@ -105,8 +105,8 @@ fn explained(
     }
 }
 
-/// Whether nothing of a text is explained.
-fn is_left_out(explainer: &Explainer<'_>, text: &str) -> bool
+/// Whether nothing is explained of a text, nor of the values that are given with it.
+pub fn is_left_out(explainer: &Explainer<'_>, text: &str) -> bool
     ensures { result ≡ is_left_out explainer.now.is_introspection_disabled explainer.now.most_bytes text.now }
 {
     explainer.is_introspection_disabled || text.len() > explainer.most_bytes

@@ -1,7 +1,9 @@
 //! Laws of replies. Each function does nothing; its contract is the law.
 
-ghost use Rattle.std.specs.Prelude.{◌≡◌, ◌≢◌, ℕ, List, codes, false};
+ghost use Rattle.std.specs.Prelude.{◌≡◌, ◌≢◌, Bool, ℕ, List, [], codes, false};
+ghost use Rattle.graphql_spec.specs.Documents.{Document};
 ghost use Rattle.graphql_spec.specs.Outcomes as outcomes;
+ghost use Rattle.graphql_spec.specs.Schema.{Schema};
 ghost use Rattle.graphql_spec.specs.Shown.{Text};
 ghost use Rattle.http.specs.Request.{head_of};
 ghost use Rattle.http.specs.declared.request.Request.{Request};
@@ -12,6 +14,7 @@ ghost use Rattle.juniper_http.specs.declared.endpoint.Reply.{Reply};
 ghost use Rattle.juniper_http.specs.declared.outcome.Outcome.{Outcome};
 ghost use Rattle.juniper_http.specs.declared.service.GraphQLService.{GraphQLService};
 ghost use Rattle.juniper_request.specs.Requests.{Asked};
+ghost use Rattle.juniper_endpoint.specs.Explained.{IsFaultless, explained_as, is_left_out};
 ghost use Rattle.juniper_endpoint.specs.Replied.{Replies};
 
 use crate::endpoint::RootEndpoint;
@@ -39,4 +42,11 @@ pub fn gets_leave<E: Endpoint>()
     ensures { ((s : E) (a : Asked) (reply : Reply) (t : E) → E.replies s a false reply t → t ≡ s) →
         (s : GraphQLService E) (request : Request (List ℕ)) (r : Response) (t : GraphQLService E) → (head_of request).method ≢ codes "POST" →
         Serves E.replies s request r t → t ≡ s }
+{}
+
+/// Something is explained of each request that breaks a rule, or whose values do not fit the operation that is chosen, where its text is
+/// not left out.
+pub fn refusals_are_explained()
+    ensures { (s : Schema) (disabled : Bool) (most : ℕ) (q : outcomes.Request) (d : Document) → is_left_out disabled most q.text ≡ false →
+        explained_as s disabled most q d ≡ [] → IsFaultless s disabled q d }
 {}

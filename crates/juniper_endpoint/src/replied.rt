@@ -1,17 +1,16 @@
 //! Requests whose document is prepared.
 
-ghost use Rattle.std.specs.Prelude.{◌≡◌, ℕ};
-ghost use Rattle.juniper.specs.Objections.{IsAccepted};
+ghost use Rattle.std.specs.Prelude.{◌≡◌};
 ghost use Rattle.juniper.specs.PreparedView.{document_of, root_of, source_of};
 ghost use Rattle.juniper.specs.RootView.{service_of};
-ghost use Rattle.juniper.specs.declared.prepared.Bounds.{Bounds};
 ghost use Rattle.juniper_request.specs.Requests.{view_request};
 ghost use Rattle.juniper_syntax.specs.Scalars.{default_shown};
-ghost use Rattle.juniper_endpoint.specs.Looks.{IsGivenBy};
-ghost use Rattle.juniper_endpoint.specs.Replied.{RepliesWhereTaken};
+ghost use Rattle.juniper_endpoint.specs.Looks.{IsGivenBy, RepliesPrepared};
 
+use crate::explained::Explainer;
 use crate::lines::{answered_reply, bare_reply, without_memory};
 use crate::look::{Finding, look};
+use crate::values::executed_reply;
 use juniper::{
     DefaultScalarValue, GraphQLError, GraphQLMutationValue, GraphQLType, GraphQLValue, Prepared,
     execute_prepared,
@@ -28,6 +27,7 @@ pub fn reply_prepared<
     Sub: GraphQLType<DefaultScalarValue>,
 >(
     alloc: Global,
+    explainer: &Explainer<'_>,
     prepared: &Prepared<'_, '_, Q, M, Sub, DefaultScalarValue>,
     request: &GraphQLRequest<'_>,
     given: &GivenVariables,
@@ -36,9 +36,8 @@ pub fn reply_prepared<
 ) -> Reply
     requires text { source_of prepared.now ≡ request.now.query.now }
     requires given { IsGivenBy (view_request request.now).variables given.now }
-    ensures { (b : Bounds) (most : ℕ) →
-        RepliesWhereTaken (service_of Q.concrete Q.answer Q.root M.step M.torn default_shown (root_of prepared.now)) b (view_request request.now) most
-        may_write context.old (document_of default_shown prepared.now) result context.new }
+    ensures { RepliesPrepared (service_of Q.concrete Q.answer Q.root M.step M.torn default_shown (root_of prepared.now)) explainer.now
+        (view_request request.now) (document_of default_shown prepared.now) may_write context.old result context.new }
 {
     match look(alloc, request, &given.refused, may_write) {
         Err(_) => without_memory(alloc),
@@ -58,7 +57,7 @@ pub fn reply_prepared<
                 &given.values,
                 context,
             );
-            answered_reply(alloc, answered)
+            executed_reply(alloc, explainer, request, &given.values, answered)
         }
     }
 }

@@ -1,6 +1,6 @@
-use Rattle.std.proofs.Common.{Some, map, sym, ap, subst, ◌∙◌}
+use Rattle.std.proofs.Common.{Some, map, refl, sym, ap, subst, ◌∙◌}
 use Rattle.graphql_spec.specs.Outcomes.{Reads}
-use Rattle.juniper.specs.Answering.{AnswersAs}
+use Rattle.juniper.specs.Answering.{AnswersAs, request_of}
 use Rattle.juniper.specs.PreparedView.{document_of, root_of, source_of}
 use Rattle.juniper.specs.Promised.{IsFullOutcome}
 use Rattle.juniper.specs.RootView.{service_of}
@@ -8,13 +8,13 @@ use Rattle.juniper_json.specs.Each.{view_refused}
 use Rattle.juniper_request.specs.Requests.{view_request}
 use Rattle.juniper_syntax.specs.InputView.{view_variables}
 use Rattle.juniper_syntax.specs.Scalars.{default_shown}
-use Rattle.juniper_endpoint.proofs.Telling.{answered-told, request-same, seen-free, seen-so, seen-unfitting, seen-writes}
-use Rattle.juniper_endpoint.specs.Replied.{refused_among}
+use Rattle.juniper_endpoint.proofs.Telling.{answered-told, request-same, told-of, seen-free, seen-so, seen-unfitting, seen-writes}
+use Rattle.juniper_endpoint.specs.Replied.{refused_among, request_asked}
 use Rattle.juniper_endpoint.specs.declared.look.Finding.TheVariants as look
 use Rattle.juniper_endpoint.proofs.replied.reply_prepared.Goals as goal
 
 pub returns-in-Ok-Writes : goal.returns-in-Ok-Writes
-returns-in-Ok-Writes g c = λ b most taken.
+returns-in-Ok-Writes g c = λ b explains taken.
     let q = g.Q.GraphQLValue in
     let m = g.M.GraphQLMutationValue in
     let S = service_of q.concrete q.answer q.root m.step m.torn default_shown (root_of c.args.prepared.now) in
@@ -22,10 +22,10 @@ returns-in-Ok-Writes g c = λ b most taken.
     let d = document_of default_shown c.args.prepared.now in
     let seen = seen-so (refused_among a.variables) _ c.args.may_write a.operation_name d _ look.Writes
     (ap (map view_refused) c.deref.ensures.value ∙ c.requires.given.1) c.in-Ok-Writes.field-0-is (c.in-Ok-Writes.ensures d taken.0.0.1) in
-    seen-writes S b a most c.args.may_write c.args.context.now d taken seen c.bare_reply.result c.bare_reply.ensures
+    seen-writes S b a c.args.explainer.now.most_bytes c.args.may_write c.args.context.now d taken seen c.bare_reply.result c.bare_reply.ensures
 
 pub returns-in-Ok-Unfitting : goal.returns-in-Ok-Unfitting
-returns-in-Ok-Unfitting g c = λ b most taken.
+returns-in-Ok-Unfitting g c = λ b explains taken.
     let q = g.Q.GraphQLValue in
     let m = g.M.GraphQLMutationValue in
     let S = service_of q.concrete q.answer q.root m.step m.torn default_shown (root_of c.args.prepared.now) in
@@ -34,15 +34,17 @@ returns-in-Ok-Unfitting g c = λ b most taken.
     let errors = c.in-Ok-Unfitting.errors in
     let seen = seen-so (refused_among a.variables) _ c.args.may_write a.operation_name d _ (look.Unfitting errors)
     (ap (map view_refused) c.deref.ensures.value ∙ c.requires.given.1) c.in-Ok-Unfitting.field-0-is (c.in-Ok-Unfitting.ensures d taken.0.0.1) in
-    seen-unfitting S b a most c.args.may_write c.args.context.now d taken errors seen c.answered_reply.result c.answered_reply.ensures
+    seen-unfitting S b a c.args.explainer.now.most_bytes c.args.may_write c.args.context.now d taken errors seen c.answered_reply.result
+    c.answered_reply.ensures
 
 pub returns-in-Ok-Passes : goal.returns-in-Ok-Passes
-returns-in-Ok-Passes g c = λ b most taken.
+returns-in-Ok-Passes g c = λ b explains taken.
     let q = g.Q.GraphQLValue in
     let m = g.M.GraphQLMutationValue in
     let S = service_of q.concrete q.answer q.root m.step m.torn default_shown (root_of c.args.prepared.now) in
     let a = view_request c.args.request.now in
     let d = document_of default_shown c.args.prepared.now in
+    let most = c.args.explainer.now.most_bytes in
     let before = c.args.context.now in
     let after = c.execute_prepared-answered.new.context in
     let answered = c.execute_prepared-answered.result in
@@ -51,5 +53,8 @@ returns-in-Ok-Passes g c = λ b most taken.
     let full = subst (λ q. AnswersAs default_shown (λ x. IsFullOutcome S q before x after) answered)
     (request-same a (source_of c.args.prepared.now) (view_variables default_shown c.args.given.now.values) c.requires.text c.requires.given.0)
     (c.execute_prepared-answered.ensures (subst (λ t. Reads t (Some d)) (sym c.requires.text) taken.0.0.1)) in
+    let told = told-of S (request_of default_shown c.args.request.now.query.now c.args.request.now.operation_name c.args.given.now.values) (request_asked a)
+    c.args.explainer.now answered c.executed_reply.result explains
+    (request-same a a.query (view_variables default_shown c.args.given.now.values) refl c.requires.given.0) c.executed_reply.ensures in
     answered-told S b a most c.args.may_write before (seen-free S b a most c.args.may_write before d taken seen) after answered full
-    c.answered_reply-in-Ok-Passes.result c.answered_reply-in-Ok-Passes.ensures
+    c.executed_reply.result told

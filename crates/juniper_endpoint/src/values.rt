@@ -1,0 +1,145 @@
+//! What explains that given values of variables do not fit (section 6.1.2 of the Specification).
+
+ghost use Rattle.std.specs.Prelude.{◌≡◌, IfOk, Some, map, option_map};
+ghost use Rattle.graphql_spec.specs.Documents as spec;
+ghost use Rattle.graphql_spec.specs.Outcomes.{Reads};
+ghost use Rattle.graphql_spec.specs.Requests.{choose};
+ghost use Rattle.juniper.specs.Answering.{request_of};
+ghost use Rattle.juniper.specs.RequestErrors.{view_request_error};
+ghost use Rattle.juniper_explain.specs.GivenValues.{view_variable_explanation};
+ghost use Rattle.juniper_json.specs.RefusalText.{view_refusal};
+ghost use Rattle.juniper_schema.specs.SchemaView.{view_schema};
+ghost use Rattle.juniper_syntax.specs.DocumentView.{view_document};
+ghost use Rattle.juniper_syntax.specs.InputView.{view_variables};
+ghost use Rattle.juniper_syntax.specs.Scalars.{default_shown};
+ghost use Rattle.juniper_endpoint.specs.Explained.{misfits, of_value, values_explained};
+ghost use Rattle.juniper_endpoint.specs.Looks.{AreMisfits, IsAnswerTold, IsMisfitTold};
+
+use crate::explained::{Explainer, is_left_out};
+use crate::lines::{Answered, answered_reply, explained_reply, without_memory};
+use juniper::{
+    DefaultScalarValue, Document, GraphQLError, Variables, get_operation, parse_document_source,
+};
+use juniper_explain::{VariableExplanation, explain_variables};
+use juniper_http::Reply;
+use juniper_json::Refusal;
+use juniper_request::GraphQLRequest;
+use std::alloc::{AllocError, Global};
+
+/// The reply that tells what the executor answers to a request of a valid document with these values, and what explains that
+/// the values do not fit.
+pub fn executed_reply(
+    alloc: Global,
+    explainer: &Explainer<'_>,
+    request: &GraphQLRequest<'_>,
+    values: &Variables<DefaultScalarValue>,
+    answered: Answered,
+) -> Reply
+    ensures { IsAnswerTold (view_schema default_shown explainer.now.schema.now) explainer.now.is_introspection_disabled explainer.now.most_bytes
+        (request_of default_shown request.now.query.now request.now.operation_name values.now) answered result }
+{
+    match answered {
+        Ok(response) => answered_reply(alloc, Ok(response)),
+        Err(error) => misfit_reply(alloc, explainer, request, values, &error),
+    }
+}
+
+/// The reply that tells why an operation is not executed, and what explains that its values do not fit.
+fn misfit_reply(
+    alloc: Global,
+    explainer: &Explainer<'_>,
+    request: &GraphQLRequest<'_>,
+    values: &Variables<DefaultScalarValue>,
+    error: &GraphQLError,
+) -> Reply
+    ensures { IsMisfitTold (view_schema default_shown explainer.now.schema.now) explainer.now.is_introspection_disabled explainer.now.most_bytes
+        (request_of default_shown request.now.query.now request.now.operation_name values.now) (view_request_error error.now) result }
+{
+    match misfits_told(alloc, explainer, request, values, error) {
+        Err(_) => without_memory(alloc),
+        Ok(misfits) => explained_reply(alloc, error, misfits.as_slice()),
+    }
+}
+
+/// What explains that an operation is not executed: where its values do not fit, why.
+fn misfits_told(
+    alloc: Global,
+    explainer: &Explainer<'_>,
+    request: &GraphQLRequest<'_>,
+    values: &Variables<DefaultScalarValue>,
+    error: &GraphQLError,
+) -> Result<Vec<Refusal>, AllocError>
+    ensures { IfOk result (λ made. AreMisfits (view_schema default_shown explainer.now.schema.now) explainer.now.is_introspection_disabled
+        explainer.now.most_bytes (request_of default_shown request.now.query.now request.now.operation_name values.now)
+        (view_request_error error.now) (map view_refusal made.items)) }
+{
+    match error {
+        GraphQLError::ValidationError(_) => misfits(alloc, explainer, request, values),
+        _ => Ok(Vec::new(alloc)),
+    }
+}
+
+/// Why the values of a request do not fit, by its text. It was read before, so that only memory can be wanting.
+fn misfits(
+    alloc: Global,
+    explainer: &Explainer<'_>,
+    request: &GraphQLRequest<'_>,
+    values: &Variables<DefaultScalarValue>,
+) -> Result<Vec<Refusal>, AllocError>
+    ensures { IfOk result (λ made. (d : spec.Document) → Reads request.now.query.now (Some d) → map view_refusal made.items ≡ values_explained
+        (view_schema default_shown explainer.now.schema.now) explainer.now.is_introspection_disabled explainer.now.most_bytes
+        (request_of default_shown request.now.query.now request.now.operation_name values.now) d) }
+{
+    if is_left_out(explainer, request.query) {
+        return Ok(Vec::new(alloc));
+    }
+    match parse_document_source(alloc, request.query) {
+        Err(_) => Err(AllocError),
+        Ok(document) => misfits_in(alloc, explainer, &document, request.operation_name, values),
+    }
+}
+
+/// Why values do not fit the variables of the operation that the name chooses, if one is.
+fn misfits_in(
+    alloc: Global,
+    explainer: &Explainer<'_>,
+    document: &Document<'_, DefaultScalarValue>,
+    name: Option<&str>,
+    values: &Variables<DefaultScalarValue>,
+) -> Result<Vec<Refusal>, AllocError>
+    ensures { IfOk result (λ made. map view_refusal made.items ≡ misfits (view_schema default_shown explainer.now.schema.now)
+        (view_variables default_shown values.now) (choose (view_document default_shown document.now) (option_map (λ n. n.now) name.entry))) }
+{
+    match get_operation(document, name) {
+        Err(_) => Ok(Vec::new(alloc)),
+        Ok(operation) => {
+            let explanations = explain_variables(alloc, values, operation, explainer.schema)?;
+            refusals_of(alloc, explanations)
+        }
+    }
+}
+
+/// Explanations of given values, as they are written.
+fn refusals_of(
+    alloc: Global,
+    explanations: Vec<VariableExplanation>,
+) -> Result<Vec<Refusal>, AllocError>
+    ensures { IfOk result (λ made. map view_refusal made.items ≡ map (λ e. of_value (view_variable_explanation e)) explanations.items) }
+{
+    let mut refusals = Vec::with_capacity(alloc, explanations.len())?;
+    for explanation in explanations {
+        let refusal = refusal_of(explanation);
+        refusals.push(refusal)?;
+    }
+    Ok(refusals)
+}
+
+/// An explanation of a given value, as it is written.
+fn refusal_of(explanation: VariableExplanation) -> Refusal
+    ensures { view_refusal result ≡ of_value (view_variable_explanation explanation) }
+{
+    Refusal {
+        message: explanation.message,
+        place: Some(explanation.location),
+    }
+}
