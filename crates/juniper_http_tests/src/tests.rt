@@ -28,7 +28,18 @@ POST / | Content-Type: application/json | {"query":"query($p: Int) { number(plus
 POST / | Content-Type: application/json | {"query":"query($p: Int) { number(plus: $p) }","variables":{"p":2,"q":2.5}} | 200 | graphql-response+json | {"data":{"number":43}} | 0
 POST / | Content-Type: application/json | {"query":"query($p: Int) { number(plus: $p) }","variables":{"p":2.5}} | 400 | graphql-response+json | {"errors":[{"message":"Variable `$p` has no fitting value","locations":[{"line":1,"column":7}]}]} | 0
 POST / | Content-Type: application/json | {"query":"query($p: Int) { number(plus: $p) }","variables":{"p":[{"x":99999999999}]}} | 400 | graphql-response+json | {"errors":[{"message":"Variable `$p` has no fitting value","locations":[{"line":1,"column":7}]}]} | 0
-POST / | Content-Type: application/json | {"query":"query($p: Int) { number(plus: $p) }","variables":{"p":"2"}} | 400 | graphql-response+json | {"errors":[{"message":"Variable `$p` has no fitting value","locations":[{"line":1,"column":7}]}]} | 0
+POST / | Content-Type: application/json | {"query":"query($p: Int) { number(plus: $p) }","variables":{"p":"2"}} | 400 | graphql-response+json | {"errors":[{"message":"Variable `$p` has no fitting value","locations":[{"line":1,"column":7}]}],"extensions":{"explanations":[{"message":"Value `\"2\"` at `$p` is no `Int`","locations":[{"line":1,"column":7}]}]}} | 0
+POST / | Content-Type: application/json | {"query":"query($p: Int) { number(plus: $p) }                                                                 ","variables":{"p":"2"}} | 400 | graphql-response+json | {"errors":[{"message":"Variable `$p` has no fitting value","locations":[{"line":1,"column":7}]}],"extensions":{"explanations":[{"message":"Value `\"2\"` at `$p` is no `Int`","locations":[{"line":1,"column":7}]}]}} | 0
+POST / | Content-Type: application/json | {"query":"query($p: Int) { number(plus: $p) }                                                                  ","variables":{"p":"2"}} | 400 | graphql-response+json | {"errors":[{"message":"Variable `$p` has no fitting value","locations":[{"line":1,"column":7}]}]} | 0
+GET /?query=query($p:Int)%7Bnumber(plus:$p)%7D&variables=%7B%22p%22:true%7D | - | - | 400 | graphql-response+json | {"errors":[{"message":"Variable `$p` has no fitting value","locations":[{"line":1,"column":7}]}],"extensions":{"explanations":[{"message":"Value `true` at `$p` is no `Int`","locations":[{"line":1,"column":7}]}]}} | 0
+POST / | Content-Type: application/json | {"query":"query($e: Episode!) { hero(episode: $e) { id } }"} | 400 | graphql-response+json | {"errors":[{"message":"Variable `$e` has no fitting value","locations":[{"line":1,"column":7}]}],"extensions":{"explanations":[{"message":"Variable `$e` is missing; it is `Episode!`","locations":[{"line":1,"column":7}]}]}} | 0
+POST / | Content-Type: application/json | {"query":"query($e: Episode) { hero(episode: $e) { id } }","variables":{"e":"EMPIR"}} | 400 | graphql-response+json | {"errors":[{"message":"Variable `$e` has no fitting value","locations":[{"line":1,"column":7}]}],"extensions":{"explanations":[{"message":"Value `\"EMPIR\"` at `$e` is no `Episode`, did you mean `EMPIRE`?","locations":[{"line":1,"column":7}]}]}} | 0
+POST / | Content-Type: application/json | {"query":"mutation($n: Int!) { add(n: $n) { total } }","variables":{"n":null}} | 400 | graphql-response+json | {"errors":[{"message":"Variable `$n` has no fitting value","locations":[{"line":1,"column":10}]}],"extensions":{"explanations":[{"message":"Value `null` at `$n` is no `Int!`","locations":[{"line":1,"column":10}]}]}} | 0
+POST / | Content-Type: application/json | {"query":"query($xs: [Int!]) { id }","variables":{"xs":[1,null,"2"]}} | 400 | graphql-response+json | {"errors":[{"message":"Variable `$xs` has no fitting value","locations":[{"line":1,"column":7}]}],"extensions":{"explanations":[{"message":"Value `null` at `$xs[1]` is no `Int!`","locations":[{"line":1,"column":7}]},{"message":"Value `\"2\"` at `$xs[2]` is no `Int!`","locations":[{"line":1,"column":7}]}]}} | 0
+POST / | Content-Type: application/json | {"query":"query($p: Int, $e: Episode!) { number(plus: $p) }","variables":{"p":true}} | 400 | graphql-response+json | {"errors":[{"message":"Variable `$p` has no fitting value","locations":[{"line":1,"column":7}]},{"message":"Variable `$e` has no fitting value","locations":[{"line":1,"column":16}]}],"extensions":{"explanations":[{"message":"Value `true` at `$p` is no `Int`","locations":[{"line":1,"column":7}]},{"message":"Variable `$e` is missing; it is `Episode!`","locations":[{"line":1,"column":16}]}]}} | 0
+POST / | Content-Type: application/json | {"query":"query($p: Int) { nam }","variables":{"p":"2"}} | 400 | graphql-response+json | {"errors":[{"message":"Unknown field","locations":[{"line":1,"column":1}]}],"extensions":{"explanations":[{"message":"Unknown field `nam` of `Query`, did you mean `name`?","locations":[{"line":1,"column":18}]}]}} | 0
+POST / | Content-Type: application/json | {"query":"query A($p: Int!) { id } query B { id }"} | 400 | graphql-response+json | {"errors":[{"message":"Multiple operations provided"}]} | 0
+POST / | Content-Type: application/json | {"query":"query A($p: Int!) { id } query B($p: Int) { id }","operationName":"B"} | 200 | graphql-response+json | {"data":{"id":"q1"}} | 0
 POST / | Content-Type: application/json | {"query":"query A { id } query B { name }","operationName":"B"} | 200 | graphql-response+json | {"data":{"name":"demo"}} | 0
 POST / | Content-Type: application/json | {"query":"query A { id } query B { name }","operationName":"C"} | 400 | graphql-response+json | {"errors":[{"message":"Unknown operation name"}]} | 0
 POST / | Content-Type: application/json | {"query":"{ hero { nam } }"} | 400 | graphql-response+json | {"errors":[{"message":"Unknown field","locations":[{"line":1,"column":1}]}],"extensions":{"explanations":[{"message":"Unknown field `nam` of `Character`, did you mean `name`?","locations":[{"line":1,"column":10}]}]}} | 0
@@ -245,20 +256,30 @@ fn bytes_are_answered(rt: HostRuntime) -> Result<(), Fail> {
     Ok(())
 }
 
-/// A misspelt field, without introspection: the answer names no field of the schema.
-const HIDDEN: &str =
-    r#"{"errors":[{"message":"Unknown field","locations":[{"line":1,"column":1}]}]} | 0"#;
+/// Queries that are refused without introspection: with a misspelt field, and with a value that does not fit. Behind an arrow stands what
+/// is answered, which names nothing of the schema, and how often the context was added to.
+const HIDDEN: &str = r#"
+%7Bnam%7D => {"errors":[{"message":"Unknown field","locations":[{"line":1,"column":1}]}]} | 0
+query($e:Episode)%7Bhero(episode:$e)%7Bid%7D%7D&variables=%7B%22e%22:%22EMPIR%22%7D => {"errors":[{"message":"Variable `$e` has no fitting value","locations":[{"line":1,"column":7}]}]} | 0"#;
 
 #[test]
 fn nothing_is_explained_without_introspection(rt: HostRuntime) -> Result<(), Fail> {
-    let Ok(root) = demo_root(rt.alloc()) else {
+    let alloc = rt.alloc();
+    let Ok(root) = demo_root(alloc) else {
         assert!(rt; false, "no root");
         return Ok(());
     };
     let hidden = root.disable_introspection();
-    let bytes = bytes_of(rt.alloc(), "GET /?query=%7Bnam%7D HTTP/1.1~Host: x~~")?;
-    let found = answer_on(&rt, &hidden, bytes.as_slice())?;
-    let (_head, body) = found.as_str().split_once("\r\n\r\n").unwrap_or(("", ""));
-    assert_eq!(rt; body, HIDDEN);
+    for line in HIDDEN.lines().skip(1) {
+        let Some((query, wanted)) = line.split_once(" => ") else {
+            assert!(rt; false, "no row: {line}");
+            return Ok(());
+        };
+        let request = format!(in alloc; "GET /?query={query} HTTP/1.1~Host: x~~")?;
+        let bytes = bytes_of(alloc, request.as_str())?;
+        let found = answer_on(&rt, &hidden, bytes.as_slice())?;
+        let (_head, body) = found.as_str().split_once("\r\n\r\n").unwrap_or(("", ""));
+        assert_eq!(rt; body, wanted, "at {line}");
+    }
     Ok(())
 }
