@@ -90,6 +90,13 @@ module _ (s : Schema) (disabled : Bool) (most : ℕ) (q : Request) where
   IsAnswerTold (Ok p) reply = IsTold (outcome_of (Ok p)) (outcome_text (Ok p)) reply
   IsAnswerTold (Err e) reply = IsMisfitTold (view_request_error e) reply
 
+-- what explains that the values of a request do not fit, by what explains texts
+abbrev pub AreMisfitsBy : Explainer → Request → RequestError → List Refusal → Type 0
+AreMisfitsBy x q e rs = AreMisfits (view_schema default_shown x.schema.now) x.is_introspection_disabled x.most_bytes q e rs
+
+abbrev pub AreValuesBy : Explainer → Request → List Refusal → Type 0
+AreValuesBy x q rs = (d : Document) → Reads q.text (Some d) → rs ≡ values_explained (view_schema default_shown x.schema.now) x.is_introspection_disabled x.most_bytes q d
+
 -- it explains what is refused on this service
 abbrev pub ExplainsFor : {C N : Type 0} → Service C N → Explainer → Type 0
 ExplainsFor S e = (view_schema default_shown e.schema.now ≡ S.schema) × (e.is_introspection_disabled ≡ S.introspection_disabled)

@@ -1,8 +1,6 @@
 //! What explains that given values of variables do not fit (section 6.1.2 of the Specification).
 
-ghost use Rattle.std.specs.Prelude.{◌≡◌, IfOk, Some, map, option_map};
-ghost use Rattle.graphql_spec.specs.Documents as spec;
-ghost use Rattle.graphql_spec.specs.Outcomes.{Reads};
+ghost use Rattle.std.specs.Prelude.{◌≡◌, IfOk, map, option_map};
 ghost use Rattle.graphql_spec.specs.Requests.{choose};
 ghost use Rattle.juniper.specs.Answering.{request_of};
 ghost use Rattle.juniper.specs.RequestErrors.{view_request_error};
@@ -12,8 +10,8 @@ ghost use Rattle.juniper_schema.specs.SchemaView.{view_schema};
 ghost use Rattle.juniper_syntax.specs.DocumentView.{view_document};
 ghost use Rattle.juniper_syntax.specs.InputView.{view_variables};
 ghost use Rattle.juniper_syntax.specs.Scalars.{default_shown};
-ghost use Rattle.juniper_endpoint.specs.Explained.{misfits, of_value, values_explained};
-ghost use Rattle.juniper_endpoint.specs.Looks.{AreMisfits, IsAnswerTold, IsMisfitTold};
+ghost use Rattle.juniper_endpoint.specs.Explained.{misfits, of_value};
+ghost use Rattle.juniper_endpoint.specs.Looks.{AreMisfitsBy, AreValuesBy, IsAnswerTold, IsMisfitTold};
 
 use crate::explained::{Explainer, is_left_out};
 use crate::lines::{Answered, answered_reply, explained_reply, without_memory};
@@ -69,8 +67,7 @@ fn misfits_told(
     values: &Variables<DefaultScalarValue>,
     error: &GraphQLError,
 ) -> Result<Vec<Refusal>, AllocError>
-    ensures { IfOk result (λ made. AreMisfits (view_schema default_shown explainer.now.schema.now) explainer.now.is_introspection_disabled
-        explainer.now.most_bytes (request_of default_shown request.now.query.now request.now.operation_name values.now)
+    ensures { IfOk result (λ made. AreMisfitsBy explainer.now (request_of default_shown request.now.query.now request.now.operation_name values.now)
         (view_request_error error.now) (map view_refusal made.items)) }
 {
     match error {
@@ -86,9 +83,8 @@ fn misfits(
     request: &GraphQLRequest<'_>,
     values: &Variables<DefaultScalarValue>,
 ) -> Result<Vec<Refusal>, AllocError>
-    ensures { IfOk result (λ made. (d : spec.Document) → Reads request.now.query.now (Some d) → map view_refusal made.items ≡ values_explained
-        (view_schema default_shown explainer.now.schema.now) explainer.now.is_introspection_disabled explainer.now.most_bytes
-        (request_of default_shown request.now.query.now request.now.operation_name values.now) d) }
+    ensures { IfOk result (λ made. AreValuesBy explainer.now (request_of default_shown request.now.query.now request.now.operation_name values.now)
+        (map view_refusal made.items)) }
 {
     if is_left_out(explainer, request.query) {
         return Ok(Vec::new(alloc));
