@@ -75,7 +75,7 @@ module _ {S Q : Type 0} (shown : S → Shown) (asks : Head → Q → Type 0) (k 
   none-added empty p = empty-added fields.items (none-in fields b is empty)
     where
       empty-added : (os : List (CodeOccurrence S)) → os ≡ [] → IsGroupAdded shown asks k os p p
-      empty-added [] e = record { groups = refl; occurrences = refl; questions = refl; below = refl }
+      empty-added [] e = record { groups = refl; occurrences = refl; questions = refl; below = refl; left = omega arith }
       empty-added (o ∷ os) e = absurd cc
 
   -- else one, with what the first of them asks
@@ -113,7 +113,7 @@ module _ {S P Q : Type 0} (shown : S → Shown) (c : Collector S P) (asks : Name
         IsAdding possible T fields 0 p p left
     unfolding view_groups keys known
     start-adding p left s all = record {
-      step = record { standing = s; grown = grown-none p p refl refl refl };
+      step = record { standing = s; grown = grown-none p p refl refl refl (omega arith) };
       groups = ap (view_groups shown c p.occurrences.items) (seam-nil p.groups.items);
       asked = subst (AllAsked (asks T) []) (sym (ap (λ n. drop n p.questions.items) (sym s.asked) ∙ seam-nil p.questions.items)) tt;
       fields_left = λ k. all k;

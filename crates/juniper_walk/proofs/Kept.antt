@@ -80,7 +80,7 @@ module _ {S P Q : Type 0} (shown : S → Shown) (c : Collector S P) (asks : Name
     unfolding made_at
     found-below is = record {
       standing = standing;
-      grown = grown-none p p refl refl refl;
+      grown = grown-none p p refl refl refl (omega arith);
       stands = subst (λ x. StandsFor shown c asks T p g (occurrences possible T x)) (sym selected)
           (made-found shown c asks possible p i T (first_made (drop i (all_made p))) g
           (right-at shown c asks possible p (all_made p) i 0 i (omega arith) standing.below) is);

@@ -54,7 +54,7 @@ no-items (x ∷ xs) b is yes_so = let e : suc (length xs) ≡ 0 = eqb-true (suc 
 
 module _ {S P Q : Type 0} (shown : S → Shown) (c : Collector S P) (asks : Name → Head → Q → Type 0) (possible : Name → Name → Bool) where
   pub no-step : (p : Plan S Q) → IsStanding shown c asks possible p → IsStep shown c asks possible p p
-  no-step p s = record { standing = s; grown = grown-none p p refl refl refl }
+  no-step p s = record { standing = s; grown = grown-none p p refl refl refl (omega arith) }
 
   pub more-steps : (p q r : Plan S Q) → IsStep shown c asks possible p q → IsStep shown c asks possible q r → IsStep shown c asks possible p r
   more-steps p q r a b = record { standing = b.standing; grown = grown-twice p q r a.grown b.grown }

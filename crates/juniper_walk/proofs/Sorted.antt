@@ -1,5 +1,5 @@
 -- What was walked of a request and then sorted is an answer to it (6.2, 7.1.2).
-use Rattle.std.proofs.Common.{◌≡◌, Bool, true, List, [], ◌∷◌, IsTrue, length, map, refl, sym, ap, ◌∙◌, subst, arith}
+use Rattle.std.proofs.Common.{◌≡◌, ℕ, Bool, true, List, [], ◌∷◌, IsTrue, length, map, refl, sym, ap, ◌∙◌, subst, arith}
 use Rattle.graphql_spec.specs.Shown.{Name, Shown}
 use Rattle.graphql_spec.specs.Documents.{Head}
 use Rattle.graphql_spec.specs.Values.{Value, is_null}
@@ -53,8 +53,8 @@ module _ {S P : Type 0} (shown : S → Shown) (c : Collector S P) where
 
 module _ {S P Q : Type 0} (shown : S → Shown) (c : Collector S P) (asks : Name → Head → Q → Type 0) where
   -- a plan without groups stands
-  pub bare-stands : (possible : Name → Name → Bool) (p : Plan S Q) → IsBare p → IsStanding shown c asks possible p
-  bare-stands possible p bare = record {
+  pub bare-stands : (possible : Name → Name → Bool) (fields : ℕ) (p : Plan S Q) → IsBare fields p → IsStanding shown c asks possible p
+  bare-stands possible fields p bare = record {
     within = subst (λ gs. AreWithin (length p.occurrences.items) gs) (sym bare.groups) tt;
     counted = ap length bare.below ∙ sym (ap length bare.groups);
     asked = ap length bare.questions ∙ sym (ap length bare.groups);

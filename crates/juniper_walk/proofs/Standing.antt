@@ -16,8 +16,8 @@ use Rattle.juniper_walk.specs.declared.plan.Below.{Below}
 use Rattle.juniper_walk.specs.declared.plan.Group.{Group}
 use Rattle.juniper_walk.specs.declared.plan.GroupRange.{GroupRange}
 use Rattle.juniper_walk.specs.declared.plan.Plan.{Plan}
-use Rattle.juniper_walk.specs.Plans.{AllAsked, AllRight, AreRight, AreWithin, IsAskedAt, IsGrown, IsKept, IsNoneAdded, IsOneAdded, IsRight, IsStanding, IsStep}
-use Rattle.juniper_walk.specs.Plans.{StandsFor, all_made, fields_at, fields_of, first_fields, first_key, first_made, grouped_by, key_at, made_at, view_groups}
+use Rattle.juniper_walk.specs.Plans.{AllAsked, AllRight, AreRight, AreWithin, IsAskedAt, IsCharged, IsGrown, IsKept, IsNoneAdded, IsOneAdded, IsRight, IsStanding}
+use Rattle.juniper_walk.specs.Plans.{IsMade, IsStep, StandsFor, all_made, fields_at, fields_of, first_fields, first_key, first_made, grouped_by, key_at, made_at, view_groups}
 use Rattle.juniper_walk.specs.Asking.{IsAskedOf}
 use Rattle.juniper_walk.proofs.Keys.{map-at}
 
@@ -101,14 +101,15 @@ module _ {S Q : Type 0} where
     longer = let n = ap length grown.groups ∙ length-append p.groups.items grown.more_groups in omega (arith, n)
 
   pub grown-none : (p q : Plan S Q) → q.groups.items ≡ p.groups.items → q.occurrences.items ≡ p.occurrences.items →
-      q.questions.items ≡ p.questions.items → IsGrown p q
-  grown-none p q a b e = record {
+      q.questions.items ≡ p.questions.items → q.left ≤ p.left → IsGrown p q
+  grown-none p q a b e less = record {
     more_groups = [];
     more_occurrences = [];
     more_questions = [];
     groups = a ∙ sym (append-nil p.groups.items);
     occurrences = b ∙ sym (append-nil p.occurrences.items);
     questions = e ∙ sym (append-nil p.questions.items);
+    left = less;
   }
 
   pub grown-twice : (p q r : Plan S Q) → IsGrown p q → IsGrown q r → IsGrown p r
@@ -119,6 +120,7 @@ module _ {S Q : Type 0} where
     groups = b.groups ∙ (ap (λ l. l ++ b.more_groups) a.groups ∙ append_assoc p.groups.items a.more_groups b.more_groups);
     occurrences = b.occurrences ∙ (ap (λ l. l ++ b.more_occurrences) a.occurrences ∙ append_assoc p.occurrences.items a.more_occurrences b.more_occurrences);
     questions = b.questions ∙ (ap (λ l. l ++ b.more_questions) a.questions ∙ append_assoc p.questions.items a.more_questions b.more_questions);
+    left = omega (arith, a.left, b.left);
   }
 
 -- ## What groups stand for
@@ -193,7 +195,7 @@ module _ {S P Q : Type 0} (shown : S → Shown) (c : Collector S P) (asks : Name
 
     pub stands-none : (p q : Plan S Q) → IsStanding shown c asks possible p → IsNoneAdded p q → IsStep shown c asks possible p q
     stands-none p q s a =
-        let grown = grown-none p q a.groups a.occurrences a.questions in
+        let grown = grown-none p q a.groups a.occurrences a.questions a.left in
         record {
           standing = record {
             within = subst (λ n. AreWithin n q.groups.items) (ap length (sym a.occurrences))
@@ -204,6 +206,20 @@ module _ {S P Q : Type 0} (shown : S → Shown) (c : Collector S P) (asks : Name
             below = subst (λ l. AllRight shown c asks possible q 0 l) (sym a.below) (all-right-still p q 0 (all_made p) s.within s.asked grown s.below);
           };
           grown = grown;
+        }
+
+    -- what was made stands when its objects are charged
+    charged-none : (n : ℕ) (p q : Plan S Q) → IsCharged n p q → IsNoneAdded p q
+    charged-none n p q a = record { groups = a.groups; occurrences = a.occurrences; questions = a.questions; below = a.below; left = omega (arith, a.left) }
+
+    pub made-charged : (T : Name) (os : List Occurrence) (n : ℕ) (p q r : Plan S Q) (g : GroupRange) → IsMade shown c asks possible T os p q g →
+        IsCharged n q r → IsMade shown c asks possible T os p r g
+    made-charged T os n p q r g made charged =
+        let one = stands-none q r made.standing (charged-none n q r charged) in
+        record {
+          standing = one.standing;
+          grown = grown-twice p q r made.grown one.grown;
+          stands = stands-still T q r g os made.standing.within made.standing.asked one.grown made.stands;
         }
 
     pub stands-one : (k : Name) (os : List (CodeOccurrence S)) (x : Q) (p q : Plan S Q) → IsStanding shown c asks possible p →
@@ -217,6 +233,7 @@ module _ {S P Q : Type 0} (shown : S → Shown) (c : Collector S P) (asks : Name
           groups = a.groups;
           occurrences = a.occurrences;
           questions = a.questions;
+          left = omega (arith, a.left);
         } in
         record {
           standing = record {
@@ -380,7 +397,7 @@ module _ {S P Q : Type 0} (shown : S → Shown) (c : Collector S P) (asks : Name
         IsStep shown c asks possible p q
     unfolding made_at
     stands-kept p q i T r s below kept made =
-        let grown = grown-none p q kept.groups kept.occurrences kept.questions in
+        let grown = grown-none p q kept.groups kept.occurrences kept.questions (omega (arith, kept.left)) in
         let still = all-right-still shown c asks possible p q 0 (all_made p) s.within s.asked grown s.below in
         let more : IsRight shown c asks possible q i kept.kept = record {
           bound = subst (λ l. i < length l) (sym kept.groups) below;

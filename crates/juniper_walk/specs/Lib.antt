@@ -9,3 +9,4 @@ pub mod PlanWalks
 pub mod Plans
 pub mod Rows
 pub mod Walking
+pub mod Budget

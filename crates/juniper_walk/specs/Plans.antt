@@ -1,5 +1,5 @@
 -- What a plan stands for: the response keys of an object, each with its occurrences (6.3.2).
-use Rattle.std.specs.Prelude.{◌≡◌, ℕ, ◌≤◌, ◌<◌, suc, Bool, List, [], ◌∷◌, ◌++◌, length, map, drop, set, slice_range, string_bytes}
+use Rattle.std.specs.Prelude.{◌≡◌, ℕ, ◌+◌, ◌≤◌, ◌<◌, suc, Bool, List, [], ◌∷◌, ◌++◌, length, map, drop, set, slice_range, string_bytes}
 use Rattle.graphql_spec.specs.Shown.{Shown, Name}
 use Rattle.graphql_spec.specs.Documents.{Head}
 use Rattle.graphql_spec.specs.Selections.{Forest, end, chain, Occurrence, all_below, keys, occurrences, with_key}
@@ -78,14 +78,15 @@ module _ {S Q : Type 0} where
   unfoldable pub made_at : Plan S Q → ℕ → List Below
   made_at p i = first_made (drop i (all_made p))
 
-  -- a plan without groups
-  pub record IsBare (p : Plan S Q) : Type 0 where
+  -- a plan without groups, by which so many fields may be entered
+  pub record IsBare (fields : ℕ) (p : Plan S Q) : Type 0 where
     pub groups : p.groups.items ≡ []
     pub occurrences : p.occurrences.items ≡ []
     pub questions : p.questions.items ≡ []
     pub below : p.below.items ≡ []
+    pub left : p.left ≡ fields
 
-  -- what stands is only added to
+  -- what stands is only added to, and no more fields may be entered than before
   pub record IsGrown (p q : Plan S Q) : Type 0 where
     pub more_groups : List Group
     pub more_occurrences : List (CodeOccurrence S)
@@ -93,6 +94,7 @@ module _ {S Q : Type 0} where
     pub groups : q.groups.items ≡ p.groups.items ++ more_groups
     pub occurrences : q.occurrences.items ≡ p.occurrences.items ++ more_occurrences
     pub questions : q.questions.items ≡ p.questions.items ++ more_questions
+    pub left : q.left ≤ p.left
 
 module _ {S P : Type 0} (shown : S → Shown) (c : Collector S P) where
   -- selections, one slice after the other, with every fragment put in
@@ -166,6 +168,7 @@ module _ {S Q : Type 0} where
     pub made_for : string_bytes kept.concrete ≡ T
     pub made : kept.groups ≡ r
     pub below : all_made q ≡ set (all_made p) i (made_at p i ++ kept ∷ [])
+    pub left : q.left ≡ p.left
 
   -- the fields behind all others became a group, with what is asked for it
   pub record IsEnded (k : Name) (begins : OccNo) (asked : Q) (p q : Plan S Q) : Type 0 where
@@ -177,6 +180,7 @@ module _ {S Q : Type 0} where
     pub occurrences : q.occurrences.items ≡ p.occurrences.items
     pub questions : q.questions.items ≡ p.questions.items ++ asked ∷ []
     pub below : all_made q ≡ all_made p ++ [] ∷ []
+    pub left : q.left ≡ p.left
 
   -- a group was added, behind all others, with what is asked for it
   pub record IsOneAdded (k : Name) (os : List (CodeOccurrence S)) (asked : Q) (p q : Plan S Q) : Type 0 where
@@ -188,12 +192,22 @@ module _ {S Q : Type 0} where
     pub occurrences : q.occurrences.items ≡ p.occurrences.items ++ os
     pub questions : q.questions.items ≡ p.questions.items ++ asked ∷ []
     pub below : all_made q ≡ all_made p ++ [] ∷ []
+    pub left : q.left ≡ p.left
 
   pub record IsNoneAdded (p q : Plan S Q) : Type 0 where
     pub groups : q.groups.items ≡ p.groups.items
     pub occurrences : q.occurrences.items ≡ p.occurrences.items
     pub questions : q.questions.items ≡ p.questions.items
     pub below : all_made q ≡ all_made p
+    pub left : q.left ≤ p.left
+
+  -- so many fields were taken off those that may be entered
+  pub record IsCharged (n : ℕ) (p q : Plan S Q) : Type 0 where
+    pub groups : q.groups.items ≡ p.groups.items
+    pub occurrences : q.occurrences.items ≡ p.occurrences.items
+    pub questions : q.questions.items ≡ p.questions.items
+    pub below : all_made q ≡ all_made p
+    pub left : q.left + n ≡ p.left
 
   -- a group was added, and what its first field asks
   pub record IsFirstAsked (shown : S → Shown) (asks : Head → Q → Type 0) (k : Name) (o : CodeOccurrence S) (os : List (CodeOccurrence S)) (p q : Plan S Q) :

@@ -18,6 +18,7 @@ use Rattle.juniper_conversions.specs.declared.execution_error.ExecutionError.{Ex
 use Rattle.juniper_syntax.specs.ValueView.{view_object, view_value}
 use Rattle.juniper_syntax.specs.declared.value.Object.{Object}
 use Rattle.juniper_walk.specs.declared.walked.Walked.{Walked}
+use Rattle.juniper_walk.specs.Budget.{fields_in_all}
 use Rattle.juniper_walk.specs.Holes.{holes_of}
 use Rattle.juniper_walk.specs.Lists.{picked}
 use Rattle.juniper_walk.specs.PlanWalks.{IsObjectWalked, IsPrepared, IsPut, IsWalking}
@@ -67,6 +68,10 @@ module _ {S : Type 0} (shown : S → Shown) where
   unfoldable pub so_far : Option (Object S) → Value
   so_far None = null
   so_far (Some o) = object (view_object shown o)
+
+  -- how many fields the rows have
+  abbrev pub row_fields : List (Row S) → ℕ
+  row_fields rs = fields_in_all (map (λ r. so_far r.object) rs)
 
   -- a scalar was put into the object of a row
   pub record IsLeafPut (k : Name) (x : S) (o : Object S) (r new : Row S) : Type 0 where

@@ -1,8 +1,10 @@
 //! A reply is completed for all fields of a group at once (CompleteValue and MergeSelectionSets, section 6.4.3 of the Specification).
 
-ghost use Rattle.std.specs.Prelude.{◌≡◌, ◌<◌, IfOk};
+ghost use Rattle.std.specs.Prelude.{◌≡◌, ◌<◌, ◌≤◌, ◌+◌, IfOk};
 ghost use Rattle.graphql_spec.specs.GroupLaws.{first_start};
 ghost use Rattle.juniper_conversions.specs.PathView.{path_place};
+ghost use Rattle.juniper_syntax.specs.ValueView.{view_value};
+ghost use Rattle.juniper_walk.specs.Budget.{fields_in};
 ghost use Rattle.juniper_walk.specs.Completing.{CompletesAsked, IsTold};
 ghost use Rattle.juniper_walk.specs.Walking.{IsReadyWalk};
 ghost use Rattle.juniper_walk.specs.Plans.{IsStanding, IsStep, group_at, group_count};
@@ -35,6 +37,7 @@ pub fn complete_value<'d, 'a, S: ScalarValue, R: Resolver<S>>(
     ensures told { IfOk result (λ _. IsTold asked.entry.answer) }
     ensures completed { CompletesAsked S.shown first_start (R.world walk.now.collector.possible) (path_place path.now.value)
         (group_at S.shown walk.now plan.old group.0) asked.entry result }
+    ensures counted { IfOk result (λ w. fields_in (view_value S.shown w.value) + plan.new.left ≤ plan.old.left) }
 {
     let Asked { declared, answer } = asked;
     let Parted {

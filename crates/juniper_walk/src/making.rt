@@ -1,7 +1,7 @@
 //! Groups are made: those of a request's root, and those below a group for the nodes of one object type (CollectFields and
 //! MergeSelectionSets, sections 6.3.2 and 6.4.3 of the Specification).
 
-ghost use Rattle.std.specs.Prelude.{◌≡◌, ◌<◌, ◌≤◌, [], ◌++◌, cond, IfOk, OnOk, length, map, take, true};
+ghost use Rattle.std.specs.Prelude.{◌≡◌, ◌+◌, ◌-◌, ◌*◌, ◌<◌, ◌≤◌, [], ◌++◌, cond, IfOk, OnOk, length, map, take, true};
 ghost use Rattle.std.specs.List.{IsDistinct, filter, list_any};
 ghost use Rattle.std.specs.Str.{bytes_eq};
 ghost use Rattle.graphql_spec.specs.Documents.{response_key};
@@ -258,7 +258,7 @@ fn add_grouped<'d, 'a, S: ScalarValue, R: Resolver<S>>(
 }
 
 /// The groups that selections hold for an object type, made anew.
-pub fn root_groups<'d, 'a, S: ScalarValue, R: Resolver<S>>(
+fn root_groups<'d, 'a, S: ScalarValue, R: Resolver<S>>(
     alloc: Global,
     collector: &Collector<'_, 'd, 'a, S, R>,
     plan: &mut Plan<'d, 'a, S, R::Question>,
@@ -277,7 +277,7 @@ pub fn root_groups<'d, 'a, S: ScalarValue, R: Resolver<S>>(
 
 /// The groups below a group for the nodes of an object type, of what all of its fields select, one after the other. They are made where
 /// such a node is met first.
-pub fn groups_below<'d, 'a, S: ScalarValue, R: Resolver<S>>(
+fn groups_below<'d, 'a, S: ScalarValue, R: Resolver<S>>(
     walk: &Walk<'_, 'd, 'a, S, R>,
     plan: &mut Plan<'d, 'a, S, R::Question>,
     group: GroupNo,
@@ -299,6 +299,47 @@ pub fn groups_below<'d, 'a, S: ScalarValue, R: Resolver<S>>(
             Ok(groups)
         }
     }
+}
+
+/// The groups that selections hold for an object type, made anew for an object that is entered: its fields are taken off those that may be.
+pub fn enter_root<'d, 'a, S: ScalarValue, R: Resolver<S>>(
+    alloc: Global,
+    collector: &Collector<'_, 'd, 'a, S, R>,
+    plan: &mut Plan<'d, 'a, S, R::Question>,
+    concrete: &str,
+    enclosing: &[Enclosing<'d, 'a, S>],
+) -> Result<GroupRange, AllocError>
+    requires ready { IsReady S.shown collector.now }
+    requires standing { IsStanding S.shown collector.now (R.asks collector.now.possible) (R.possible collector.now.possible) plan.old }
+    ensures made { IfOk result (λ r. IsMade S.shown collector.now (R.asks collector.now.possible) (R.possible collector.now.possible) concrete.now
+        (occurrences (R.possible collector.now.possible) concrete.now (all_expanded S.shown collector.now enclosing.now)) plan.old plan.new r) }
+    ensures counted { IfOk result (λ r. plan.new.left + (r.end.0 - r.first.0) ≤ plan.old.left) }
+{
+    let groups = root_groups(alloc, collector, plan, concrete, enclosing)?;
+    plan.charge(1, groups)?;
+    Ok(groups)
+}
+
+/// The groups below a group for so many nodes of an object type, whose objects are entered: their fields are taken off those that may be.
+pub(crate) fn enter_below<'d, 'a, S: ScalarValue, R: Resolver<S>>(
+    walk: &Walk<'_, 'd, 'a, S, R>,
+    plan: &mut Plan<'d, 'a, S, R::Question>,
+    group: GroupNo,
+    concrete: &str,
+    enclosing: &[Enclosing<'d, 'a, S>],
+    objects: usize,
+) -> Result<GroupRange, AllocError>
+    requires ready { IsReady S.shown walk.now.collector }
+    requires standing { IsStanding S.shown walk.now.collector (R.asks walk.now.collector.possible) (R.possible walk.now.collector.possible) plan.old }
+    requires bound { group.0 < group_count plan.old }
+    requires selected { all_expanded S.shown walk.now.collector enclosing.now ≡ all_below (view_all S.shown walk.now.collector (fields_at plan.old group.0)) }
+    ensures made { IfOk result (λ r. IsMade S.shown walk.now.collector (R.asks walk.now.collector.possible) (R.possible walk.now.collector.possible) concrete.now
+        (occurrences (R.possible walk.now.collector.possible) concrete.now (all_expanded S.shown walk.now.collector enclosing.now)) plan.old plan.new r) }
+    ensures counted { IfOk result (λ r. plan.new.left + objects * (r.end.0 - r.first.0) ≤ plan.old.left) }
+{
+    let groups = groups_below(walk, plan, group, concrete, enclosing)?;
+    plan.charge(objects, groups)?;
+    Ok(groups)
 }
 
 /// What the fields select, one after the other.

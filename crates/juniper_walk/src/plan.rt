@@ -1,12 +1,13 @@
 //! The plan of a request: the response keys of its objects, and the fields of each (CollectFields, section 6.3.2 of the
 //! Specification).
 
-ghost use Rattle.std.specs.Prelude.{◌≡◌, ◌<◌, ◌≤◌, ◌+◌, ◌∷◌, IfOk, OnOk, [], drop, length, slice_range};
+ghost use Rattle.std.specs.Prelude.{◌≡◌, ◌<◌, ◌≤◌, ◌+◌, ◌-◌, ◌*◌, ◌∷◌, IfOk, OnOk, [], drop, length, slice_range};
 ghost use Rattle.graphql_spec.specs.Values.{no_entries};
 ghost use Rattle.juniper_syntax.specs.ValueView.{view_object};
-ghost use Rattle.juniper_walk.specs.Plans.{IsBare, IsEnded, IsKept, IsOneAdded, IsWithin, fields_at, group_count, key_at, made_at};
+ghost use Rattle.juniper_walk.specs.Plans.{IsBare, IsCharged, IsEnded, IsKept, IsOneAdded, IsWithin, fields_at, group_count, key_at, made_at};
 ghost use Rattle.juniper_walk.specs.PlanLists.{named_in};
 
+use crate::Stop;
 use juniper_lookahead::{Collected, Occurrence};
 use juniper_syntax::{Field, Object, ScalarValue, SharedKeys, Span, Spanning};
 use std::alloc::{AllocError, Global};
@@ -30,7 +31,9 @@ pub struct GroupRange {
 
 impl GroupRange {
     // How many there are.
-    fn count(self) -> usize {
+    fn count(self) -> usize
+        ensures { result ≡ self.end.0 - self.first.0 }
+    {
         self.end.0.saturating_sub(self.first.0)
     }
 }
@@ -68,12 +71,16 @@ pub struct Plan<'d, 'a, S, Q> {
     pub(crate) below: Vec<Vec<Below>>,
     /// By the number of the first group of an object below a group: the keys of the object. They are but a hint to its objects.
     pub(crate) keys: Vec<Option<SharedKeys>>,
+    /// How many fields may still be entered.
+    pub(crate) left: usize,
+    /// Whether more were to be entered than were left.
+    pub(crate) is_spent: bool,
 }
 
 impl<'d, 'a, S: ScalarValue, Q: Drop> Plan<'d, 'a, S, Q> {
-    /// A plan without groups.
-    pub fn new(alloc: Global) -> Plan<'d, 'a, S, Q>
-        ensures { IsBare result }
+    /// A plan without groups, by which so many fields may be entered.
+    pub fn new(alloc: Global, fields: usize) -> Plan<'d, 'a, S, Q>
+        ensures { IsBare fields result }
     {
         Plan {
             groups: Vec::new(alloc),
@@ -81,12 +88,18 @@ impl<'d, 'a, S: ScalarValue, Q: Drop> Plan<'d, 'a, S, Q> {
             questions: Vec::new(alloc),
             below: Vec::new(alloc),
             keys: Vec::new(alloc),
+            left: fields,
+            is_spent: false,
         }
     }
 
-    /// A plan without groups, with room for so many of one field each. An error where memory is refused.
-    pub fn with_capacity(alloc: Global, capacity: usize) -> Result<Plan<'d, 'a, S, Q>, AllocError>
-        ensures { IfOk result (λ plan. IsBare plan) }
+    /// A plan without groups, by which so many fields may be entered, with room for so many of one field each. An error where memory is refused.
+    pub fn with_capacity(
+        alloc: Global,
+        capacity: usize,
+        fields: usize,
+    ) -> Result<Plan<'d, 'a, S, Q>, AllocError>
+        ensures { IfOk result (λ plan. IsBare fields plan) }
     {
         Ok(Plan {
             groups: Vec::with_capacity(alloc, capacity)?,
@@ -94,7 +107,32 @@ impl<'d, 'a, S: ScalarValue, Q: Drop> Plan<'d, 'a, S, Q> {
             questions: Vec::with_capacity(alloc, capacity)?,
             below: Vec::with_capacity(alloc, capacity)?,
             keys: Vec::new(alloc),
+            left: fields,
+            is_spent: false,
         })
+    }
+
+    /// Why a walk over the plan was not ended.
+    pub fn stop(&self) -> Stop {
+        if self.is_spent {
+            Stop::Spent
+        } else {
+            Stop::Memory
+        }
+    }
+
+    /// Takes the fields of so many objects, which have these groups, off those that may still be entered; an error where fewer are left.
+    pub(crate) fn charge(&mut self, objects: usize, groups: GroupRange) -> Result<(), AllocError>
+        ensures { OnOk result (IsCharged (objects * (groups.end.0 - groups.first.0)) self.old self.new) }
+    {
+        if let Some(fields) = objects.checked_mul(groups.count()) {
+            if fields <= self.left {
+                self.left -= fields;
+                return Ok(());
+            }
+        }
+        self.is_spent = true;
+        Err(AllocError)
     }
 
     /// The fields of a group, in order.

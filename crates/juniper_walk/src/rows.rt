@@ -1,7 +1,7 @@
 //! The objects of nodes of one object type, walked side by side: a group is asked of all of them, then what is below it is walked for all of
 //! them at once (sections 6.3 and 6.4 of the Specification).
 
-ghost use Rattle.std.specs.Prelude.{◌≡◌, ◌<◌, ◌++◌, IfOk, OnOk, Some, is_some, length, map, string_bytes};
+ghost use Rattle.std.specs.Prelude.{◌≡◌, ◌<◌, ◌≤◌, ◌+◌, ◌++◌, suc, IfOk, OnOk, Some, is_some, length, map, string_bytes};
 ghost use Rattle.std.specs.Vec.Iter.{into_iter_items};
 ghost use Rattle.graphql_spec.specs.ExactAnswers.{whole};
 ghost use Rattle.graphql_spec.specs.Execution.{reply_of, type_of};
@@ -10,7 +10,9 @@ ghost use Rattle.juniper_assemble.specs.SpotView.{view_nodes};
 ghost use Rattle.juniper_values.specs.ResolvedView.{AllAnswer};
 ghost use Rattle.juniper_walk.specs.Plans.{IsAskedAt, IsStanding, all_expanded, group_at, group_count, key_at};
 ghost use Rattle.juniper_walk.specs.PlanWalks.{IsGroupOf};
-ghost use Rattle.juniper_walk.specs.Rows.{AreFresh, AreIn, AsksColumn, FillsRows, IsFilledIn, IsLeafPut, IsPutIn, listed_of, nodes_standing, so_far, values_of};
+ghost use Rattle.juniper_walk.specs.Rows.{AreFresh, AreIn, AsksColumn, FillsRows, IsFilledIn, IsLeafPut, IsPutIn, listed_of, nodes_standing, row_fields, so_far};
+ghost use Rattle.juniper_walk.specs.Rows.{values_of};
+ghost use Rattle.juniper_walk.specs.Budget.{fields_in, fields_in_all};
 ghost use Rattle.juniper_conversions.specs.ErrorView.{view_listed};
 ghost use Rattle.juniper_syntax.specs.TypeView.{view_type};
 ghost use Rattle.juniper_syntax.specs.ValueView.{view_value};
@@ -199,6 +201,7 @@ pub(crate) fn ask_column<'d, 'a, S: ScalarValue, R: Resolver<S>>(
     ensures within { IfOk result (λ c. AreIn (length spots.now) c.opened.items) }
     ensures pending { AsksColumn (R.world walk.now.collector.possible) (all_expanded S.shown walk.now.collector enclosing.now) concrete.now S.shown
         (key_at plan.now group.0) (group_at S.shown walk.now plan.now group.0) (view_nodes spots.now) rows.old.items rows.new.items result }
+    ensures fields { IfOk result (λ c. row_fields S.shown rows.new.items + length c.opened.items ≤ row_fields S.shown rows.old.items + length spots.now) }
 {
     let mut column = Column {
         opened: Vec::new(walk.alloc),
@@ -231,6 +234,8 @@ pub(crate) fn fill_rows<'a, N: Drop, S: ScalarValue>(
     requires within { AreIn (length rows.old.items) opened.items }
     ensures counted { OnOk result (length rows.new.items ≡ length rows.old.items) }
     ensures rows { FillsRows S.shown rows.old.items rows.new.items opened.entry.items below.items result }
+    ensures fields { OnOk result (row_fields S.shown rows.new.items
+        ≤ row_fields S.shown rows.old.items + length opened.entry.items + fields_in_all (values_of S.shown below.items)) }
 {
     let mut objects = below.into_iter();
     for open in opened {
@@ -246,8 +251,10 @@ fn fill_row<'a, N: Drop, S: ScalarValue>(
     objects: &mut vec::IntoIter<Walked<S>>,
     row: &mut Row<S>,
 ) -> Result<(), AllocError>
-    ensures { (o : Object S) → row.old.object ≡ Some o → OnOk result (IsFilledIn S.shown prepared.entry (into_iter_items objects.old)
+    ensures filled { (o : Object S) → row.old.object ≡ Some o → OnOk result (IsFilledIn S.shown prepared.entry (into_iter_items objects.old)
         (into_iter_items objects.new) o row.old row.new) }
+    ensures fields { OnOk result (fields_in (so_far S.shown row.new.object) + fields_in_all (values_of S.shown (into_iter_items objects.new))
+        ≤ suc (fields_in (so_far S.shown row.old.object) + fields_in_all (values_of S.shown (into_iter_items objects.old)))) }
 {
     let Some(mut entries) = row.object.take() else {
         return Ok(());

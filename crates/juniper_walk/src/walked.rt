@@ -9,3 +9,12 @@ pub struct Walked<S> {
     pub value: Value<S>,
     pub errors: Vec<ExecutionError<S>>,
 }
+
+/// Why a walk was not ended.
+#[derive(Clone, Copy, Debug, PartialEq, Eq)]
+pub enum Stop {
+    /// Memory was refused.
+    Memory,
+    /// More fields were to be entered than may be.
+    Spent,
+}

@@ -1,7 +1,7 @@
 //! The walk: the object of a node, and the objects of the nodes of a group's answer (ExecuteSelectionSet, section 6.3 of the
 //! Specification).
 
-ghost use Rattle.std.specs.Prelude.{◌<◌, ◌≤◌, ◌+◌, IfOk, length, map, slice_range};
+ghost use Rattle.std.specs.Prelude.{◌<◌, ◌≤◌, ◌+◌, ◌-◌, ◌*◌, IfOk, length, map, slice_range};
 ghost use Rattle.graphql_spec.specs.ExactAnswers.{whole};
 ghost use Rattle.graphql_spec.specs.GroupLaws.{first_start};
 ghost use Rattle.graphql_spec.specs.Selections.{all_below, occurrences};
@@ -12,11 +12,12 @@ ghost use Rattle.juniper_syntax.specs.ValueView.{view_value};
 ghost use Rattle.juniper_walk.specs.Plans.{IsStanding, IsStep, StandsFor, all_expanded, group_at, group_count};
 ghost use Rattle.graphql_spec.specs.NodeLaws.{AreWalkedOnce};
 ghost use Rattle.juniper_walk.specs.PlanWalks.{IsObjectWalked};
-ghost use Rattle.juniper_walk.specs.Rows.{AreAdded, AreOfType, AreWholeRows, listed_of, values_of};
+ghost use Rattle.juniper_walk.specs.Budget.{fields_in, fields_in_all};
+ghost use Rattle.juniper_walk.specs.Rows.{AreAdded, AreOfType, AreWholeRows, listed_of, row_fields, values_of};
 ghost use Rattle.juniper_walk.specs.Walking.{IsReadyWalk};
 
 use crate::adding::{add_value, put_leaf};
-use crate::making::{groups_below, merge_selection_sets};
+use crate::making::{enter_below, merge_selection_sets};
 use crate::plan::{GroupNo, GroupRange, Plan};
 use crate::preparing::{Taken, execute_field};
 use crate::rows::{Row, ask_column, begin_rows, end_rows, fill_rows};
@@ -49,6 +50,7 @@ pub fn execute_selection_set<'d, 'a, S: ScalarValue, R: Resolver<S>>(
     ensures walked { IfOk result (λ r. IsObjectWalked (R.world walk.now.collector.possible) (path_place path.now.value)
         (all_expanded S.shown walk.now.collector enclosing.now) concrete.now node.now
         (view_value S.shown r.value) (map (view_listed S.shown) r.errors.items)) }
+    ensures counted { IfOk result (λ r. fields_in (view_value S.shown r.value) + plan.new.left ≤ plan.old.left + (groups.end.0 - groups.first.0)) }
 {
     let mut entries = plan.new_object(walk.alloc, groups)?;
     let mut errors = Vec::new(walk.alloc);
@@ -92,6 +94,7 @@ pub(crate) fn objects_of<'d, 'a, S: ScalarValue, R: Resolver<S>>(
     ensures walked { IfOk result (λ r. AreWalkedOnce whole first_start (R.world walk.now.collector.possible)
         (all_below (group_at S.shown walk.now plan.old group.0)) (view_nodes nodes.now)
         (values_of S.shown r.items) (listed_of S.shown r.items)) }
+    ensures counted { IfOk result (λ r. fields_in_all (values_of S.shown r.items) + plan.new.left ≤ plan.old.left) }
 {
     let mut done = Vec::with_capacity(walk.alloc, nodes.len())?;
     if nodes.is_empty() {
@@ -104,9 +107,9 @@ pub(crate) fn objects_of<'d, 'a, S: ScalarValue, R: Resolver<S>>(
             .collector
             .possible
             .concrete_type_name(&nodes[start].what);
-        let groups = groups_below(walk, plan, group, concrete, &enclosing)?;
         let at_once = walk.collector.possible.nodes_at_once(concrete);
         let end = run_end(walk, concrete, nodes, start, at_once);
+        let groups = enter_below(walk, plan, group, concrete, &enclosing, end - start)?;
         if is_column(at_once, end - start) {
             let rows = rows_of(walk, plan, concrete, &nodes[start..end], &enclosing, groups)?;
             end_rows(rows, &mut done)?;
@@ -145,6 +148,8 @@ fn one_by_one<'d, 'a, S: ScalarValue, R: Resolver<S>>(
         plan.new) }
     ensures walked { IfOk result (λ _. AreAdded (R.world walk.now.collector.possible) (all_expanded S.shown walk.now.collector enclosing.now) S.shown
         (view_nodes nodes.now) done.old.items done.new.items) }
+    ensures counted { IfOk result (λ _. fields_in_all (values_of S.shown done.new.items) + plan.new.left
+        ≤ fields_in_all (values_of S.shown done.old.items) + plan.old.left + length nodes.now * (groups.end.0 - groups.first.0)) }
 {
     for spot in nodes {
         let walked = execute_selection_set(
@@ -216,6 +221,7 @@ fn rows_of<'d, 'a, S: ScalarValue, R: Resolver<S>>(
         plan.new) }
     ensures rows { IfOk result (λ r. AreWholeRows (R.world walk.now.collector.possible) (all_expanded S.shown walk.now.collector enclosing.now) concrete.now
         S.shown (R.possible walk.now.collector.possible) (view_nodes nodes.now) r.items) }
+    ensures counted { IfOk result (λ r. row_fields S.shown r.items + plan.new.left ≤ plan.old.left + length nodes.now * (groups.end.0 - groups.first.0)) }
 {
     let mut rows = begin_rows(walk.alloc, plan, groups, nodes.len())?;
     for number in groups.first.0..groups.end.0 {

@@ -1,4 +1,4 @@
-use Rattle.std.proofs.Common.{[], length, refl, sym, ap, ◌∙◌, subst}
+use Rattle.std.proofs.Common.{[], length, refl, sym, ap, ◌∙◌, subst, arith}
 use Rattle.std.specs.Vec.Iter.{into_iter_items}
 use Rattle.graphql_spec.specs.ExactAnswers.{whole}
 use Rattle.juniper_assemble.specs.SkeletonView.{view_skeleton}
@@ -10,7 +10,10 @@ use Rattle.juniper_conversions.specs.PathView.{path_place}
 use Rattle.juniper_walk.proofs.Preparation.{listed-same}
 use Rattle.juniper_walk.specs.PlanWalks.{HasFirst}
 use Rattle.juniper_walk.proofs.Completed.{completed-at}
+use Rattle.juniper_walk.specs.Budget.{fields_in, fields_in_all}
 use Rattle.juniper_walk.specs.Holes.{holes_of}
+use Rattle.juniper_walk.specs.Rows.{values_of}
+use Rattle.juniper_walk.proofs.Budget.{fill-fields}
 use Rattle.juniper_walk.proofs.Holes.{filled-first, parted-holes}
 use Rattle.juniper_walk.proofs.Waiting.{objects-handed}
 use Rattle.juniper_walk.proofs.Whole.{first-of}
@@ -33,3 +36,11 @@ returns-clause-completed g c = λ reply given.
     completed-at W (path_place c.args.path.now.value) _ reply _ c.requires.some _ _ _ _
     parted (ap view_nodes c.deref-2.ensures.value) _ _ _ _ nodes
     refl _ (filled-first _ _ _ _ c.in_ok-value.ensures.value) _ _ own c.in_ok-value.ensures.taken.listed []
+
+pub returns-clause-counted : goal.returns-clause-counted
+returns-clause-counted g c =
+    let shown = g.S.ScalarValue.shown in
+    let fits = fill-fields _ (values_of shown (into_iter_items c.into_iter-objects.result)) in
+    let made = ap fields_in c.in_ok-value.ensures.value.value in
+    let handed = ap (λ l. fields_in_all (values_of shown l)) c.into_iter-objects.ensures.rest in
+    omega (arith, fits, made, handed, c.in_ok-objects_of.ensures.counted)

@@ -12,6 +12,7 @@ use Rattle.juniper_values.specs.ResolvedView.{AllAnswer}
 use Rattle.juniper_walk.specs.Rows.{AreIn, ArePending}
 use Rattle.juniper_walk.specs.Plans.{all_expanded, fields_at, key_at}
 use Rattle.juniper_walk.proofs.Columns.{answered-none, answered-one, answered-past, item-at, risen-on, same-set, taken-in, taken-on}
+use Rattle.juniper_walk.proofs.Counted.{put-taken, row-set, some-of}
 use Rattle.juniper_walk.proofs.rows.ask_column.Goals as goal
 use Rattle.juniper_walk.proofs.rows.ask_column.Goals.{then-is_some+in-Some+in_ok-taken+in_ok-put_taken, else-is_some}
 
@@ -52,6 +53,12 @@ loop-number-preserved g c =
             asked = told.1;
             pending = λ ks next begun. taken-on W s T shown ks k os xs rows _ i x r new below counted is row_is refl next c.loop-number.column
                 w.put_taken.new.column w.in_ok-taken.taken taken_is stands w.in_ok-put_taken.ensures (c.loop-number.invariant.pending ks next begun);
+            fields =
+                let object = some-of r.object stands in
+                let put = put-taken shown i w.in_ok-taken.taken object.0 r new c.loop-number.column w.put_taken.new.column object.1
+                (w.in_ok-put_taken.ensures object.0 object.1) in
+                let set = row-set shown rows i r new inside row_is in
+                omega (arith, c.loop-number.invariant.fields, put, set, below);
           })
       | else-is_some w ↦
           let r = c.index.result.now in
@@ -65,6 +72,7 @@ loop-number-preserved g c =
                 (into_iter_items c.loop-number.told) c.loop-number.invariant.asked;
             pending = λ ks next begun. risen-on W s T shown ks k os xs rows rows i x.0 r r below counted x.1 row_is (same-set rows i r row_is) risen refl
                 c.loop-number.column.opened.items (view_nodes c.loop-number.column.nodes.items) (c.loop-number.invariant.pending ks next begun);
+            fields = omega (arith, c.loop-number.invariant.fields, below);
           })
     ]
 
@@ -84,6 +92,7 @@ loop-number-init g c =
     record {
       counted = c.requires.counted;
       within = subst (AreIn (length xs)) (sym c.new.ensures.items) tt;
+      fields = let none = ap length c.new.ensures.items in omega (arith, none);
       asked = begun;
       pending = λ ks next rows. (
         subst (λ l. ArePending W s T shown ks k os 0 [] [] l (view_nodes c.new-2.result.items)) (sym c.new.ensures.items)
@@ -131,3 +140,9 @@ returns-clause-pending g c = λ ks next begun.
     (subst (λ l. ArePending W s T shown ks k os 0 l (take c.loop-number.number rows) c.loop-number.column.opened.items
     (view_nodes c.loop-number.column.nodes.items)) (taken-all (view_spot (λ n. n)) xs c.loop-number.number past)
     (c.loop-number.invariant.pending ks next begun).0)
+
+pub returns-in_default-clause-fields : goal.returns-in_default-clause-fields
+returns-in_default-clause-fields g c = omega (arith, c.loop-number.invariant.fields)
+
+pub returns-clause-fields : goal.returns-clause-fields
+returns-clause-fields g c = omega (arith, c.loop-number.invariant.fields)

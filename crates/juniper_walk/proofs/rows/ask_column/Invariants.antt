@@ -1,4 +1,4 @@
-use Rattle.std.proofs.Common.{◌≡◌, drop, is_some, length, map, take}
+use Rattle.std.proofs.Common.{◌≡◌, ◌≤◌, ◌+◌, ◌-◌, drop, is_some, length, map, take}
 use Rattle.graphql_spec.specs.Shown.{Name}
 use Rattle.juniper_assemble.specs.SpotView.{view_nodes}
 use Rattle.juniper_lookahead.specs.Collected.{view_all}
@@ -8,7 +8,7 @@ use Rattle.graphql_spec.specs.Execution.{reply_of}
 use Rattle.std.specs.Vec.Iter.{into_iter_items}
 use Rattle.juniper_walk.specs.Lists.{picked}
 use Rattle.juniper_values.specs.ResolvedView.{AllAnswer}
-use Rattle.juniper_walk.specs.Rows.{AreIn, ArePending, AreRows, IsNext}
+use Rattle.juniper_walk.specs.Rows.{AreIn, ArePending, AreRows, IsNext, row_fields}
 use Rattle.juniper_walk.proofs.rows.ask_column.Given as goal
 
 -- the rows so far have their answers, or they wait
@@ -22,6 +22,7 @@ invariant-loop-number g l =
     record {
       counted : length l.rows.items ≡ length l.spots;
       within : AreIn (length l.spots) l.column.opened.items;
+      fields : row_fields shown l.rows.items + length l.column.opened.items + (length l.spots - l.number) ≤ row_fields shown l.initial.rows.items + length l.spots;
       asked : AllAnswer shown (λ m. reply_of W l.concrete m os)
           (map (λ x. x.what) (picked (map (λ r. is_some r.object) (drop l.number l.rows.items)) (view_nodes (drop l.number l.spots))))
           (into_iter_items l.told);

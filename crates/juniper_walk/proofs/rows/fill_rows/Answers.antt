@@ -1,4 +1,4 @@
-use Rattle.std.proofs.Common.{drop, refl, sym, ◌∙◌, subst}
+use Rattle.std.proofs.Common.{drop, length, refl, sym, ap, ◌∙◌, subst, arith}
 use Rattle.std.proofs.lemmas.List.{length-set}
 use Rattle.std.specs.Vec.Iter.{into_iter_items}
 use Rattle.graphql_spec.specs.ExactAnswers.{whole}
@@ -6,8 +6,10 @@ use Rattle.graphql_spec.specs.GroupLaws.{first_start}
 use Rattle.graphql_spec.specs.Selections.{all_below}
 use Rattle.juniper_assemble.proofs.ByKind.{none_left}
 use Rattle.graphql_spec.specs.NodeLaws.{AreWalkedOnce}
-use Rattle.juniper_walk.specs.Rows.{ArePending, awaited, listed_of, values_of}
+use Rattle.juniper_walk.specs.Rows.{AreIn, ArePending, awaited, listed_of, values_of}
 use Rattle.juniper_walk.proofs.Columns.{still-in, waits-on, walked-on}
+use Rattle.juniper_walk.specs.Budget.{fields_in_all}
+use Rattle.juniper_walk.proofs.Counted.{row-set}
 use Rattle.juniper_walk.proofs.Waiting.{pending-end}
 use Rattle.juniper_walk.proofs.rows.fill_rows.Goals as goal
 
@@ -25,11 +27,16 @@ loop-open-preserved g c =
             drop (awaited shown c.in-Some.open) prior.0,
             waits-on W s T shown ks k os next xs prior.0 c.loop-open.rows.items _ c.in-Some.open _ (into_iter_items c.loop-open.objects)
                 (into_iter_items c.fill_row.new.objects) c.index_mut.result.now c.fill_row.new.row now prior.2 c.index_mut.ensures.value
-                c.in_ok-fill_row.ensures refl,
+                c.in_ok-fill_row.ensures.filled refl,
             walked-on W s T shown ks k os next xs prior.0 c.loop-open.rows.items _ c.in-Some.open _ (into_iter_items c.loop-open.objects)
                 (into_iter_items c.fill_row.new.objects) c.index_mut.result.now c.fill_row.new.row now prior.2 c.index_mut.ensures.value
-                c.in_ok-fill_row.ensures refl,
+                c.in_ok-fill_row.ensures.filled refl,
           );
+      fields =
+          let set = row-set shown c.loop-open.rows.items c.in-Some.open.row c.index_mut.result.now c.fill_row.new.row
+          (subst (AreIn (length c.loop-open.rows.items)) open_is c.loop-open.invariant.within).0 c.index_mut.ensures.value in
+          let fewer = ap length open_is in
+          omega (arith, c.loop-open.invariant.fields, c.in_ok-fill_row.ensures.fields, set, fewer);
     }
 
 pub returns-clause-rows : goal.returns-clause-rows
@@ -43,3 +50,10 @@ returns-clause-rows g c = λ W s T ks k os xs ns next waiting walked.
     let last = c.loop-open.invariant.pending W s T ks k os xs ns next begun handed in
     pending-end W s T shown ks k os 0 xs c.loop-open.rows.items last.0
     (subst (λ l. ArePending W s T shown ks k os 0 xs c.loop-open.rows.items l last.0) none last.1)
+
+pub returns-clause-fields : goal.returns-clause-fields
+returns-clause-fields g c =
+    let shown = g.S.ScalarValue.shown in
+    let begun = ap length c.into_iter-open-iterator.ensures.into_iter_gives.0 in
+    let handed = ap (λ l. fields_in_all (values_of shown l)) c.into_iter-objects.ensures.rest in
+    omega (arith, c.loop-open.invariant.fields, begun, handed)

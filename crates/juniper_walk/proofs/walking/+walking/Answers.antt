@@ -13,7 +13,11 @@ use Rattle.graphql_spec.specs.NodeLaws.{AreWalkedOnce}
 use Rattle.juniper_walk.proofs.Slices.{taken-all, taken-one}
 use Rattle.juniper_walk.specs.Plans.{IsStanding, IsStep, StandsFor, all_expanded, fields_at, key_at}
 use Rattle.juniper_walk.specs.Leaves.{IsTaken}
-use Rattle.juniper_walk.specs.Rows.{AreAdded, AreOfType, AreRows, listed_of, values_of}
+use Rattle.juniper_walk.specs.Budget.{fields_in_all}
+use Rattle.juniper_walk.specs.Rows.{AreAdded, AreOfType, AreRows, listed_of, row_fields, values_of}
+use Rattle.juniper_walk.proofs.Budget.{all-counted, append-fields, column-counted, leaf-counted, more-counted, no-fields, null-fields}
+use Rattle.juniper_walk.proofs.Budget.{object-fields, put-counted, run-counted, run-length, turn-counted}
+use Rattle.juniper_walk.proofs.Counted.{added-one, fresh-fields, none-done}
 use Rattle.juniper_walk.proofs.Leaves.{leaf-put}
 use Rattle.juniper_walk.proofs.Nodes.{none-yet}
 use Rattle.juniper_walk.proofs.Rounds.{all-keys, group-asked, group-bound, group-falls, group-is, group-next, group-stops, group-walked, groups-walked, more-steps}
@@ -38,6 +42,7 @@ execute_selection_set-loop-number-init g t c =
       step = no-step shown collector asks possible c.args.plan.now standing;
       walked = start-walking W _ c.args.concrete.now c.args.node.now _ _ _ _ (take-none _ (c.args.groups.first.0 - c.args.groups.first.0) (omega arith))
           c.in_ok-entries.ensures (ap (map (view_listed shown)) c.new-errors.ensures.items);
+      counted = omega (arith, no-fields (view_object shown c.in_ok-entries.entries) c.in_ok-entries.ensures);
     }
 
 pub execute_selection_set-execute_field-requires-clause-bound : goal.execute_selection_set-execute_field-requires-clause-bound
@@ -124,6 +129,8 @@ execute_selection_set-loop-number-preserved g t c =
                 c.loop-number.invariant.walked _ _ _ [] [] [] [] [] leaf refl (none-yet W _ [] [] [] refl refl refl) false
                 (leaf-put _ _ _ _ _ _ _ (ap (view_object shown) w.entries-is ∙ w.in_ok-put_leaf-in-Leaf.ensures)
                 (ap (λ l. map (view_listed shown) l.items) w.errors-is)) refl;
+            counted = rw (w.plan-is, w.entries-is) (omega (arith, c.loop-number.invariant.counted, c.loop-number-test.true,
+                leaf-counted _ _ (view_object shown c.loop-number.entries) _ w.in_ok-put_leaf-in-Leaf.ensures));
           }
       | execute_selection_set-in-Apart+in_ok-objects_of-in-Apart+in_ok-rises-in-Apart+else-rises w ↦
           let apart = subst (IsTaken W shown _ c.args.concrete.now c.args.node.now _ _) w.in-Apart.is c.in_ok-taken.ensures in
@@ -138,6 +145,11 @@ execute_selection_set-loop-number-preserved g t c =
                 c.loop-number.invariant.step c.loop-number.number c.loop-number.auto.number c.loop-number-test.true W same _ c.args.node.now _ _ _ _
                 c.loop-number.invariant.walked _ _ _ _ _ _ _ _ apart same_nodes nodes _
                 w.in_ok-rises-in-Apart.ensures.put_in w.if-rises.false;
+            counted =
+                let put = put-counted _ _ _ (values_of shown (into_iter_items w.into_iter-below.result)) (view_object shown c.loop-number.entries) _
+                (w.in_ok-rises-in-Apart.ensures.put_in.puts w.if-rises.false) in
+                let handed = ap (λ l. fields_in_all (values_of shown l)) w.into_iter-below.ensures.rest in
+                omega (arith, c.loop-number.invariant.counted, c.loop-number-test.true, put, handed, w.in_ok-objects_of-in-Apart.ensures.counted);
           })
     ]
 
@@ -166,6 +178,7 @@ execute_selection_set-returns-then-rises g t c =
           c.loop-number.invariant.step c.loop-number.number c.loop-number.auto.number c.loop-number-test.true W same _ c.args.node.now _ _ _ _
           c.loop-number.invariant.walked _ _ _ _ _ _ _ _ apart same_nodes nodes _
           c.in_ok-rises-in-Apart.ensures.put_in _ (view-Null shown) c.if-rises.true;
+      counted = omega (arith, null-fields _ (view-Null shown), c.loop-number.invariant.step.grown.left, c.in_ok-objects_of-in-Apart.ensures.counted);
     }
 
 pub execute_selection_set-returns : goal.execute_selection_set-returns
@@ -184,12 +197,16 @@ execute_selection_set-returns g t c =
       plan = c.loop-number.invariant.step;
       walked = groups-walked shown collector asks possible c.args.plan.now c.args.groups c.args.concrete.now s stands c.loop-number.number
           c.loop-number-test.false W same _ c.args.node.now _ _ _ (view-Object shown c.loop-number.entries) c.loop-number.invariant.walked;
+      counted = omega (arith, object-fields _ _ (view-Object shown c.loop-number.entries), c.loop-number.invariant.counted);
     }
 
 pub objects_of-returns-then-is_empty-clause-plan : goal.objects_of-returns-then-is_empty-clause-plan
 objects_of-returns-then-is_empty-clause-plan g t c =
     no-step g.S.ScalarValue.shown c.args.walk.now.collector (g.R.Resolver.asks c.args.walk.now.collector.possible)
     (g.R.Conditions.possible c.args.walk.now.collector.possible) c.args.plan.now c.requires.standing
+
+pub objects_of-returns-then-is_empty-clause-counted : goal.objects_of-returns-then-is_empty-clause-counted
+objects_of-returns-then-is_empty-clause-counted g t c = omega (arith, none-done g.S.ScalarValue.shown c.in_ok-done.done.items c.in_ok-done.ensures.items)
 
 pub objects_of-loop-start-init : goal.objects_of-loop-start-init
 objects_of-loop-start-init g t c =
@@ -203,10 +220,11 @@ objects_of-loop-start-init g t c =
       inside = omega arith;
       walked = subst (λ l. AreWalkedOnce whole first_start W (all_below (view_all shown collector (fields_at c.args.plan.now c.args.group.0))) []
           (values_of shown l) (listed_of shown l)) (sym c.in_ok-done.ensures.items) tt;
+      counted = omega (arith, none-done shown c.in_ok-done.done.items c.in_ok-done.ensures.items);
     }
 
-pub objects_of-groups_below-requires-clause-selected : goal.objects_of-groups_below-requires-clause-selected
-objects_of-groups_below-requires-clause-selected g t c =
+pub objects_of-enter_below-requires-clause-selected : goal.objects_of-enter_below-requires-clause-selected
+objects_of-enter_below-requires-clause-selected g t c =
     let shown = g.S.ScalarValue.shown in
     let collector = c.args.walk.now.collector in
     let asks = g.R.Resolver.asks c.args.walk.now.collector.possible in
@@ -238,10 +256,10 @@ objects_of-one_by_one-requires g t c κs within =
     selected in
     let same : all_expanded shown collector c.deref.result.now ≡ all_expanded shown collector c.deref-else-is_column.result.now =
     ap (all_expanded shown collector) (c.deref.ensures.value ∙ sym c.deref-else-is_column.ensures.value) in
-    let standing : IsStanding shown collector asks possible c.groups_below.new.plan = c.in_ok-groups.ensures.standing in
-    let groups : StandsFor shown collector asks T c.groups_below.new.plan c.in_ok-groups.groups
+    let standing : IsStanding shown collector asks possible c.enter_below.new.plan = c.in_ok-groups.ensures.made.standing in
+    let groups : StandsFor shown collector asks T c.enter_below.new.plan c.in_ok-groups.groups
     (occurrences possible T (all_expanded shown collector c.deref-else-is_column.result.now)) =
-    subst (λ s. StandsFor shown collector asks T c.groups_below.new.plan c.in_ok-groups.groups (occurrences possible T s)) same c.in_ok-groups.ensures.stands in
+    subst (λ s. StandsFor shown collector asks T c.enter_below.new.plan c.in_ok-groups.groups (occurrences possible T s)) same c.in_ok-groups.ensures.made.stands in
     let typed = c.run_end-end.ensures.typed in
     (omega (arith, c.decreases, falls), search (rules, standing, groups, typed))
 
@@ -261,10 +279,10 @@ objects_of-rows_of-requires g t c κs within =
     selected in
     let same : all_expanded shown collector c.deref.result.now ≡ all_expanded shown collector c.deref-then-is_column.result.now =
     ap (all_expanded shown collector) (c.deref.ensures.value ∙ sym c.deref-then-is_column.ensures.value) in
-    let standing : IsStanding shown collector asks possible c.groups_below.new.plan = c.in_ok-groups.ensures.standing in
-    let groups : StandsFor shown collector asks T c.groups_below.new.plan c.in_ok-groups.groups
+    let standing : IsStanding shown collector asks possible c.enter_below.new.plan = c.in_ok-groups.ensures.made.standing in
+    let groups : StandsFor shown collector asks T c.enter_below.new.plan c.in_ok-groups.groups
     (occurrences possible T (all_expanded shown collector c.deref-then-is_column.result.now)) =
-    subst (λ s. StandsFor shown collector asks T c.groups_below.new.plan c.in_ok-groups.groups (occurrences possible T s)) same c.in_ok-groups.ensures.stands in
+    subst (λ s. StandsFor shown collector asks T c.enter_below.new.plan c.in_ok-groups.groups (occurrences possible T s)) same c.in_ok-groups.ensures.made.stands in
     (omega (arith, c.decreases, falls), search (rules, standing, groups))
 
 pub objects_of-loop-start-preserved-in_ok-end_rows : goal.objects_of-loop-start-preserved-in_ok-end_rows
@@ -282,14 +300,18 @@ objects_of-loop-start-preserved-in_ok-end_rows g t c =
     let run = rows-end W _ T shown _ (ap (λ f. keys (occurrences f T (all_expanded shown collector c.deref-then-is_column.result.now))) c.requires.ready.same) _
     c.in_ok-rows.rows.items c.in_ok-rows.ensures.rows c.run_end-end.ensures.typed in
     record {
-      step = more-steps shown collector asks possible c.args.plan.now c.groups_below.new.plan c.rows_of.new.plan
+      step = more-steps shown collector asks possible c.args.plan.now c.enter_below.new.plan c.rows_of.new.plan
           (step-made shown collector asks possible c.args.plan.now c.loop-start.plan c.args.group.0 c.requires.standing c.requires.bound
-          c.loop-start.invariant.step _ selected c.groups_below.new.plan _ _ _ c.in_ok-groups.ensures) c.in_ok-rows.ensures.plan;
+          c.loop-start.invariant.step _ selected c.enter_below.new.plan _ _ _ c.in_ok-groups.ensures.made) c.in_ok-rows.ensures.plan;
       inside = c.run_end-end.ensures.inside;
       walked = run-walked shown collector asks possible c.args.plan.now c.loop-start.plan c.args.group.0 c.requires.standing c.requires.bound
           c.loop-start.invariant.step _ selected W _ _ _ _ _ _ _ _ _ c.loop-start.invariant.walked run
           (seen-slice (view_spot (λ n. n)) c.args.nodes.now c.loop-start.start c.run_end-end.result low) c.in_ok-end_rows.ensures.values
           c.in_ok-end_rows.ensures.listed;
+      counted = run-counted _ _ (row_fields shown c.in_ok-rows.rows.items) _ _ _ _ _ _ _
+          (ap fields_in_all c.in_ok-end_rows.ensures.values ∙ append-fields _ _)
+          (run-length c.args.nodes.now c.loop-start.start c.run_end-end.result some c.run_end-end.ensures.inside)
+          c.loop-start.invariant.counted c.in_ok-groups.ensures.counted c.in_ok-rows.ensures.counted;
     }
 
 pub objects_of-loop-start-preserved : goal.objects_of-loop-start-preserved
@@ -305,13 +327,15 @@ objects_of-loop-start-preserved g t c =
     let low : c.loop-start.start ≤ c.run_end-end.result = omega (arith, some) in
     let added = c.in_ok-one_by_one.ensures.walked in
     record {
-      step = more-steps shown collector asks possible c.args.plan.now c.groups_below.new.plan c.one_by_one.new.plan
+      step = more-steps shown collector asks possible c.args.plan.now c.enter_below.new.plan c.one_by_one.new.plan
           (step-made shown collector asks possible c.args.plan.now c.loop-start.plan c.args.group.0 c.requires.standing c.requires.bound
-          c.loop-start.invariant.step _ selected c.groups_below.new.plan _ _ _ c.in_ok-groups.ensures) c.in_ok-one_by_one.ensures.plan;
+          c.loop-start.invariant.step _ selected c.enter_below.new.plan _ _ _ c.in_ok-groups.ensures.made) c.in_ok-one_by_one.ensures.plan;
       inside = c.run_end-end.ensures.inside;
       walked = run-walked shown collector asks possible c.args.plan.now c.loop-start.plan c.args.group.0 c.requires.standing c.requires.bound
           c.loop-start.invariant.step _ selected W _ _ _ _ _ _ _ _ _ c.loop-start.invariant.walked added.walked
           (seen-slice (view_spot (λ n. n)) c.args.nodes.now c.loop-start.start c.run_end-end.result low) added.all_values added.all_errors;
+      counted = more-counted _ _ _ _ _ _ _ _ _ (run-length c.args.nodes.now c.loop-start.start c.run_end-end.result some c.run_end-end.ensures.inside)
+          c.loop-start.invariant.counted c.in_ok-groups.ensures.counted c.in_ok-one_by_one.ensures.counted;
     }
 
 pub objects_of-returns-clause-walked : goal.objects_of-returns-clause-walked
@@ -335,6 +359,8 @@ one_by_one-loop-spot-init g t c =
     record {
       step = no-step shown collector asks possible c.args.plan.now standing;
       added = none-added (g.R.Completer.world c.args.walk.now.collector.possible) _ shown c.args.done.now.items;
+      inside = omega arith;
+      counted = omega arith;
     }
 
 pub one_by_one-execute_selection_set-requires : goal.one_by_one-execute_selection_set-requires
@@ -371,6 +397,9 @@ one_by_one-loop-spot-preserved g t c =
           c.in_ok-walked.ensures.plan;
       added = added-more W _ shown _ _ _ _ _ (view_spot (λ n. n) x) T _ c.loop-spot.invariant.added (typed-at W T nodes i x below is typed)
           c.in_ok-walked.ensures.walked (taken-one (view_spot (λ n. n)) nodes i x below is) c.in_ok-push.ensures.items;
+      inside = omega (arith, below);
+      counted = turn-counted _ _ _ _ _ _ i _ (added-one shown c.loop-spot.done.items _ _ c.in_ok-push.ensures.items) c.loop-spot.invariant.counted
+          c.in_ok-walked.ensures.counted;
     }
 
 pub one_by_one-returns : goal.one_by_one-returns
@@ -382,6 +411,7 @@ one_by_one-returns g t c =
       walked = subst (λ ns. AreAdded W (all_expanded shown c.args.walk.now.collector c.args.enclosing.now) shown ns c.args.done.now.items
           c.loop-spot.done.items)
           (taken-all (view_spot (λ n. n)) c.args.nodes.now c.loop-spot.spot-index c.loop-spot-test.false) c.loop-spot.invariant.added;
+      counted = all-counted _ _ _ _ _ c.loop-spot.invariant.counted (omega (arith, c.loop-spot.invariant.inside, c.loop-spot-test.false));
     }
 
 pub rows_of-loop-number-init : goal.rows_of-loop-number-init
@@ -405,6 +435,7 @@ rows_of-loop-number-init g t c =
       step = no-step shown collector asks possible c.args.plan.now standing;
       counted = rows-counted W s T shown ks (view_nodes nodes) c.in_ok-rows.rows.items rows ∙ length-map nodes (view_spot (λ n. n));
       walked = rows;
+      fields = omega (arith, fresh-fields shown (length nodes) c.in_ok-rows.rows.items c.in_ok-rows.ensures);
     }
 
 pub rows_of-ask_column-requires-clause-whole : goal.rows_of-ask_column-requires-clause-whole
@@ -486,6 +517,8 @@ rows_of-loop-number-preserved g t c =
       walked = subst (λ js. AreRows W s T shown js (view_nodes c.args.nodes.now) c.fill_rows.new.rows.items) (sym columns)
           (c.in_ok-fill_rows.ensures.rows W s T ks k os (view_nodes c.args.nodes.now) _ next
           (c.in_ok-column.ensures.pending ks next c.loop-number.invariant.walked) below);
+      fields = column-counted _ _ _ _ _ _ _ _ _ _ _ (omega (arith, c.loop-number-test.true)) c.loop-number.invariant.fields c.in_ok-column.ensures.fields
+          c.in_ok-below.ensures.counted c.in_ok-fill_rows.ensures.fields;
     }
 
 pub rows_of-returns-clause-rows : goal.rows_of-returns-clause-rows
@@ -503,3 +536,6 @@ rows_of-returns-clause-rows g t c =
     subst (λ js. AreRows W s T shown js (view_nodes c.args.nodes.now) c.loop-number.rows.items)
     (all-keys shown collector asks possible c.args.plan.now c.args.groups T s stands c.loop-number.number c.loop-number-test.false W ready.same)
     c.loop-number.invariant.walked
+
+pub rows_of-returns-clause-counted : goal.rows_of-returns-clause-counted
+rows_of-returns-clause-counted g t c = omega (arith, c.loop-number.invariant.fields)

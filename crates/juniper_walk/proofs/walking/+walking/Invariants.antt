@@ -10,7 +10,8 @@ use Rattle.juniper_lookahead.specs.Collected.{view_all}
 use Rattle.juniper_walk.specs.Plans.{IsStep, all_expanded, fields_at}
 use Rattle.graphql_spec.specs.NodeLaws.{AreWalkedOnce}
 use Rattle.juniper_walk.specs.PlanWalks.{IsWalking}
-use Rattle.juniper_walk.specs.Rows.{AreAdded, AreRows, listed_of, values_of}
+use Rattle.juniper_walk.specs.Budget.{fields_in_all, fields_in_entries}
+use Rattle.juniper_walk.specs.Rows.{AreAdded, AreRows, listed_of, row_fields, values_of}
 use Rattle.juniper_walk.proofs.walking.+walking.Given as goal
 
 -- three times how deep what is selected is nested, one more for nodes of one type, and two more for the nodes of an answer
@@ -41,6 +42,8 @@ invariant-execute_selection_set-loop-number g l =
           (occurrences W.possible l.concrete (all_expanded shown l.walk.collector l.enclosing))
           (take (l.number - l.fn.groups.first.0) (keys (occurrences W.possible l.concrete (all_expanded shown l.walk.collector l.enclosing))))
           (view_object shown l.entries) (map (view_listed shown) l.errors.items);
+      counted : fields_in_entries (view_object shown l.entries) + l.plan.left + (l.fn.groups.end.0 - l.number)
+          ≤ l.initial.plan.left + (l.fn.groups.end.0 - l.fn.groups.first.0);
     }
 
 -- and the nodes so far
@@ -54,6 +57,7 @@ invariant-objects_of-loop-start g l =
       walked : AreWalkedOnce whole first_start (g.R.Completer.world l.walk.collector.possible)
           (all_below (view_all shown l.walk.collector (fields_at l.initial.plan l.fn.group.0))) (view_nodes (take l.start l.nodes))
           (values_of shown l.done.items) (listed_of shown l.done.items);
+      counted : fields_in_all (values_of shown l.done.items) + l.plan.left ≤ l.initial.plan.left;
     }
 
 -- the objects of the nodes so far were put behind those that were there
@@ -65,6 +69,9 @@ invariant-one_by_one-loop-spot g l =
           l.plan;
       added : AreAdded (g.R.Completer.world l.walk.collector.possible) (all_expanded shown l.walk.collector l.enclosing) shown
           (view_nodes (take l.spot-index l.nodes)) l.initial.done.items l.done.items;
+      inside : l.spot-index ≤ length l.nodes;
+      counted : fields_in_all (values_of shown l.done.items) + l.plan.left
+          ≤ fields_in_all (values_of shown l.initial.done.items) + l.initial.plan.left + l.spot-index * (l.fn.groups.end.0 - l.fn.groups.first.0);
     }
 
 -- the groups so far are walked in each row
@@ -79,4 +86,6 @@ invariant-rows_of-loop-number g l =
       counted : length l.rows.items ≡ length l.nodes;
       walked : AreRows W s l.concrete shown (take (l.number - l.fn.groups.first.0) (keys (occurrences W.possible l.concrete s)))
           (view_nodes l.nodes) l.rows.items;
+      fields : row_fields shown l.rows.items + l.plan.left + length l.nodes * (l.fn.groups.end.0 - l.number)
+          ≤ l.initial.plan.left + length l.nodes * (l.fn.groups.end.0 - l.fn.groups.first.0);
     }

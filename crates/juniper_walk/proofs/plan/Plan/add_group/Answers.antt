@@ -11,4 +11,5 @@ returns g c = let ended = c.in_ok-end_group.ensures in record {
   occurrences = ended.occurrences ∙ c.in_ok-append.ensures.items;
   questions = ended.questions;
   below = ended.below;
+  left = ended.left;
 }

@@ -11,6 +11,7 @@ returns g c = record {
   end = c.len.ensures ∙ c.args.self.now.occurrences.ok.0;
   groups = c.in_ok-push.ensures.items;
   occurrences = refl;
+  left = refl;
   questions = c.in_ok-push-2.ensures.items;
   below = ap (map (λ v. v.items)) c.in_ok-push-3.ensures.items ∙ (map-append (λ v. v.items) c.args.self.now.below.items (c.new.result ∷ [])
       ∙ ap (λ l. all_made c.args.self.now ++ l ∷ []) c.new.ensures.items);

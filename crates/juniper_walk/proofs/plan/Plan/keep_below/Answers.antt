@@ -9,6 +9,7 @@ returns g c = record {
   groups = refl;
   occurrences = refl;
   questions = refl;
+  left = refl;
   kept = record { concrete = c.in_ok-concrete.concrete; groups = c.args.groups };
   made_for = c.in_ok-concrete.ensures.ok;
   made = refl;

@@ -1,0 +1,11 @@
+use Rattle.std.proofs.Common.{arith}
+use Rattle.juniper_walk.proofs.Standing.{made-charged}
+use Rattle.juniper_walk.proofs.making.enter_root.Goals as goal
+
+pub returns-clause-made : goal.returns-clause-made
+returns-clause-made g c =
+    made-charged g.S.ScalarValue.shown c.args.collector.now (g.R.Resolver.asks c.args.collector.now.possible) (g.R.Conditions.possible c.args.collector.now.possible)
+    c.args.concrete.now _ _ c.args.plan.now c.root_groups.new.plan c.charge.new.self c.in_ok-groups.groups c.in_ok-groups.ensures c.in_ok-charge.ensures
+
+pub returns-clause-counted : goal.returns-clause-counted
+returns-clause-counted g c = omega (arith, c.in_ok-charge.ensures.left, c.in_ok-groups.ensures.grown.left)
