@@ -40,7 +40,7 @@ returns-clause-completed g c = λ reply given.
 pub returns-clause-counted : goal.returns-clause-counted
 returns-clause-counted g c =
     let shown = g.S.ScalarValue.shown in
-    let fits = fill-fields _ (values_of shown (into_iter_items c.into_iter-objects.result)) in
+    let fits = fill-fields (view_skeleton shown c.in_ok-skeleton.field-0.skeleton) (values_of shown (into_iter_items c.into_iter-objects.result)) in
     let made = ap fields_in c.in_ok-value.ensures.value.value in
     let handed = ap (λ l. fields_in_all (values_of shown l)) c.into_iter-objects.ensures.rest in
     omega (arith, fits, made, handed, c.in_ok-objects_of.ensures.counted)
