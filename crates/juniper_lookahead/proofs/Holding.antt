@@ -13,7 +13,7 @@ use Rattle.graphql_spec.proofs.Fragments.{expand-end, expand-field, expand-inlin
 use Rattle.juniper_syntax.specs.Positions.{view_span}
 use Rattle.juniper_syntax.specs.declared.position.Spanning.{Spanning}
 use Rattle.juniper_syntax.specs.declared.position.Span.{Span}
-use Rattle.juniper_syntax.specs.DocumentView.{inline_head, put_selection, view_head, view_selections, view_set, view_spread}
+use Rattle.juniper_syntax.specs.DocumentView.{put_selection, view_head, view_selections, view_set, view_spread}
 use Rattle.juniper_syntax.specs.declared.ast.Field.{Field as FieldType, out-Field}
 use Rattle.juniper_syntax.specs.declared.ast.FragmentSpread.{FragmentSpread as SpreadType}
 use Rattle.juniper_syntax.specs.declared.ast.InlineFragment.{InlineFragment as InlineType, out-InlineFragment}
@@ -23,7 +23,7 @@ use Rattle.juniper_syntax.proofs.Documents.{put-Field, put-FragmentSpread, put-I
 use Rattle.juniper_lookahead.specs.Choices.{Choice, IsWithin, chosen, expanded_by, found, is_met}
 use Rattle.juniper_lookahead.specs.SelectionView.{view_applies}
 use Rattle.juniper_lookahead.specs.Nesting.{nesting, work_left}
-use Rattle.juniper_lookahead.specs.Parts.{IsFieldAlone, IsPart, child_of, held}
+use Rattle.juniper_lookahead.specs.Parts.{IsFieldAlone, IsPart, child_of, field_before, held, inline_before}
 use Rattle.juniper_lookahead.specs.declared.parts.Part.{Part}
 use Rattle.juniper_lookahead.specs.declared.parts.Part.TheVariants as part
 use Rattle.juniper_lookahead.specs.declared.selection.Applies.{Applies}
@@ -102,8 +102,9 @@ module _ {S : Type 0} (shown : S → Shown) (h : Choice) (on : Option Name) wher
   field-left-out d below n size t = nothing-is (spec.field d below) n size
       (λ rest w. E-field d below rest ∙ ap (λ b. cond b (one d below) [] ++ found h on rest) t) (field-others n d below)
 
-  pub field-taken : (f : Bor (Spanning (FieldType S) Span)) (n size : ℕ) → (let d : Head = view_head shown (out-Field S f.now.item) (view_span f.now.span) in
-      taken d.directives ≡ true → IsPart shown h on (spec.field d (view_set shown (out-Field S f.now.item).selection_set)) n size (part.Field f))
+  pub field-taken : (f : Bor (Spanning (FieldType S) Span)) (n size : ℕ) →
+      taken (view_head shown (out-Field S f.now.item) (view_span f.now.span)).directives ≡ true →
+      IsPart shown h on (field_before shown f.now) n size (part.Field f)
   unfolding held child_of
   field-taken f n size t =
       let d : Head = view_head shown (out-Field S f.now.item) (view_span f.now.span) in
@@ -274,9 +275,7 @@ module _ {S : Type 0} (shown : S → Shown) (h : Choice) (on : Option Name) wher
   }
 
   pub selected-field : (x : Selection S) (s : Spanning (FieldType S) Span) (n : ℕ) (p : Part S) → x ≡ FieldCase s →
-      ((i size : ℕ) → IsPart shown h on (spec.field (view_head shown (out-Field S s.item) (view_span s.span))
-      (view_set shown (out-Field S s.item).selection_set)) i size p) →
-      IsPart shown h on (put_selection shown x) n (size-Selection S x) p
+      ((i size : ℕ) → IsPart shown h on (field_before shown s) i size p) → IsPart shown h on (put_selection shown x) n (size-Selection S x) p
   selected-field x s n p is has = subst (λ y. IsPart shown h on (put_selection shown y) n (size-Selection S y) p) (sym is)
       (part-moved (put_selection shown (FieldCase s)) _ n (size-Selection S (FieldCase s)) p (put-Field shown s) (has n (size-Selection S (FieldCase s))))
 
@@ -288,9 +287,7 @@ module _ {S : Type 0} (shown : S → Shown) (h : Choice) (on : Option Name) wher
       (has (size-Selection S (SpreadCase s))))
 
   pub selected-inline : (x : Selection S) (s : Spanning (InlineType S) Span) (n : ℕ) (p : Part S) → x ≡ InlineCase s →
-      ((size : ℕ) → nesting (out-InlineFragment S s.item).selection_set.items < size →
-      IsPart shown h on (spec.inline (inline_head shown (out-InlineFragment S s.item) (view_span s.span))
-      (view_selections shown (out-InlineFragment S s.item).selection_set.items)) n size p) →
+      ((size : ℕ) → nesting (out-InlineFragment S s.item).selection_set.items < size → IsPart shown h on (inline_before shown s) n size p) →
       IsPart shown h on (put_selection shown x) n (size-Selection S x) p
   selected-inline x s n p is has = subst (λ y. IsPart shown h on (put_selection shown y) n (size-Selection S y) p) (sym is)
       (part-moved (put_selection shown (InlineCase s)) _ n (size-Selection S (InlineCase s)) p (put-InlineFragment shown s)

@@ -1,13 +1,14 @@
 -- What one selection holds: a field, or the selections of a fragment. Only private clauses cite this.
 use Rattle.std.specs.Prelude.{◌≡◌, ℕ, ◌<◌, List, [], ◌∷◌, ◌++◌, Option}
 use Rattle.graphql_spec.specs.Shown.{Shown, Name}
-use Rattle.graphql_spec.specs.Documents.{Selections}
+use Rattle.graphql_spec.specs.Documents.{Selections, field, inline}
 use Rattle.graphql_spec.specs.Selections.{Child}
 use Rattle.juniper_syntax.specs.Positions.{view_span}
 use Rattle.juniper_syntax.specs.declared.position.Spanning.{Spanning}
 use Rattle.juniper_syntax.specs.declared.position.Span.{Span}
-use Rattle.juniper_syntax.specs.DocumentView.{view_head, view_selections, view_set}
+use Rattle.juniper_syntax.specs.DocumentView.{inline_head, view_head, view_selections, view_set}
 use Rattle.juniper_syntax.specs.declared.ast.Field.{Field, out-Field}
+use Rattle.juniper_syntax.specs.declared.ast.InlineFragment.{InlineFragment, out-InlineFragment}
 use Rattle.juniper_lookahead.specs.Choices.{Choice, IsWithin, expanded_by, found}
 use Rattle.juniper_lookahead.specs.Nesting.{nesting, work_left}
 use Rattle.juniper_lookahead.specs.SelectionView.{view_applies}
@@ -15,6 +16,14 @@ use Rattle.juniper_lookahead.specs.declared.parts.Part.{Part}
 use Rattle.juniper_lookahead.specs.declared.parts.Part.TheVariants as part
 
 module _ {S : Type 0} (shown : S → Shown) where
+  -- a field, and an inline fragment, before what follows it
+  abbrev pub field_before : Spanning (Field S) Span → Selections → Selections
+  field_before f = field (view_head shown (out-Field S f.item) (view_span f.span)) (view_set shown (out-Field S f.item).selection_set)
+
+  abbrev pub inline_before : Spanning (InlineFragment S) Span → Selections → Selections
+  inline_before x =
+      inline (inline_head shown (out-InlineFragment S x.item) (view_span x.span)) (view_selections shown (out-InlineFragment S x.item).selection_set.items)
+
   module _ (h : Choice) where
     -- a field where it is written, with what it selects
     unfoldable pub child_of : Spanning (Field S) Span → Option Name → Child

@@ -6,15 +6,14 @@ ghost use Rattle.graphql_spec.specs.Documents as document;
 ghost use Rattle.graphql_spec.specs.Fragments.{HasNoCycle, asked};
 ghost use Rattle.graphql_spec.specs.Selections as selections;
 ghost use Rattle.juniper_syntax.specs.Positions.{view_span};
-ghost use Rattle.juniper_syntax.specs.DocumentView.{inline_head, put_selection, view_head, view_selections, view_set, view_spread, view_word};
-ghost use Rattle.juniper_syntax.specs.declared.ast.Field.{out-Field};
+ghost use Rattle.juniper_syntax.specs.DocumentView.{put_selection, view_spread, view_word};
 ghost use Rattle.juniper_syntax.specs.declared.ast.InlineFragment.{out-InlineFragment};
 ghost use Rattle.juniper_syntax.specs.declared.ast.Selection.{size-Selection};
 ghost use Rattle.juniper_lookahead.specs.Choices.{is_met};
 ghost use Rattle.juniper_lookahead.specs.Choosing.{CanFind, choice_of};
 ghost use Rattle.juniper_lookahead.specs.SelectionView.{view_applies};
 ghost use Rattle.juniper_lookahead.specs.Nesting.{nesting};
-ghost use Rattle.juniper_lookahead.specs.Parts.{IsPart};
+ghost use Rattle.juniper_lookahead.specs.Parts.{IsPart, field_before, inline_before};
 
 use crate::choosing::{Choosing, Meets};
 use crate::directives::is_admitted;
@@ -62,9 +61,7 @@ fn field_part<'d, 'a, S: ScalarValue, M: Meets>(
     choosing: &Choosing<'_, 'd, 'a, S, M>,
     field: &'d Spanning<Field<'a, S>, Span>,
 ) -> Part<'d, 'a, S>
-    ensures { (on : _) (n size : _) → IsPart S.shown (choice_of S.shown M.met choosing.now) on
-        (document.field (view_head S.shown (out-Field S field.now.item) (view_span field.now.span))
-        (view_set S.shown (out-Field S field.now.item).selection_set)) n size result }
+    ensures { (on : _) (n size : _) → IsPart S.shown (choice_of S.shown M.met choosing.now) on (field_before S.shown field.now) n size result }
 {
     if is_admitted(&field.item.directives, choosing.variables) {
         Part::Field(field)
@@ -110,11 +107,8 @@ fn inline_part<'d, 'a, S: ScalarValue, M: Meets>(
     applies_for: Applies<'a>,
     spreads_left: usize,
 ) -> Part<'d, 'a, S>
-    ensures { (size : _) → nesting (out-InlineFragment S inline.now.item).selection_set.items < size
-        → IsPart S.shown (choice_of S.shown M.met choosing.now) (view_applies applies_for.entry)
-        (document.inline (inline_head S.shown (out-InlineFragment S inline.now.item) (view_span inline.now.span))
-        (view_selections S.shown (out-InlineFragment S inline.now.item).selection_set.items))
-        spreads_left size result }
+    ensures { (size : _) → nesting (out-InlineFragment S inline.now.item).selection_set.items < size →
+        IsPart S.shown (choice_of S.shown M.met choosing.now) (view_applies applies_for.entry) (inline_before S.shown inline.now) spreads_left size result }
 {
     if !is_admitted(&inline.item.directives, choosing.variables) {
         return Part::Nothing;

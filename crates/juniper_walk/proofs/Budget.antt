@@ -28,6 +28,7 @@ first-fields (v ∷ vs) = omega arith
 
 mutual
   unfolding fill fields_in
+
   pub fill-fields : (s : Skeleton) (vs : List Value) → fields_in (fill s vs).value + fields_in_all (fill s vs).left ≤ fields_in_all vs
   fill-fields absent vs = omega arith
   fill-fields (filled x) vs = omega arith

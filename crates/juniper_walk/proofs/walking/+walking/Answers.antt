@@ -129,8 +129,12 @@ execute_selection_set-loop-number-preserved g t c =
                 c.loop-number.invariant.walked _ _ _ [] [] [] [] [] leaf refl (none-yet W _ [] [] [] refl refl refl) false
                 (leaf-put _ _ _ _ _ _ _ (ap (view_object shown) w.entries-is ∙ w.in_ok-put_leaf-in-Leaf.ensures)
                 (ap (λ l. map (view_listed shown) l.items) w.errors-is)) refl;
-            counted = rw (w.plan-is, w.entries-is) (omega (arith, c.loop-number.invariant.counted, c.loop-number-test.true,
-                leaf-counted _ _ (view_object shown c.loop-number.entries) _ w.in_ok-put_leaf-in-Leaf.ensures));
+            counted = rw (w.plan-is, w.entries-is) (omega (
+              arith,
+              c.loop-number.invariant.counted,
+              c.loop-number-test.true,
+              leaf-counted _ _ (view_object shown c.loop-number.entries) _ w.in_ok-put_leaf-in-Leaf.ensures,
+            ));
           }
       | execute_selection_set-in-Apart+in_ok-objects_of-in-Apart+in_ok-rises-in-Apart+else-rises w ↦
           let apart = subst (IsTaken W shown _ c.args.concrete.now c.args.node.now _ _) w.in-Apart.is c.in_ok-taken.ensures in
