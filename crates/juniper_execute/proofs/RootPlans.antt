@@ -46,6 +46,7 @@ still p = record {
   groups = sym (append-nil p.groups.items);
   occurrences = sym (append-nil p.occurrences.items);
   questions = sym (append-nil p.questions.items);
+  left = omega arith;
 }
 
 -- what the operation selects stands alone around its root's fields

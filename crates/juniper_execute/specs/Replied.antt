@@ -1,5 +1,5 @@
 -- What nodes answer to a field, one of them or many at once (6.4.2); only private clauses cite this.
-use Rattle.std.specs.Prelude.{◌≡◌, List, map, Ok, Err, Result, Vec}
+use Rattle.std.specs.Prelude.{◌≡◌, map, Ok, Err, Result, Vec}
 use Rattle.std.specs.declared.alloc.AllocError.{AllocError}
 use Rattle.std.specs.declared.alloc.Global.{Global}
 use Rattle.graphql_spec.specs.Resolvers.{Reply}

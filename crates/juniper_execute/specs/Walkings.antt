@@ -1,5 +1,5 @@
 -- What is known of each way to walk a request (6.4.4, 7.1.2).
-use Rattle.std.specs.Prelude.{false, IfOk, List, [], map, Result, Ok, Err, String, Vec}
+use Rattle.std.specs.Prelude.{ℕ, ◌≤◌, false, IfOk, List, [], map, Result, Ok, Err, String, Vec}
 use Rattle.std.specs.Borrow.{Bor}
 use Rattle.std.specs.HashMap.{HashMap}
 use Rattle.std.specs.declared.alloc.Global.{Global}
@@ -72,6 +72,11 @@ TellsQuery w W T m s es =
 
 abbrev pub TellsRun : Walking → {C N : Type 0} → Mutation C N → Name → Forest → C → List Listed → Type 0
 TellsRun w M T s c es = TellsBy w es (mutation_run M T s c).failures (mutation_nulls M T s c)
+
+-- so many fields are within a budget: where keys are walked at once; the walk that joins keeps none below a root
+abbrev pub IsBounded : Walking → ℕ → ℕ → Type 0
+IsBounded Grouped n fields = n ≤ fields
+IsBounded Joined n fields = Unit {0}
 
 -- what a walk answers of the selections s on the root m of type T (ExecuteQuery, 6.2.1)
 abbrev pub IsQueryWalked : Walking → {N : Type 0} → World N → Name → N → Forest → Value → List Listed → Type 0

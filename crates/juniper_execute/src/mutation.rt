@@ -1,16 +1,18 @@
 //! The root groups of a mutation take their steps one after the other (ExecuteMutation, section 6.2.2 of the Specification).
 
-ghost use Rattle.std.specs.Prelude.{◌≡◌, ◌<◌, ◌∷◌, codes, false, length, IfOk, string_bytes};
+ghost use Rattle.std.specs.Prelude.{◌≡◌, ◌<◌, ◌≤◌, ◌+◌, ◌-◌, ◌∷◌, suc, codes, false, length, IfOk, string_bytes};
 ghost use Rattle.std.specs.Str.{bytes_eq};
 ghost use Rattle.graphql_spec.specs.Laws.{Merges};
 ghost use Rattle.graphql_spec.specs.Mutation.{step_of};
 ghost use Rattle.graphql_spec.specs.Selections.{all_below, occurrences};
 ghost use Rattle.graphql_spec.specs.Types.{innermost};
-ghost use Rattle.juniper_walk.specs.Plans.{all_expanded};
+ghost use Rattle.juniper_walk.specs.Budget.{fields_in, fields_in_entries};
+ghost use Rattle.juniper_walk.specs.Plans.{IsBare, all_expanded};
 ghost use Rattle.juniper_walk.specs.PlanWalks.{HasFirst};
 ghost use Rattle.juniper_conversions.specs.PathView.{path_place};
 ghost use Rattle.juniper_values.specs.ResolvedView.{Answers};
 ghost use Rattle.juniper_syntax.specs.TypeView.{view_type};
+ghost use Rattle.juniper_syntax.specs.ValueView.{view_object, view_value};
 ghost use Rattle.juniper_values.specs.ArgumentView.{view_arguments};
 ghost use Rattle.juniper_walk.specs.Completing.{CompletesAsked, IsTold};
 ghost use Rattle.juniper_walk.specs.FieldWords.{head_of};
@@ -19,7 +21,7 @@ ghost use Rattle.juniper_execute.specs.RootFields.{IsReadyRoot, IsRootPlan, IsRo
 ghost use Rattle.juniper_execute.specs.RootFields.{IsRootAsked, IsRootGroup, IsRootMade};
 ghost use Rattle.juniper_execute.specs.ServedView.{RootAgrees, RunsRoot, RunsRootGroup, mutation_in, schema_of, served_world};
 ghost use Rattle.juniper_execute.specs.Stepping.{IsGivenTo, StepLeaves};
-ghost use Rattle.juniper_execute.specs.Walkings.{starts_by};
+ghost use Rattle.juniper_execute.specs.Walkings.{IsBounded, starts_by};
 
 use crate::coerce::coerce_arguments;
 use crate::node_resolver::{MutationSteps, NodeResolver};
@@ -140,6 +142,7 @@ fn complete<'s, 'd, 'a, R: NodeResolver<S>, M, S: ScalarValue>(
     ensures completed { CompletesAsked S.shown (starts_by served.now.walking)
         (served_world R.meaning S.shown served.now (values_in S.shown walk.now) context.now) (path_place path.now.value)
         (root_group S.shown walk.now plan.old group.0) asked.entry result }
+    ensures counted { IfOk result (λ w. IsBounded served.now.walking (fields_in (view_value S.shown w.value) + plan.new.left) plan.old.left) }
 {
     let service = Service {
         resolver: served.resolver,
@@ -210,6 +213,8 @@ fn run_group<
     ensures plan { IfOk result (λ _. IsRootStep S.shown walk.now (schema_of S.shown served.now) plan.old plan.new) }
     ensures ran { RunsRootGroup R.meaning S.shown served.now M.steps walk.now plan.old group.0 context.old
         entries.old errors.old.items result entries.new errors.new.items context.new }
+    ensures counted { IfOk result (λ _. IsBounded served.now.walking (fields_in_entries (view_object S.shown entries.new) + plan.new.left)
+        (suc (fields_in_entries (view_object S.shown entries.old) + plan.old.left))) }
 {
     let fields = plan.fields(group);
     let first = first_of(fields);
@@ -242,7 +247,7 @@ fn run_group<
     }
 }
 
-/// The root groups, put into a plan (6.3.2).
+/// The root groups, put into a plan and taken off its fields (6.3.2).
 fn plan_root<'s, 'd, 'a, R: NodeResolver<S>, M, S: ScalarValue>(
     served: &Served<'s, R, S>,
     walk: &RootWalk<'_, 'd, 'a, M, S>,
@@ -252,7 +257,8 @@ fn plan_root<'s, 'd, 'a, R: NodeResolver<S>, M, S: ScalarValue>(
 ) -> Result<GroupRange, AllocError>
     requires ready { IsReadyRoot S.shown walk.now }
     requires standing { IsRootPlan S.shown walk.now (schema_of S.shown served.now) plan.old }
-    ensures { IfOk result (λ r. IsRootMade S.shown walk.now (schema_of S.shown served.now) enclosing.now plan.old plan.new r) }
+    ensures made { IfOk result (λ r. IsRootMade S.shown walk.now (schema_of S.shown served.now) enclosing.now plan.old plan.new r) }
+    ensures counted { IfOk result (λ r. plan.new.left + (r.end.0 - r.first.0) ≤ plan.old.left) }
 {
     let service = Service {
         resolver: served.resolver,
@@ -262,11 +268,12 @@ fn plan_root<'s, 'd, 'a, R: NodeResolver<S>, M, S: ScalarValue>(
         query_type: served.query_type(),
         undeclared: served.undeclared,
     };
-    let groups = service.root_groups(walk.alloc, walk.fragments, plan, walk.concrete, enclosing)?;
+    let groups = service.enter_root(walk.alloc, walk.fragments, plan, walk.concrete, enclosing)?;
     Ok(groups)
 }
 
-/// Runs the root groups, up to and including the first whose null rises: the data, and the errors as they were met.
+/// Runs the root groups over a plan without groups, up to and including the first whose null rises: the data, and the errors as they were
+/// met.
 pub(crate) fn run_groups<
     's,
     'd,
@@ -277,17 +284,19 @@ pub(crate) fn run_groups<
 >(
     served: &Served<'s, R, S>,
     walk: &RootWalk<'_, 'd, 'a, M, S>,
+    plan: &mut Plan<'d, 'a, S, Question<'s, S>>,
     context: &mut R::Context,
 ) -> Result<Walked<S>, AllocError>
     requires ready { IsReadyRoot S.shown walk.now }
+    requires bare { IsBare plan.old.left plan.old }
     requires agree { RootAgrees R.meaning S.shown served.now M.steps walk.now }
-    ensures { RunsRoot R.meaning S.shown served.now M.steps walk.now context.old result context.new }
+    ensures ran { RunsRoot R.meaning S.shown served.now M.steps walk.now context.old result context.new }
+    ensures counted { IfOk result (λ w. IsBounded served.now.walking (fields_in (view_value S.shown w.value)) plan.old.left) }
 {
-    let mut plan = Plan::new(walk.alloc);
     let enclosing = [Enclosing {
         selections: walk.selections,
     }];
-    let groups = plan_root(served, walk, &mut plan, &enclosing, context)?;
+    let groups = plan_root(served, walk, plan, &enclosing, context)?;
     let mut entries = Object::with_capacity(walk.alloc, groups.end.0 - groups.first.0)?;
     let mut errors = Vec::new(walk.alloc);
     for number in groups.first.0..groups.end.0 {
@@ -295,7 +304,7 @@ pub(crate) fn run_groups<
         match run_group(
             served,
             walk,
-            &mut plan,
+            plan,
             &enclosing,
             group,
             context,

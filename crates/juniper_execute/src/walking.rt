@@ -1,6 +1,6 @@
 //! The two ways to walk what a request selects (sections 6.3 and 6.4 of the Specification).
 
-ghost use Rattle.std.specs.Prelude.{◌≡◌, ◌<◌, IfOk, drop, length, map, string_bytes};
+ghost use Rattle.std.specs.Prelude.{◌≡◌, ◌<◌, ◌≤◌, ◌+◌, ◌-◌, IfOk, drop, length, map, string_bytes};
 ghost use Rattle.graphql_spec.specs.Laws.{Merges};
 ghost use Rattle.graphql_spec.specs.Outcomes.{responds};
 ghost use Rattle.graphql_spec.specs.Selections.{all_below};
@@ -14,9 +14,10 @@ ghost use Rattle.juniper_walk.specs.Plans.{IsStanding, IsStep, group_at, group_c
 ghost use Rattle.juniper_syntax.specs.DocumentView.{view_selections};
 ghost use Rattle.juniper_syntax.specs.TypeView.{view_type};
 ghost use Rattle.juniper_syntax.specs.ValueView.{view_value};
+ghost use Rattle.juniper_walk.specs.Budget.{fields_in};
 ghost use Rattle.juniper_walk.specs.Completing.{CompletesAsked, IsTold};
 ghost use Rattle.juniper_walk.specs.Walking.{IsReadyWalk, SelectionsAgree};
-ghost use Rattle.juniper_execute.specs.Walkings.{IsAnswerWalked, Lists, TellsQuery, collector_of, starts_by};
+ghost use Rattle.juniper_execute.specs.Walkings.{IsAnswerWalked, IsBounded, Lists, TellsQuery, collector_of, starts_by};
 ghost use Rattle.juniper_execute.specs.Serving.{IsServiceMade, IsServicePlan, IsServiceStep, service_group, service_selected, service_world};
 
 use crate::node_resolver::NodeResolver;
@@ -26,7 +27,7 @@ use juniper_lookahead::{Collector, Enclosing, FragmentMap, Occurrence};
 use juniper_syntax::{ScalarValue, Selection, SourcePosition};
 use juniper_twin::Group;
 use juniper_types::{FieldPath, first_of};
-use juniper_walk::{Asked, GroupNo, GroupRange, Plan, Resolver, Walk, Walked, root_groups};
+use juniper_walk::{Asked, GroupNo, GroupRange, Plan, Resolver, Stop, Walk, Walked, enter_root};
 use std::alloc::{AllocError, Global};
 use std::rc::Rc;
 
@@ -41,7 +42,7 @@ pub enum Walking {
 
 impl Walking {
     /// The data of selections on a root node as an object of this type, and the errors in their order; the operation starts at this
-    /// place (6.2.1).
+    /// place, and at most so many fields are entered (6.2.1). The walk that joins counts none.
     fn answer<'d, 'a, S: ScalarValue, R: Resolver<S>>(
         self,
         walk: &Walk<'_, 'd, 'a, S, R>,
@@ -49,7 +50,8 @@ impl Walking {
         root: &R::Node,
         start: SourcePosition,
         selections: &'d [Selection<'a, S>],
-    ) -> Result<Walked<S>, AllocError>
+        fields: usize,
+    ) -> Result<Walked<S>, Stop>
         requires ready { IsReadyWalk S.shown R.possible R.values (R.world walk.now.collector.possible) walk.now }
         requires agree { SelectionsAgree (R.world walk.now.collector.possible) concrete.now
             (expansion S.shown walk.now.collector (view_selections S.shown selections.now)) }
@@ -58,10 +60,18 @@ impl Walking {
         ensures lists { IfOk result (λ r. Lists self (responds (view_value S.shown r.value) (map (view_listed S.shown) r.errors.items))) }
         ensures firsts { IfOk result (λ r. TellsQuery self (R.world walk.now.collector.possible) concrete.now root.now
             (expansion S.shown walk.now.collector (view_selections S.shown selections.now)) (map (view_listed S.shown) r.errors.items)) }
+        ensures counted { IfOk result (λ r. IsBounded self (fields_in (view_value S.shown r.value)) fields) }
     {
         match self {
-            Walking::Grouped => juniper_walk::answer(walk, concrete, root, start, selections),
-            Walking::Joined => juniper_twin::answer(walk, concrete, root, start, selections),
+            Walking::Grouped => {
+                juniper_walk::answer(walk, concrete, root, start, selections, fields)
+            }
+            Walking::Joined => {
+                match juniper_twin::answer(walk, concrete, root, start, selections) {
+                    Ok(walked) => Ok(walked),
+                    Err(_) => Err(Stop::Memory),
+                }
+            }
         }
     }
 
@@ -86,6 +96,7 @@ impl Walking {
         ensures told { IfOk result (λ _. IsTold asked.entry.answer) }
         ensures completed { CompletesAsked S.shown (starts_by self) (R.world walk.now.collector.possible) (path_place path.now.value)
             (group_at S.shown walk.now plan.old group.0) asked.entry result }
+        ensures counted { IfOk result (λ w. IsBounded self (fields_in (view_value S.shown w.value) + plan.new.left) plan.old.left) }
     {
         match self {
             Walking::Grouped => juniper_walk::complete_value(walk, plan, path, asked, group),
@@ -98,7 +109,8 @@ impl Walking {
 }
 
 impl<'c, 's, R: NodeResolver<S>, S: ScalarValue> Service<'c, 's, R, S> {
-    /// The data of selections on a node as an object of this type, and the errors in their order, walked so (6.2.1).
+    /// The data of selections on a node as an object of this type, and the errors in their order, walked so, where at most so many fields
+    /// are entered (6.2.1).
     pub(crate) fn answer<'d, 'a>(
         self,
         alloc: Global,
@@ -108,7 +120,8 @@ impl<'c, 's, R: NodeResolver<S>, S: ScalarValue> Service<'c, 's, R, S> {
         root: &R::Node,
         start: SourcePosition,
         selections: &'d [Selection<'a, S>],
-    ) -> Result<Walked<S>, AllocError>
+        fields: usize,
+    ) -> Result<Walked<S>, Stop>
         requires ready { IsReady S.shown (collector_of fragments self.variables self) }
         requires agree { SelectionsAgree (service_world R.meaning S.shown self) concrete.now (service_selected S.shown self fragments selections.now) }
         ensures answers { IfOk result (λ r. IsAnswerWalked S.shown (service_world R.meaning S.shown self.entry) concrete.now root.now
@@ -116,6 +129,7 @@ impl<'c, 's, R: NodeResolver<S>, S: ScalarValue> Service<'c, 's, R, S> {
         ensures lists { IfOk result (λ r. Lists walking (responds (view_value S.shown r.value) (map (view_listed S.shown) r.errors.items))) }
         ensures firsts { IfOk result (λ r. TellsQuery walking (service_world R.meaning S.shown self.entry) concrete.now root.now
             (service_selected S.shown self.entry fragments.entry selections.now) (map (view_listed S.shown) r.errors.items)) }
+        ensures counted { IfOk result (λ r. IsBounded walking (fields_in (view_value S.shown r.value)) fields) }
     {
         let walk = Walk {
             alloc,
@@ -125,12 +139,12 @@ impl<'c, 's, R: NodeResolver<S>, S: ScalarValue> Service<'c, 's, R, S> {
                 possible: self,
             },
         };
-        let walked = walking.answer(&walk, concrete, root, start, selections)?;
+        let walked = walking.answer(&walk, concrete, root, start, selections, fields)?;
         Ok(walked)
     }
 
-    /// The groups that selections hold for an object type, put into a plan (6.3.2).
-    pub(crate) fn root_groups<'d, 'a>(
+    /// The groups that selections hold for an object type, put into a plan and taken off its fields (6.3.2).
+    pub(crate) fn enter_root<'d, 'a>(
         self,
         alloc: Global,
         fragments: &FragmentMap<'d, 'a, S>,
@@ -140,14 +154,15 @@ impl<'c, 's, R: NodeResolver<S>, S: ScalarValue> Service<'c, 's, R, S> {
     ) -> Result<GroupRange, AllocError>
         requires ready { IsReady S.shown (collector_of fragments self.variables self) }
         requires standing { IsServicePlan S.shown self fragments plan.old }
-        ensures { IfOk result (λ r. IsServiceMade S.shown self.entry fragments.entry concrete.now enclosing.now plan.old plan.new r) }
+        ensures made { IfOk result (λ r. IsServiceMade S.shown self.entry fragments.entry concrete.now enclosing.now plan.old plan.new r) }
+        ensures counted { IfOk result (λ r. plan.new.left + (r.end.0 - r.first.0) ≤ plan.old.left) }
     {
         let collector = Collector {
             fragments,
             variables: self.variables,
             possible: self,
         };
-        let groups = root_groups(alloc, &collector, plan, concrete, enclosing)?;
+        let groups = enter_root(alloc, &collector, plan, concrete, enclosing)?;
         Ok(groups)
     }
 
@@ -172,6 +187,7 @@ impl<'c, 's, R: NodeResolver<S>, S: ScalarValue> Service<'c, 's, R, S> {
         ensures told { IfOk result (λ _. IsTold asked.entry.answer) }
         ensures completed { CompletesAsked S.shown (starts_by walking) (service_world R.meaning S.shown self.entry) (path_place path.now.value)
             (service_group S.shown self.entry fragments.entry plan.old group.0) asked.entry result }
+        ensures counted { IfOk result (λ w. IsBounded walking (fields_in (view_value S.shown w.value) + plan.new.left) plan.old.left) }
     {
         let walk = Walk {
             alloc,

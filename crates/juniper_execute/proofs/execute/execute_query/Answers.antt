@@ -19,9 +19,9 @@ answer-requires-clause-ready g c =
     let shown = g.S.ScalarValue.shown in
     let s = view_schema shown c.args.served.now.schema.now in
     let d = view_document shown c.args.document.now in
-    let is = c.in_ok-fragments.ensures.is ∙ ap (λ ds. fragments (map (view_definition shown) ds)) c.as_slice.ensures.value in
+    let is = c.in-Ok.ensures.is ∙ ap (λ ds. fragments (map (view_definition shown) ds)) c.as_slice.ensures.value in
     record {
-      made = c.in_ok-fragments.ensures.made;
+      made = c.in-Ok.ensures.made;
       acyclic = no-cycle s c.requires.valid.0 d c.requires.valid.1 _ is;
     }
 
@@ -33,15 +33,15 @@ answer-requires-clause-agree g c =
     let s = view_schema shown root.schema.now in
     let d = view_document shown c.args.document.now in
     let o = view_operation shown c.args.operation.now in
-    let is = c.in_ok-fragments.ensures.is ∙ ap (λ ds. fragments (map (view_definition shown) ds)) c.as_slice.ensures.value in
+    let is = c.in-Ok.ensures.is ∙ ap (λ ds. fragments (map (view_definition shown) ds)) c.as_slice.ensures.value in
     query-agrees s c.requires.valid.0 root.executable d c.requires.valid.1 o c.requires.member c.requires.query
     (view_variables shown c.args.variables.now)
     ((g.R.NodeTypes.meaning root.resolver.now).concrete c.args.context.now) ((g.R.NodeTypes.meaning root.resolver.now).answer c.args.context.now)
     c.query_name.result.now c.query_name.ensures _ is (view_selections shown c.as_slice-2.result.now) (ap (view_selections shown) c.as_slice-2.ensures.value)
 
-pub returns : goal.returns
+pub returns-clause-walked : goal.returns-clause-walked
 unfolding expansion selected
-returns g c =
+returns-clause-walked g c =
     let shown = g.S.ScalarValue.shown in
     let root = c.args.served.now in
     let s = view_schema shown root.schema.now in
@@ -49,7 +49,7 @@ returns g c =
     let d = view_document shown c.args.document.now in
     let o = view_operation shown c.args.operation.now in
     let W = world_at (g.R.NodeTypes.meaning root.resolver.now) s vars c.args.context.now in
-    let is = c.in_ok-fragments.ensures.is ∙ ap (λ ds. fragments (map (view_definition shown) ds)) c.as_slice.ensures.value in
+    let is = c.in-Ok.ensures.is ∙ ap (λ ds. fragments (map (view_definition shown) ds)) c.as_slice.ensures.value in
     let same = ap (λ fs. expand (passes vars) fs (view_selections shown c.as_slice-2.result.now)) is
     ∙ ap (λ ss. expand (passes vars) (fragments d) (view_selections shown ss)) c.as_slice-2.ensures.value in (
       answer-moves W _ _ _ _ _ _ _ _ c.query_name.ensures refl same c.in_ok-walked.ensures.answers,

@@ -9,16 +9,16 @@ use Rattle.juniper_execute.proofs.mutation.plan_root.Goals as goal
 pub invariant_of-service : goal.invariant_of-service
 invariant_of-service g c = record { executable = c.args.served.now.executable; unnamed = c.args.served.now.unnamed }
 
-pub root_groups-requires-clause-ready : goal.root_groups-requires-clause-ready
-root_groups-requires-clause-ready g c = root-ready g.S.ScalarValue.shown c.args.walk.now _ refl refl c.requires.ready
+pub enter_root-requires-clause-ready : goal.enter_root-requires-clause-ready
+enter_root-requires-clause-ready g c = root-ready g.S.ScalarValue.shown c.args.walk.now _ refl refl c.requires.ready
 
-pub root_groups-requires-clause-standing : goal.root_groups-requires-clause-standing
-root_groups-requires-clause-standing g c =
+pub enter_root-requires-clause-standing : goal.enter_root-requires-clause-standing
+enter_root-requires-clause-standing g c =
     standing-elsewhere g.S.ScalarValue.shown (collector_in g.S.ScalarValue.shown c.args.walk.now) _ refl refl
     (asks_in g.S.ScalarValue.shown c.args.walk.now (view_schema g.S.ScalarValue.shown c.args.served.now.schema.now))
     (is_possible (view_schema g.S.ScalarValue.shown c.args.served.now.schema.now)) c.args.plan.now c.requires.standing
 
-pub returns : goal.returns
-returns g c =
+pub returns-clause-made : goal.returns-clause-made
+returns-clause-made g c =
     made-elsewhere g.S.ScalarValue.shown _ (collector_in g.S.ScalarValue.shown c.args.walk.now) refl refl _ _ _ c.args.enclosing.now _ _ _
-    c.in_ok-groups.ensures
+    c.in_ok-groups.ensures.made

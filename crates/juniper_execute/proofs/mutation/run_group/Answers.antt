@@ -11,6 +11,7 @@ use Rattle.juniper_schema.specs.SchemaView.{view_schema}
 use Rattle.juniper_execute.specs.RootFields.{all_fields, asks_in, collector_in, field_in, selected_in, values_in}
 use Rattle.juniper_execute.specs.Meanings.{mutation_at}
 use Rattle.juniper_execute.specs.Walkings.{starts_by}
+use Rattle.juniper_execute.proofs.Bounds.{given-counted}
 use Rattle.juniper_execute.proofs.RootGroups.{completed-for, given-at, group-asked, group-key, group-merges, group-others, group-ran, group-type, has-first}
 use Rattle.juniper_execute.proofs.RootGroups.{left-stopped, place-at, root-whole, stopped-in, told-leaves}
 use Rattle.juniper_execute.proofs.mutation.run_group.Goals as goal
@@ -143,3 +144,6 @@ returns-clause-ran g c =
     (c.in-Ok.ensures.completed (step_of M T before all_of).1 (c.step-answer.ensures.answer all.0)) in
     let given = given-at _ k _ _ _ _ _ _ _ _ c.key-key.ensures c.in-Ok-give.ensures in
     group-ran M T k os all_of all.1 before after (starts_by root.walking) stepped _ typed _ at _ _ completed _ _ c.is_non_null.ensures _ _ _ _ given
+
+pub returns-clause-counted : goal.returns-clause-counted
+returns-clause-counted g c = given-counted c.args.served.now.walking _ _ _ _ _ _ _ _ _ _ _ c.in-Ok-give.ensures c.in-Ok.ensures.counted

@@ -9,6 +9,7 @@ use Rattle.juniper_syntax.proofs.Values.{view-Null, view-Object}
 use Rattle.juniper_execute.specs.RootFields.{all_fields, asks_in, collector_in, values_in}
 use Rattle.juniper_execute.specs.Meanings.{mutation_at}
 use Rattle.juniper_execute.specs.Walkings.{starts_by}
+use Rattle.juniper_execute.proofs.Bounds.{bounded-begins, bounded-ends, bounded-next, bounded-null}
 use Rattle.juniper_execute.proofs.RootPlans.{before-end, left-same, on-err, past-end, plan-asked, plan-begins, plan-bound, plan-ends, plan-group, plan-kept, plan-lost}
 use Rattle.juniper_execute.proofs.RootPlans.{plan-moves, plan-stopped, root-expanded}
 use Rattle.juniper_execute.proofs.mutation.run_groups.Goals as goal
@@ -17,10 +18,10 @@ pub plan_root-requires-clause-standing : goal.plan_root-requires-clause-standing
 plan_root-requires-clause-standing g c =
     bare-stands g.S.ScalarValue.shown (collector_in g.S.ScalarValue.shown c.args.walk.now)
     (asks_in g.S.ScalarValue.shown c.args.walk.now (view_schema g.S.ScalarValue.shown c.args.served.now.schema.now))
-    (is_possible (view_schema g.S.ScalarValue.shown c.args.served.now.schema.now)) c.new-plan.result c.new-plan.ensures
+    (is_possible (view_schema g.S.ScalarValue.shown c.args.served.now.schema.now)) c.args.plan.now.left c.args.plan.now c.requires.bare
 
-pub returns-in_err-groups : goal.returns-in_err-groups
-returns-in_err-groups g c =
+pub returns-in_err-groups-clause-ran : goal.returns-in_err-groups-clause-ran
+returns-in_err-groups-clause-ran g c =
     let shown = g.S.ScalarValue.shown in
     let root = c.args.served.now in
     let walk = c.args.walk.now in
@@ -31,8 +32,8 @@ returns-in_err-groups g c =
     let before = c.args.context.now in
     on-err _ _ _ c.from_residual.ensures.0 (left-same M T (keys os) os before)
 
-pub returns-in_err-entries : goal.returns-in_err-entries
-returns-in_err-entries g c =
+pub returns-in_err-entries-clause-ran : goal.returns-in_err-entries-clause-ran
+returns-in_err-entries-clause-ran g c =
     let shown = g.S.ScalarValue.shown in
     let root = c.args.served.now in
     let walk = c.args.walk.now in
@@ -55,8 +56,9 @@ loop-number-init g c =
     let before = c.args.context.now in (
       c.in_ok-groups.groups,
       refl,
-      plan-begins M (starts_by root.walking) shown walk s c.in_ok-groups.groups before _ refl refl _ _ _ _ _ refl c.in_ok-groups.ensures
+      plan-begins M (starts_by root.walking) shown walk s c.in_ok-groups.groups before _ refl refl _ _ _ _ _ refl c.in_ok-groups.ensures.made
           c.in_ok-entries.ensures (ap (map (view_listed shown)) c.new-errors.ensures.items),
+      bounded-begins root.walking _ _ _ _ c.in_ok-entries.ensures c.in_ok-groups.ensures.counted,
     )
 
 pub run_group-requires-clause-standing : goal.run_group-requires-clause-standing
@@ -125,8 +127,8 @@ run_group-requires-clause-asked g c =
     let high = before-end r i _ c.loop-number.invariant.1 c.loop-number-test.true in
     plan-asked M (starts_by root.walking) shown walk s r before i p es errors now ran high
 
-pub returns-in-Err : goal.returns-in-Err
-returns-in-Err g c =
+pub returns-in-Err-clause-ran : goal.returns-in-Err-clause-ran
+returns-in-Err-clause-ran g c =
     let shown = g.S.ScalarValue.shown in
     let root = c.args.served.now in
     let walk = c.args.walk.now in
@@ -145,8 +147,8 @@ returns-in-Err g c =
     let high = before-end r i _ c.loop-number.invariant.1 c.loop-number-test.true in
     plan-stopped M (starts_by root.walking) shown walk s r before i p es errors now ran high _ c.in-Err.ensures.ran
 
-pub returns-then-rises : goal.returns-then-rises
-returns-then-rises g c =
+pub returns-then-rises-clause-ran : goal.returns-then-rises-clause-ran
+returns-then-rises-clause-ran g c =
     let shown = g.S.ScalarValue.shown in
     let root = c.args.served.now in
     let walk = c.args.walk.now in
@@ -188,10 +190,11 @@ loop-number-preserved g c =
       c.loop-number.invariant.1,
       plan-kept M (starts_by root.walking) shown walk s r before i p es errors now ran high _ c.in-Ok.ensures.plan _ _ _
           (rw c.if-rises.false at c.in-Ok.ensures.ran),
+      bounded-next root.walking _ _ _ _ _ _ _ high c.loop-number.invariant.3 c.in-Ok.ensures.counted,
     )
 
-pub returns : goal.returns
-returns g c =
+pub returns-clause-ran : goal.returns-clause-ran
+returns-clause-ran g c =
     let shown = g.S.ScalarValue.shown in
     let root = c.args.served.now in
     let walk = c.args.walk.now in
@@ -203,3 +206,10 @@ returns g c =
     plan-moves M (starts_by root.walking) T (keys os) os before _ _ _ _ (view-Object shown c.loop-number.entries)
     (plan-ends M (starts_by root.walking) shown walk s c.loop-number.invariant.0 before _ _ _ _ _ c.loop-number.invariant.2
     (past-end c.loop-number.invariant.0 _ _ c.loop-number.invariant.1 c.loop-number-test.false))
+
+pub returns-then-rises-clause-counted : goal.returns-then-rises-clause-counted
+returns-then-rises-clause-counted g c = bounded-null c.args.served.now.walking _ _ (view-Null g.S.ScalarValue.shown)
+
+pub returns-clause-counted : goal.returns-clause-counted
+returns-clause-counted g c =
+    bounded-ends c.args.served.now.walking _ _ _ _ _ (view-Object g.S.ScalarValue.shown c.loop-number.entries) c.loop-number.invariant.3
