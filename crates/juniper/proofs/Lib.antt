@@ -1,3 +1,4 @@
+mod Bounded
 mod Choosing
 mod Composing
 pub mod Messages

@@ -1,5 +1,6 @@
 pub mod Answering
 pub mod AskedFields
+pub mod Budgets
 pub mod Choices
 pub mod Ends
 pub mod Formats

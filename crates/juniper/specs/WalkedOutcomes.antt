@@ -22,10 +22,11 @@ use Rattle.juniper_execute.specs.Meanings.{Meaning}
 use Rattle.juniper_execute.specs.Walkings.{Lists}
 use Rattle.juniper_execute.specs.declared.walking.Walking.{Walking}
 use Rattle.juniper_execute.specs.declared.walking.Walking.TheVariants.{Grouped, Joined}
-use Rattle.juniper.specs.Answering.{AnswersAs, outcome_in}
+use Rattle.juniper.specs.Answering.{outcome_in}
+use Rattle.juniper.specs.Budgets.{AnswersWithin}
 use Rattle.juniper.specs.Promised.{ListsFirsts}
 use Rattle.juniper.specs.Services.{meaning_of, service_at}
-use Rattle.juniper.specs.declared.error.GraphQLError.{GraphQLError}
+use Rattle.juniper.specs.declared.budget.Within.{Within}
 
 -- ## Only private clauses cite what follows
 
@@ -48,13 +49,13 @@ module _ {C N : Type 0} (S : Service C N) where
 -- a call answers what a walk answers of an operation of a valid document, whether introspection is disabled or not: over resolvers that mean
 -- this, with these steps of mutations
 abbrev pub WalksOperation : {C N S H : Type 0} → (S → Shown) → Meaning C N → Steps C N → N → Schema → Walking → Vec (Definition S) Global →
-    Spanning (Operation S) Span → HashMap (String Global) (InputValue S) H → C → Result (ValueType S × Vec (ExecutionError S) Global) GraphQLError → C → Type 0
+    Spanning (Operation S) Span → HashMap (String Global) (InputValue S) H → C → Result (ValueType S × Vec (ExecutionError S) Global) Within → C → Type 0
 WalksOperation shown m steps n s w d o given before result after = (disabled : Bool) →
-    AnswersAs shown (λ r. IsWalkedOutcome (service_at m steps n s disabled) w (outcome_in shown s d o given) before r after) result
+    AnswersWithin shown (λ r. IsWalkedOutcome (service_at m steps n s disabled) w (outcome_in shown s d o given) before r after) result
 
 -- the same over a query's resolver with its info
 abbrev pub WalksResolved : {Q I C N S H : Type 0} → (Q → I → C → N → Name) → (Q → I → C → N → Name → Members → Reply N) → (Q → N) → (S → Shown) → Q → I →
     Steps C N → Schema → Walking → Vec (Definition S) Global → Spanning (Operation S) Span → HashMap (String Global) (InputValue S) H → C →
-    Result (ValueType S × Vec (ExecutionError S) Global) GraphQLError → C → Type 0
+    Result (ValueType S × Vec (ExecutionError S) Global) Within → C → Type 0
 WalksResolved concrete answer root shown q i steps s w d o given before result after =
     WalksOperation shown (meaning_of concrete answer q i) steps (root q) s w d o given before result after

@@ -1,22 +1,27 @@
 //! Valid documents, executed (ExecuteRequest, section 6.1 of the Specification).
 
-ghost use Rattle.std.specs.Prelude.{◌≡◌, IsTrue, []};
+ghost use Rattle.std.specs.Prelude.{◌≡◌, IfOk, IsTrue, []};
 ghost use Rattle.graphql_spec.specs.Documents as documents;
 ghost use Rattle.graphql_spec.specs.Executable.{is_executable};
 ghost use Rattle.graphql_spec.specs.Laws.{In};
 ghost use Rattle.graphql_spec.specs.Rules.{rule_errors};
 ghost use Rattle.juniper_syntax.specs.DocumentView.{view_document, view_operation};
 ghost use Rattle.juniper_syntax.specs.InputView.{view_variables};
+ghost use Rattle.juniper_syntax.specs.ValueView.{view_value};
 ghost use Rattle.juniper_schema.specs.SchemaView.{view_schema};
 ghost use Rattle.juniper_intro.specs.RootView.{is_disabled, schema_of};
 ghost use Rattle.juniper_execute.specs.ServedView as serving;
 ghost use Rattle.juniper_execute.specs.Validity.{IsValid};
+ghost use Rattle.juniper_execute.specs.Walkings.{IsBounded};
+ghost use Rattle.juniper_walk.specs.Budget.{fields_in};
 ghost use Rattle.juniper.specs.Answering.{AnswersAs, AreCoercible, outcome_in};
+ghost use Rattle.juniper.specs.Budgets.{AnswersWithin};
 ghost use Rattle.juniper.specs.Promised.{IsFullOutcomeOf};
 ghost use Rattle.juniper.specs.RootView.{service_of};
 ghost use Rattle.juniper.specs.Services.{rooted_steps};
 ghost use Rattle.juniper.specs.WalkedOutcomes.{IsWalkedOutcome, WalksOperation, WalksResolved};
 
+use crate::budget::Within;
 use crate::error::GraphQLError;
 use crate::root_resolver::{MutationResolver, QueryResolver};
 use crate::variables::coerce_variables;
@@ -64,7 +69,7 @@ pub fn execute_validated_query<
     ensures { AnswersAs S.shown (λ r. IsFullOutcomeOf (service_of Q.concrete Q.answer Q.root M.step M.torn S.shown root_node.now)
         (outcome_in S.shown (view_schema S.shown (schema_of root_node.now)) document.now operation.now variables.now) context.old r context.new) result }
 {
-    execute_walked(
+    match execute_walked(
         alloc,
         Walking::Grouped,
         document,
@@ -72,10 +77,14 @@ pub fn execute_validated_query<
         root_node,
         variables,
         context,
-    )
+        usize::MAX,
+    ) {
+        Err(within) => Err(within.into_error()),
+        Ok(answered) => Ok(answered),
+    }
 }
 
-/// Executes an operation of a valid document, walked in one of the ways (6.1).
+/// Executes an operation of a valid document, walked in one of the ways, where at most so many fields are entered (6.1).
 pub(crate) fn execute_walked<
     'd,
     'a,
@@ -91,13 +100,15 @@ pub(crate) fn execute_walked<
     root_node: &RootNode<Q, M, Sub, S>,
     variables: &Variables<S>,
     context: &mut Q::Context,
-) -> Result<(Value<S>, Vec<ExecutionError<S>>), GraphQLError>
+    fields: usize,
+) -> Result<(Value<S>, Vec<ExecutionError<S>>), Within>
     requires valid { rule_errors (view_schema S.shown (schema_of root_node.now)) (is_disabled root_node.now) (view_document S.shown document.now) ≡ [] }
     requires member { In (documents.operation (view_operation S.shown operation.now)) (view_document S.shown document.now) }
     requires coercible { AreCoercible (view_schema S.shown (schema_of root_node.now)) (view_operation S.shown operation.now)
         (view_variables S.shown variables.now) }
-    ensures { AnswersAs S.shown (λ r. IsWalkedOutcome (service_of Q.concrete Q.answer Q.root M.step M.torn S.shown root_node.now) walking
+    ensures answers { AnswersWithin S.shown (λ r. IsWalkedOutcome (service_of Q.concrete Q.answer Q.root M.step M.torn S.shown root_node.now) walking
         (outcome_in S.shown (view_schema S.shown (schema_of root_node.now)) document.now operation.now variables.now) context.old r context.new) result }
+    ensures counted { IfOk result (λ p. IsBounded walking (fields_in (view_value S.shown p.0)) fields) }
 {
     root_replies(root_node);
     let resolver = QueryResolver {
@@ -110,7 +121,7 @@ pub(crate) fn execute_walked<
     };
     let schema = root_node.schema();
     execute_root(
-        alloc, walking, document, operation, &resolver, &steps, schema, variables, context,
+        alloc, walking, document, operation, &resolver, &steps, schema, variables, context, fields,
     )
 }
 
@@ -133,17 +144,19 @@ fn execute_root<
     schema: &SchemaType<S>,
     variables: &Variables<S>,
     context: &mut Q::Context,
-) -> Result<(Value<S>, Vec<ExecutionError<S>>), GraphQLError>
+    fields: usize,
+) -> Result<(Value<S>, Vec<ExecutionError<S>>), Within>
     requires executable { IsTrue (is_executable (view_schema S.shown schema.now)) }
     requires valid { IsValid (view_schema S.shown schema.now) (view_document S.shown document.now) }
     requires member { In (documents.operation (view_operation S.shown operation.now)) (view_document S.shown document.now) }
     requires coercible { AreCoercible (view_schema S.shown schema.now) (view_operation S.shown operation.now) (view_variables S.shown variables.now) }
-    ensures { WalksResolved Q.concrete Q.answer Q.root S.shown resolver.now.query.now resolver.now.info.now
+    ensures answers { WalksResolved Q.concrete Q.answer Q.root S.shown resolver.now.query.now resolver.now.info.now
         (rooted_steps M.step M.torn steps.now.mutation.now steps.now.info.now) (view_schema S.shown schema.now) walking
         document.now operation.now variables.now context.old result context.new }
+    ensures counted { IfOk result (λ p. IsBounded walking (fields_in (view_value S.shown p.0)) fields) }
 {
     execute_resolved(
-        alloc, walking, document, operation, resolver, steps, schema, variables, context,
+        alloc, walking, document, operation, resolver, steps, schema, variables, context, fields,
     )
 }
 
@@ -164,13 +177,15 @@ fn execute_resolved<
     schema: &SchemaType<S>,
     variables: &Variables<S>,
     context: &mut Q::Context,
-) -> Result<(Value<S>, Vec<ExecutionError<S>>), GraphQLError>
+    fields: usize,
+) -> Result<(Value<S>, Vec<ExecutionError<S>>), Within>
     requires executable { IsTrue (is_executable (view_schema S.shown schema.now)) }
     requires valid { IsValid (view_schema S.shown schema.now) (view_document S.shown document.now) }
     requires member { In (documents.operation (view_operation S.shown operation.now)) (view_document S.shown document.now) }
     requires coercible { AreCoercible (view_schema S.shown schema.now) (view_operation S.shown operation.now) (view_variables S.shown variables.now) }
-    ensures { WalksResolved Q.concrete Q.answer Q.root S.shown resolver.now.query.now resolver.now.info.now (M.steps steps.now)
+    ensures answers { WalksResolved Q.concrete Q.answer Q.root S.shown resolver.now.query.now resolver.now.info.now (M.steps steps.now)
         (view_schema S.shown schema.now) walking document.now operation.now variables.now context.old result context.new }
+    ensures counted { IfOk result (λ p. IsBounded walking (fields_in (view_value S.shown p.0)) fields) }
 {
     let undeclared = undeclared_type(alloc);
     let served = Served {
@@ -181,7 +196,7 @@ fn execute_resolved<
     };
     let root = resolver.query.root_node();
     execute_operation(
-        alloc, document, operation, &served, steps, root, variables, context,
+        alloc, document, operation, &served, steps, root, variables, context, fields,
     )
 }
 
@@ -201,31 +216,33 @@ fn execute_operation<
     root: &R::Node,
     variables: &Variables<S>,
     context: &mut R::Context,
-) -> Result<(Value<S>, Vec<ExecutionError<S>>), GraphQLError>
+    fields: usize,
+) -> Result<(Value<S>, Vec<ExecutionError<S>>), Within>
     requires valid { IsValid (serving.schema_of S.shown served.now) (view_document S.shown document.now) }
     requires member { In (documents.operation (view_operation S.shown operation.now)) (view_document S.shown document.now) }
     requires coercible { AreCoercible (serving.schema_of S.shown served.now) (view_operation S.shown operation.now) (view_variables S.shown variables.now) }
-    ensures { WalksOperation S.shown (R.meaning served.now.resolver.now) (M.steps steps.now) root.now (serving.schema_of S.shown served.now)
+    ensures answers { WalksOperation S.shown (R.meaning served.now.resolver.now) (M.steps steps.now) root.now (serving.schema_of S.shown served.now)
         served.now.walking document.now operation.now variables.now context.old result context.new }
+    ensures counted { IfOk result (λ p. IsBounded served.now.walking (fields_in (view_value S.shown p.0)) fields) }
 {
     match operation.item.operation_type {
-        OperationType::Subscription => Err(GraphQLError::IsSubscription),
+        OperationType::Subscription => Err(Within::Refused(GraphQLError::IsSubscription)),
         OperationType::Mutation => {
             let Some(concrete) = served.schema.mutation_name() else {
-                return Err(GraphQLError::MutationNotSupported);
+                return Err(Within::Refused(GraphQLError::MutationNotSupported));
             };
             let values = coerce_variables(alloc, operation, variables)?;
             match execute_mutation(
-                alloc, document, operation, served, steps, concrete, &values, context,
+                alloc, document, operation, served, steps, concrete, &values, context, fields,
             ) {
-                Err(_) => Err(GraphQLError::OutOfMemory),
+                Err(stop) => Err(Within::from(stop)),
                 Ok(answered) => Ok(answered),
             }
         }
         OperationType::Query => {
             let values = coerce_variables(alloc, operation, variables)?;
             let answered = execute_query(
-                alloc, document, operation, served, root, &values, context,
+                alloc, document, operation, served, root, &values, context, fields,
             )?;
             Ok(answered)
         }

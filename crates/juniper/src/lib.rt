@@ -1,6 +1,7 @@
 //! The executor: from a query text to data and errors.
 #![tactic(auto)]
 
+mod budget;
 mod error;
 mod execute;
 mod introspection;
@@ -14,6 +15,7 @@ pub mod twin;
 mod variables;
 pub mod words;
 
+pub use budget::Within;
 pub use error::GraphQLError;
 pub use execute::execute_validated_query;
 pub use introspection::IntrospectionFormat;
@@ -142,4 +144,5 @@ pub use preparing::execute_prepared;
 pub use preparing::prepare;
 pub use request::check_variables;
 pub use request::execute_sync;
+pub use request::execute_within;
 pub use request::get_operation;

@@ -1,22 +1,27 @@
 //! Requests: from a query text to data and errors (section 6.1 of the Specification).
 
-ghost use Rattle.std.specs.Prelude.{◌≡◌, MatchResult, None, Some, []};
+ghost use Rattle.std.specs.Prelude.{◌≡◌, ◌≤◌, IfOk, MatchResult, None, Some, []};
 ghost use Rattle.graphql_spec.specs.Outcomes.{Reads};
 ghost use Rattle.graphql_spec.specs.Requests as requests;
 ghost use Rattle.graphql_spec.specs.Rules.{rule_errors};
 ghost use Rattle.juniper_syntax.specs.DocumentView.{view_document, view_operation};
 ghost use Rattle.juniper_syntax.specs.InputView.{view_variables};
+ghost use Rattle.juniper_syntax.specs.ValueView.{view_value};
+ghost use Rattle.juniper_walk.specs.Budget.{fields_in};
 ghost use Rattle.juniper_schema.specs.SchemaView.{view_schema};
 ghost use Rattle.juniper.specs.Answering.{AnswersAs, IsInvalid, IsUnchosen, PassesCoercible, StandsFor, request_of};
+ghost use Rattle.juniper.specs.Budgets.{AnswersWithin};
 ghost use Rattle.juniper.specs.Promised.{IsFullOutcome};
 ghost use Rattle.juniper.specs.RequestErrors.{view_request_error};
 ghost use Rattle.juniper.specs.RootView.{service_of};
 ghost use Rattle.juniper.specs.Choices.{choice_in};
 
+use crate::budget::Within;
 use crate::error::GraphQLError;
-use crate::execute::execute_validated_query;
+use crate::execute::execute_walked;
 use crate::operation::{Chosen, choose};
 use crate::variables::first_not_constant;
+use juniper_execute::Walking;
 use juniper_intro::RootNode;
 use juniper_language::{
     Document, Operation, ScalarValue, Span, Spanning, Value, Variables, parse_document_source,
@@ -79,7 +84,7 @@ fn check_document<S: ScalarValue>(
 /// Whether an operation can be executed with these given values of its variables: they fit, and hold no variables (CoerceVariableValues,
 /// 6.1.2). Otherwise [`GraphQLError::ValidationError`] tells each variable without a fitting value, or
 /// [`GraphQLError::VariableNotConstant`] the first whose value holds a variable; [`GraphQLError::OutOfMemory`] may stand in place of each
-/// answer. What it lets pass [`execute_validated_query`] takes, as often as it is executed.
+/// answer. What it lets pass [`crate::execute_validated_query`] takes, as often as it is executed.
 pub fn check_variables<S: ScalarValue>(
     alloc: Global,
     operation: &Spanning<Operation<'_, S>, Span>,
@@ -130,8 +135,47 @@ pub fn execute_sync<
         (λ r. IsFullOutcome (service_of Q.concrete Q.answer Q.root M.step M.torn S.shown root_node.now)
         (request_of S.shown document_source.now operation_name.entry variables.now) context.old r context.new) result }
 {
+    match execute_within(
+        alloc,
+        document_source,
+        operation_name,
+        root_node,
+        variables,
+        context,
+        usize::MAX,
+    ) {
+        Err(within) => Err(within.into_error()),
+        Ok(answered) => Ok(answered),
+    }
+}
+
+/// Executes a request as [`execute_sync`] does, where at most so many fields are entered: each object that is made, and each whose fields are
+/// begun, has as many as response keys are selected of it, whatever they answer. Introspection counts as all else, and so do objects that
+/// a null takes away.
+///
+/// [`Within::Refused`] has the error that [`execute_sync`] answers; [`Within::Spent`] stands where more fields were to be entered. That may be
+/// found late: it leaves the context as want of memory does. Data has no more fields than that, at all depths together.
+pub fn execute_within<
+    Q: GraphQLValue<S>,
+    M: GraphQLMutationValue<S, Context = Q::Context, Node = Q::Node>,
+    Sub: GraphQLType<S>,
+    S: ScalarValue,
+>(
+    alloc: Global,
+    document_source: &str,
+    operation_name: Option<&str>,
+    root_node: &RootNode<Q, M, Sub, S>,
+    variables: &Variables<S>,
+    context: &mut Q::Context,
+    fields: usize,
+) -> Result<(Value<S>, Vec<ExecutionError<S>>), Within>
+    ensures answers { AnswersWithin S.shown
+        (λ r. IsFullOutcome (service_of Q.concrete Q.answer Q.root M.step M.torn S.shown root_node.now)
+        (request_of S.shown document_source.now operation_name.entry variables.now) context.old r context.new) result }
+    ensures counted { IfOk result (λ p. fields_in (view_value S.shown p.0) ≤ fields) }
+{
     let document = match read(alloc, document_source) {
-        Err(error) => return Err(error),
+        Err(error) => return Err(Within::Refused(error)),
         Ok(document) => document,
     };
     let schema = root_node.schema();
@@ -141,19 +185,28 @@ pub fn execute_sync<
         schema,
         root_node.is_introspection_disabled(),
     ) {
-        Err(error) => return Err(error),
+        Err(error) => return Err(Within::Refused(error)),
         Ok(_) => {}
     }
     let operation = match get_operation(&document, operation_name) {
-        Err(error) => return Err(error),
+        Err(error) => return Err(Within::Refused(error)),
         Ok(operation) => operation,
     };
     match check_variables(alloc, operation, variables, schema) {
-        Err(error) => return Err(error),
+        Err(error) => return Err(Within::Refused(error)),
         Ok(_) => {}
     }
-    match execute_validated_query(alloc, &document, operation, root_node, variables, context) {
-        Err(error) => Err(error),
+    match execute_walked(
+        alloc,
+        Walking::Grouped,
+        &document,
+        operation,
+        root_node,
+        variables,
+        context,
+        fields,
+    ) {
+        Err(within) => Err(within),
         Ok(answered) => Ok(answered),
     }
 }

@@ -49,7 +49,7 @@ pub fn execute_by_join<
     ensures { AnswersAs S.shown (λ r. IsOutcomeOf (service_of Q.concrete Q.answer Q.root M.step M.torn S.shown root_node.now) whole
         (outcome_in S.shown (view_schema S.shown (schema_of root_node.now)) document.now operation.now variables.now) context.old r context.new) result }
 {
-    execute_walked(
+    match execute_walked(
         alloc,
         Walking::Joined,
         document,
@@ -57,5 +57,9 @@ pub fn execute_by_join<
         root_node,
         variables,
         context,
-    )
+        usize::MAX,
+    ) {
+        Err(within) => Err(within.into_error()),
+        Ok(answered) => Ok(answered),
+    }
 }

@@ -4,6 +4,8 @@
 #[cfg(test)]
 mod ahead;
 #[cfg(test)]
+mod budgets;
+#[cfg(test)]
 mod by_hand;
 #[cfg(test)]
 mod demo;

@@ -4,12 +4,15 @@ use Rattle.graphql_spec.specs.Shown.{Name}
 use Rattle.juniper_syntax.specs.DocumentView.{view_document, view_kind, view_operation}
 use Rattle.juniper_syntax.specs.InputView.{view_variables}
 use Rattle.juniper_schema.specs.SchemaView.{view_schema}
+use Rattle.juniper.specs.Answering.{outcome_of}
 use Rattle.juniper.specs.Services.{service_at}
+use Rattle.juniper.specs.WalkedOutcomes.{IsWalkedOutcome}
+use Rattle.juniper.proofs.Bounded.{stop-refuses}
 use Rattle.juniper.proofs.Composing.{subscription-ends, mutation-answers, mutation-ends, mutation-left, mutation-lists, query-ends, query-lists}
 use Rattle.juniper.proofs.execute.execute_operation.Goals as goal
 
-pub returns-in-Subscription : goal.returns-in-Subscription
-returns-in-Subscription g c = λ disabled.
+pub returns-in-Subscription-clause-answers : goal.returns-in-Subscription-clause-answers
+returns-in-Subscription-clause-answers g c = λ disabled.
     let shown = g.S.ScalarValue.shown in
     let root = c.args.served.now in
     let s = view_schema shown root.schema.now in
@@ -25,8 +28,8 @@ returns-in-Subscription g c = λ disabled.
       ),
     )
 
-pub returns-in_default : goal.returns-in_default
-returns-in_default g c = λ disabled.
+pub returns-in_default-clause-answers : goal.returns-in_default-clause-answers
+returns-in_default-clause-answers g c = λ disabled.
     let shown = g.S.ScalarValue.shown in
     let root = c.args.served.now in
     let s = view_schema shown root.schema.now in
@@ -45,8 +48,8 @@ returns-in_default g c = λ disabled.
       ),
     )
 
-pub returns-in-Err : goal.returns-in-Err
-returns-in-Err g c = λ disabled.
+pub returns-in-Err-clause-answers : goal.returns-in-Err-clause-answers
+returns-in-Err-clause-answers g c = λ disabled.
     let shown = g.S.ScalarValue.shown in
     let root = c.args.served.now in
     let s = view_schema shown root.schema.now in
@@ -56,16 +59,18 @@ returns-in-Err g c = λ disabled.
     let o = view_operation shown c.args.operation.now in
     let given = view_variables shown c.args.variables.now in
     let T = c.in-Some.concrete.now in
-    let is = sym c.mutation_name.ensures ∙ ap (option_map (λ n. n.now)) c.in-Some.is in (
+    let is = sym c.mutation_name.ensures ∙ ap (option_map (λ n. n.now)) c.in-Some.is in
+    stop-refuses (λ r. IsWalkedOutcome S root.walking (outcome_of s d o given) c.args.context.now r c.execute_mutation.new.context) c.in-Err.stop _
+    c.from.ensures (
       mutation-left S s d o given c.args.context.now (ap view_kind c.in-Mutation.is) T is m
           (ap (option_map (λ (n : Name). m)) is, is) _ c.in_ok-values-in-Mutation.ensures
-          c.execute_mutation.new.context c.in-Err.ensures,
+          c.execute_mutation.new.context c.in-Err.ensures.walked,
       tt,
       tt,
     )
 
-pub returns-in-Mutation : goal.returns-in-Mutation
-returns-in-Mutation g c = λ disabled.
+pub returns-in-Mutation-clause-answers : goal.returns-in-Mutation-clause-answers
+returns-in-Mutation-clause-answers g c = λ disabled.
     let shown = g.S.ScalarValue.shown in
     let root = c.args.served.now in
     let s = view_schema shown root.schema.now in
@@ -78,15 +83,15 @@ returns-in-Mutation g c = λ disabled.
     let is = sym c.mutation_name.ensures ∙ ap (option_map (λ n. n.now)) c.in-Some.is in (
       mutation-answers S s d o given c.args.context.now (ap view_kind c.in-Mutation.is) T is m
           (ap (option_map (λ (n : Name). m)) is, is) _ c.in_ok-values-in-Mutation.ensures
-          c.execute_mutation.new.context _ _ c.in-Ok.ensures.0,
-      c.in-Ok.ensures.1,
+          c.execute_mutation.new.context _ _ c.in-Ok.ensures.walked.0,
+      c.in-Ok.ensures.walked.1,
       mutation-lists S s d o given c.args.context.now (ap view_kind c.in-Mutation.is) T is m
           (ap (option_map (λ (n : Name). m)) is, is) _ c.in_ok-values-in-Mutation.ensures
-          c.execute_mutation.new.context root.walking _ _ c.in-Ok.ensures.2,
+          c.execute_mutation.new.context root.walking _ _ c.in-Ok.ensures.walked.2,
     )
 
-pub returns : goal.returns
-returns g c = λ disabled.
+pub returns-clause-answers : goal.returns-clause-answers
+returns-clause-answers g c = λ disabled.
     let shown = g.S.ScalarValue.shown in
     let root = c.args.served.now in
     let s = view_schema shown root.schema.now in
@@ -94,9 +99,9 @@ returns g c = λ disabled.
     let S = service_at (g.R.NodeTypes.meaning root.resolver.now) m c.args.root.now s disabled in (
       query-ends S s (view_document shown c.args.document.now) (view_operation shown c.args.operation.now)
           (view_variables shown c.args.variables.now) c.args.context.now
-          (ap view_kind c.in-Query.is) _ c.in_ok-values-in-Query.ensures _ _ c.in_ok-answered-in-Query.ensures.0,
-      c.in_ok-answered-in-Query.ensures.1,
+          (ap view_kind c.in-Query.is) _ c.in_ok-values-in-Query.ensures _ _ c.in_ok-answered-in-Query.ensures.walked.0,
+      c.in_ok-answered-in-Query.ensures.walked.1,
       query-lists S s (view_document shown c.args.document.now) (view_operation shown c.args.operation.now)
           (view_variables shown c.args.variables.now) c.args.context.now
-          (ap view_kind c.in-Query.is) _ c.in_ok-values-in-Query.ensures root.walking _ _ c.in_ok-answered-in-Query.ensures.2,
+          (ap view_kind c.in-Query.is) _ c.in_ok-values-in-Query.ensures root.walking _ _ c.in_ok-answered-in-Query.ensures.walked.2,
     )

@@ -1,4 +1,4 @@
 use Rattle.juniper.proofs.execute.execute_root.Goals as goal
 
-pub returns : goal.returns
-returns g c = c.execute_resolved.ensures
+pub returns-clause-answers : goal.returns-clause-answers
+returns-clause-answers g c = c.execute_resolved.ensures.answers

@@ -6,7 +6,7 @@ use Rattle.juniper_schema.specs.SchemaView.{view_schema}
 use Rattle.juniper_syntax.specs.DocumentView.{view_document, view_operation}
 use Rattle.juniper_syntax.specs.InputView.{view_variables}
 use Rattle.juniper.specs.Answering.{outcome_of}
-use Rattle.juniper.proofs.Composing.{answers-then}
+use Rattle.juniper.proofs.Bounded.{within-answers}
 use Rattle.juniper.proofs.RootOutcomes.{outcome-moved}
 use Rattle.juniper.proofs.execute.execute_walked.Goals as goal
 
@@ -22,16 +22,17 @@ execute_root-requires-clause-valid g c =
       subst (λ s. rule_errors s disabled (view_document shown c.args.document.now) ≡ []) (sym (ap (view_schema shown) c.schema-schema.ensures)) c.requires.valid,
     )
 
-pub returns : goal.returns
-returns g c =
+pub returns-clause-answers : goal.returns-clause-answers
+returns-clause-answers g c =
     let shown = g.S.ScalarValue.shown in
     let root = c.args.root_node.now in
     let d = view_document shown c.args.document.now in
     let o = view_operation shown c.args.operation.now in
     let given = view_variables shown c.args.variables.now in
     let law = c.root_replies.ensures in
-    answers-then shown _ c.execute_root.result (c.execute_root.ensures (is_disabled root)) _
+    within-answers _ _
     (λ r p. outcome-moved g.Q.GraphQLValue.concrete g.Q.GraphQLValue.answer g.Q.GraphQLValue.root g.M.GraphQLMutationValue.step g.M.GraphQLMutationValue.torn
     _ _ _ (view_node_of shown root) (resolver_of root) _ law.types law.replies law.top law.users c.args.walking (is_disabled root) _ _ _ _ _ _ _ _
     (ap (view_schema shown) c.schema-schema.ensures) c.query_info.ensures c.mutation.ensures c.mutation_info.ensures refl
     (λ x. outcome_of x d o given) c.args.context.now r c.execute_root.new.context p)
+    shown c.execute_root.result (c.execute_root.ensures.answers (is_disabled root))

@@ -8,11 +8,11 @@ use Rattle.juniper.specs.Answering.{outcome_of}
 use Rattle.juniper.specs.RootView.{service_of}
 use Rattle.juniper.specs.WalkedOutcomes.{IsWalkedOutcome}
 use Rattle.juniper_execute.specs.declared.walking.Walking.TheVariants.{Joined}
-use Rattle.juniper.proofs.Composing.{answers-so}
+use Rattle.juniper.proofs.Bounded.{without-budget}
 use Rattle.juniper.proofs.twin.execute_by_join.Goals as goal
 
-pub returns : goal.returns
-returns g c =
+pub returns-in-Err : goal.returns-in-Err
+returns-in-Err g c =
     let shown = g.S.ScalarValue.shown in
     let root = c.args.root_node.now in
     let S = service_of g.Q.GraphQLValue.concrete g.Q.GraphQLValue.answer g.Q.GraphQLValue.root g.M.GraphQLMutationValue.step g.M.GraphQLMutationValue.torn shown
@@ -20,5 +20,8 @@ returns g c =
     let x = outcome_of (view_schema shown (schema_of root)) (view_document shown c.args.document.now) (view_operation shown c.args.operation.now)
     (view_variables shown c.args.variables.now) in
     let after = c.execute_walked.new.context in
-    answers-so shown (λ r. IsWalkedOutcome S Joined x c.args.context.now r after) (λ r. IsOutcomeOf S whole x c.args.context.now r after)
-    (λ r p. p.0) c.execute_walked.result c.execute_walked.ensures
+    without-budget (λ r. IsWalkedOutcome S Joined x c.args.context.now r after) (λ r. IsOutcomeOf S whole x c.args.context.now r after)
+    (λ r p. p.0) c.in-Err.within _ c.into_error.ensures c.in-Err.ensures.answers
+
+pub returns : goal.returns
+returns g c = c.in-Ok.ensures.answers.0

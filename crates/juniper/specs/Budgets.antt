@@ -1,0 +1,40 @@
+-- What a request within a budget of fields is answered (6.1).
+use Rattle.std.specs.Prelude.{Result, Ok, Err, Vec, map}
+use Rattle.std.specs.declared.alloc.Global.{Global}
+use Rattle.graphql_spec.specs.Outcomes as outcome
+use Rattle.graphql_spec.specs.Outcomes.{Response, responds}
+use Rattle.graphql_spec.specs.Shown.{Shown}
+use Rattle.juniper_conversions.specs.ErrorView.{view_listed}
+use Rattle.juniper_conversions.specs.declared.execution_error.ExecutionError.{ExecutionError}
+use Rattle.juniper_syntax.specs.ValueView.{view_value}
+use Rattle.juniper_syntax.specs.declared.value.Value.{Value}
+use Rattle.juniper_walk.specs.declared.walked.Stop.{Stop}
+use Rattle.juniper_walk.specs.declared.walked.Stop.TheVariants as stops
+use Rattle.juniper.specs.Answering.{Responds}
+use Rattle.juniper.specs.RequestErrors.{view_request_error}
+use Rattle.juniper.specs.declared.budget.Within.{Within}
+use Rattle.juniper.specs.declared.budget.Within.TheVariants.{Refused, Spent}
+use Rattle.juniper.specs.declared.error.GraphQLError.{GraphQLError}
+use Rattle.juniper.specs.declared.error.GraphQLError.TheVariants as gives
+
+-- why there is no answer, as a response: a budget that is spent leaves what want of memory leaves
+abbrev pub RefusesWithin : (Response → Type 0) → Within → Type 0
+RefusesWithin P (Refused e) = Responds P (view_request_error e)
+RefusesWithin P Spent = P outcome.out_of_memory
+
+-- what a call within a budget answers, as a response
+abbrev pub AnswersWithin : {S : Type 0} → (S → Shown) → (Response → Type 0) → Result (Value S × Vec (ExecutionError S) Global) Within → Type 0
+AnswersWithin shown P (Ok p) = P (responds (view_value shown p.0) (map (view_listed shown) p.1.items))
+AnswersWithin shown P (Err w) = RefusesWithin P w
+
+-- ## Only private clauses cite what follows
+
+-- why a walk was not ended
+abbrev pub of_stop : Stop → Within
+of_stop stops.Memory = Refused gives.OutOfMemory
+of_stop stops.Spent = Spent
+
+-- the error where there is no budget
+abbrev pub error_of : Within → GraphQLError
+error_of (Refused e) = e
+error_of Spent = gives.OutOfMemory
