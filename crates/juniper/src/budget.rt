@@ -21,7 +21,7 @@ pub enum Within {
 impl Within {
     /// The error of a request that has no budget.
     pub(crate) fn into_error(self) -> GraphQLError
-        ensures { result ≡ error_of self.entry }
+        ensures { result ≡ error_of self }
     {
         match self {
             Within::Refused(error) => error,

@@ -20,5 +20,5 @@ returns-in-Err g c =
     without-budget (λ r. IsWalkedOutcome S Grouped x before r after) (λ r. IsFullOutcomeOf S x before r after)
     (λ r p. walked-full S x before r after p) c.in-Err.within _ c.into_error.ensures c.in-Err.ensures.answers
 
-pub returns : goal.returns
-returns g c = c.in-Ok.ensures.answers
+pub returns-in-Ok : goal.returns-in-Ok
+returns-in-Ok g c = c.in-Ok.ensures.answers

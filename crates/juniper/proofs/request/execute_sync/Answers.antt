@@ -13,5 +13,5 @@ returns-in-Err g c =
     let P = λ r. IsFullOutcome S q c.args.context.now r c.execute_within.new.context in
     without-budget P P (λ r p. p) c.in-Err.within _ c.into_error.ensures c.in-Err.ensures.answers
 
-pub returns : goal.returns
-returns g c = c.in-Ok.ensures.answers
+pub returns-in-Ok : goal.returns-in-Ok
+returns-in-Ok g c = c.in-Ok.ensures.answers

@@ -23,5 +23,5 @@ returns-in-Err g c =
     without-budget (λ r. IsWalkedOutcome S Joined x c.args.context.now r after) (λ r. IsOutcomeOf S whole x c.args.context.now r after)
     (λ r p. p.0) c.in-Err.within _ c.into_error.ensures c.in-Err.ensures.answers
 
-pub returns : goal.returns
-returns g c = c.in-Ok.ensures.answers.0
+pub returns-in-Ok : goal.returns-in-Ok
+returns-in-Ok g c = c.in-Ok.ensures.answers.0
