@@ -106,13 +106,13 @@ fn misfits_in(
     ensures { IfOk result (λ made. map view_refusal made.items ≡ misfits (view_schema default_shown explainer.now.schema.now)
         (view_variables default_shown values.now) (choose (view_document default_shown document.now) (option_map (λ n. n.now) name.entry))) }
 {
-    match get_operation(document, name) {
-        Err(_) => Ok(Vec::new(alloc)),
-        Ok(operation) => {
-            let explanations = explain_variables(alloc, values, operation, explainer.schema)?;
-            refusals_of(alloc, explanations)
-        }
-    }
+    let operation = match get_operation(document, name) {
+        Err(_) => return Ok(Vec::new(alloc)),
+        Ok(operation) => operation,
+    };
+    let explanations = explain_variables(alloc, values, operation, explainer.schema)?;
+    let refusals = refusals_of(alloc, explanations)?;
+    Ok(refusals)
 }
 
 /// Explanations of given values, as they are written.

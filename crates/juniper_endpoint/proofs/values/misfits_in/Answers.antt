@@ -1,5 +1,4 @@
 use Rattle.std.proofs.Common.{map, ap, sym, ◌∙◌}
-use Rattle.std.proofs.lemmas.Result.{IfOk-weaker}
 use Rattle.std.proofs.lemmas.Simd.{map-map}
 use Rattle.juniper.specs.RequestErrors.{view_request_error}
 use Rattle.juniper_explain.specs.GivenValues.{view_variable_explanation}
@@ -18,11 +17,10 @@ returns-in-Err c =
     let given = view_variables default_shown c.args.values.now in
     ap (map view_refusal) c.new.ensures.items ∙ unchosen-fit s given _ (view_request_error c.in-Err.field-0) c.in-Err.ensures
 
-pub returns-in_ok-explanations-in-Ok : goal.returns-in_ok-explanations-in-Ok
-returns-in_ok-explanations-in-Ok c =
+pub returns : goal.returns
+returns c =
     let s = view_schema default_shown c.args.explainer.now.schema.now in
     let given = view_variables default_shown c.args.values.now in
-    IfOk-weaker c.refusals_of.result _ _ (λ made is. is
-    ∙ (sym (map-map of_value view_variable_explanation c.in_ok-explanations-in-Ok.explanations.items)
-    ∙ (ap (map of_value) c.in_ok-explanations-in-Ok.ensures
-    ∙ chosen-misfits s given _ (view_operation default_shown c.in-Ok.operation.now) c.in-Ok.ensures))) c.refusals_of.ensures
+    c.in_ok-refusals.ensures ∙ (sym (map-map of_value view_variable_explanation c.in_ok-explanations.explanations.items)
+    ∙ (ap (map of_value) c.in_ok-explanations.ensures
+    ∙ chosen-misfits s given _ (view_operation default_shown c.in-Ok.operation.now) c.in-Ok.ensures))

@@ -36,12 +36,11 @@ returns-in-Ok-clause-said g c =
     let most = c.args.self.now.explained_bytes in
     let a = view_request c.args.request.now in
     let d = document_of default_shown c.in-Ok.prepared in
-    let explains = (
-      ap (view_schema default_shown) c.schema.ensures ∙ sym (ap (λ r. view_schema default_shown (schema_of r)) c.in-Ok.ensures.0),
-      c.is_introspection_disabled.ensures ∙ sym (ap is_disabled c.in-Ok.ensures.0),
-    ) in
     let taken = subst (λ r. IsAccepted b a.query (view_schema default_shown (schema_of r)) (is_disabled r) d) (sym c.in-Ok.ensures.0) c.in-Ok.ensures.2 in
     subst (λ r. Replies (service_of q.concrete q.answer q.root m.step m.torn default_shown r)
     b a most c.args.may_write c.args.self.now.context c.reply_prepared.result.outcome (string_bytes c.reply_prepared.result.line)
     c.reply_prepared.new.context)
-    c.in-Ok.ensures.0 (c.reply_prepared.ensures b explains taken)
+    c.in-Ok.ensures.0 (c.reply_prepared.ensures b (
+      ap (view_schema default_shown) c.schema.ensures ∙ sym (ap (λ r. view_schema default_shown (schema_of r)) c.in-Ok.ensures.0),
+      c.is_introspection_disabled.ensures ∙ sym (ap is_disabled c.in-Ok.ensures.0),
+    ) taken)
