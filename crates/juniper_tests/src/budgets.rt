@@ -47,7 +47,7 @@ const ROWS: &str = r#"{ id } => 1, 0 steps
 { strict { must } } => 4, 0 steps
 { __typename } => 1, 0 steps
 { __schema { queryType { name } } } => 3, 0 steps
-{ __type(name: "Few") { fields { name type { name } } } } => 8, 0 steps
+{ __type(name: "Few") { fields(includeDeprecated: true) { name type { name } } } } => 8, 0 steps
 mutation { add { id } } => 2, 1 steps
 mutation { a: add { id } b: add { id } } => 4, 2 steps
 mutation { a: add { id } b: pair { id } } => 5, 2 steps
