@@ -11,7 +11,7 @@ use Rattle.juniper_syntax.specs.declared.value.Value.{Value}
 use Rattle.juniper_walk.specs.declared.walked.Stop.{Stop}
 use Rattle.juniper_walk.specs.declared.walked.Stop.TheVariants as stops
 use Rattle.juniper_execute.specs.declared.walking.Walking.TheVariants.{Grouped}
-use Rattle.juniper.specs.Answering.{AnswersAs, Responds}
+use Rattle.juniper.specs.Answering.{Responds}
 use Rattle.juniper.specs.Budgets.{AnswersWithin, RefusesWithin, error_of, of_stop}
 use Rattle.juniper.specs.Promised.{IsFullOutcomeOf}
 use Rattle.juniper.specs.RequestErrors.{view_request_error}

@@ -1,12 +1,12 @@
 -- Each step of a request, over plain variables (6.1).
-use Rattle.std.proofs.Common.{rules, arith, ◌≡◌, ◌≢◌, ◌==◌, Bool, length, map, true, false, [], ◌∷◌, List, Option, Some, None, Result, Ok, Err, Vec, Global}
+use Rattle.std.proofs.Common.{rules, arith, ◌≡◌, ◌≢◌, ◌==◌, Bool, length, map, true, false, [], ◌∷◌, List, Option, Some, None}
 use Rattle.std.proofs.Common.{refl, sym, ap, inl}
 use Rattle.std.proofs.Common.{inr, subst, ◌∙◌}
 use Rattle.std.proofs.lemmas.Bool.{both_ways}
 use Rattle.std.proofs.lemmas.List.{nil_from_length}
 use Rattle.std.specs.Option.{is_some}
 use Rattle.std.specs.Prelude.{cond}
-use Rattle.graphql_spec.specs.Shown.{Name, Shown}
+use Rattle.graphql_spec.specs.Shown.{Name}
 use Rattle.graphql_spec.specs.Values.{Value}
 use Rattle.graphql_spec.specs.Documents.{Document, Operation, query, mutation, subscription, variables_of}
 use Rattle.graphql_spec.specs.Inputs.{Variables}
@@ -21,11 +21,7 @@ use Rattle.graphql_spec.specs.Outcomes as outcome
 use Rattle.graphql_spec.specs.Outcomes.{Request, Service, Response, responds, refuses, Reads, Becomes, IsOutcome, IsOutcomeOf, IsExecuted}
 use Rattle.graphql_spec.specs.Outcomes.{IsReadAsValid, HasMutation, Steps, mutation_in, world_in}
 use Rattle.graphql_spec.proofs.Deciding.{known-outcome, steps-decide}
-use Rattle.juniper_syntax.specs.ValueView.{view_value}
-use Rattle.juniper_syntax.specs.declared.value.Value.{Value as Value'}
-use Rattle.juniper_conversions.specs.ErrorView.{view_listed}
-use Rattle.juniper_conversions.specs.declared.execution_error.ExecutionError.{ExecutionError}
-use Rattle.juniper.specs.Answering.{AnswersAs, AreCoercible, AreRefused, IsInvalid, IsUnchosen, Responds, StandsFor, outcome_of}
+use Rattle.juniper.specs.Answering.{AreCoercible, AreRefused, IsInvalid, IsUnchosen, Responds, StandsFor, outcome_of}
 use Rattle.juniper.specs.Promised.{IsFullOutcome, IsFullOutcomeOf}
 use Rattle.juniper_execute.specs.Stepping.{IsLeftOf}
 use Rattle.juniper_execute.specs.Walkings.{TellsQuery, TellsRun}
@@ -212,13 +208,3 @@ responds-so P Q f is_subscription (r, is, p) = (r, is, f (refuses r) p)
 responds-so P Q f not_subscription (r, is, p) = (r, is, f (refuses r) p)
 responds-so P Q f no_mutation_type (r, is, p) = (r, is, f (refuses r) p)
 responds-so P Q f (variable_not_constant n) (r, is, p) = (r, is, f (refuses r) p)
-
--- an answer under another reading
-pub answers-so : {S : Type 0} (shown : S → Shown) (P Q : Response → Type 0) → ((r : Response) → P r → Q r) →
-    (a : Result (Value' S × Vec (ExecutionError S) Global) GraphQLError) → AnswersAs shown P a → AnswersAs shown Q a
-answers-so shown P Q f (Ok p) x = f (responds (view_value shown p.0) (map (view_listed shown) p.1.items)) x
-answers-so shown P Q f (Err e) x = responds-so P Q f (view_request_error e) x
-
-pub answers-then : {S : Type 0} (shown : S → Shown) (P : Response → Type 0) (a : Result (Value' S × Vec (ExecutionError S) Global) GraphQLError) →
-    AnswersAs shown P a → (Q : Response → Type 0) → ((r : Response) → P r → Q r) → AnswersAs shown Q a
-answers-then shown P a x Q f = answers-so shown P Q f a x

@@ -10,8 +10,8 @@ returns-in-Err g c =
     let S = service_of g.Q.GraphQLValue.concrete g.Q.GraphQLValue.answer g.Q.GraphQLValue.root g.M.GraphQLMutationValue.step g.M.GraphQLMutationValue.torn shown
     c.args.root_node.now in
     let q = request_of shown c.args.document_source.now c.args.operation_name c.args.variables.now in
-    let P = λ r. IsFullOutcome S q c.args.context.now r c.execute_within.new.context in
-    without-budget P P (λ r p. p) c.in-Err.within _ c.into_error.ensures c.in-Err.ensures.answers
+    without-budget (λ r. IsFullOutcome S q c.args.context.now r c.execute_within.new.context)
+    (λ r. IsFullOutcome S q c.args.context.now r c.execute_within.new.context) (λ r p. p) c.in-Err.within _ c.into_error.ensures c.in-Err.ensures.answers
 
 pub returns-in-Ok : goal.returns-in-Ok
 returns-in-Ok g c = c.in-Ok.ensures.answers
