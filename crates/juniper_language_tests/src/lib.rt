@@ -17,4 +17,6 @@ pub mod tables;
 #[cfg(test)]
 mod types;
 #[cfg(test)]
+mod value_texts;
+#[cfg(test)]
 mod values;

@@ -1,7 +1,7 @@
 //! Tables of rows: what is made, what it says, and whether the row stands.
 
 use crate::scalar::TestScalar;
-use crate::{inputs, strings};
+use crate::{inputs, strings, value_texts};
 use juniper_syntax::{DefaultScalarValue, ScalarValue};
 use std::alloc::{AllocError, Global};
 
@@ -25,6 +25,7 @@ enum Kind {
     String,
     Int,
     Input,
+    Value,
 }
 
 fn stands<S: ScalarValue>(alloc: Global, kind: Kind, row: &str) -> Result<bool, AllocError> {
@@ -35,6 +36,7 @@ fn stands<S: ScalarValue>(alloc: Global, kind: Kind, row: &str) -> Result<bool, 
         Kind::String => strings::is_decoded(alloc, given, said),
         Kind::Int => strings::is_int(alloc, given, said),
         Kind::Input => inputs::is_made::<S>(alloc, given, said),
+        Kind::Value => value_texts::is_written::<S>(alloc, given, said),
     }
 }
 
@@ -58,6 +60,7 @@ fn first_of_all<S: ScalarValue>(alloc: Global) -> Option<&'static str> {
     first_other::<S>(alloc, Kind::String, strings::STRINGS, true)
         .or(first_other::<S>(alloc, Kind::Int, strings::INTS, true))
         .or(first_other::<S>(alloc, Kind::Input, inputs::ROWS, true))
+        .or(first_other::<S>(alloc, Kind::Value, value_texts::ROWS, true))
 }
 
 #[test]
@@ -75,6 +78,7 @@ fn first_wrong(alloc: Global) -> Option<&'static str> {
     first_other::<TestScalar>(alloc, Kind::String, strings::WRONG, false)
         .or(first_other::<TestScalar>(alloc, Kind::Int, strings::WRONG, false))
         .or(first_other::<TestScalar>(alloc, Kind::Input, inputs::WRONG, false))
+        .or(first_other::<TestScalar>(alloc, Kind::Value, value_texts::WRONG, false))
         .or(first_other::<TestScalar>(alloc, Kind::Input, "", false))
         .or(first_other::<TestScalar>(alloc, Kind::Int, "1 => 2\n2 => 2", false))
 }

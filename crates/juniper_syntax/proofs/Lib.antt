@@ -6,6 +6,8 @@ pub mod Inputs
 pub mod InputLists
 pub mod Constants
 pub mod Displays
+pub mod Sizes
+pub mod ValueDisplays
 pub mod Escapes
 pub mod Values
 pub mod ValueLists

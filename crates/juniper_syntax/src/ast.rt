@@ -115,6 +115,12 @@ pub enum Definition<'a, S> {
     Fragment(Spanning<Fragment<'a, S>, Span>),
 }
 
+/// An argument as it is written: its name and its value, each with its place (2.6).
+pub type WrittenArgument<'a, S> = (Spanning<&'a str, Span>, Spanning<InputValue<S>, Span>);
+
+/// A variable as it is defined: its name, whose place starts at its `$`, and what is said of it (2.10).
+pub type DefinedVariable<'a, S> = (Spanning<&'a str, Span>, VariableDefinition<'a, S>);
+
 /// A document: its definitions in order (2.2).
 pub type Document<'a, S> = Vec<Definition<'a, S>>;
 
@@ -126,7 +132,7 @@ impl<'a, S: ScalarValue> Arguments<'a, S> {
     #[tactic(auto, unfolding(graphql_spec::specs::Documents::written))]
     pub fn written<'b>(
         arguments: &'b Option<Spanning<Arguments<'a, S>, Span>>,
-    ) -> &'b [(Spanning<&'a str, Span>, Spanning<InputValue<S>, Span>)]
+    ) -> &'b [WrittenArgument<'a, S>]
         ensures { map (view_argument S.shown) result.now ≡ written (view_arguments S.shown arguments.now) }
     {
         match arguments {
@@ -154,7 +160,7 @@ impl<'a, S: ScalarValue> Operation<'a, S> {
     #[tactic(auto, unfolding(graphql_spec::specs::Documents::variables_of))]
     pub fn defined_variables<'d>(
         operation: &'d Spanning<Operation<'a, S>, Span>,
-    ) -> &'d [(Spanning<&'a str, Span>, VariableDefinition<'a, S>)]
+    ) -> &'d [DefinedVariable<'a, S>]
         ensures { map (view_variable S.shown) result.now ≡ variables_of (view_operation S.shown operation.now) }
     {
         match &operation.item.variable_definitions {

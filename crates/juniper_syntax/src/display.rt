@@ -88,7 +88,10 @@ fn write_fields<S: ScalarValue, W: fmt::Write>(
 }
 
 /// Writes a scalar: an Int in decimal, `true` or `false`, or a text between quotes (2.9.1 to 2.9.4).
-fn write_scalar<S: ScalarValue, W: fmt::Write>(scalar: &S, f: &mut fmt::Formatter<W>) -> fmt::Result
+pub(crate) fn write_scalar<S: ScalarValue, W: fmt::Write>(
+    scalar: &S,
+    f: &mut fmt::Formatter<W>,
+) -> fmt::Result
     ensures { WritesOnOk W.write_str_gives f.old result (shown_text_of (S.shown scalar.now)) f.new }
 {
     if let Some(number) = scalar.try_to_int() {
@@ -105,7 +108,7 @@ fn write_scalar<S: ScalarValue, W: fmt::Write>(scalar: &S, f: &mut fmt::Formatte
 
 /// Writes a text between quotes (2.9.4).
 #[tactic(auto, unfolding(graphql_spec::specs::Display::quoted))]
-fn write_quoted<W: fmt::Write>(text: &str, f: &mut fmt::Formatter<W>) -> fmt::Result
+pub(crate) fn write_quoted<W: fmt::Write>(text: &str, f: &mut fmt::Formatter<W>) -> fmt::Result
     ensures { WritesOnOk W.write_str_gives f.old result (quoted text.now) f.new }
 {
     f.write_str("\"")?;

@@ -32,8 +32,8 @@ pub enum InputValue<S> {
 /// The values of variables, by name (6.1.2).
 pub type Variables<S> = HashMap<String, InputValue<S>>;
 
-/// A field of an object: its name and its value, each with its place.
-pub(crate) type InputField<S> = (Spanning<String, Span>, Spanning<InputValue<S>, Span>);
+/// A field of an object: its name and its value, each with its place (2.9.8).
+pub type InputField<S> = (Spanning<String, Span>, Spanning<InputValue<S>, Span>);
 
 impl<S: ScalarValue> InputValue<S> {
     /// Null.

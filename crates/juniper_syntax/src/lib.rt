@@ -18,15 +18,17 @@ mod rule;
 mod scalar;
 mod types;
 mod value;
+mod value_display;
 
 pub use ast::{
-    Definition, Directive, Document, Field, Fragment, FragmentSpread, Fragments, InlineFragment,
-    Operation, OperationType, Selection, VariableDefinition, VariableDefinitions,
+    DefinedVariable, Definition, Directive, Document, Field, Fragment, FragmentSpread, Fragments,
+    InlineFragment, Operation, OperationType, Selection, VariableDefinition, VariableDefinitions,
+    WrittenArgument,
 };
 pub use entries::{Entries, IntoEntries};
 pub use error::{LexerError, ParseError};
 pub use fields::SharedKeys;
-pub use input::{InputValue, Variables};
+pub use input::{InputField, InputValue, Variables};
 pub use places::name_number;
 pub use position::{SourcePosition, Span, Spanning};
 pub use rule::RuleError;

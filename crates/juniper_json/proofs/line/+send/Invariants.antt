@@ -2,7 +2,7 @@ use Rattle.std.proofs.Common.{◌≤◌, drop}
 use Rattle.juniper_syntax.specs.ValueView.{view_value, view_values, view_object, view_entries}
 use Rattle.juniper_json.specs.AnswerText.{values_data, entries_data}
 use Rattle.juniper_json.proofs.Sending.{Goes, GoesInside}
-use Rattle.juniper_json.proofs.Sizes.{value_size, values_size, entries_size}
+use Rattle.juniper_syntax.proofs.Sizes.{value_size, values_size, entries_size}
 use Rattle.juniper_json.proofs.line.+send.Given as goal
 
 abbrev pub decreases-send_value : goal.decreases-send_value
