@@ -79,7 +79,7 @@ module _ (tell : Place → Place) where
       why : (to : Place) → RisesTo to fs → (q : Pair) × In q (pairs (firsts fs)) × (q.rises_to ≡ to) × In (told tell q) (map (told tell) (pairs (firsts fs)))
       why to (f, i, e) = let r = pair-of fs f i (s f i) in (r.0, r.1, r.2 ∙ e, told-in r.0 (pairs (firsts fs)) r.1)
 
-query-started : {N : Type 0} (W : World N) (s : Forest) (place to : Place) (U : Name) (n : N) → Started (failures_of W place to U n s)
+pub query-started : {N : Type 0} (W : World N) (s : Forest) (place to : Place) (U : Name) (n : N) → Started (failures_of W place to U n s)
 unfolding failures_of
 query-started W s place to U n = started W (depth s) place to U n (occurrences W.possible U s)
 

@@ -18,7 +18,7 @@ picked-of g [] i = absurd i
 picked-of g (f ∷ fs) (inl e) = (f, inl refl, e)
 picked-of g (f ∷ fs) (inr i) = let r = picked-of g fs i in (r.0, inr r.1, r.2)
 
-first-start : (s : Position) (ss : List Position) → In s (first_start ss) → (others : List Position) × (ss ≡ s ∷ others)
+pub first-start : (s : Position) (ss : List Position) → In s (first_start ss) → (others : List Position) × (ss ≡ s ∷ others)
 unfolding first_start
 first-start s [] i = absurd i
 first-start s (t ∷ ss) (inl e) = (ss, ap (λ z. z ∷ ss) (sym e))

@@ -5,7 +5,7 @@ use Rattle.std.proofs.lemmas.Bool.{cases_Bool, both_ways, and_parts, or_cases, n
 use Rattle.std.specs.List.{list_all, flat_map}
 use Rattle.std.specs.Option.{is_some}
 use Rattle.std.specs.Str.{bytes_eq}
-use Rattle.graphql_spec.specs.Shown.{Name, text, same_bool}
+use Rattle.graphql_spec.specs.Shown.{Name, text}
 use Rattle.graphql_spec.specs.Types.{TypeRef, named, list_of, required, innermost, same_type}
 use Rattle.graphql_spec.specs.Inputs.{Variables}
 use Rattle.graphql_spec.specs.Constants.{Members, find}
@@ -35,6 +35,7 @@ use Rattle.graphql_spec.proofs.Lists.{same_true, same_refl}
 use Rattle.graphql_spec.proofs.Keeping.{or_else_parts}
 use Rattle.graphql_spec.proofs.Grouping.{in_first, in_second, in_with_key, in_below}
 use Rattle.graphql_spec.proofs.Keeping.{entry_all, options}
+use Rattle.graphql_spec.proofs.KeptTypes.{as_string}
 use Rattle.graphql_spec.specs.Rules.{is_introspection}
 use Rattle.graphql_spec.specs.SeenNodes.{map_tree, map_reply}
 use Rattle.graphql_spec.specs.Introspected.{declaration_of}
@@ -249,12 +250,6 @@ found-free (y ∷ fs) f g a h = let p = and_parts (field_is_free y) (list_all fi
   | inl q ↦ let z = rw q at h in let w : y ≡ g = cc in (subst (λ k. field_is_free k ≡ true) w p.0, same_true f y.name q ∙ ap (λ k. k.name) w)
   | inr q ↦ found-free fs f g p.1 (rw q at h)
 ]
-
-as_string : (t : TypeRef) → same_type t (named true (codes "String")) ≡ true → t ≡ named true (codes "String")
-unfolding same_type same_bool
-as_string (named true n) e = ap (named true) (same_true n (codes "String") e)
-as_string (named false n) e = absurd (both_ways false refl e)
-as_string (list_of r size t) e = absurd (both_ways false refl e)
 
 module _ {N : Type 0} (s : Schema) (x : Executable s) (vars : Variables) (top : N) (concrete : N → Name) (answer : N → Name → Members → Reply N) where
   abbrev V : World (RootedNode N)

@@ -205,7 +205,7 @@ fields_are_free e n =
     let c = and_parts (is_name e.key) _ b.1 in
     let d = and_parts (not (is_reserved e.key)) _ c.1 in (and_parts (list_all field_is_free (shape_fields e.shape)) _ d.1).0
 
-as_string : (t : TypeRef) → same_type t (named true (codes "String")) ≡ true → t ≡ named true (codes "String")
+pub as_string : (t : TypeRef) → same_type t (named true (codes "String")) ≡ true → t ≡ named true (codes "String")
 unfolding same_type same_bool
 as_string (named true n) e = ap (named true) (same_true n (codes "String") e)
 as_string (named false n) e = absurd (both_ways false refl e)

@@ -8,11 +8,7 @@ use Rattle.graphql_spec.specs.Failures.{Failure, landing}
 use Rattle.graphql_spec.specs.Laws.{In, pairs, pair_at, count}
 use Rattle.graphql_spec.specs.Walk.{Met, told, count_listed}
 use Rattle.graphql_spec.proofs.Grouping.{in_append, in_first, in_second}
-
-count-listed-append : (p : Listed → Bool) (es fs : List Listed) → count_listed p (es ++ fs) ≡ count_listed p es + count_listed p fs
-unfolding count_listed
-count-listed-append p [] fs = omega arith
-count-listed-append p (e ∷ es) fs = let r = count-listed-append p es fs in omega (arith, r)
+use Rattle.graphql_spec.proofs.Walk.{count_listed-append}
 
 -- the errors ds are the errors es in some order
 pub record IsListedAs (ds es : List Listed) : Type 0 where
@@ -33,9 +29,9 @@ nil-both xs ys a b = rw (a, b) refl
 -- what stands before and behind in two parts, each put together
 pub listed-both : (a b c d es fs : List Listed) → IsListedAs (a ++ b) es → IsListedAs (c ++ d) fs → IsListedAs ((a ++ c) ++ (b ++ d)) (es ++ fs)
 listed-both a b c d es fs x y = record {
-  counts = λ p. let q = x.counts p in let r = y.counts p in let ab = count-listed-append p a b in let cd = count-listed-append p c d in
-      let ac = count-listed-append p a c in let bd = count-listed-append p b d in
-      let whole = count-listed-append p (a ++ c) (b ++ d) in let ef = count-listed-append p es fs in omega (arith, q, r, ab, cd, ac, bd, whole, ef);
+  counts = λ p. let q = x.counts p in let r = y.counts p in let ab = count_listed-append p a b in let cd = count_listed-append p c d in
+      let ac = count_listed-append p a c in let bd = count_listed-append p b d in
+      let whole = count_listed-append p (a ++ c) (b ++ d) in let ef = count_listed-append p es fs in omega (arith, q, r, ab, cd, ac, bd, whole, ef);
   inside = λ l i. elim (in_append l es fs i) [
     | inl j ↦ elim (in_append l a b (x.inside l j)) [
       | inl k ↦ in_first l (a ++ c) (b ++ d) (in_first l a c k)

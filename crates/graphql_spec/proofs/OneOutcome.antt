@@ -20,7 +20,7 @@ use Rattle.graphql_spec.specs.Outcomes.{IsExecuted, IsOutcome}
 use Rattle.graphql_spec.specs.OutcomeLaws.{OutcomeIsOne, QueryLeaves, RefusalLeaves, FailIn, ErrorsWhereFailures, NullHasError}
 use Rattle.graphql_spec.proofs.StartedRuns.{run-has-pairs}
 
-reads-one : (text : Text) (d e : Option Document) → Reads text d → Reads text e → d ≡ e
+pub reads-one : (text : Text) (d e : Option Document) → Reads text d → Reads text e → d ≡ e
 reads-one text None None a b = refl
 reads-one text None (Some e) a b = absurd (a e b.0)
 reads-one text (Some d) None a b = absurd (b d a.0)

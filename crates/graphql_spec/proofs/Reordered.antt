@@ -3,7 +3,7 @@ use Rattle.std.specs.Prelude.{◌≡◌, Bool, true, false, not, ◌&&◌, ◌||
 use Rattle.std.specs.List.{list_all, list_any}
 use Rattle.std.specs.Str.{bytes_eq}
 use Rattle.std.proofs.lemmas.Bool.{cases_Bool, both_ways, and_parts}
-use Rattle.std.proofs.lemmas.Option.{none-some, same_Some}
+use Rattle.std.proofs.lemmas.Option.{none-some}
 use Rattle.std.proofs.Common.{refl, sym, ap, ap₂, ◌∙◌, inl, inr, subst}
 use Rattle.graphql_spec.specs.Shown.{Name}
 use Rattle.graphql_spec.specs.Types.{TypeRef, named, list_of, innermost}
@@ -19,19 +19,12 @@ use Rattle.graphql_spec.specs.Executable.{names_differ, shape_fields, input_fiel
 use Rattle.graphql_spec.specs.Executable.{ends_in_output, ends_in_input, field_is_known, types_are_known, entry_names_differ, all_names_differ}
 use Rattle.graphql_spec.specs.Executable.{implements_field, implements, interfaces_are_met, default_is_right, defaults_fit, built_ins_are_right, is_executable}
 use Rattle.graphql_spec.specs.Executable.{IsSameSchema, OrderIsOpen}
+use Rattle.graphql_spec.proofs.Keeping.{entry_all}
 use Rattle.graphql_spec.proofs.Lists.{same_true, same_refl}
 
 -- ## Entries in another order
 
 -- what holds of all entries holds of one that is found
-entry_of_all : (P : Entry → Bool) (es : List Entry) (n : Name) (e : Entry) → list_all P es ≡ true → entry_in es n ≡ Some e → P e ≡ true
-unfolding entry_in
-entry_of_all P [] n e a is = absurd (none-some e is)
-entry_of_all P (x ∷ es) n e a is = let both = and_parts (P x) (list_all P es) a in elim (cases_Bool (bytes_eq n x.key)) [
-  | inl y ↦ ap P (sym (same_Some x e (rw y at is))) ∙ both.0
-  | inr y ↦ entry_of_all P es n e both.1 (rw y at is)
-]
-
 -- an entry that is found has the key
 found_key : (es : List Entry) (n : Name) (e : Entry) → entry_in es n ≡ Some e → list_any (bytes_eq n) (map (λ x. x.key) es) ≡ true
 unfolding entry_in
@@ -71,7 +64,7 @@ all_found P (d ∷ ds) differ h =
 -- so what holds of all entries holds of the same in another order
 all_moved : (P : Entry → Bool) (es ds : List Entry) → names_differ (map (λ x. x.key) ds) ≡ true → ((n : Name) → entry_in es n ≡ entry_in ds n) →
     list_all P es ≡ true → list_all P ds ≡ true
-all_moved P es ds differ same all = all_found P ds differ (λ n e is. entry_of_all P es n e all (same n ∙ is))
+all_moved P es ds differ same all = all_found P ds differ (λ n e is. entry_all P es n e all (same n ∙ is))
 
 -- ## What is looked up
 

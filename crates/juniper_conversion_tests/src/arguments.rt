@@ -1,9 +1,10 @@
 //! What a resolver gets of its arguments (section 6.4.1 of the Specification).
 
 use crate::inputs::read_input;
-use crate::tables::{Told, check, unknown};
+use crate::tables::{Told, check};
 use indexmap::IndexMap;
 use juniper_language::{DefaultScalarValue as Scalar, InputValue, Span, Spanning, Variables};
+use juniper_language_tests::tables::unknown;
 use juniper_values::{Arguments, FromInputValue, IntoFieldError, ResolveError};
 use std::alloc::{AllocError, Global};
 use std::fmt::Debug;

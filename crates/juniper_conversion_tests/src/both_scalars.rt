@@ -2,8 +2,9 @@
 
 use crate::inputs::read_input;
 use crate::rows::answered;
-use crate::tables::{Told, check, unknown};
+use crate::tables::{Told, check};
 use juniper_language::{InputValue, ScalarValue};
+use juniper_language_tests::tables::unknown;
 use juniper_values::{FromInputValue, ToInputValue};
 use std::alloc::{AllocError, Global};
 use std::fmt::Debug;

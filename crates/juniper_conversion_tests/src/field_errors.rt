@@ -1,7 +1,8 @@
 //! The errors of fields and of executions.
 
-use crate::tables::{Told, check, unknown};
+use crate::tables::{Told, check};
 use juniper_language::{DefaultScalarValue, ScalarValue, SourcePosition, Value};
+use juniper_language_tests::tables::unknown;
 use juniper_values::PathPart::{Index, Key};
 use juniper_values::{ExecutionError, FieldError, IntoFieldError, PathPart, ResolveError};
 use std::alloc::{AllocError, AllocFailed, Global};

@@ -2,9 +2,10 @@
 
 use crate::cell::Cell;
 use crate::inputs::read_input;
-use crate::tables::{Told, check, unknown};
+use crate::tables::{Told, check};
 use juniper_id::ID;
 use juniper_language::{DefaultScalarValue as Scalar, InputValue, ScalarValue};
+use juniper_language_tests::tables::unknown;
 use juniper_nullable::Nullable;
 use juniper_values::{FromInputValue, IntoFieldError, ToInputValue};
 use std::alloc::{AllocError, Global};

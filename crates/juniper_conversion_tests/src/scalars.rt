@@ -2,10 +2,11 @@
 
 use crate::field_errors::said;
 use crate::inputs::read_input;
-use crate::tables::{Told, check, unknown};
+use crate::tables::{Told, check};
 use juniper_id::ID;
 use juniper_language::{DefaultScalarValue as Scalar, InputValue, ScalarValue, Value};
 use juniper_language_tests::scalar::TestScalar;
+use juniper_language_tests::tables::unknown;
 use juniper_nullable::Nullable;
 use juniper_values::{FieldError, FromScalarValue, IntoFieldError, ToInputValue, ToScalarValue};
 use std::alloc::{AllocError, Global};

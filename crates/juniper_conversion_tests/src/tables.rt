@@ -77,11 +77,6 @@ impl Tells for Told {
     }
 }
 
-/// What is told of a case that no table has.
-pub fn unknown(alloc: Global) -> Result<String, AllocError> {
-    String::from_str(alloc, "no such case")
-}
-
 /// Ends the test at a row that says something else than what is told of its case.
 pub fn check(rt: &impl Abort, alloc: Global, told: Told, rows: &str) {
     assert_eq!(rt; first_other(alloc, told, rows), Ok(None));

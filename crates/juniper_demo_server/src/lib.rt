@@ -12,6 +12,6 @@ mod words;
 pub use demo::{Demo, DemoContext, DemoNode, Episode};
 pub use mutation::DemoMutation;
 pub use outcome::{Answer, Outcome, show};
-pub use schema::{DemoRoot, demo_root};
+pub use schema::{DemoRoot, demo_root, made_root};
 pub use types::{CELL, CHARACTER, DROID, EPISODES, HUMAN, QUERY};
 pub use words::answer;

@@ -12,7 +12,7 @@ use crate::mutation::DemoMutation;
 use crate::types::demo_types;
 use juniper::words::{ServedRoot, served};
 use juniper::{DefaultScalarValue, RootError};
-use std::alloc::Global;
+use std::alloc::{AllocError, Global};
 
 /// The root of the demo's server.
 pub type DemoRoot = ServedRoot<Demo, DemoMutation, DemoContext, DefaultScalarValue>;
@@ -24,4 +24,14 @@ pub fn demo_root(alloc: Global) -> Result<DemoRoot, RootError>
     ensures refused { IfErr result (λ error. error ≡ root_error.Memory) }
 {
     served(alloc, Demo, DemoMutation, demo_types())
+}
+
+/// The same; an error where memory is refused.
+pub fn made_root(alloc: Global) -> Result<DemoRoot, AllocError>
+    ensures { IfOk result (λ root. IsDemoSchema (view_schema default_shown (schema_of root))) }
+{
+    match demo_root(alloc) {
+        Ok(root) => Ok(root),
+        Err(_) => Err(AllocError),
+    }
 }

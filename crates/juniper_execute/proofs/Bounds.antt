@@ -1,10 +1,10 @@
 -- A budget of fields, by the way to walk (6.2).
 use Rattle.std.proofs.Common.{ℕ, suc, ◌≡◌, ◌+◌, ◌-◌, ◌<◌, ◌≤◌, Bool, true, false, cond, List, IfOk, Result, Ok, Err, refl, sym, ap, subst, arith}
-use Rattle.std.specs.Str.{bytes_eq}
 use Rattle.graphql_spec.specs.Errors.{Listed}
 use Rattle.graphql_spec.specs.Shown.{Name}
-use Rattle.graphql_spec.specs.Values.{Value, Entries, no_entries, entry, null, object, put}
+use Rattle.graphql_spec.specs.Values.{Value, Entries, no_entries, null, object, put}
 use Rattle.juniper_walk.specs.Budget.{fields_in, fields_in_entries}
+use Rattle.juniper_walk.proofs.Budget.{put-fields}
 use Rattle.juniper_walk.specs.Plans.{IsBare}
 use Rattle.juniper_walk.specs.declared.plan.Plan.{Plan}
 use Rattle.juniper_execute.specs.Stepping.{IsGiven}
@@ -38,18 +38,6 @@ bare-own fields p bare = record {
   below = bare.below;
   left = refl;
 }
-
--- a key more, or its value anew
-put-by : (b : Bool) (j : Name) (v w : Value) (rest new : Entries) → fields_in_entries new ≤ suc (fields_in v + fields_in_entries rest) →
-    fields_in_entries (cond b (entry j v rest) (entry j w new)) ≤ suc (fields_in v + fields_in_entries (entry j w rest))
-unfolding fields_in
-put-by true j v w rest new less = omega arith
-put-by false j v w rest new less = omega (arith, less)
-
-put-fields : (k : Name) (v : Value) (es : Entries) → fields_in_entries (put k v es) ≤ suc (fields_in v + fields_in_entries es)
-unfolding put fields_in
-put-fields k v no_entries = omega arith
-put-fields k v (entry j w rest) = put-by (bytes_eq k j) j v w rest (put k v rest) (put-fields k v rest)
 
 given-fields : (rises : Bool) (k : Name) (v : Value) (es : Entries) → fields_in_entries (cond rises es (put k v es)) ≤ suc (fields_in v + fields_in_entries es)
 given-fields true k v es = omega arith

@@ -15,12 +15,9 @@ use crate::small::are_small;
 use indexmap::IndexMap;
 use juniper_meta::meta::Argument;
 use juniper_syntax::ast::Arguments as WrittenArguments;
-use juniper_syntax::{Field, InputValue, ScalarValue, Span, Spanning, Variables};
+use juniper_syntax::{Field, InputValue, ScalarValue, Span, Spanning, Variables, WrittenArgument};
 use juniper_values::Arguments;
 use std::alloc::{AllocError, Global};
-
-/// An argument's name and value as they are written.
-pub(crate) type Written<'a, S> = (Spanning<&'a str, Span>, Spanning<InputValue<S>, Span>);
 
 /// Arguments by their names.
 type Given<'a, S> = IndexMap<&'a str, Spanning<InputValue<S>, Span>>;
@@ -89,7 +86,7 @@ pub(crate) fn kept_arguments<'s, S: ScalarValue>(
 /// The written arguments with values for their variables.
 fn give<'a, 'b, S: ScalarValue>(
     alloc: Global,
-    written: &'b [Written<'a, S>],
+    written: &'b [WrittenArgument<'a, S>],
     variables: &Variables<S>,
 ) -> Result<Given<'b, S>, AllocError>
     ensures { IfOk result (λ made. members_of S.shown made.entries ≡ given (view_variables S.shown variables.now) (map (view_argument S.shown) written.now)) }
@@ -105,7 +102,7 @@ fn give<'a, 'b, S: ScalarValue>(
 fn give_declared<'s, S: ScalarValue>(
     alloc: Global,
     declared: &'s [Argument<S>],
-    written: &[Written<S>],
+    written: &[WrittenArgument<S>],
     variables: &Variables<S>,
 ) -> Result<Option<Given<'s, S>>, AllocError>
     ensures { IfOk result (λ found. IfSome found (λ made. members_of S.shown made.entries

@@ -1,7 +1,6 @@
 //! Which arguments are small. Nothing rests on it: those of a field that are not are made anew for each of its nodes, and not kept.
 
-use crate::coerce::Written;
-use juniper_syntax::{InputValue, ScalarValue, Span, Spanning, Variables};
+use juniper_syntax::{InputValue, ScalarValue, Span, Spanning, Variables, WrittenArgument};
 
 /// So many arguments, items of a list and fields of an object are few.
 const FEW: usize = 8;
@@ -11,7 +10,7 @@ const SHORT: usize = 64;
 
 /// Whether arguments are few, and the value of each is small.
 pub(crate) fn are_small<S: ScalarValue>(
-    written: &[Written<'_, S>],
+    written: &[WrittenArgument<'_, S>],
     variables: &Variables<S>,
 ) -> bool {
     for argument in written {

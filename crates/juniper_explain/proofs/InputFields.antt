@@ -1,16 +1,14 @@
 -- Fields of object values with the name of an earlier one.
-use Rattle.std.proofs.Common.{◌≡◌, Bool, true, false, ◌||◌, List, [], ◌∷◌, ◌++◌, Option, Some, None, map, String, Global, string_bytes, refl, sym, ap, ap₂, ◌∙◌}
+use Rattle.std.proofs.Common.{◌≡◌, false, ◌||◌, List, [], ◌∷◌, ◌++◌, Option, Some, None, map, String, Global, string_bytes, refl, sym, ap, ap₂, ◌∙◌}
 use Rattle.std.specs.List.{flat_map, list_any}
-use Rattle.graphql_spec.specs.Shown.{Name, Shown}
+use Rattle.graphql_spec.specs.Shown.{Shown}
 use Rattle.graphql_spec.specs.Positions.{Spanned}
 use Rattle.graphql_spec.specs.Documents.{Argument, Definition, VariableDefinition, Word}
 use Rattle.graphql_spec.specs.Inputs.{Input, null, scalar, enumerated, variable, list, object, InputItems, no_items, item, InputFields, no_fields, input_field}
 use Rattle.graphql_spec.specs.Rules as rules
 use Rattle.graphql_spec.specs.Rules.{repeats_input_field, reported}
-use Rattle.graphql_spec.specs.Fits.{has_field}
-use Rattle.std.specs.Str.{bytes_eq}
-use Rattle.std.proofs.lemmas.List.Folds.{list_any-append}
-use Rattle.graphql_spec.specs.Written.{argument_lists, default_values, defined_variables, field_repeats, fields_repeat, item_repeats, repeats, values_in}
+use Rattle.graphql_spec.specs.Written.{argument_lists, defined_variables, field_repeats, item_repeats, repeats}
+use Rattle.juniper_written.proofs.FieldRepeats.{defaults-are, repeats-parts, repeats-split}
 use Rattle.juniper_written.specs.FieldNames.{default_repeats, names_of, value_repeats_in, value_repeats_or, values_repeat}
 use Rattle.juniper_syntax.specs.Positions.{view_span}
 use Rattle.juniper_syntax.specs.declared.position.Spanning.{Spanning}
@@ -53,59 +51,6 @@ module _ {S : Type 0} (shown : S → Shown) where
   unfolding field_words
   words-are [] = refl
   words-are (x ∷ xs) = ap (λ l. word_of_field x ∷ l) (words-are xs)
-
--- ## Names and values apart
-
-has-any : (k : Name) (fs : InputFields) → has_field k fs ≡ list_any (bytes_eq k) (names_of fs)
-unfolding has_field names_of
-has-any k no_fields = refl
-has-any k (input_field j j_at v v_at rest) = ap (λ b. bytes_eq k j || b) (has-any k rest)
-
-or-four : (a b c d : Bool) → (a || (b || (c || d))) ≡ ((a || c) || (b || d))
-or-four true b c d = refl
-or-four false true true d = refl
-or-four false true false d = refl
-or-four false false c d = refl
-
--- two fields have one name, or it is so within a value
-repeats-split : (fs : InputFields) → fields_repeat fs ≡ (repeats (names_of fs) || values_repeat fs)
-unfolding fields_repeat names_of values_repeat repeats
-repeats-split no_fields = refl
-repeats-split (input_field k k_at v v_at rest) =
-    ap₂ (λ a b. a || (field_repeats v || b)) (has-any k rest) (repeats-split rest)
-    ∙ or-four (list_any (bytes_eq k) (names_of rest)) (field_repeats v) (repeats (names_of rest)) (values_repeat rest)
-
--- ## A definition's values
-
-values-map : (as' : List Argument) → list_any field_repeats (map (λ a. a.value.item) as') ≡ list_any value_repeats_in as'
-unfolding value_repeats_in
-values-map [] = refl
-values-map (a ∷ as') = ap (λ b. field_repeats a.value.item || b) (values-map as')
-
-lists-flat : (ls : List (List Argument)) → list_any field_repeats (flat_map (λ as'. map (λ a. a.value.item) as') ls) ≡ list_any (list_any value_repeats_in) ls
-lists-flat [] = refl
-lists-flat (l ∷ ls) =
-    list_any-append field_repeats (map (λ a. a.value.item) l) (flat_map (λ as'. map (λ a. a.value.item) as') ls)
-    ∙ ap₂ (λ a b. a || b) (values-map l) (lists-flat ls)
-
-default-is : (v : VariableDefinition) (o : Option (Spanned Input)) (vs : List Input) → v.default ≡ o →
-    list_any field_repeats (elim o [ None ↦ vs | Some d ↦ d.item ∷ vs ]) ≡ (value_repeats_or o || list_any field_repeats vs)
-unfolding value_repeats_or
-default-is v None vs is = refl
-default-is v (Some d) vs is = refl
-
-defaults-are : (vs : List VariableDefinition) → list_any field_repeats (default_values vs) ≡ list_any default_repeats vs
-unfolding default_values default_repeats
-defaults-are [] = refl
-defaults-are (v ∷ vs) = default-is v v.default (default_values vs) refl ∙ ap (λ b. value_repeats_or v.default || b) (defaults-are vs)
-
-repeats-parts : (x : Definition) (ls : List (List Argument)) → ls ≡ argument_lists x →
-    (list_any (list_any value_repeats_in) ls || list_any field_repeats (default_values (defined_variables x))) ≡ repeats_input_field x
-unfolding repeats_input_field values_in
-repeats-parts x ls is =
-    ap (λ l. list_any (list_any value_repeats_in) l || list_any field_repeats (default_values (defined_variables x))) is
-    ∙ (ap (λ b. b || list_any field_repeats (default_values (defined_variables x))) (sym (lists-flat (argument_lists x)))
-    ∙ sym (list_any-append field_repeats (flat_map (λ as'. map (λ a. a.value.item) as') (argument_lists x)) (default_values (defined_variables x))))
 
 -- ## Whether there is any
 

@@ -1,5 +1,5 @@
 -- Lists one behind the other.
-use Rattle.std.proofs.Common.{◌≡◌, Bool, true, false, ◌||◌, List, [], ◌∷◌, ◌++◌, map, refl, sym, ap, ap₂, append-nil, append_assoc, ◌∙◌}
+use Rattle.std.proofs.Common.{◌≡◌, Bool, ◌||◌, List, [], ◌∷◌, ◌++◌, refl, sym, ap, ap₂, append-nil, append_assoc, ◌∙◌}
 use Rattle.std.specs.List.{flat_map, list_any}
 use Rattle.juniper_explain.specs.Explanations.{has_any}
 
@@ -27,18 +27,6 @@ has-flat f (x ∷ xs) = has-append (f x) (flat_map f xs) ∙ ap (λ b. has_any (
 pub any-same : {A : Type 0} (f g : A → Bool) → ((x : A) → f x ≡ g x) → (xs : List A) → list_any f xs ≡ list_any g xs
 any-same f g same [] = refl
 any-same f g same (x ∷ xs) = ap (λ b. b || list_any f xs) (same x) ∙ ap (λ b. g x || b) (any-same f g same xs)
-
-pub any-seen : {A B : Type 0} (view : A → B) (test : B → Bool) (xs : List A) → list_any (λ x. test (view x)) xs ≡ list_any test (map view xs)
-any-seen view test [] = refl
-any-seen view test (x ∷ xs) = ap (λ b. test (view x) || b) (any-seen view test xs)
-
-or-assoc : (a b c : Bool) → (a || (b || c)) ≡ ((a || b) || c)
-or-assoc true b c = refl
-or-assoc false b c = refl
-
-pub any-either : {A : Type 0} (test : A → Bool) (xs ys : List A) → list_any test (xs ++ ys) ≡ (list_any test xs || list_any test ys)
-any-either test [] ys = refl
-any-either test (x ∷ xs) ys = ap (λ b. test x || b) (any-either test xs ys) ∙ or-assoc (test x) (list_any test xs) (list_any test ys)
 
 -- what is found at each is what passes at each
 pub has-each : {A B : Type 0} (f : A → List B) (test : A → Bool) → ((x : A) → has_any (f x) ≡ test x) → (xs : List A) →

@@ -4,7 +4,7 @@ mod Joined
 mod Judging
 mod Marking
 mod Misusing
-mod Moved
+pub mod Moved
 mod Nearing
 mod PartWords
 mod Reached

@@ -29,7 +29,8 @@ use Rattle.juniper_explain.specs.Nodes.{misused_at, misused_by, misused_variable
 use Rattle.juniper_explain.specs.Positions as positions
 use Rattle.juniper_explain.specs.Positions.{places_at, places_in_call, places_in_fields, places_in_items, places_used}
 use Rattle.juniper_explain.proofs.Found.{AreOf, has-found, of-each, of-found}
-use Rattle.juniper_explain.proofs.Joined.{any-seen, has-each}
+use Rattle.juniper_written.proofs.Deciding.{any-seen}
+use Rattle.juniper_explain.proofs.Joined.{has-each}
 use Rattle.juniper_explain.proofs.Undefining.{second, some-not}
 
 -- ## Items and fields of the code

@@ -16,6 +16,7 @@ use Rattle.juniper_explain.specs.Explanations.{has_any}
 use Rattle.juniper_explain.specs.Reasons.{at_declaration, declared_at, field_path, is_list, item_path, missing_at, missing_field, reasons}
 use Rattle.juniper_explain.specs.Reasons.{reasons_in_fields, reasons_in_items, repeated_at, repeated_names, size_of, takes_fields, text_unless, texts_unless}
 use Rattle.juniper_explain.specs.Reasons.{value_reasons, wrong_size}
+use Rattle.juniper_type_rules.proofs.Behind.{or-assoc}
 use Rattle.juniper_explain.proofs.Joined.{has-append}
 
 -- ## Texts of tests
@@ -109,10 +110,6 @@ four false true true f = refl
 four false true false f = refl
 four false false b f = refl
 
-three : (a b c : Bool) → (a || (b || c)) ≡ ((a || b) || c)
-three true b c = refl
-three false b c = refl
-
 or-swap : (a b : Bool) → (a || b) ≡ (b || a)
 or-swap true true = refl
 or-swap true false = refl
@@ -139,7 +136,7 @@ module _ (s : Schema) where
       ≡ not (all_written fs (declared_at s t) && fields_fit s true fs (declared_at s t))
   has-object fs t p inside =
       has-append (repeated_at s fs t p) _ ∙ (ap (λ b. has_any (repeated_at s fs t p) || b) (has-append (reasons_in_fields s fs t p) (missing_at s fs t p))
-      ∙ (three (has_any (repeated_at s fs t p)) (has_any (reasons_in_fields s fs t p)) (has_any (missing_at s fs t p))
+      ∙ (or-assoc (has_any (repeated_at s fs t p)) (has_any (reasons_in_fields s fs t p)) (has_any (missing_at s fs t p))
       ∙ (ap₂ (λ a b. a || b) inside (has-missing-at s fs t p)
       ∙ (or-swap (not (fields_fit s true fs (declared_at s t))) (not (all_written fs (declared_at s t)))
       ∙ or-nots (all_written fs (declared_at s t)) (fields_fit s true fs (declared_at s t))))))

@@ -9,7 +9,8 @@ use Rattle.juniper_explain.specs.declared.rule.Rule.{Rule}
 use Rattle.juniper_explain.specs.Explanations.{Explanation, has_any, named}
 use Rattle.juniper_explain.specs.Nodes.{repeated}
 use Rattle.juniper_explain.proofs.Found.{AreOf, of-append, of-found, has-found}
-use Rattle.juniper_explain.proofs.Joined.{any-seen, has-append}
+use Rattle.juniper_written.proofs.Deciding.{any-seen}
+use Rattle.juniper_explain.proofs.Joined.{has-append}
 
 cond-or : (b c : Bool) → cond b true c ≡ (b || c)
 cond-or true c = refl

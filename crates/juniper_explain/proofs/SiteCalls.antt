@@ -6,7 +6,7 @@ use Rattle.graphql_spec.specs.Documents.{Directive, Definition, written}
 use Rattle.graphql_spec.specs.Schema.{Schema, FieldDeclaration, DirectiveDeclaration}
 use Rattle.graphql_spec.specs.Placed.{Call, Placed, calls, directive_calls, directive_named, directives_placed, field_calls, placed_in}
 use Rattle.juniper_explain.specs.Sites.{Site, directive_site, field_site, sites}
-use Rattle.juniper_explain.proofs.Joined.{any-seen}
+use Rattle.juniper_written.proofs.Deciding.{any-seen}
 
 -- the arguments of a field or directive, with their declarations
 abbrev pub call_of : Site → Call

@@ -31,7 +31,9 @@ use Rattle.juniper_explain.specs.Nodes.{unknown_type, use_findings, wrong_argume
 use Rattle.juniper_explain.specs.Sites.{Site, sites}
 use Rattle.juniper_explain.specs.Words.{condition_words, definition_word, directive_word, spread_words, type_word}
 use Rattle.juniper_explain.proofs.Found.{AreOf, error-is, has-found, of-append, of-each, of-found}
-use Rattle.juniper_explain.proofs.Joined.{all-from-left, any-either, any-seen, has-append, has-each, has-flat, any-same}
+use Rattle.juniper_type_rules.proofs.Behind.{any-either}
+use Rattle.juniper_written.proofs.Deciding.{any-seen}
+use Rattle.juniper_explain.proofs.Joined.{all-from-left, has-append, has-each, has-flat, any-same}
 use Rattle.juniper_written.proofs.Lists.{seen-twice}
 use Rattle.juniper_explain.proofs.InputFields.{input-error}
 use Rattle.juniper_explain.proofs.Misusing.{misused-has, misused-of}

@@ -21,7 +21,8 @@ use Rattle.juniper_explain.specs.Explanations.{has_any, named}
 use Rattle.juniper_explain.specs.Nodes.{undefined_name, undefined_variables}
 use Rattle.juniper_explain.specs.Variables.{variable_words, words_given, words_in_fields, words_in_items, words_used}
 use Rattle.juniper_explain.proofs.Found.{AreOf, has-found, of-each, of-found}
-use Rattle.juniper_explain.proofs.Joined.{any-seen, has-each}
+use Rattle.juniper_written.proofs.Deciding.{any-seen}
+use Rattle.juniper_explain.proofs.Joined.{has-each}
 use Rattle.juniper_explain.proofs.WordNames.{names, names-append}
 
 -- ## Definitions of variables

@@ -20,11 +20,8 @@ use crate::rule::Rule;
 use crate::sites::{Owner, Site};
 use juniper_meta::{Argument, find_argument};
 use juniper_schema::SchemaType;
-use juniper_syntax::{InputValue, ScalarValue, Span, Spanning, Type};
+use juniper_syntax::{InputValue, ScalarValue, Type, WrittenArgument};
 use std::alloc::{AllocError, Global};
-
-/// An argument that is given.
-type Given<'a, S> = (Spanning<&'a str, Span>, Spanning<InputValue<S>, Span>);
 
 /// Explains the arguments that are not declared.
 pub(crate) fn explain_unknown_arguments<'d, 'a, S: ScalarValue>(
@@ -65,7 +62,7 @@ fn explain_unknown_at<'d, 'a, S: ScalarValue>(
 fn explain_unknown_argument<'d, 'a, S: ScalarValue>(
     alloc: Global,
     site: &Site<'d, 'a, S>,
-    argument: &Given<'a, S>,
+    argument: &WrittenArgument<'a, S>,
     explanations: &mut Vec<Explanation>,
 ) -> Result<(), AllocError>
     ensures { OnOk result (Adds explanations.old.items explanations.new.items
@@ -159,7 +156,7 @@ fn explain_wrong_argument<'d, 'a, S: ScalarValue>(
     alloc: Global,
     schema: &SchemaType<S>,
     site: &Site<'d, 'a, S>,
-    argument: &Given<'a, S>,
+    argument: &WrittenArgument<'a, S>,
     explanations: &mut Vec<Explanation>,
 ) -> Result<(), AllocError>
     ensures { OnOk result (Adds explanations.old.items explanations.new.items

@@ -14,13 +14,9 @@ ghost use Rattle.juniper_explain.specs.Words.{field_words, view_words};
 use crate::explanation::{Explanation, Wording};
 use crate::repeats::explain_repeated;
 use crate::rule::Rule;
-use crate::variables::Variable;
 use juniper_syntax::ast::Arguments;
-use juniper_syntax::{InputValue, ScalarValue, Span, Spanning};
+use juniper_syntax::{DefinedVariable, InputField, InputValue, ScalarValue, Span, Spanning};
 use std::alloc::{AllocError, Global};
-
-/// A field of an object value: its name and its value.
-type InputField<S> = (Spanning<String, Span>, Spanning<InputValue<S>, Span>);
 
 /// What is said of a field's name.
 const REPEATED_FIELD: Wording<'static> = Wording {
@@ -68,7 +64,7 @@ fn explain_in_given<'a, S: ScalarValue>(
 /// Explains those in the defaults of variables.
 pub(crate) fn explain_in_defaults<S: ScalarValue>(
     alloc: Global,
-    variables: &[Variable<'_, S>],
+    variables: &[DefinedVariable<'_, S>],
     explanations: &mut Vec<Explanation>,
 ) -> Result<(), AllocError>
     ensures { OnOk result (Adds explanations.old.items explanations.new.items

@@ -18,10 +18,10 @@ use crate::parts::parts_of;
 use crate::rule::Rule;
 use crate::standing::may_stand;
 use crate::variable_places::{Place, places_used};
-use crate::variables::{Variable, listed};
+use crate::variables::listed;
 use juniper_rules::ListedOnTypes;
 use juniper_schema::SchemaType;
-use juniper_syntax::{Definition, ScalarValue, Type};
+use juniper_syntax::{DefinedVariable, Definition, ScalarValue, Type};
 use juniper_written::FragmentsByName;
 use std::alloc::{AllocError, Global};
 
@@ -74,7 +74,7 @@ fn explain_all<'u, 'p, 'l, 'd: 'u, 'a, S: ScalarValue>(
 /// Explains those of the variables at positions that may not stand there.
 fn explain_places<'a, S: ScalarValue>(
     alloc: Global,
-    variables: &[Variable<'a, S>],
+    variables: &[DefinedVariable<'a, S>],
     places: &[Place<'_>],
     explanations: &mut Vec<Explanation>,
 ) -> Result<(), AllocError>
@@ -90,7 +90,7 @@ fn explain_places<'a, S: ScalarValue>(
 /// Explains a variable at a position where it may not stand; one that is not defined may.
 fn explain_place<'a, S: ScalarValue>(
     alloc: Global,
-    variables: &[Variable<'a, S>],
+    variables: &[DefinedVariable<'a, S>],
     place: &Place<'_>,
     explanations: &mut Vec<Explanation>,
 ) -> Result<(), AllocError>
@@ -104,9 +104,9 @@ fn explain_place<'a, S: ScalarValue>(
 
 /// The first of the variables of a name.
 fn first_of<'v, 'a, S: ScalarValue>(
-    variables: &'v [Variable<'a, S>],
+    variables: &'v [DefinedVariable<'a, S>],
     name: &str,
-) -> Option<&'v Variable<'a, S>>
+) -> Option<&'v DefinedVariable<'a, S>>
     ensures { option_map (λ v. view_variable S.shown v.now) result ≡ variable_uses.definition_of (map (view_variable S.shown) variables.now) name.now }
 {
     for variable in variables {
@@ -121,7 +121,7 @@ fn first_of<'v, 'a, S: ScalarValue>(
 #[tactic(auto, unfolding(crate::specs::Nodes::misused_at, crate::specs::Explanations::found))]
 fn explain_variable<S: ScalarValue>(
     alloc: Global,
-    variable: &Variable<'_, S>,
+    variable: &DefinedVariable<'_, S>,
     place: &Place<'_>,
     explanations: &mut Vec<Explanation>,
 ) -> Result<(), AllocError>

@@ -15,11 +15,8 @@ use crate::value_parts::{
 use crate::variable_places::{input_fields, item_type};
 use juniper_meta::find_argument;
 use juniper_schema::SchemaType;
-use juniper_syntax::{InputValue, ScalarValue, Span, Spanning, Type};
+use juniper_syntax::{InputField, InputValue, ScalarValue, Span, Spanning, Type};
 use std::alloc::{AllocError, Global};
-
-/// A field of an object value: its name and its value.
-type InputField<S> = (Spanning<String, Span>, Spanning<InputValue<S>, Span>);
 
 /// Adds why a value does not fit a type: nothing where it does. Of a list at a list type, and of an object at an input object,
 /// it is what is wrong with the parts. An error where memory is refused.

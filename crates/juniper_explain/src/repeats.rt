@@ -14,9 +14,8 @@ ghost use Rattle.juniper_explain.specs.Words.{view_words};
 
 use crate::explanation::{Explanation, Wording, add_named};
 use crate::rule::Rule;
-use crate::variables::Variable;
 use juniper_syntax::ast::Arguments;
-use juniper_syntax::{ScalarValue, Span, Spanning};
+use juniper_syntax::{DefinedVariable, ScalarValue, Span, Spanning};
 use juniper_written::NameSet;
 use std::alloc::{AllocError, Global};
 
@@ -38,7 +37,7 @@ const REPEATED_ARGUMENT: Wording<'static> = Wording {
 #[tactic(auto, unfolding(crate::specs::Nodes::repeated_of))]
 pub(crate) fn explain_repeated_variables<'a, S: ScalarValue>(
     alloc: Global,
-    variables: &[Variable<'a, S>],
+    variables: &[DefinedVariable<'a, S>],
     explanations: &mut Vec<Explanation>,
 ) -> Result<(), AllocError>
     ensures { OnOk result (Adds explanations.old.items explanations.new.items (repeated_of (map (view_variable S.shown) variables.now))) }
@@ -50,7 +49,7 @@ pub(crate) fn explain_repeated_variables<'a, S: ScalarValue>(
 /// The names of variables.
 fn variable_words<'a, S: ScalarValue>(
     alloc: Global,
-    variables: &[Variable<'a, S>],
+    variables: &[DefinedVariable<'a, S>],
 ) -> Result<Vec<Spanning<&'a str, Span>>, AllocError>
     ensures { IfOk result (λ ws. view_words ws.items ≡ map (λ v. v.name) (map (view_variable S.shown) variables.now)) }
 {

@@ -6,15 +6,14 @@ ghost use Rattle.graphql_spec.specs.VariableUses as spec;
 ghost use Rattle.juniper_syntax.specs.DocumentView.{view_variable};
 ghost use Rattle.juniper_meta.specs.MetaView.{view_type};
 
-use crate::variables::Variable;
-use juniper_syntax::{ScalarValue, Type};
+use juniper_syntax::{DefinedVariable, ScalarValue, Type};
 use juniper_type_rules::{fits_nullable, has_real_default, is_compatible};
 
 /// Whether a variable of this definition may stand there (IsVariableUsageAllowed). One that takes null may stand where
 /// null is not taken, if it or the place has a default.
 #[tactic(auto, unfolding(graphql_spec::specs::VariableUses::may_stand))]
 pub(crate) fn may_stand<S: ScalarValue>(
-    variable: &Variable<'_, S>,
+    variable: &DefinedVariable<'_, S>,
     place: &Type<String>,
     has_default: bool,
 ) -> bool

@@ -18,9 +18,9 @@ use crate::explanation::{Explanation, Wording, add_named};
 use crate::parts::parts_of;
 use crate::rule::Rule;
 use crate::variable_words::words_used;
-use crate::variables::{Variable, listed};
+use crate::variables::listed;
 use juniper_rules::ListedOnTypes;
-use juniper_syntax::{Definition, Operation, ScalarValue, Span, Spanning};
+use juniper_syntax::{DefinedVariable, Definition, Operation, ScalarValue, Span, Spanning};
 use juniper_written::FragmentsByName;
 use std::alloc::{AllocError, Global};
 
@@ -115,7 +115,7 @@ fn by_operation(alloc: Global, name: &str) -> Result<String, AllocError>
 /// Explains the name of a variable, where none of these has it.
 fn explain_name<'a, S: ScalarValue>(
     alloc: Global,
-    variables: &[Variable<'a, S>],
+    variables: &[DefinedVariable<'a, S>],
     word: &Spanning<&str, Span>,
     wording: &Wording<'_>,
     explanations: &mut Vec<Explanation>,
@@ -129,14 +129,14 @@ fn explain_name<'a, S: ScalarValue>(
 }
 
 /// Whether none of the variables has this name.
-fn is_undefined<'a, S: ScalarValue>(variables: &[Variable<'a, S>], name: &str) -> bool
+fn is_undefined<'a, S: ScalarValue>(variables: &[DefinedVariable<'a, S>], name: &str) -> bool
     ensures { result ≡ is_none (variable_uses.definition_of (map (view_variable S.shown) variables.now) name.now) }
 {
     !defines(variables, name)
 }
 
 /// Whether one of the variables has this name.
-fn defines<'a, S: ScalarValue>(variables: &[Variable<'a, S>], name: &str) -> bool
+fn defines<'a, S: ScalarValue>(variables: &[DefinedVariable<'a, S>], name: &str) -> bool
     ensures { result ≡ list_any (λ v. bytes_eq name.now v.name.item) (map (view_variable S.shown) variables.now) }
 {
     for variable in variables {

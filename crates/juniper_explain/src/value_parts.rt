@@ -19,12 +19,9 @@ use crate::given::names_of;
 use crate::nearest::{suggested, suggestion};
 use crate::variable_places::input_fields;
 use juniper_meta::{Argument, EnumValue, MetaType, find_argument};
-use juniper_schema::SchemaType;
-use juniper_syntax::{InputValue, ScalarValue, Span, Spanning, Type};
+use juniper_schema::{SchemaType, has_field};
+use juniper_syntax::{InputField, InputValue, ScalarValue, Type};
 use std::alloc::{AllocError, Global};
-
-/// A field of an object value: its name and its value.
-type InputField<S> = (Spanning<String, Span>, Spanning<InputValue<S>, Span>);
 
 /// Where a given value stands.
 #[derive(Clone, Copy)]
@@ -290,19 +287,6 @@ fn is_repeated<S: ScalarValue>(
         && fit.has_field name.now (view_fields S.shown others.now)) }
 {
     find_argument(declared, name).is_some() && has_field(others, name)
-}
-
-/// Whether a field of this name is written.
-#[tactic(auto, unfolding(graphql_spec::specs::Fits::has_field))]
-fn has_field<S: ScalarValue>(fields: &[InputField<S>], name: &str) -> bool
-    ensures { result ≡ fit.has_field name.now (view_fields S.shown fields.now) }
-{
-    for (key, _) in fields {
-        if name == key.item.as_str() {
-            return true;
-        }
-    }
-    false
 }
 
 /// Adds which declared fields of an input object must be written, and are not (3.10).

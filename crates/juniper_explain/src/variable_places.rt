@@ -20,11 +20,8 @@ use juniper_placed::Call;
 use juniper_rules::ListedOnTypes;
 use juniper_schema::SchemaType;
 use juniper_syntax::ast::Arguments;
-use juniper_syntax::{InputValue, ScalarValue, Span, Spanning, Type};
+use juniper_syntax::{InputField, InputValue, ScalarValue, Span, Spanning, Type};
 use std::alloc::{AllocError, Global};
-
-/// A field of an object value: its name and its value.
-type InputField<S> = (Spanning<String, Span>, Spanning<InputValue<S>, Span>);
 
 /// A variable at a position.
 #[derive(Drop)]

@@ -16,11 +16,12 @@ ghost use Rattle.juniper_explain.specs.ReasonsView.{view_messages};
 
 use crate::reasons::explain_value;
 use crate::value_parts::{ValuePlace, say};
-use crate::variables::{Variable, default_text, listed};
+use crate::variables::{default_text, listed};
 use juniper_rules::Given;
 use juniper_schema::SchemaType;
 use juniper_syntax::{
-    InputValue, Operation, ScalarValue, SourcePosition, Span, Spanning, Type, Variables,
+    DefinedVariable, InputValue, Operation, ScalarValue, SourcePosition, Span, Spanning, Type,
+    Variables,
 };
 use juniper_type_rules::owned_type;
 use std::alloc::{AllocError, Global};
@@ -58,7 +59,7 @@ pub fn explain_variables<S: ScalarValue>(
 fn explain_each<S: ScalarValue>(
     alloc: Global,
     schema: &SchemaType<S>,
-    defined: &[Variable<'_, S>],
+    defined: &[DefinedVariable<'_, S>],
     given: &Given<'_, S>,
 ) -> Result<Vec<VariableExplanation>, AllocError>
     ensures { IfOk result (λ es. view_variable_explanations es.items ≡ variable_explanations (view_schema S.shown schema.now)
@@ -92,7 +93,7 @@ fn add_all(
 fn explain_variable<S: ScalarValue>(
     alloc: Global,
     schema: &SchemaType<S>,
-    variable: &Variable<'_, S>,
+    variable: &DefinedVariable<'_, S>,
     given: &Given<'_, S>,
     messages: &mut Vec<String>,
 ) -> Result<(), AllocError>

@@ -13,11 +13,8 @@ ghost use Rattle.juniper_explain.specs.Words.{view_words};
 
 use juniper_rules::ListedOnTypes;
 use juniper_syntax::ast::Arguments;
-use juniper_syntax::{InputValue, ScalarValue, Span, Spanning};
+use juniper_syntax::{InputField, InputValue, ScalarValue, Span, Spanning};
 use std::alloc::{AllocError, Global};
-
-/// A field of an object value: its name and its value.
-type InputField<S> = (Spanning<String, Span>, Spanning<InputValue<S>, Span>);
 
 /// The variables in the arguments of some definitions, of which this is listed, in the order in which they are written. An
 /// error where memory is refused.

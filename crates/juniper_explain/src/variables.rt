@@ -21,20 +21,16 @@ use crate::explanation::{Explanation, add};
 use crate::rule::Rule;
 use juniper_schema::SchemaType;
 use juniper_syntax::{
-    Definition, InputValue, ScalarValue, Span, Spanning, Type, VariableDefinition,
-    VariableDefinitions,
+    DefinedVariable, Definition, InputValue, ScalarValue, Span, Spanning, Type, VariableDefinitions,
 };
 use juniper_type_rules::owned_type;
 use std::alloc::{AllocError, Global};
-
-/// A variable with its name.
-pub(crate) type Variable<'a, S> = (Spanning<&'a str, Span>, VariableDefinition<'a, S>);
 
 /// The variables that a definition defines.
 #[tactic(auto, unfolding(graphql_spec::specs::Written::defined_variables, graphql_spec::specs::Documents::variables_of))]
 pub(crate) fn variables_of<'v, 'a, S: ScalarValue>(
     definition: &'v Definition<'a, S>,
-) -> &'v [Variable<'a, S>]
+) -> &'v [DefinedVariable<'a, S>]
     ensures { map (view_variable S.shown) result.now ≡ defined_variables (view_definition S.shown definition.now) }
 {
     match definition {
@@ -44,7 +40,9 @@ pub(crate) fn variables_of<'v, 'a, S: ScalarValue>(
 }
 
 /// No variables.
-fn no_variables<'v, 'a, S: ScalarValue>(_definition: &'v Definition<'a, S>) -> &'v [Variable<'a, S>]
+fn no_variables<'v, 'a, S: ScalarValue>(
+    _definition: &'v Definition<'a, S>,
+) -> &'v [DefinedVariable<'a, S>]
     ensures { result.now ≡ [] }
 {
     &[]
@@ -53,7 +51,7 @@ fn no_variables<'v, 'a, S: ScalarValue>(_definition: &'v Definition<'a, S>) -> &
 /// The variables of a list, where there is one.
 pub(crate) fn listed<'v, 'a, S: ScalarValue>(
     variables: &'v Option<Spanning<VariableDefinitions<'a, S>, Span>>,
-) -> &'v [Variable<'a, S>]
+) -> &'v [DefinedVariable<'a, S>]
     ensures { map (view_variable S.shown) result.now ≡ view_variables S.shown variables.now }
 {
     match variables {
@@ -65,7 +63,7 @@ pub(crate) fn listed<'v, 'a, S: ScalarValue>(
 /// No variables.
 fn none_listed<'v, 'a, S: ScalarValue>(
     _variables: &'v Option<Spanning<VariableDefinitions<'a, S>, Span>>,
-) -> &'v [Variable<'a, S>]
+) -> &'v [DefinedVariable<'a, S>]
     ensures { result.now ≡ [] }
 {
     &[]
@@ -75,7 +73,7 @@ fn none_listed<'v, 'a, S: ScalarValue>(
 pub(crate) fn explain_unknown_variables<S: ScalarValue>(
     alloc: Global,
     schema: &SchemaType<S>,
-    variables: &[Variable<'_, S>],
+    variables: &[DefinedVariable<'_, S>],
     explanations: &mut Vec<Explanation>,
 ) -> Result<(), AllocError>
     ensures { OnOk result (Adds explanations.old.items explanations.new.items
@@ -91,7 +89,7 @@ pub(crate) fn explain_unknown_variables<S: ScalarValue>(
 fn explain_unknown_variable<S: ScalarValue>(
     alloc: Global,
     schema: &SchemaType<S>,
-    variable: &Variable<'_, S>,
+    variable: &DefinedVariable<'_, S>,
     explanations: &mut Vec<Explanation>,
 ) -> Result<(), AllocError>
     ensures { OnOk result (Adds explanations.old.items explanations.new.items
@@ -106,7 +104,7 @@ fn explain_unknown_variable<S: ScalarValue>(
 pub(crate) fn explain_other_variables<S: ScalarValue>(
     alloc: Global,
     schema: &SchemaType<S>,
-    variables: &[Variable<'_, S>],
+    variables: &[DefinedVariable<'_, S>],
     explanations: &mut Vec<Explanation>,
 ) -> Result<(), AllocError>
     ensures { OnOk result (Adds explanations.old.items explanations.new.items
@@ -123,7 +121,7 @@ pub(crate) fn explain_other_variables<S: ScalarValue>(
 fn explain_other_variable<S: ScalarValue>(
     alloc: Global,
     schema: &SchemaType<S>,
-    variable: &Variable<'_, S>,
+    variable: &DefinedVariable<'_, S>,
     explanations: &mut Vec<Explanation>,
 ) -> Result<(), AllocError>
     ensures { OnOk result (Adds explanations.old.items explanations.new.items
@@ -154,7 +152,7 @@ fn other_text(alloc: Global, name: &str, reference: &Type<&str>) -> Result<Strin
 pub(crate) fn explain_defaults<S: ScalarValue>(
     alloc: Global,
     schema: &SchemaType<S>,
-    variables: &[Variable<'_, S>],
+    variables: &[DefinedVariable<'_, S>],
     explanations: &mut Vec<Explanation>,
 ) -> Result<(), AllocError>
     ensures { OnOk result (Adds explanations.old.items explanations.new.items
@@ -170,7 +168,7 @@ pub(crate) fn explain_defaults<S: ScalarValue>(
 fn explain_default<S: ScalarValue>(
     alloc: Global,
     schema: &SchemaType<S>,
-    variable: &Variable<'_, S>,
+    variable: &DefinedVariable<'_, S>,
     explanations: &mut Vec<Explanation>,
 ) -> Result<(), AllocError>
     ensures { OnOk result (Adds explanations.old.items explanations.new.items

@@ -2,23 +2,10 @@
 //! defined.
 
 use juniper_explain::explain_variables;
-use juniper_language::{
-    DefaultScalarValue, Definition, Document, InputValue, Selection, Span, Spanning, Variables,
-    parse_document_source,
-};
+use juniper_language::{DefaultScalarValue, Definition, Document, parse_document_source};
 use juniper_schema::SchemaType;
-use juniper_schema_text::{Line, kept, placed, schema_of};
+use juniper_schema_text::{Line, given_values, kept, schema_of};
 use std::alloc::Global;
-use std::collections::HashMap;
-
-/// A definition of a document.
-type StaticDefinition = Definition<'static, DefaultScalarValue>;
-
-/// A given value: its name and itself.
-type Given<'a> = (
-    Spanning<&'a str, Span>,
-    Spanning<InputValue<DefaultScalarValue>, Span>,
-);
 
 /// The schema that the rows are about.
 const SCHEMA: &str = "\
@@ -110,7 +97,7 @@ fn put_explanations(
     let Definition::Operation(operation) = document.first()? else {
         return None;
     };
-    let values = values_in(alloc, document.get(1)?)?;
+    let values = given_values(alloc, document.get(1)?)?;
     let explained = kept(alloc, explain_variables(alloc, values, operation, schema))?;
     for explanation in explained {
         line.put(" ", explanation.message.as_str());
@@ -118,44 +105,6 @@ fn put_explanations(
         line.put(";", "");
     }
     Some(())
-}
-
-/// The arguments of the first field, as the values of variables.
-fn values_in(
-    alloc: Global,
-    definition: &'static StaticDefinition,
-) -> Option<&'static Variables<DefaultScalarValue>> {
-    let values = placed(alloc, HashMap::new(alloc))?;
-    let Definition::Operation(operation) = definition else {
-        return None;
-    };
-    let Selection::Field(field) = operation.item.selection_set.first()? else {
-        return None;
-    };
-    if let Some(arguments) = &field.item.arguments {
-        for given in &arguments.item.items {
-            put_value(alloc, values, given)?;
-        }
-    }
-    Some(values)
-}
-
-/// Puts a value at its name; `None` where memory is refused.
-fn put_value(
-    alloc: Global,
-    values: &mut Variables<DefaultScalarValue>,
-    given: &Given<'static>,
-) -> Option<()> {
-    let name = String::from_str(alloc, given.0.item).ok()?;
-    insert(values, name, given.1.item.try_clone(alloc).ok()?)
-}
-
-/// Puts a value at a key; `None` where memory is refused.
-fn insert<T: Drop>(values: &mut HashMap<String, T>, key: String, value: T) -> Option<()> {
-    if values.insert(key, value).is_ok() {
-        return Some(());
-    }
-    None
 }
 
 #[test]

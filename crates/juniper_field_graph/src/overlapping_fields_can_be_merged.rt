@@ -69,9 +69,9 @@ fn judge_all<'u, 'd: 'u, 'a: 'u, S: ScalarValue>(
     document: &'u [Definition<'a, S>],
     fragments: &FragmentsByName<'d, 'a, S>,
 ) -> Result<Vec<bool>, AllocError>
-    ensures { IfOk result (λ each. (disabled : Bool) → AreFragmentsOf S.shown fragments.now (map (view_definition S.shown) document.now) →
+    ensures { IfOk result (λ r. (disabled : Bool) → AreFragmentsOf S.shown fragments.now (map (view_definition S.shown) document.now) →
         view_type undeclared.now ≡ fields.declared_type None →
-        JudgesEach (view_schema S.shown schema.now) disabled (map (view_definition S.shown) document.now) each.items) }
+        JudgesEach (view_schema S.shown schema.now) disabled (map (view_definition S.shown) document.now) r.items) }
 {
     let order = fragments.in_order(alloc)?;
     let mut held: BTreeMap<&'u str, usize> = BTreeMap::new(alloc);

@@ -17,8 +17,6 @@ mod plan;
 mod refusal;
 mod respond;
 mod service;
-#[cfg(test)]
-mod tests;
 
 pub use accept::{Range, add_ranges, choose, has_range, wants_page, weight_of};
 pub use decision::{Body, Facts, Step, Verb, decide};

@@ -17,16 +17,13 @@ use crate::references::type_reference;
 use crate::selections::selection_set;
 use crate::values::placed_value;
 use juniper_syntax::{
-    Definition, Fragment, InputValue, Operation, OperationType, ScalarValue, SourcePosition, Span,
-    Spanning, Type, VariableDefinition, VariableDefinitions,
+    DefinedVariable, Definition, Fragment, InputValue, Operation, OperationType, ScalarValue,
+    SourcePosition, Span, Spanning, Type, VariableDefinition, VariableDefinitions,
 };
 use std::alloc::Global;
 
 /// How many brackets may be open at once.
 const MOST_BRACKETS: usize = 256;
-
-/// A variable's name and what is said of it.
-type Variable<'a, S> = (Word<'a>, VariableDefinition<'a, S>);
 
 /// A type and its place.
 #[tactic(auto, unfolding(graphql_spec::specs::Grammar::span_of))]
@@ -66,7 +63,7 @@ fn variable_definition<'a, S: ScalarValue>(
     alloc: Global,
     parser: &mut Parser<'_, 'a>,
     depth: usize,
-) -> ParseResult<Variable<'a, S>>
+) -> ParseResult<DefinedVariable<'a, S>>
     ensures { Gives (view_variable S.shown) result parser.new (rule.variable_definition depth parser.old) }
 {
     let start = parser.begin();
@@ -91,7 +88,7 @@ fn some_variables<'a, S: ScalarValue>(
     alloc: Global,
     parser: &mut Parser<'_, 'a>,
     depth: usize,
-) -> ParseResult<Vec<Variable<'a, S>>>
+) -> ParseResult<Vec<DefinedVariable<'a, S>>>
     ensures { Gives (λ v. map (view_variable S.shown) v.items) result parser.new (read.some_until 41 (rule.variable_definition depth) parser.old) }
 {
     if parser.sees(b')') {

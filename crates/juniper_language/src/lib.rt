@@ -11,10 +11,11 @@ mod selections;
 mod values;
 
 pub use juniper_syntax::{
-    DefaultScalarValue, Definition, Directive, Document, Field, Fragment, FragmentSpread,
-    Fragments, InlineFragment, InputValue, LexerError, Object, Operation, OperationType,
-    ParseError, RuleError, ScalarValue, Selection, SourcePosition, Span, Spanning, Type, Value,
-    VariableDefinition, VariableDefinitions, Variables, ast, laws,
+    DefaultScalarValue, DefinedVariable, Definition, Directive, Document, Field, Fragment,
+    FragmentSpread, Fragments, InlineFragment, InputField, InputValue, LexerError, Object,
+    Operation, OperationType, ParseError, RuleError, ScalarValue, Selection, SourcePosition, Span,
+    Spanning, Type, Value, VariableDefinition, VariableDefinitions, Variables, WrittenArgument,
+    ast, laws,
 };
 pub use juniper_tokens::{ScalarToken, decode_int, decode_string};
 pub use parser::parse_document_source;

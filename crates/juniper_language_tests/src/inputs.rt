@@ -1,7 +1,7 @@
 //! Input values: how they are written, their copies, and what they are with values for their variables.
 
 use crate::rows::unmarked;
-use juniper_syntax::{InputValue, ScalarValue, Span, Spanning, Variables};
+use juniper_syntax::{InputField, InputValue, ScalarValue, Spanning, Variables};
 use std::alloc::{AllocError, Global};
 
 /// How a value is made, how it is written, and how what it is where the variable `a` is 1 is made: `=` where it has no
@@ -82,13 +82,11 @@ fn leaf<S: ScalarValue>(alloc: Global, word: &str) -> Result<InputValue<S>, Allo
     }
 }
 
-type Field<S> = (Spanning<String, Span>, Spanning<InputValue<S>, Span>);
-
 fn field<S: ScalarValue>(
     alloc: Global,
     key: &str,
     value: InputValue<S>,
-) -> Result<Field<S>, AllocError> {
+) -> Result<InputField<S>, AllocError> {
     let key = String::from_str(alloc, key)?;
     Ok((Spanning::unlocated(key), Spanning::unlocated(value)))
 }

@@ -32,6 +32,11 @@ fn is_told<T: Tells>(alloc: Global, told: T, row: &str) -> Result<bool, AllocErr
     }
 }
 
+/// What is told of a case that no table has. An error where memory is refused.
+pub fn unknown(alloc: Global) -> Result<String, AllocError> {
+    String::from_str(alloc, "no such case")
+}
+
 /// Tells of each case the case itself.
 #[cfg(test)]
 #[derive(Clone, Copy)]

@@ -17,11 +17,8 @@ use crate::selection::LookAheadSelection;
 use crate::showing::shown_value;
 use crate::values::LookAheadValue;
 use juniper_syntax::ast::Arguments;
-use juniper_syntax::{InputValue, ScalarValue, Span, Spanning, Variables};
+use juniper_syntax::{ScalarValue, Span, Variables, WrittenArgument};
 use std::slice;
-
-/// An argument as it is written: its name and its value, each with its place.
-type WrittenArgument<'a, S> = (Spanning<&'a str, Span>, Spanning<InputValue<S>, Span>);
 
 impl<'r, 'a, S: ScalarValue> LookAheadArgument<'r, 'a, S> {
     /// The name.

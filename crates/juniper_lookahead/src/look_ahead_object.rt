@@ -6,8 +6,8 @@ ghost use Rattle.std.specs.Iterator.SizeHint.{IsWithinCount};
 ghost use Rattle.juniper_lookahead.specs.ValueView.{exactly, view_object, view_shown_field, field_shown, fields_shown};
 
 use crate::showing::shown_value;
-use crate::values::{InputField, LookAheadObject, LookAheadValue};
-use juniper_syntax::{ScalarValue, Span, Spanning, Variables};
+use crate::values::{LookAheadObject, LookAheadValue};
+use juniper_syntax::{InputField, ScalarValue, Span, Spanning, Variables};
 
 /// A field of an object: its name and its value, each with its place.
 pub(crate) type ShownField<'a, S> = (

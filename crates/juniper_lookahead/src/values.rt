@@ -2,7 +2,7 @@
 
 ghost use Rattle.std.specs.Prelude.{◌≡◌, []};
 
-use juniper_syntax::{InputValue, Span, Spanning, Variables};
+use juniper_syntax::{InputField, InputValue, Span, Spanning, Variables};
 
 /// A value of an argument, or inside one. A variable is its value: it is looked up once, as the value is read, and is null
 /// where it has none. Two are equal where they show the same, with their items and fields in the same order at the same places.
@@ -29,9 +29,6 @@ pub struct LookAheadList<'a, S> {
     pub(crate) items: &'a [Spanning<InputValue<S>, Span>],
     pub(crate) variables: Option<&'a Variables<S>>,
 }
-
-/// A field of an object: its name and its value, each with its place.
-pub(crate) type InputField<S> = (Spanning<String, Span>, Spanning<InputValue<S>, Span>);
 
 /// An object, whose fields are read as they are asked for (2.9.8). The default is empty. Two are equal where their fields are, in
 /// the same order at the same places.

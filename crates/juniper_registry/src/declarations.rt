@@ -90,7 +90,7 @@ impl<S: ScalarValue> Registry<S> {
         let mut all = Vec::from_array(self.alloc, fields)?;
         all.append(&mut Vec::from_array(self.alloc, own_fields)?)?;
         let all = Registry::empty(self.alloc).with_typename(all)?;
-        let interface_names = names(self.alloc, interfaces)?;
+        let interface_names = names_of(self.alloc, interfaces)?;
         let object = ObjectMeta {
             name: String::from_str(self.alloc, name)?,
             description: None,
@@ -119,7 +119,7 @@ impl<S: ScalarValue> Registry<S> {
     pub fn union_type(&self, name: &str, members: &[&str]) -> Result<MetaType<S>, AllocError>
         ensures { IfOk result (λ m. view_meta S.shown m ≡ union name.now (map (λ n. n.now) members.now)) }
     {
-        let of_type_names = names(self.alloc, members)?;
+        let of_type_names = names_of(self.alloc, members)?;
         let union = UnionMeta {
             name: String::from_str(self.alloc, name)?,
             description: None,
@@ -149,8 +149,8 @@ impl<S: ScalarValue> Registry<S> {
     }
 }
 
-/// These names.
-fn names(alloc: Global, texts: &[&str]) -> Result<Vec<String>, AllocError>
+/// Names, in order; an error where memory is refused.
+pub fn names_of(alloc: Global, texts: &[&str]) -> Result<Vec<String>, AllocError>
     ensures { IfOk result (λ names. view_names names.items ≡ map (λ n. n.now) texts.now) }
 {
     let mut names = Vec::new(alloc);

@@ -13,6 +13,7 @@ mod scalars;
 mod type_kind;
 mod wrappers;
 
+pub use declarations::names_of;
 pub use error::RegistryError;
 pub use graphql_type::{GraphQLReference, GraphQLType};
 pub use registry::Registry;

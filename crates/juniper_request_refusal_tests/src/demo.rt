@@ -1,19 +1,11 @@
 //! Requests to the demo while memory is wanting.
 
 use juniper::{GraphQLError, RootError, Variables, execute_sync};
-use juniper_demo_server::{DemoContext, DemoRoot, Outcome, demo_root, show};
+use juniper_demo_server::{DemoContext, DemoRoot, Outcome, demo_root, made_root, show};
 use juniper_refusal_tests::turns::{Ended, Room, Task, Turn, tried};
 use juniper_test_root::{Walk, execute_by_steps};
 use std::alloc::{AllocError, Global};
 use std::test::Fail;
-
-/// The demo's root.
-fn made_root(alloc: Global) -> Result<DemoRoot, AllocError> {
-    match demo_root(alloc) {
-        Ok(root) => Ok(root),
-        Err(_) => Err(AllocError),
-    }
-}
 
 /// A request that changes nothing, to the executor or to its twin, and its answer.
 #[derive(Drop)]

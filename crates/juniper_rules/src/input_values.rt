@@ -17,14 +17,11 @@ ghost use Rattle.juniper_rules.specs.Finding.{ReportsBefore};
 use crate::given::Given;
 use juniper_schema::SchemaType;
 use juniper_syntax::{
-    InputValue, Operation, RuleError, ScalarValue, Span, Spanning, Type, VariableDefinition,
-    Variables,
+    DefinedVariable, InputValue, Operation, RuleError, ScalarValue, Span, Spanning, Type,
+    VariableDefinition, Variables,
 };
 use juniper_type_rules::owned_type;
 use std::alloc::{AllocError, Global};
-
-/// A variable that an operation defines: its name, and what is said of it.
-type Defined<'a, S> = (Spanning<&'a str, Span>, VariableDefinition<'a, S>);
 
 /// One error for each variable that the operation defines and for which no fitting value is given, in order, with the text
 /// ``Variable `$name` has no fitting value`` and the place where its definition starts. Without a given value the default must
@@ -67,7 +64,7 @@ pub fn validate_given<S: ScalarValue>(
 fn misfits<S: ScalarValue>(
     alloc: Global,
     given: &Given<'_, S>,
-    defined: &[Defined<'_, S>],
+    defined: &[DefinedVariable<'_, S>],
     schema: &SchemaType<S>,
 ) -> Result<Vec<RuleError>, AllocError>
     ensures { IfOk result (λ es. map view_rule_error es.items ≡ variable_errors (view_schema S.shown schema.now) (map (view_variable S.shown) defined.now)
@@ -86,7 +83,7 @@ fn report<S: ScalarValue>(
     alloc: Global,
     errors: &mut Vec<RuleError>,
     given: &Given<'_, S>,
-    variable: &Defined<'_, S>,
+    variable: &DefinedVariable<'_, S>,
     schema: &SchemaType<S>,
 ) -> Result<(), AllocError>
     ensures { OnOk result ((rest : List documents.VariableDefinition) →
@@ -106,7 +103,7 @@ fn report<S: ScalarValue>(
 fn is_fitting<S: ScalarValue>(
     alloc: Global,
     given: &Given<'_, S>,
-    variable: &Defined<'_, S>,
+    variable: &DefinedVariable<'_, S>,
     schema: &SchemaType<S>,
 ) -> Result<bool, AllocError>
     ensures { IfOk result (λ b. b ≡ variable_fits (view_schema S.shown schema.now) (view_variable S.shown variable.now)

@@ -3,15 +3,11 @@
 use crate::looks::{Look, Scalar, StaticDocument, check, first_other};
 use crate::phases::put_places;
 use crate::schemas::DEMO;
-use juniper_language::{Definition, InputValue, Selection, Span, Spanning, Variables};
+use juniper_language::Definition;
 use juniper_rules::validate_input_values;
 use juniper_schema::SchemaType;
-use juniper_schema_text::{Line, kept, placed};
+use juniper_schema_text::{Line, given_values, kept};
 use std::alloc::Global;
-use std::collections::HashMap;
-
-/// A given value: its name and itself.
-type Given<'a> = (Spanning<&'a str, Span>, Spanning<InputValue<Scalar>, Span>);
 
 /// Operations; behind each the values, as the arguments of the field of a second one; and the errors.
 const ROWS: &str = "\
@@ -55,43 +51,10 @@ pub fn put_misfits(
     let Definition::Operation(operation) = document.first()? else {
         return None;
     };
-    let values = values_in(alloc, document.get(1)?)?;
+    let values = given_values(alloc, document.get(1)?)?;
     let errors = validate_input_values(alloc, values, operation, schema);
     put_places(kept(alloc, errors)?, line);
     Some(())
-}
-
-/// The arguments of the first field, as the values of variables.
-fn values_in(
-    alloc: Global,
-    definition: &'static Definition<'static, Scalar>,
-) -> Option<&'static Variables<Scalar>> {
-    let values = placed(alloc, HashMap::new(alloc))?;
-    let Definition::Operation(operation) = definition else {
-        return None;
-    };
-    let Selection::Field(field) = operation.item.selection_set.first()? else {
-        return None;
-    };
-    if let Some(arguments) = &field.item.arguments {
-        for given in &arguments.item.items {
-            put_value(alloc, values, given)?;
-        }
-    }
-    Some(values)
-}
-
-fn put_value(alloc: Global, values: &mut Variables<Scalar>, given: &Given<'static>) -> Option<()> {
-    let name = String::from_str(alloc, given.0.item).ok()?;
-    insert(values, name, given.1.item.try_clone(alloc).ok()?)
-}
-
-/// Puts a value at a key; `None` where memory is refused.
-fn insert<T: Drop>(values: &mut HashMap<String, T>, key: String, value: T) -> Option<()> {
-    if values.insert(key, value).is_ok() {
-        return Some(());
-    }
-    None
 }
 
 #[test]

@@ -12,10 +12,7 @@ ghost use Rattle.juniper_syntax.specs.TypeView.{view_type};
 
 use crate::schema::SchemaType;
 use juniper_meta::{Argument, MetaType, declares_value, find_argument};
-use juniper_syntax::{InputValue, ScalarValue, Span, Spanning, Type};
-
-/// A field of an object value: its name and its value.
-type Member<S> = (Spanning<String, Span>, Spanning<InputValue<S>, Span>);
+use juniper_syntax::{InputField, InputValue, ScalarValue, Span, Spanning, Type};
 
 impl<S: ScalarValue> SchemaType<S> {
     /// Whether the value fits the type (5.6.1). A variable fits every type, and null the nullable ones; what is no list
@@ -80,7 +77,7 @@ impl<S: ScalarValue> SchemaType<S> {
 
     /// Whether an object fits the type.
     #[cycle(fits)]
-    fn object_stands(&self, fields: &[Member<S>], reference: &Type<String>, given: bool) -> bool
+    fn object_stands(&self, fields: &[InputField<S>], reference: &Type<String>, given: bool) -> bool
         ensures { result ≡ object_fits_type (view_schema S.shown self.now) given (view_fields S.shown fields.now)
             (view_type (λ n. string_bytes n) reference.now) }
     {
@@ -93,7 +90,7 @@ impl<S: ScalarValue> SchemaType<S> {
     /// Whether the fields fit the input object of this name (3.10).
     #[cycle(fits)]
     #[tactic(auto, unfolding(crate::specs::Fitting::object_by, crate::specs::Fitting::declared_of))]
-    fn object_fits(&self, fields: &[Member<S>], type_name: &str, given: bool) -> bool
+    fn object_fits(&self, fields: &[InputField<S>], type_name: &str, given: bool) -> bool
         ensures { result ≡ object_by (view_schema S.shown self.now) given (view_fields S.shown fields.now)
             (declared_fields (type_named (view_schema S.shown self.now) type_name.now)) }
     {
@@ -110,7 +107,7 @@ impl<S: ScalarValue> SchemaType<S> {
     /// Whether each field is declared by the input object of this name, and its value fits (5.6.2).
     #[cycle(fits)]
     #[tactic(auto, unfolding(crate::specs::Fitting::each_fits))]
-    fn each_fits(&self, fields: &[Member<S>], type_name: &str, given: bool) -> bool
+    fn each_fits(&self, fields: &[InputField<S>], type_name: &str, given: bool) -> bool
         ensures { result ≡ each_fits (view_schema S.shown self.now) given (view_fields S.shown fields.now)
             (declared_of (type_named (view_schema S.shown self.now) type_name.now)) }
     {
@@ -228,7 +225,7 @@ fn input_object<S: ScalarValue>(meta: &MetaType<S>) -> Option<&[Argument<S>]>
 
 /// Whether no two fields have one name (5.6.3).
 #[tactic(auto, unfolding(crate::specs::Fitting::keys_differ))]
-fn keys_differ<S: ScalarValue>(fields: &[Member<S>]) -> bool
+fn keys_differ<S: ScalarValue>(fields: &[InputField<S>]) -> bool
     ensures { result ≡ keys_differ (view_fields S.shown fields.now) }
 {
     let mut left = fields;
@@ -295,7 +292,7 @@ fn is_met(expected: Option<usize>, count: usize) -> bool
 
 /// Whether each declared field that is non-null and has no default is written (3.10).
 #[tactic(auto, unfolding(graphql_spec::specs::Fits::all_written))]
-fn all_written<S: ScalarValue>(fields: &[Member<S>], declared: &[Argument<S>]) -> bool
+fn all_written<S: ScalarValue>(fields: &[InputField<S>], declared: &[Argument<S>]) -> bool
     ensures { result ≡ fit.all_written (view_fields S.shown fields.now) (map (view_argument S.shown) declared.now) }
 {
     for argument in declared {
@@ -307,16 +304,16 @@ fn all_written<S: ScalarValue>(fields: &[Member<S>], declared: &[Argument<S>]) -
 }
 
 /// Whether the declared field is written, or may be left out.
-fn is_supplied<S: ScalarValue>(fields: &[Member<S>], argument: &Argument<S>) -> bool
+fn is_supplied<S: ScalarValue>(fields: &[InputField<S>], argument: &Argument<S>) -> bool
     ensures { result ≡ is_supplied (view_fields S.shown fields.now) (view_argument S.shown argument.now) }
 {
     !(argument.arg_type.is_non_null() && argument.default_value.is_none())
         || has_field(fields, argument.name.as_str())
 }
 
-/// Whether a field of this name is written.
+/// Whether a field of this name is written in an input object (3.10).
 #[tactic(auto, unfolding(graphql_spec::specs::Fits::has_field))]
-fn has_field<S: ScalarValue>(fields: &[Member<S>], name: &str) -> bool
+pub fn has_field<S: ScalarValue>(fields: &[InputField<S>], name: &str) -> bool
     ensures { result ≡ fit.has_field name.now (view_fields S.shown fields.now) }
 {
     for (key, _) in fields {

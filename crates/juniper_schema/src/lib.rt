@@ -15,6 +15,7 @@ mod type_type;
 
 pub use executable::{is_reserved, schema_is_executable};
 pub use faults::{Demand, SchemaFault, schema_fault};
+pub use fits::has_field;
 pub use juniper_meta::{
     Argument, DeprecationStatus, DirectiveLocation, DirectiveType, EnumMeta, EnumValue,
     InputObjectMeta, InterfaceMeta, ListMeta, MetaType, NullableMeta, ObjectMeta, PlaceholderMeta,

@@ -3,6 +3,7 @@
 use crate::samples::{Character, Episode, Found, Human, Review};
 use crate::tables::{Told, check};
 use juniper_id::ID;
+use juniper_language_tests::tables::unknown;
 use juniper_meta::meta::Field;
 use juniper_meta::{ListMeta, MetaType, ScalarKinds};
 use juniper_nullable::Nullable;
@@ -86,11 +87,6 @@ default value => 7";
 /// An empty registry.
 fn empty(alloc: Global) -> Registry<DefaultScalarValue> {
     Registry::empty(alloc)
-}
-
-/// What is told of a case that no table has.
-fn unknown(alloc: Global) -> Result<String, AllocError> {
-    String::from_str(alloc, "no such case")
 }
 
 /// The reference to the type of this name.

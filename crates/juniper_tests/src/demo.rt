@@ -3,7 +3,7 @@
 use juniper::{
     DefaultScalarValue, GraphQLValue, IntrospectionFormat, Variables, execute_sync, introspect,
 };
-use juniper_demo_server::{DemoContext, DemoRoot, demo_root, show};
+use juniper_demo_server::{DemoContext, DemoRoot, made_root, show};
 use std::alloc::{AllocError, Global};
 use std::test::Fail;
 
@@ -216,14 +216,6 @@ fn joined(alloc: Global, text: &str) -> Result<String, AllocError> {
         whole.push_str(line)?;
     }
     Ok(whole)
-}
-
-/// The demo's root.
-pub fn made_root(alloc: Global) -> Result<DemoRoot, AllocError> {
-    match demo_root(alloc) {
-        Ok(root) => Ok(root),
-        Err(_) => Err(AllocError),
-    }
 }
 
 /// What the demo tells of its schema.

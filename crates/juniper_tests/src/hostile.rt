@@ -1,8 +1,7 @@
 //! Requests that are deep, wide, cyclic or wrong: what they are answered, or why they are refused.
 
-use crate::demo::made_root;
 use juniper::{DefaultScalarValue, InputValue, Spanning, Variables, execute_sync};
-use juniper_demo_server::{DemoContext, show};
+use juniper_demo_server::{DemoContext, made_root, show};
 use juniper_test_root::report;
 use std::alloc::{AllocError, Global};
 use std::test::Fail;

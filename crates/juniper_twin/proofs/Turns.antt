@@ -1,6 +1,5 @@
 -- The turns of the walk: one field after the other, and one node after the other (6.3).
-use Rattle.std.proofs.Common.{◌≡◌, ℕ, ◌≤◌, Bool, true, false, ◌&&◌, List, [], ◌∷◌, ◌++◌, append_assoc, refl, sym, ap, ◌∙◌, subst, arith}
-use Rattle.std.proofs.lemmas.List.{append-nil}
+use Rattle.std.proofs.Common.{◌≡◌, ℕ, ◌≤◌, Bool, true, false, ◌&&◌, List, [], ◌∷◌, ◌++◌, refl, sym, ap, ◌∙◌, subst, arith}
 use Rattle.std.proofs.lemmas.Bool.{and_parts, and_from}
 use Rattle.graphql_spec.specs.Shown.{Name}
 use Rattle.graphql_spec.specs.Documents.{response_key}
@@ -18,6 +17,7 @@ use Rattle.graphql_spec.specs.Walks.{AreWalkedAt, IsWalked, IsWalkedAt, joined_i
 use Rattle.graphql_spec.proofs.FieldWalks.{none-walked, one-more-walked}
 use Rattle.graphql_spec.proofs.Agreeing.{agrees-below}
 use Rattle.juniper_assemble.specs.Keyed.{is_keyed, entries_keyed}
+use Rattle.juniper_walk.proofs.Nodes.{listed-last}
 use Rattle.juniper_walk.specs.Walking.{AllAgree}
 use Rattle.juniper_twin.specs.Walking.{AreAllWalked, AreReached, IsAdded, IsPrepared, IsWalkedThrough, IsWalking, all_keyed, deepest}
 use Rattle.juniper_twin.proofs.Depths.{deepest-of, in-all, shallower-than}
@@ -137,11 +137,6 @@ module _ {N : Type 0} (W : World N) (s : Forest) where
   walked-last (m ∷ ns) [] ess x v es a b = absurd a
   walked-last (m ∷ ns) (u ∷ vs) [] x v es a b = absurd a
   walked-last (m ∷ ns) (u ∷ vs) (fs ∷ ess) x v es a b = (a.0, walked-last ns vs ess x v es a.1 b)
-
-  listed-last : (ess : List (List Listed)) (es : List Listed) → all_listed (ess ++ es ∷ []) ≡ all_listed ess ++ es
-  unfolding all_listed
-  listed-last [] es = append-nil es
-  listed-last (fs ∷ ess) es = ap (λ l. fs ++ l) (listed-last ess es) ∙ sym (append_assoc fs (all_listed ess) es)
 
   keyed-last : (vs : List Value) (v : Value) → all_keyed vs ≡ true → is_keyed v ≡ true → all_keyed (vs ++ v ∷ []) ≡ true
   unfolding all_keyed

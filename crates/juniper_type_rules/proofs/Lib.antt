@@ -1,4 +1,4 @@
-mod Behind
+pub mod Behind
 mod ByName
 mod Defaults
 pub mod Growing

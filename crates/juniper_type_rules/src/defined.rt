@@ -9,15 +9,12 @@ ghost use Rattle.juniper_written.specs.WrittenView.{view_variables};
 ghost use Rattle.juniper_type_rules.specs.UsesView.{definition_at};
 
 use juniper_syntax::ast::VariableDefinition;
-use juniper_syntax::{ScalarValue, Span, Spanning, VariableDefinitions};
+use juniper_syntax::{DefinedVariable, ScalarValue, Span, Spanning, VariableDefinitions};
 use juniper_written::NameMap;
 use std::alloc::{AllocError, Global};
 
-/// A variable: its name and its definition.
-pub(crate) type Variable<'a, S> = (Spanning<&'a str, Span>, VariableDefinition<'a, S>);
-
 /// The variables by name.
-pub(crate) type VariablesByName<'d, 'a, S> = NameMap<'a, &'d Variable<'a, S>>;
+pub(crate) type VariablesByName<'d, 'a, S> = NameMap<'a, &'d DefinedVariable<'a, S>>;
 
 /// The variables by name, of those of one name the first. An error where memory is refused.
 pub(crate) fn variables_by_name<'d, 'a, S: ScalarValue>(
@@ -40,7 +37,7 @@ pub(crate) fn variables_by_name<'d, 'a, S: ScalarValue>(
 
 /// Puts a variable in, where none of its name is there.
 fn put_variable<'d, 'a, S: ScalarValue>(
-    variable: &'d Variable<'a, S>,
+    variable: &'d DefinedVariable<'a, S>,
     first: &mut VariablesByName<'d, 'a, S>,
 ) -> Result<(), AllocError>
     ensures { OnOk result ((n : Name) → definition_at S.shown first.new n

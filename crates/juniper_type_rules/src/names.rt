@@ -8,9 +8,9 @@ ghost use Rattle.juniper_syntax.specs.DocumentView.{view_arguments};
 ghost use Rattle.juniper_syntax.specs.InputView.{view_fields, view_input, view_items};
 ghost use Rattle.juniper_written.specs.WrittenView.{view_lists, view_names};
 
-use crate::values::{InputField, value_of};
+use crate::values::value_of;
 use juniper_syntax::ast::Arguments;
-use juniper_syntax::{InputValue, ScalarValue, Span, Spanning};
+use juniper_syntax::{InputField, InputValue, ScalarValue, Span, Spanning};
 use juniper_written::ArgumentLists;
 use std::alloc::{AllocError, Global};
 

@@ -12,12 +12,12 @@ ghost use Rattle.juniper_placed.specs.CallView.{view_call};
 ghost use Rattle.juniper_type_rules.specs.UsesView.{view_uses};
 
 use crate::uses::Use;
-use crate::values::{InputField, value_of};
+use crate::values::value_of;
 use juniper_meta::{Argument, find_argument};
 use juniper_placed::Call;
 use juniper_schema::SchemaType;
 use juniper_syntax::ast::Arguments;
-use juniper_syntax::{InputValue, ScalarValue, Span, Spanning, Type};
+use juniper_syntax::{InputField, InputValue, ScalarValue, Span, Spanning, Type};
 use std::alloc::{AllocError, Global};
 
 /// The variables in arguments with the places at which they stand. An error where memory is refused.

@@ -2,10 +2,7 @@
 
 ghost use Rattle.std.specs.Prelude.{◌≡◌};
 
-use juniper_syntax::{InputValue, ScalarValue, Span, Spanning};
-
-/// A field of an object value: its name and its value.
-pub(crate) type InputField<S> = (Spanning<String, Span>, Spanning<InputValue<S>, Span>);
+use juniper_syntax::{InputField, InputValue, ScalarValue};
 
 /// The value of a field.
 pub(crate) fn value_of<S: ScalarValue>(field: &InputField<S>) -> &InputValue<S>

@@ -17,11 +17,11 @@ ghost use Rattle.juniper_schema.specs.SchemaView.{view_schema};
 ghost use Rattle.juniper_type_rules.specs.UsesView.{AreUsesOfParts, allowed_by, definition_at, is_misused, uses_misused};
 ghost use Rattle.juniper_type_rules.specs.UsesView.{view_use, view_used_at, view_uses};
 
-use crate::defined::{Variable, VariablesByName, variables_by_name};
+use crate::defined::{VariablesByName, variables_by_name};
 use crate::roots::has_root;
 use crate::uses::{Use, Used};
 use juniper_schema::SchemaType;
-use juniper_syntax::{Definition, InputValue, ScalarValue, Span, Spanning, Type};
+use juniper_syntax::{DefinedVariable, Definition, InputValue, ScalarValue, Span, Spanning, Type};
 use std::alloc::{AllocError, Global};
 
 /// Whether a definition is an operation that can be executed and uses, in itself or in fragments that it reaches, a
@@ -89,7 +89,7 @@ fn is_allowed<S: ScalarValue>(defined: &VariablesByName<'_, '_, S>, used: &Use<'
 /// Whether a variable of this definition may stand there (IsVariableUsageAllowed). One that takes null may stand where
 /// null is not taken, if it or the place has a default.
 #[tactic(auto, unfolding(graphql_spec::specs::VariableUses::may_stand))]
-fn may_stand<S: ScalarValue>(variable: &Variable<'_, S>, used: &Use<'_>) -> bool
+fn may_stand<S: ScalarValue>(variable: &DefinedVariable<'_, S>, used: &Use<'_>) -> bool
     ensures { result ≡ spec.may_stand (view_variable S.shown variable.now) (view_use used.now) }
 {
     let of_type = &variable.1.var_type.item;

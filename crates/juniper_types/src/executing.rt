@@ -105,10 +105,7 @@ impl<'r, 's, 'd, 'a, CtxT, S: ScalarValue> Executor<'r, 's, 'd, 'a, CtxT, S> {
     pub fn fragment_by_name(&self, name: &str) -> Option<&'d Fragment<'a, S>>
         ensures { option_map (λ f. f.now) result ≡ fragment_at (fragments_of self.now) name.now }
     {
-        match self.fragments.get(name) {
-            Some(fragment) => Some(*fragment),
-            None => None,
-        }
+        self.fragments.get(name).copied()
     }
 
     /// The error of the execution that this error of the field is: where the field starts, at its place in the answer (6.4.4,

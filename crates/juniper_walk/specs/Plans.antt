@@ -149,6 +149,10 @@ module _ {S P Q : Type 0} (shown : S → Shown) (c : Collector S P) (asks : Name
       pub grown : IsGrown p q
       pub stands : StandsFor T q r os
 
+    -- and they stand for what selections hold for it, one slice after the other
+    abbrev pub IsMadeOf : Name → List (Enclosing S) → Plan S Q → Plan S Q → GroupRange → Type 0
+    IsMadeOf T es p q r = IsMade T (occurrences possible T (all_expanded shown c es)) p q r
+
 -- what is kept as asked for the group of a number is what these occurrences of an object type ask
 pub record IsAskedAt {S Q : Type 0} (asks : Name → Head → Q → Type 0) (T : Name) (p : Plan S Q) (i : ℕ) (os : List Occurrence) : Type 0 where
   pub question : Q

@@ -11,7 +11,7 @@ ghost use Rattle.juniper_lookahead.specs.Collected.{IsReady, expansion, view_all
 ghost use Rattle.juniper_syntax.specs.DocumentView.{view_selections};
 ghost use Rattle.juniper_walk.specs.FieldWords.{fields_at as fields_in, head_of};
 ghost use Rattle.juniper_walk.specs.PlanLists.{rises};
-ghost use Rattle.juniper_walk.specs.Plans.{AreAdded, IsGroupAdded, IsMade, IsStanding, all_expanded, fields_at, group_count};
+ghost use Rattle.juniper_walk.specs.Plans.{AreAdded, IsGroupAdded, IsMade, IsMadeOf, IsStanding, all_expanded, fields_at, group_count};
 
 use crate::plan::{GroupNo, GroupRange, Plan};
 use crate::{Groups, Resolver, Walk, group_fields, selections_of};
@@ -267,8 +267,8 @@ fn root_groups<'d, 'a, S: ScalarValue, R: Resolver<S>>(
 ) -> Result<GroupRange, AllocError>
     requires ready { IsReady S.shown collector.now }
     requires standing { IsStanding S.shown collector.now (R.asks collector.now.possible) (R.possible collector.now.possible) plan.old }
-    ensures { IfOk result (λ r. IsMade S.shown collector.now (R.asks collector.now.possible) (R.possible collector.now.possible) concrete.now
-        (occurrences (R.possible collector.now.possible) concrete.now (all_expanded S.shown collector.now enclosing.now)) plan.old plan.new r) }
+    ensures { IfOk result (λ r. IsMadeOf S.shown collector.now (R.asks collector.now.possible) (R.possible collector.now.possible)
+        concrete.now enclosing.now plan.old plan.new r) }
 {
     let fields = collect_all(alloc, collector, concrete, enclosing)?;
     let groups = add_groups(alloc, collector, plan, concrete, &fields)?;
@@ -288,8 +288,8 @@ fn groups_below<'d, 'a, S: ScalarValue, R: Resolver<S>>(
     requires standing { IsStanding S.shown walk.now.collector (R.asks walk.now.collector.possible) (R.possible walk.now.collector.possible) plan.old }
     requires bound { group.0 < group_count plan.old }
     requires selected { all_expanded S.shown walk.now.collector enclosing.now ≡ all_below (view_all S.shown walk.now.collector (fields_at plan.old group.0)) }
-    ensures { IfOk result (λ r. IsMade S.shown walk.now.collector (R.asks walk.now.collector.possible) (R.possible walk.now.collector.possible) concrete.now
-        (occurrences (R.possible walk.now.collector.possible) concrete.now (all_expanded S.shown walk.now.collector enclosing.now)) plan.old plan.new r) }
+    ensures { IfOk result (λ r. IsMadeOf S.shown walk.now.collector (R.asks walk.now.collector.possible) (R.possible walk.now.collector.possible)
+        concrete.now enclosing.now plan.old plan.new r) }
 {
     match plan.made_below(group, concrete) {
         Some(groups) => Ok(groups),
@@ -311,8 +311,8 @@ pub fn enter_root<'d, 'a, S: ScalarValue, R: Resolver<S>>(
 ) -> Result<GroupRange, AllocError>
     requires ready { IsReady S.shown collector.now }
     requires standing { IsStanding S.shown collector.now (R.asks collector.now.possible) (R.possible collector.now.possible) plan.old }
-    ensures made { IfOk result (λ r. IsMade S.shown collector.now (R.asks collector.now.possible) (R.possible collector.now.possible) concrete.now
-        (occurrences (R.possible collector.now.possible) concrete.now (all_expanded S.shown collector.now enclosing.now)) plan.old plan.new r) }
+    ensures made { IfOk result (λ r. IsMadeOf S.shown collector.now (R.asks collector.now.possible) (R.possible collector.now.possible)
+        concrete.now enclosing.now plan.old plan.new r) }
     ensures counted { IfOk result (λ r. plan.new.left + (r.end.0 - r.first.0) ≤ plan.old.left) }
 {
     let groups = root_groups(alloc, collector, plan, concrete, enclosing)?;
@@ -333,8 +333,8 @@ pub(crate) fn enter_below<'d, 'a, S: ScalarValue, R: Resolver<S>>(
     requires standing { IsStanding S.shown walk.now.collector (R.asks walk.now.collector.possible) (R.possible walk.now.collector.possible) plan.old }
     requires bound { group.0 < group_count plan.old }
     requires selected { all_expanded S.shown walk.now.collector enclosing.now ≡ all_below (view_all S.shown walk.now.collector (fields_at plan.old group.0)) }
-    ensures made { IfOk result (λ r. IsMade S.shown walk.now.collector (R.asks walk.now.collector.possible) (R.possible walk.now.collector.possible) concrete.now
-        (occurrences (R.possible walk.now.collector.possible) concrete.now (all_expanded S.shown walk.now.collector enclosing.now)) plan.old plan.new r) }
+    ensures made { IfOk result (λ r. IsMadeOf S.shown walk.now.collector (R.asks walk.now.collector.possible) (R.possible walk.now.collector.possible)
+        concrete.now enclosing.now plan.old plan.new r) }
     ensures counted { IfOk result (λ r. plan.new.left + objects * (r.end.0 - r.first.0) ≤ plan.old.left) }
 {
     let groups = groups_below(walk, plan, group, concrete, enclosing)?;

@@ -8,13 +8,13 @@ ghost use Rattle.juniper_registry.specs.DeclaredTypes.{type_named};
 
 use crate::data::{DeclaredField, DeclaredInput, DeclaredType};
 use crate::notes::{Note, Subject, described};
-use crate::parts::{fields_of, inputs_of, names_of, values_of};
+use crate::parts::{fields_of, inputs_of, values_of};
 use juniper_meta::meta::Field;
 use juniper_meta::{
     EnumMeta, InputObjectMeta, InterfaceMeta, MetaType, ObjectMeta, ScalarKinds, ScalarMeta,
     UnionMeta,
 };
-use juniper_registry::{GraphQLReference, GraphQLType, Registry};
+use juniper_registry::{GraphQLReference, GraphQLType, Registry, names_of};
 use juniper_syntax::{ScalarValue, Type};
 use std::alloc::{AllocError, Global};
 

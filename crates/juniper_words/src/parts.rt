@@ -3,7 +3,7 @@
 ghost use Rattle.std.specs.Prelude.{◌≡◌, IfOk, map};
 ghost use Rattle.juniper_words.specs.Data.{argument_of, field_of, input_field_of, input_of, names, reference, value_of};
 ghost use Rattle.juniper_words.specs.Notes.{noted, said};
-ghost use Rattle.juniper_meta.specs.MetaView.{view_argument, view_enum_value, view_field, view_names, view_type};
+ghost use Rattle.juniper_meta.specs.MetaView.{view_argument, view_enum_value, view_field, view_type};
 
 use crate::data::{DeclaredField, DeclaredInput, Reference};
 use crate::notes::{Note, Subject, deprecation_of, described};
@@ -138,15 +138,4 @@ pub(crate) fn values_of(
         made.push(value_of(alloc, notes, name)?)?;
     }
     Ok(made)
-}
-
-/// Names, in order.
-pub(crate) fn names_of(alloc: Global, texts: &[&str]) -> Result<Vec<String>, AllocError>
-    ensures { IfOk result (λ made. view_names made.items ≡ names texts.now) }
-{
-    let mut names = Vec::new(alloc);
-    for text in texts {
-        names.push(String::from_str(alloc, text)?)?;
-    }
-    Ok(names)
 }

@@ -250,20 +250,30 @@ fn places_field<S: ScalarValue>(
     places: &[usize],
     found: Option<usize>,
 ) -> Answer<usize, S>
-    ensures { Answers S.shown result
-        (cond (bytes_eq field_name.now (codes "first")) (with_read (found_or_code (codes "Nothing there") (codes "NOT_FOUND") found)
-        (λ place. answered (node place)))
-        (cond (bytes_eq field_name.now (codes "all")) (nodes_reply (nodes_at (λ place. place) places.now))
-        (cond (bytes_eq field_name.now (codes "total")) (count_reply (length places.now))
-        (cond (bytes_eq field_name.now (codes "secret")) (fails_with_code (codes "Not public") (codes "FORBIDDEN"))
-        unanswered_reply)))) }
+    ensures { Answers S.shown result (cond (bytes_eq field_name.now (codes "first"))
+        (with_read (found_or_code (codes "No node") (codes "GONE") found) (λ place. answered (node place)))
+        (cond (bytes_eq field_name.now (codes "all")) (nodes_reply (nodes_at (λ place. place) places.now)) unanswered_reply)) }
 {
     match field_name {
         "first" => {
-            let place = found_or_code(alloc, found, "Nothing there", "NOT_FOUND")?;
+            let place = found_or_code(alloc, found, "No node", "GONE")?;
             object(place)
         }
         "all" => nodes(alloc, &nodes_at(alloc, places, |place| place)?),
+        _ => unanswered(alloc),
+    }
+}
+
+/// A count, and a field that is refused.
+fn totals_field<S: ScalarValue>(
+    alloc: Global,
+    field_name: &str,
+    places: &[usize],
+) -> Answer<usize, S>
+    ensures { Answers S.shown result (cond (bytes_eq field_name.now (codes "total")) (count_reply (length places.now))
+        (cond (bytes_eq field_name.now (codes "secret")) (fails_with_code (codes "Not public") (codes "FORBIDDEN")) unanswered_reply)) }
+{
+    match field_name {
         "total" => count(alloc, places.len()),
         "secret" => fails_with_code(alloc, "Not public", "FORBIDDEN"),
         _ => unanswered(alloc),
@@ -279,6 +289,10 @@ fn words_stand_beside_one_another(rt: HostRuntime) -> Result<(), Fail> {
     assert!(rt; is_answered(&all));
     let other = places_field::<DefaultScalarValue>(alloc, "other", &[3, 1], None);
     assert!(rt; !is_answered(&other));
+    let total = totals_field::<DefaultScalarValue>(alloc, "total", &[3, 1]);
+    assert!(rt; is_answered(&total));
+    let untold = totals_field::<DefaultScalarValue>(alloc, "other", &[3, 1]);
+    assert!(rt; !is_answered(&untold));
     Ok(())
 }
 

@@ -5,14 +5,11 @@ ghost use Rattle.juniper_syntax.specs.InputView.{view_fields, view_input, view_i
 ghost use Rattle.juniper_words.specs.Data.{items_of, literal, members_of};
 
 use crate::data::Literal;
-use juniper_syntax::{InputValue, ScalarValue, Span, Spanning};
+use juniper_syntax::{InputField, InputValue, ScalarValue, Span, Spanning};
 use std::alloc::{AllocError, Global};
 
 /// An item of a list, with its place.
 type Item<S> = Spanning<InputValue<S>, Span>;
-
-/// A field of an object, name and value each with its place.
-type Member<S> = (Spanning<String, Span>, Spanning<InputValue<S>, Span>);
 
 /// The value that is written so.
 #[cycle(value_of)]
@@ -51,7 +48,7 @@ fn items_of<S: ScalarValue>(alloc: Global, items: &[Literal]) -> Result<Vec<Item
 fn members_of<S: ScalarValue>(
     alloc: Global,
     members: &[(&str, Literal)],
-) -> Result<Vec<Member<S>>, AllocError>
+) -> Result<Vec<InputField<S>>, AllocError>
     ensures { IfOk result (λ made. view_fields S.shown made.items ≡ members_of members.now) }
 {
     let mut made = Vec::new(alloc);

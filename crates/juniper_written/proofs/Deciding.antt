@@ -5,7 +5,7 @@ use Rattle.std.proofs.lemmas.List.{drop_all}
 use Rattle.juniper_syntax.proofs.Lists.{left-is}
 
 -- one of the items passes where one of their views does
-any-seen : {A B : Type 0} (view : A → B) (test : B → Bool) (xs : List A) → list_any (λ x. test (view x)) xs ≡ list_any test (map view xs)
+pub any-seen : {A B : Type 0} (view : A → B) (test : B → Bool) (xs : List A) → list_any (λ x. test (view x)) xs ≡ list_any test (map view xs)
 any-seen view test [] = refl
 any-seen view test (x ∷ xs) = ap (λ b. test (view x) || b) (any-seen view test xs)
 

@@ -16,7 +16,7 @@ mod Ruling
 pub mod Taking
 mod Rounds
 mod Counted
-mod FieldRepeats
+pub mod FieldRepeats
 mod Known
 mod NamesBefore
 mod Adding

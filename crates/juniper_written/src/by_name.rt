@@ -49,10 +49,7 @@ impl<'d, 'a, S: ScalarValue> FragmentsByName<'d, 'a, S> {
         ensures { (d : Document) → AreFragmentsOf S.shown self.now d →
             option_map (λ f. view_fragment S.shown f.now) result ≡ fragment_of (fragments d) name.now }
     {
-        match self.fragments.get(name) {
-            Some(fragment) => Some(*fragment),
-            None => None,
-        }
+        self.fragments.get(name).copied()
     }
 }
 

@@ -14,11 +14,10 @@ ghost use Rattle.juniper_written.specs.FieldNames.{default_repeats, names_of, va
 
 use crate::{ArgumentLists, repeats};
 use juniper_syntax::ast::Arguments;
-use juniper_syntax::{Definition, InputValue, ScalarValue, Span, Spanning, VariableDefinitions};
+use juniper_syntax::{
+    Definition, InputField, InputValue, ScalarValue, Span, Spanning, VariableDefinitions,
+};
 use std::alloc::{AllocError, Global};
-
-/// A field of an object value: its name and its value.
-type InputField<S> = (Spanning<String, Span>, Spanning<InputValue<S>, Span>);
 
 /// Whether two of an object's own fields have one name. An error where memory is refused.
 fn names_repeat<S: ScalarValue>(alloc: Global, fields: &[InputField<S>]) -> Result<bool, AllocError>

@@ -13,7 +13,8 @@ use Rattle.juniper.specs.Answering.{AreCoercible, AreRefused, StandsFor, outcome
 use Rattle.juniper.specs.Promised.{IsFullOutcome, IsFullOutcomeOf}
 use Rattle.juniper.specs.RequestErrors.{view_request_error}
 use Rattle.juniper.specs.RootView.{service_of}
-use Rattle.juniper_cache.proofs.Executing.{executed, responds-so, unchosen-ends, values-end}
+use Rattle.juniper.proofs.Composing.{responds-so}
+use Rattle.juniper_cache.proofs.Executing.{executed, unchosen-ends, values-end}
 use Rattle.juniper_cache.proofs.text_caching.execute_valid.Goals as goal
 
 pub returns-in-Err : goal.returns-in-Err

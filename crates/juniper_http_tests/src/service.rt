@@ -1,13 +1,10 @@
-//! What no clause says: whole requests, and what comes of them.
+//! What no clause says of the service alone: whole requests, and what comes of them, over an endpoint that shows what it is asked.
 
-use crate::accept::{add_ranges, choose};
-use crate::endpoint::{Endpoint, Reply};
-use crate::media::MediaType;
-use crate::outcome::Outcome;
-use crate::page::PAGE;
-use crate::plan::Limits;
-use crate::service::GraphQLService;
+use crate::requests::{given, received};
 use http_server::{Config, Connection, serve};
+use juniper_http::{
+    Endpoint, GraphQLService, Limits, MediaType, Outcome, PAGE, Reply, add_ranges, choose,
+};
 use juniper_request::GraphQLRequest;
 use std::alloc::{AllocError, Global};
 use std::hash::RandomState;
@@ -150,11 +147,6 @@ fn row_of(line: &str) -> Option<Row<'_>> {
     })
 }
 
-/// What a dash stands for.
-fn given(text: &str) -> &str {
-    if text == "-" { "" } else { text }
-}
-
 /// What a new connection answers to these bytes.
 fn answer(rt: &HostRuntime, received: &[u8]) -> Result<String, Fail> {
     let alloc = rt.alloc();
@@ -178,18 +170,6 @@ fn answer(rt: &HostRuntime, received: &[u8]) -> Result<String, Fail> {
     }
 }
 
-/// The bytes of a row's request.
-fn received(alloc: Global, row: &Row<'_>) -> Result<String, AllocError> {
-    let start = row.start;
-    let fields = given(row.fields).replace(alloc, " ;; ", "\r\n")?;
-    let line = if fields.is_empty() { "" } else { "\r\n" };
-    let body = given(row.body);
-    let len = body.len();
-    format!(in alloc;
-        "{start} HTTP/1.1\r\nHost: x\r\n{fields}{line}Content-Length: {len}\r\n\r\n{body}"
-    )
-}
-
 #[test]
 fn requests_are_answered(rt: HostRuntime) -> Result<(), Fail> {
     for line in REQUESTS.lines().skip(1) {
@@ -197,7 +177,7 @@ fn requests_are_answered(rt: HostRuntime) -> Result<(), Fail> {
             assert!(rt; false, "no row: {line}");
             return Ok(());
         };
-        let sent = received(rt.alloc(), &row)?;
+        let sent = received(rt.alloc(), row.start, row.fields, row.body)?;
         let found = answer(&rt, sent.as_str().as_bytes())?;
         let (head, body) = found.as_str().split_once("\r\n\r\n").unwrap_or(("", ""));
         let status = head.get(9..12).unwrap_or("");

@@ -1,6 +1,6 @@
 use Rattle.std.proofs.Common.{◌≡◌, ◌++◌, drop, map}
 use Rattle.juniper_meta.specs.MetaView.{view_names}
-use Rattle.juniper_registry.proofs.declarations.names.Given as goal
+use Rattle.juniper_registry.proofs.declarations.names_of.Given as goal
 
 -- what is made, before what is still to be made, is the whole
 abbrev pub invariant-loop-text : goal.invariant-loop-text
