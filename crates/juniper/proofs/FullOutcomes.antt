@@ -7,7 +7,7 @@ use Rattle.graphql_spec.specs.Inputs.{Variables}
 use Rattle.graphql_spec.specs.Documents.{Document, OperationType, query, mutation, subscription}
 use Rattle.graphql_spec.specs.Placed.{root_type}
 use Rattle.graphql_spec.specs.Errors.{Place, Listed}
-use Rattle.graphql_spec.specs.Selections.{Forest, depth, occurrences, keys}
+use Rattle.graphql_spec.specs.Selections.{Forest, keys}
 use Rattle.graphql_spec.specs.Resolvers.{World}
 use Rattle.graphql_spec.specs.Execution.{data_of}
 use Rattle.graphql_spec.specs.Failures.{Failure, failures_of}
@@ -24,7 +24,8 @@ use Rattle.graphql_spec.specs.OutcomeExists.{Answers}
 use Rattle.graphql_spec.specs.ExactAnswers.{whole, PathsDiffer, TellsExactly}
 use Rattle.graphql_spec.proofs.Grouping.{in_second}
 use Rattle.graphql_spec.proofs.ValidRuns.{runs_are_valid}
-use Rattle.graphql_spec.proofs.Started.{Started, started}
+use Rattle.graphql_spec.proofs.Existing.{query-started}
+use Rattle.graphql_spec.proofs.Started.{Started}
 use Rattle.graphql_spec.proofs.StartedRuns.{run-started}
 use Rattle.graphql_spec.proofs.CausesOfRuns.{query-cause, query-stand, run-cause, run-stand}
 use Rattle.graphql_spec.proofs.Sorting.{sort, sorted, same-counts}
@@ -79,10 +80,6 @@ all-met b fs above st s stand cause = record {
   where
     why : (to : Place) → RisesTo to fs → (q : Pair) × In q (pairs (firsts fs)) × (q.rises_to ≡ to) × In (told whole q) (all_told fs)
     why to (f, i, e) = let r = first-pair fs f i (s f i) in (r.0, r.1, r.2 ∙ e, all-in r.0 (pairs (firsts fs)) r.1)
-
-query-started : {N : Type 0} (W : World N) (s : Forest) (place to : Place) (U : Name) (n : N) → Started (failures_of W place to U n s)
-unfolding failures_of
-query-started W s place to U n = started W (depth s) place to U n (occurrences W.possible U s)
 
 query-met : {N : Type 0} (W : World N) (T : Name) (m : N) (s : Forest) → Met whole (is_null (data_of W T m s)) (all_told (failures_of W [] [] T m s))
     (firsts (failures_of W [] [] T m s)) [] (nulls_of W [] T m s)

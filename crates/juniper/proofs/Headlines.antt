@@ -1,6 +1,5 @@
 -- What is promised of a request, part by part.
-use Rattle.std.proofs.Common.{◌≡◌, ◌⊎◌, false, IsTrue, List, [], ◌∷◌, map, refl, sym, ap, ◌∙◌, inl, inr, subst}
-use Rattle.graphql_spec.specs.Positions.{Position}
+use Rattle.std.proofs.Common.{◌≡◌, ◌⊎◌, false, IsTrue, List, [], map, refl, sym, ap, ◌∙◌, inl, inr, subst}
 use Rattle.graphql_spec.specs.Values.{Value}
 use Rattle.graphql_spec.specs.Inputs.{Variables}
 use Rattle.graphql_spec.specs.Documents.{OperationType, query, mutation, subscription}
@@ -18,6 +17,7 @@ use Rattle.graphql_spec.specs.Outcomes.{Request, Service, Response, refuses, res
 use Rattle.graphql_spec.specs.Outcomes.{mutation_in}
 use Rattle.graphql_spec.specs.OutcomeLaws.{FailIn, StandIn}
 use Rattle.graphql_spec.specs.ExactAnswers.{whole, TellsExactly, IsErrorOf}
+use Rattle.graphql_spec.proofs.FirstOccurrences.{first-start, picked-of}
 use Rattle.graphql_spec.proofs.OneOutcome.{executed, errors-where-failures}
 use Rattle.juniper.specs.Promised.{IsFullOutcome, ListsFirsts}
 use Rattle.juniper.specs.Headline.{IsPlacedErrorOf, DataIn, ContextIn, Ran, Headline}
@@ -25,25 +25,14 @@ use Rattle.juniper.specs.Headline.{IsPlacedErrorOf, DataIn, ContextIn, Ran, Head
 -- ## What is told at the first of a field's occurrences
 
 -- a failure that is told for the first of its field's occurrences is one of those that are told for all
-of-picked : (g : Failure) (fs : List Failure) → In g (map (for_picked first_start) fs) → (f : Failure) × In f fs × (g ≡ for_picked first_start f)
-of-picked g [] i = absurd i
-of-picked g (f ∷ fs) (inl e) = (f, inl refl, e)
-of-picked g (f ∷ fs) (inr i) = let r = of-picked g fs i in (r.0, inr r.1, r.2)
-
-first-of : (s : Position) (ss : List Position) → In s (first_start ss) → (others : List Position) × (ss ≡ s ∷ others)
-unfolding first_start
-first-of s [] i = absurd i
-first-of s (t ∷ ss) (inl e) = (ss, ap (λ z. z ∷ ss) (sym e))
-first-of s (t ∷ ss) (inr i) = absurd i
-
 placed-error : (x : Listed) (f : Failure) → IsErrorOf x (for_picked first_start f) → IsPlacedErrorOf x f
 unfolding for_picked
-placed-error x f (p, e, s) = (p, e, first-of x.start f.starts s)
+placed-error x f (p, e, s) = (p, e, first-start x.start f.starts s)
 
 placed : (x : Listed) (g : Failure) (fs : List Failure) → In g (map (for_picked first_start) fs) → IsErrorOf x g →
     (f : Failure) × In f fs × IsPlacedErrorOf x f × (g.rises_to ≡ f.rises_to)
 unfolding for_picked
-placed x g fs i e = let r = of-picked g fs i in
+placed x g fs i e = let r = picked-of g fs i in
     (r.0, r.1, placed-error x r.0 (subst (λ z. IsErrorOf x z) r.2 e), ap (λ (z : Failure). z.rises_to) r.2)
 
 -- ## By the kind of the operation

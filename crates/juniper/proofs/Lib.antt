@@ -1,9 +1,9 @@
 mod Bounded
 mod Choosing
-mod Composing
+pub mod Composing
 pub mod Messages
 mod VariableValues
-mod ToldFirsts
+pub mod ToldFirsts
 mod SeenFailures
 mod FullOutcomes
 pub mod Headlines

@@ -1,6 +1,6 @@
 -- Lists that tell each failure for the first of its field's occurrences, from a walk to a response (7.1.2).
-use Rattle.std.proofs.Common.{◌≡◌, Bool, false, IsTrue, List, [], Option, None, Some, map, refl, sym, ap, ◌∙◌, subst}
-use Rattle.graphql_spec.specs.Shown.{Name, Text}
+use Rattle.std.proofs.Common.{◌≡◌, Bool, false, IsTrue, List, [], map, sym, ap, ◌∙◌, subst}
+use Rattle.graphql_spec.specs.Shown.{Name}
 use Rattle.graphql_spec.specs.Values.{Value, is_null}
 use Rattle.graphql_spec.specs.Inputs.{Variables}
 use Rattle.graphql_spec.specs.Documents.{Document, Operation, OperationType, query, mutation, subscription}
@@ -15,13 +15,13 @@ use Rattle.graphql_spec.specs.Mutation.{mutation_run, mutation_nulls}
 use Rattle.graphql_spec.specs.Walk.{Met, count_listed}
 use Rattle.graphql_spec.specs.Requests.{Outcome, of_document, runs, selected}
 use Rattle.graphql_spec.specs.GroupLaws.{for_picked, first_start}
-use Rattle.graphql_spec.specs.Outcomes.{Request, Response, Service, Steps, Becomes, HasMutation, Reads, mutation_in, out_of_memory, refuses, responds}
+use Rattle.graphql_spec.specs.Outcomes.{Request, Response, Service, Steps, Becomes, HasMutation, mutation_in, out_of_memory, refuses, responds}
 use Rattle.graphql_spec.specs.Outcomes.{world_in}
 use Rattle.graphql_spec.specs.OutcomeLaws.{FailIn, StandIn}
 use Rattle.graphql_spec.specs.ExactAnswers.{whole, TellsExactly}
 use Rattle.graphql_spec.proofs.Answered.{is_answer}
 use Rattle.graphql_spec.proofs.Exact.{exact-tells, walks-exact-answer}
-use Rattle.graphql_spec.proofs.OneOutcome.{same-mutation}
+use Rattle.graphql_spec.proofs.OneOutcome.{reads-one, same-mutation}
 use Rattle.juniper.specs.Promised.{ListsFirsts}
 
 -- ## Of a walk
@@ -86,16 +86,10 @@ module _ {C N : Type 0} (S : Service C N) (c : C) where
         told-moves es fs _ stands _ f' p' t
     mutation-told m T has subscription e t fs stands fail stand = cc
 
-reads-alike : (text : Text) (d e : Option Document) → Reads text d → Reads text e → d ≡ e
-reads-alike text None None a b = refl
-reads-alike text None (Some e) a b = absurd (a e b.0)
-reads-alike text (Some d) None a b = absurd (b d a.0)
-reads-alike text (Some d) (Some e) a b = ap Some (b.1 d a.0)
-
 module _ {C N : Type 0} (S : Service C N) (c : C) (q : Request) where
   becomes-alike : (x y : Outcome) → Becomes S q x → Becomes S q y → x ≡ y
   becomes-alike x y a b =
-      sym a.2 ∙ (ap (of_document S.schema S.introspection_disabled q.operation q.variables) (reads-alike q.text a.0 b.0 a.1 b.1) ∙ b.2)
+      sym a.2 ∙ (ap (of_document S.schema S.introspection_disabled q.operation q.variables) (reads-one q.text a.0 b.0 a.1 b.1) ∙ b.2)
 
   -- what is told where it is known what becomes of the request
   pub firsts-become : (x : Outcome) → Becomes S q x → (r : Response) → ListsFirsts S (λ y. y ≡ x) c r → ListsFirsts S (Becomes S q) c r

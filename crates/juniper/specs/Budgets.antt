@@ -1,9 +1,9 @@
 -- What a request within a budget of fields is answered (6.1).
-use Rattle.std.specs.Prelude.{Result, Ok, Err, Vec, map}
+use Rattle.std.specs.Prelude.{Result, Ok, Err, Vec, codes, map}
 use Rattle.std.specs.declared.alloc.Global.{Global}
 use Rattle.graphql_spec.specs.Outcomes as outcome
 use Rattle.graphql_spec.specs.Outcomes.{Response, responds}
-use Rattle.graphql_spec.specs.Shown.{Shown}
+use Rattle.graphql_spec.specs.Shown.{Shown, Text}
 use Rattle.juniper_conversions.specs.ErrorView.{view_listed}
 use Rattle.juniper_conversions.specs.declared.execution_error.ExecutionError.{ExecutionError}
 use Rattle.juniper_syntax.specs.ValueView.{view_value}
@@ -11,7 +11,7 @@ use Rattle.juniper_syntax.specs.declared.value.Value.{Value}
 use Rattle.juniper_walk.specs.declared.walked.Stop.{Stop}
 use Rattle.juniper_walk.specs.declared.walked.Stop.TheVariants as stops
 use Rattle.juniper.specs.Answering.{Responds}
-use Rattle.juniper.specs.RequestErrors.{view_request_error}
+use Rattle.juniper.specs.RequestErrors.{request_error_text, view_request_error}
 use Rattle.juniper.specs.declared.budget.Within.{Within}
 use Rattle.juniper.specs.declared.budget.Within.TheVariants.{Refused, Spent}
 use Rattle.juniper.specs.declared.error.GraphQLError.{GraphQLError}
@@ -26,6 +26,11 @@ RefusesWithin P Spent = P outcome.out_of_memory
 abbrev pub AnswersWithin : {S : Type 0} → (S → Shown) → (Response → Type 0) → Result (Value S × Vec (ExecutionError S) Global) Within → Type 0
 AnswersWithin shown P (Ok p) = P (responds (view_value shown p.0) (map (view_listed shown) p.1.items))
 AnswersWithin shown P (Err w) = RefusesWithin P w
+
+-- the texts that are shown
+abbrev pub within_text : Within → Text
+within_text (Refused e) = request_error_text (view_request_error e)
+within_text Spent = codes "The answer has too many fields"
 
 -- ## Only private clauses cite what follows
 

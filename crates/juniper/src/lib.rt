@@ -141,6 +141,7 @@ pub use prepared::Bounds;
 pub use prepared::Objection;
 pub use prepared::Prepared;
 pub use preparing::execute_prepared;
+pub use preparing::execute_prepared_within;
 pub use preparing::prepare;
 pub use request::check_variables;
 pub use request::execute_sync;

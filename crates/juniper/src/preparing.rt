@@ -1,21 +1,24 @@
 //! Documents are read and validated once, and executed often (section 6.1 of the Specification).
 
-ghost use Rattle.std.specs.Prelude.{◌≡◌, Bool, MatchResult, nat_lt};
+ghost use Rattle.std.specs.Prelude.{◌≡◌, ◌≤◌, Bool, IfOk, MatchResult, nat_lt};
 ghost use Rattle.std.specs.List.{list_any};
 ghost use Rattle.graphql_spec.specs.Schema.{Schema};
 ghost use Rattle.juniper_syntax.specs.DocumentView.{view_document};
+ghost use Rattle.juniper_syntax.specs.ValueView.{view_value};
 ghost use Rattle.juniper_schema.specs.SchemaView.{view_schema};
+ghost use Rattle.juniper_walk.specs.Budget.{fields_in};
 ghost use Rattle.juniper_intro.specs.RootView.{is_disabled, schema_of};
 ghost use Rattle.juniper.specs.Answering.{AnswersAs, request_of};
+ghost use Rattle.juniper.specs.Budgets.{AnswersWithin};
 ghost use Rattle.juniper.specs.Objections.{IsWithin, Objects};
 ghost use Rattle.juniper.specs.PreparedView.{IsOfText, IsPreparedFrom, document_of, root_of, source_of};
 ghost use Rattle.juniper.specs.Promised.{IsFullOutcome};
 ghost use Rattle.juniper.specs.RootView.{service_of};
 
+use crate::budget::Within;
 use crate::error::GraphQLError;
-use crate::execute::execute_validated_query;
 use crate::prepared::{Bounds, Objection, Prepared};
-use crate::request::{check_variables, get_operation};
+use crate::request::execute_chosen;
 use juniper_intro::RootNode;
 use juniper_language::{Document, ScalarValue, Value, Variables, parse_document_source};
 use juniper_rules::validate;
@@ -146,24 +149,49 @@ pub fn execute_prepared<
         (λ r. IsFullOutcome (service_of Q.concrete Q.answer Q.root M.step M.torn S.shown (root_of prepared.now))
         (request_of S.shown (source_of prepared.now) operation_name.entry variables.now) context.old r context.new) result }
 {
-    let root = prepared.root;
-    let operation = match get_operation(&prepared.document, operation_name) {
-        Err(error) => return Err(error),
-        Ok(operation) => operation,
-    };
-    match check_variables(alloc, operation, variables, root.schema()) {
-        Err(error) => return Err(error),
-        Ok(_) => {}
-    }
-    match execute_validated_query(
+    match execute_prepared_within(
         alloc,
-        &prepared.document,
-        operation,
-        root,
+        prepared,
+        operation_name,
         variables,
         context,
+        usize::MAX,
     ) {
-        Err(error) => Err(error),
+        Err(within) => Err(within.into_error()),
+        Ok(answered) => Ok(answered),
+    }
+}
+
+/// Executes an operation of a prepared document as [`execute_prepared`] does, where at most so many fields are entered: answers what
+/// [`crate::request::execute_within`] answers to its text on its root, and leaves the context as that does.
+pub fn execute_prepared_within<
+    Q: GraphQLValue<S>,
+    M: GraphQLMutationValue<S, Context = Q::Context, Node = Q::Node>,
+    Sub: GraphQLType<S>,
+    S: ScalarValue,
+>(
+    alloc: Global,
+    prepared: &Prepared<'_, '_, Q, M, Sub, S>,
+    operation_name: Option<&str>,
+    variables: &Variables<S>,
+    context: &mut Q::Context,
+    fields: usize,
+) -> Result<(Value<S>, Vec<ExecutionError<S>>), Within>
+    ensures answers { IsOfText S.shown prepared.now → AnswersWithin S.shown
+        (λ r. IsFullOutcome (service_of Q.concrete Q.answer Q.root M.step M.torn S.shown (root_of prepared.now))
+        (request_of S.shown (source_of prepared.now) operation_name.entry variables.now) context.old r context.new) result }
+    ensures counted { IfOk result (λ p. fields_in (view_value S.shown p.0) ≤ fields) }
+{
+    match execute_chosen(
+        alloc,
+        &prepared.document,
+        operation_name,
+        prepared.root,
+        variables,
+        context,
+        fields,
+    ) {
+        Err(within) => Err(within),
         Ok(answered) => Ok(answered),
     }
 }

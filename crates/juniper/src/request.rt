@@ -4,6 +4,8 @@ ghost use Rattle.std.specs.Prelude.{◌≡◌, ◌≤◌, IfOk, MatchResult, Non
 ghost use Rattle.graphql_spec.specs.Outcomes.{Reads};
 ghost use Rattle.graphql_spec.specs.Requests as requests;
 ghost use Rattle.graphql_spec.specs.Rules.{rule_errors};
+ghost use Rattle.graphql_spec.specs.Shown.{Text};
+ghost use Rattle.juniper_intro.specs.RootView.{is_disabled, schema_of};
 ghost use Rattle.juniper_syntax.specs.DocumentView.{view_document, view_operation};
 ghost use Rattle.juniper_syntax.specs.InputView.{view_variables};
 ghost use Rattle.juniper_syntax.specs.ValueView.{view_value};
@@ -178,28 +180,63 @@ pub fn execute_within<
         Err(error) => return Err(Within::Refused(error)),
         Ok(document) => document,
     };
-    let schema = root_node.schema();
     match check_document(
         alloc,
         &document,
-        schema,
+        root_node.schema(),
         root_node.is_introspection_disabled(),
     ) {
         Err(error) => return Err(Within::Refused(error)),
         Ok(_) => {}
     }
-    let operation = match get_operation(&document, operation_name) {
+    match execute_chosen(
+        alloc,
+        &document,
+        operation_name,
+        root_node,
+        variables,
+        context,
+        fields,
+    ) {
+        Err(within) => Err(within),
+        Ok(answered) => Ok(answered),
+    }
+}
+
+/// Chooses the operation of a valid document, tests the values of its variables and executes it, where at most so many fields are entered
+/// (6.1). Of every text that is read as the document it answers what a request of that text is answered.
+pub(crate) fn execute_chosen<
+    Q: GraphQLValue<S>,
+    M: GraphQLMutationValue<S, Context = Q::Context, Node = Q::Node>,
+    Sub: GraphQLType<S>,
+    S: ScalarValue,
+>(
+    alloc: Global,
+    document: &Document<'_, S>,
+    operation_name: Option<&str>,
+    root_node: &RootNode<Q, M, Sub, S>,
+    variables: &Variables<S>,
+    context: &mut Q::Context,
+    fields: usize,
+) -> Result<(Value<S>, Vec<ExecutionError<S>>), Within>
+    requires { rule_errors (view_schema S.shown (schema_of root_node.now)) (is_disabled root_node.now) (view_document S.shown document.now) ≡ [] }
+    ensures answers { (t : Text) → Reads t (Some (view_document S.shown document.now)) → AnswersWithin S.shown
+        (λ r. IsFullOutcome (service_of Q.concrete Q.answer Q.root M.step M.torn S.shown root_node.now)
+        (request_of S.shown t operation_name.entry variables.now) context.old r context.new) result }
+    ensures counted { IfOk result (λ p. fields_in (view_value S.shown p.0) ≤ fields) }
+{
+    let operation = match get_operation(document, operation_name) {
         Err(error) => return Err(Within::Refused(error)),
         Ok(operation) => operation,
     };
-    match check_variables(alloc, operation, variables, schema) {
+    match check_variables(alloc, operation, variables, root_node.schema()) {
         Err(error) => return Err(Within::Refused(error)),
         Ok(_) => {}
     }
     match execute_walked(
         alloc,
         Walking::Grouped,
-        &document,
+        document,
         operation,
         root_node,
         variables,

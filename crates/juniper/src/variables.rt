@@ -11,13 +11,10 @@ ghost use Rattle.juniper_syntax.specs.InputView.{view_input, view_variables};
 ghost use Rattle.juniper_rules.specs.GivenView.{view_given_values};
 
 use juniper_language::{
-    InputValue, Operation, ScalarValue, Span, Spanning, VariableDefinition, Variables,
+    DefinedVariable, InputValue, Operation, ScalarValue, Span, Spanning, Variables,
 };
 use juniper_rules::Given;
 use std::alloc::{AllocError, Global};
-
-/// A variable that an operation defines: its name, and what is said of it.
-type Defined<'a, S> = (Spanning<&'a str, Span>, VariableDefinition<'a, S>);
 
 /// The first variable that the operation defines and whose given value holds a variable.
 pub(crate) fn first_not_constant<'a, S: ScalarValue>(
@@ -33,7 +30,7 @@ pub(crate) fn first_not_constant<'a, S: ScalarValue>(
 /// The first of these variables whose given value holds a variable.
 #[tactic(auto, unfolding(graphql_spec::specs::Requests::first_not_constant))]
 fn first_inconstant<'a, S: ScalarValue>(
-    defined: &[Defined<'a, S>],
+    defined: &[DefinedVariable<'a, S>],
     given: &Given<'_, S>,
 ) -> Option<&'a str>
     ensures { option_map (λ n. n.now) result ≡ requests.first_not_constant (map (view_variable S.shown) defined.now) (view_given_values S.shown given.now) }
@@ -75,7 +72,7 @@ pub(crate) fn coerce_variables<S: ScalarValue>(
 /// The values of these variables; the first definition of a name decides.
 fn values_of<S: ScalarValue>(
     alloc: Global,
-    defined: &[Defined<'_, S>],
+    defined: &[DefinedVariable<'_, S>],
     given: &Given<'_, S>,
 ) -> Result<Variables<S>, AllocError>
     ensures { IfOk result (λ made. view_variables S.shown made ≡ coerced_variables (map (view_variable S.shown) defined.now)
@@ -93,7 +90,7 @@ fn values_of<S: ScalarValue>(
 fn put_value<S: ScalarValue>(
     alloc: Global,
     made: &mut Variables<S>,
-    variable: &Defined<'_, S>,
+    variable: &DefinedVariable<'_, S>,
     given: &Given<'_, S>,
 ) -> Result<(), AllocError>
     ensures { OnOk result ((n : Name) → view_variables S.shown made.new n ≡ cond (bytes_eq n (view_variable S.shown variable.now).name.item)
@@ -117,7 +114,7 @@ fn put_value<S: ScalarValue>(
 #[tactic(auto, unfolding(graphql_spec::specs::Requests::value_or, graphql_spec::specs::Requests::item_of))]
 fn value_of<'b, S: ScalarValue>(
     given: &'b Given<'_, S>,
-    variable: &'b Defined<'_, S>,
+    variable: &'b DefinedVariable<'_, S>,
 ) -> Option<&'b InputValue<S>>
     ensures { option_map (λ v. view_input S.shown v.now) result ≡ value_or (view_given_values S.shown given.now (view_variable S.shown variable.now).name.item)
         (item_of (view_variable S.shown variable.now).default) }

@@ -1,7 +1,6 @@
 -- What explains a refusal: how it is made, and that the line tells it.
-use Rattle.std.proofs.Common.{◌≡◌, ℕ, Bool, true, false, cond, List, [], ◌∷◌, ◌++◌, map, Some, refl, sym, ap, append-nil, append_assoc, ◌∙◌}
+use Rattle.std.proofs.Common.{◌≡◌, ℕ, Bool, true, false, cond, List, [], ◌∷◌, map, Some, refl, sym, ap, ◌∙◌}
 use Rattle.std.proofs.Common.{inl, inr}
-use Rattle.std.proofs.lemmas.List.{map-append}
 use Rattle.graphql_spec.specs.Documents.{Document, Operation, variables_of}
 use Rattle.graphql_spec.specs.Inputs.{Variables}
 use Rattle.graphql_spec.specs.Outcomes.{Reads, Request}
@@ -25,24 +24,6 @@ use Rattle.juniper_json.specs.RefusalText.{explained_text}
 use Rattle.juniper_endpoint.specs.Explained.{IsFaultless, TellsRefusal, explained_as, is_left_out, misfits, nodes_explained}
 use Rattle.juniper_endpoint.specs.Explained.{of_explanation, of_value, values_explained, where_valid}
 use Rattle.juniper_endpoint.specs.Looks.{AreMisfits, IsExplained}
-
--- ## How explanations are written, one after the other
-
--- what is written goes before what is left
-module _ {A B C : Type 0} (f : A → C) (view : B → C) (all : List C) where
-  abbrev pub AreMoved : List B → List A → Type 0
-  AreMoved made left = map view made ++ map f left ≡ all
-
-  pub moved-turn : (made new : List B) (left next : List A) (a : A) (b : B) → AreMoved made left → left ≡ a ∷ next → new ≡ made ++ b ∷ [] → view b ≡ f a →
-      AreMoved new next
-  moved-turn made new left next a b so_far is more same =
-      ap (λ l. map view l ++ map f next) more
-      ∙ (ap (λ l. l ++ map f next) (map-append view made (b ∷ []))
-      ∙ (append_assoc (map view made) (view b ∷ []) (map f next)
-      ∙ (ap (λ c. map view made ++ c ∷ map f next) same ∙ (ap (λ l. map view made ++ map f l) (sym is) ∙ so_far))))
-
-  pub moved-all : (made : List B) (left : List A) → left ≡ [] → AreMoved made left → map view made ≡ all
-  moved-all made left none so_far = sym (append-nil (map view made)) ∙ (ap (λ l. map view made ++ map f l) (sym none) ∙ so_far)
 
 -- ## What is left out
 

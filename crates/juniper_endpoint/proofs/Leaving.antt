@@ -50,13 +50,14 @@ module _ {C N : Type 0} (S : Service C N) (b : Bounds) (a : Asked) (most : ℕ) 
   outcome-leaves may out_of_memory after (inl same) = same
   outcome-leaves may out_of_memory after (inr (e, o, v, becomes, kind, left)) = absurd (no-mutation may e o v becomes kind)
 
-  pub reads-leave : (outcome : Outcome) (line : Text) (after : C) → Replies S b a most false c outcome line after → after ≡ c
-  reads-leave Executed line after (may, (value, es, full, is)) = outcome-leaves may (responds value es) after full.0.0
-  reads-leave Refused line after (inl (e, r, is, full, told)) = full.0.0.1
-  reads-leave Refused line after (inr (same, why)) = same
-  reads-leave Writes line after (same, reads, is, told) = same
-  reads-leave OutOfMemory line after (inl same) = same
-  reads-leave OutOfMemory line after (inr (may, (r, full))) = outcome-leaves may r after full.0.0
+  pub reads-leave : (fields : ℕ) (outcome : Outcome) (line : Text) (after : C) → Replies S b a most false c fields outcome line after → after ≡ c
+  reads-leave fields Executed line after (may, (value, es, full, is, few)) = outcome-leaves may (responds value es) after full.0.0
+  reads-leave fields Refused line after (inl (e, r, is, full, told)) = full.0.0.1
+  reads-leave fields Refused line after (inr (inl (same, why))) = same
+  reads-leave fields Refused line after (inr (inr (may, full, is))) = outcome-leaves may out_of_memory after full.0.0
+  reads-leave fields Writes line after (same, reads, is, told) = same
+  reads-leave fields OutOfMemory line after (inl same) = same
+  reads-leave fields OutOfMemory line after (inr (may, (r, full))) = outcome-leaves may r after full.0.0
 
 -- ## Services
 

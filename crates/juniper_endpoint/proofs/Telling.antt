@@ -1,5 +1,5 @@
 -- What is told of a request, over plain variables.
-use Rattle.std.proofs.Common.{◌≡◌, ℕ, Bool, List, [], map, Option, Some, None, Result, Ok, Err, Vec, Global, string_bytes, refl, sym, ap, subst}
+use Rattle.std.proofs.Common.{◌≡◌, ◌≤◌, ℕ, Bool, List, [], map, Option, Some, None, Result, Ok, Err, IfOk, Vec, Global, string_bytes, refl, sym, ap, subst}
 use Rattle.std.proofs.Common.{◌∙◌, inl, inr}
 use Rattle.graphql_spec.specs.Documents.{Document}
 use Rattle.graphql_spec.specs.Inputs.{Variables}
@@ -8,12 +8,14 @@ use Rattle.graphql_spec.specs.Outcomes.{Request, Service, Response, refuses, res
 use Rattle.graphql_spec.specs.Requests.{Refusal, refused}
 use Rattle.graphql_spec.specs.Shown.{Name, Text}
 use Rattle.graphql_spec.proofs.Deciding.{steps-decide}
-use Rattle.juniper.specs.Answering.{AnswersAs, Responds, StandsFor}
+use Rattle.juniper.specs.Answering.{Responds, StandsFor}
+use Rattle.juniper.specs.Budgets.{AnswersWithin, RefusesWithin}
 use Rattle.juniper.specs.Objections.{IsRefusal, Objects}
 use Rattle.juniper.specs.Promised.{IsFullOutcome}
 use Rattle.juniper.specs.RequestErrors.{RequestError, view_request_error, not_parsed, not_valid, no_operation, multiple_operations, unknown_operation}
 use Rattle.juniper.specs.RequestErrors.{is_subscription, not_subscription, no_mutation_type, variable_not_constant, out_of_memory}
-use Rattle.juniper.specs.declared.error.GraphQLError.{GraphQLError}
+use Rattle.juniper.specs.declared.budget.Within.{Within}
+use Rattle.juniper.specs.declared.budget.Within.TheVariants as within
 use Rattle.juniper.specs.declared.prepared.Bounds.{Bounds}
 use Rattle.juniper.specs.declared.prepared.Objection.{Objection}
 use Rattle.juniper.specs.declared.prepared.Objection.TheVariants as objection
@@ -29,6 +31,7 @@ use Rattle.juniper_json.specs.RefusalText.{explained_text, refusals_text}
 use Rattle.juniper_schema.specs.SchemaView.{view_schema}
 use Rattle.juniper_syntax.specs.RuleView.{view_rule_error}
 use Rattle.juniper_request.specs.Requests.{Asked}
+use Rattle.juniper_walk.specs.Budget.{fields_in}
 use Rattle.juniper_syntax.specs.Scalars.{default_shown}
 use Rattle.juniper_syntax.specs.ValueView.{view_value}
 use Rattle.juniper_syntax.specs.declared.scalar.DefaultScalarValue.{DefaultScalarValue}
@@ -36,15 +39,15 @@ use Rattle.juniper_syntax.specs.declared.value.Value.{Value}
 use Rattle.juniper_endpoint.proofs.Explaining.{objected-line, taken-line}
 use Rattle.juniper_endpoint.specs.Explained.{TellsRefusal}
 use Rattle.juniper_endpoint.specs.Lines.{IsTold, bare_line, outcome_of, outcome_text, refused_outcome, writes_text}
-use Rattle.juniper_endpoint.specs.Looks.{AreMisfits, ExplainsFor, IsAnswerTold, IsObjected, IsSeen}
+use Rattle.juniper_endpoint.specs.Looks.{AreMisfits, ExplainsFor, IsAnswerTold, IsObjected, IsSeen, IsStopTold}
 use Rattle.juniper_endpoint.specs.Replied.{IsTaken, MayRun, Replies, given_among, refused_among, request_asked}
 use Rattle.juniper_endpoint.specs.declared.explained.Explainer.{Explainer}
 use Rattle.juniper_endpoint.specs.declared.look.Finding.{Finding}
 use Rattle.juniper_endpoint.specs.declared.look.Finding.TheVariants as look
 
--- what a call of the executor answers
+-- what a call of the executor within a budget answers
 abbrev Answered : Type 0
-Answered = Result (Value DefaultScalarValue × Vec (ExecutionError DefaultScalarValue) Global) GraphQLError
+Answered = Result (Value DefaultScalarValue × Vec (ExecutionError DefaultScalarValue) Global) Within
 
 -- some response that is promised
 by-error : (P : Response → Type 0) (e : RequestError) → Responds P e → (r : Response) × P r
@@ -59,9 +62,13 @@ by-error P not_subscription (r, is, p) = (refuses r, p)
 by-error P no_mutation_type (r, is, p) = (refuses r, p)
 by-error P (variable_not_constant n) (r, is, p) = (refuses r, p)
 
-some-response : (P : Response → Type 0) (r : Answered) → AnswersAs default_shown P r → (x : Response) × P x
+by-stop : (P : Response → Type 0) (w : Within) → RefusesWithin P w → (r : Response) × P r
+by-stop P (within.Refused e) p = by-error P (view_request_error e) p
+by-stop P within.Spent p = (outcome.out_of_memory, p)
+
+some-response : (P : Response → Type 0) (r : Answered) → AnswersWithin default_shown P r → (x : Response) × P x
 some-response P (Ok p) full = (responds (view_value default_shown p.0) (map (view_listed default_shown) p.1.items), full)
-some-response P (Err e) full = by-error P (view_request_error e) full
+some-response P (Err w) full = by-stop P w full
 
 -- the request with these values is the one that is asked
 pub request-same : (a : Asked) (t : Text) (v : Variables) → t ≡ a.query → v ≡ given_among a.variables →
@@ -82,10 +89,10 @@ told-of S q asked x r reply explains same t =
     (subst (λ u. IsAnswerTold S.schema u x.most_bytes q r reply) explains.1
     (subst (λ s. IsAnswerTold s x.is_introspection_disabled x.most_bytes q r reply) explains.0 t))
 
-module _ {C N : Type 0} (S : Service C N) (b : Bounds) (a : Asked) (most : ℕ) (w : Bool) (c : C) where
+module _ {C N : Type 0} (S : Service C N) (b : Bounds) (a : Asked) (most : ℕ) (w : Bool) (c : C) (fields : ℕ) where
   -- that memory is refused may be told
   abbrev Left : C → Type 0
-  Left after = Replies S b a most w c OutOfMemory [] after
+  Left after = Replies S b a most w c fields OutOfMemory [] after
 
   -- the line tells an error
   abbrev TellsError : RequestError → Text → Type 0
@@ -93,7 +100,7 @@ module _ {C N : Type 0} (S : Service C N) (b : Bounds) (a : Asked) (most : ℕ) 
 
   -- an error of the executor
   error-told : (after : C) → Left after → (e : RequestError) → Responds (λ r. IsFullOutcome S (request_asked a) c r after) e → (line : Text) →
-      TellsError e line → Replies S b a most w c (refused_outcome e) line after
+      TellsError e line → Replies S b a most w c fields (refused_outcome e) line after
   error-told after left out_of_memory p line tells = left
   error-told after left (not_parsed e) (r, x, p) line tells = inl (not_parsed e, r, x, p, tells)
   error-told after left (not_valid es) (r, x, p) line tells = inl (not_valid es, r, x, p, tells)
@@ -107,14 +114,14 @@ module _ {C N : Type 0} (S : Service C N) (b : Bounds) (a : Asked) (most : ℕ) 
 
   -- a reply that says so, or that memory is refused
   told : (after : C) → Left after → (o : Outcome) (line : Text) (reply : Reply) → IsTold o line reply →
-      ((l : Text) → l ≡ line → Replies S b a most w c o l after) → Replies S b a most w c reply.outcome (string_bytes reply.line) after
+      ((l : Text) → l ≡ line → Replies S b a most w c fields o l after) → Replies S b a most w c fields reply.outcome (string_bytes reply.line) after
   told after left o line reply (inl (is, says)) f =
-      subst (λ x. Replies S b a most w c x (string_bytes reply.line) after) (sym is) (f (string_bytes reply.line) says)
-  told after left o line reply (inr is) f = subst (λ x. Replies S b a most w c x (string_bytes reply.line) after) (sym is) left
+      subst (λ x. Replies S b a most w c fields x (string_bytes reply.line) after) (sym is) (f (string_bytes reply.line) says)
+  told after left o line reply (inr is) f = subst (λ x. Replies S b a most w c fields x (string_bytes reply.line) after) (sym is) left
 
   pub memory-told : (after : C) → after ≡ c → (reply : Reply) → reply.outcome ≡ OutOfMemory →
-      Replies S b a most w c reply.outcome (string_bytes reply.line) after
-  memory-told after same reply is = subst (λ x. Replies S b a most w c x (string_bytes reply.line) after) (sym is) (inl same)
+      Replies S b a most w c fields reply.outcome (string_bytes reply.line) after
+  memory-told after same reply is = subst (λ x. Replies S b a most w c fields x (string_bytes reply.line) after) (sym is) (inl same)
 
   -- ## A request that is executed
 
@@ -124,18 +131,23 @@ module _ {C N : Type 0} (S : Service C N) (b : Bounds) (a : Asked) (most : ℕ) 
       taken-line S.schema S.introspection_disabled most (request_asked a) d taken.0.0.1 taken.1 e es are line is
 
   -- want of memory, behind what is promised
-  left-by : MayRun S b a w → (after : C) (r : Answered) → AnswersAs default_shown (λ x. IsFullOutcome S (request_asked a) c x after) r → Left after
+  left-by : MayRun S b a w → (after : C) (r : Answered) → AnswersWithin default_shown (λ x. IsFullOutcome S (request_asked a) c x after) r → Left after
   left-by may after r full = inr (may, some-response (λ x. IsFullOutcome S (request_asked a) c x after) r full)
 
-  pub answered-told : MayRun S b a w → (after : C) (r : Answered) → AnswersAs default_shown (λ x. IsFullOutcome S (request_asked a) c x after) r →
-      (reply : Reply) → IsAnswerTold S.schema S.introspection_disabled most (request_asked a) r reply →
-      Replies S b a most w c reply.outcome (string_bytes reply.line) after
-  answered-told may after (Ok p) full reply t = told after (left-by may after (Ok p) full) (outcome_of (Ok p)) (outcome_text (Ok p)) reply t
-      (λ l is. (may, (view_value default_shown p.0, map (view_listed default_shown) p.1.items, full, is)))
-  answered-told may after (Err e) full reply (inl (es, are, t)) = told after (left-by may after (Err e) full) (refused_outcome (view_request_error e)) _
-      reply t (λ l is. error-told after (left-by may after (Err e) full) (view_request_error e) full l (misfit-line may (view_request_error e) es are l is))
-  answered-told may after (Err e) full reply (inr is) =
-      told after (left-by may after (Err e) full) OutOfMemory [] reply (inr is) (λ l same. left-by may after (Err e) full)
+  stop-told : MayRun S b a w → (after : C) (s : Within) → RefusesWithin (λ x. IsFullOutcome S (request_asked a) c x after) s → Left after → (reply : Reply) →
+      IsStopTold S.schema S.introspection_disabled most (request_asked a) s reply → Replies S b a most w c fields reply.outcome (string_bytes reply.line) after
+  stop-told may after (within.Refused e) full left reply (inl (es, are, t)) = told after left (refused_outcome (view_request_error e)) _ reply t
+      (λ l is. error-told after left (view_request_error e) full l (misfit-line may (view_request_error e) es are l is))
+  stop-told may after (within.Refused e) full left reply (inr is) = told after left OutOfMemory [] reply (inr is) (λ l same. left)
+  stop-told may after within.Spent full left reply t = told after left Refused _ reply t (λ l is. inr (inr (may, full, is)))
+
+  pub answered-told : MayRun S b a w → (after : C) (r : Answered) → AnswersWithin default_shown (λ x. IsFullOutcome S (request_asked a) c x after) r →
+      IfOk r (λ p. fields_in (view_value default_shown p.0) ≤ fields) → (reply : Reply) →
+      IsAnswerTold S.schema S.introspection_disabled most (request_asked a) r reply →
+      Replies S b a most w c fields reply.outcome (string_bytes reply.line) after
+  answered-told may after (Ok p) full few reply t = told after (left-by may after (Ok p) full) (outcome_of (Ok p)) (outcome_text (Ok p)) reply t
+      (λ l is. (may, (view_value default_shown p.0, map (view_listed default_shown) p.1.items, full, is, few)))
+  answered-told may after (Err s) full few reply t = stop-told may after s full (left-by may after (Err s) full) reply t
 
   -- ## A text that is objected to
 
@@ -158,10 +170,10 @@ module _ {C N : Type 0} (S : Service C N) (b : Bounds) (a : Asked) (most : ℕ) 
   refusal-full (variable_not_constant n) (r, is, p) = (r, is, (((refusal-becomes r p, refl), tt), tt))
 
   pub objection-told : (e : Objection) → Objects b a.query S.schema S.introspection_disabled e → (reply : Reply) →
-      IsObjected S.schema S.introspection_disabled most a.query e reply → Replies S b a most w c reply.outcome (string_bytes reply.line) c
-  objection-told objection.TooLong o reply t = told c (inl refl) Refused _ reply t (λ l is. inr (refl, inl (objection.TooLong, tt, o, is)))
-  objection-told objection.TooManyFields o reply t = told c (inl refl) Refused _ reply t (λ l is. inr (refl, inl (objection.TooManyFields, tt, o, is)))
-  objection-told objection.TooDeep o reply t = told c (inl refl) Refused _ reply t (λ l is. inr (refl, inl (objection.TooDeep, tt, o, is)))
+      IsObjected S.schema S.introspection_disabled most a.query e reply → Replies S b a most w c fields reply.outcome (string_bytes reply.line) c
+  objection-told objection.TooLong o reply t = told c (inl refl) Refused _ reply t (λ l is. inr (inl (refl, inl (objection.TooLong, tt, o, is))))
+  objection-told objection.TooManyFields o reply t = told c (inl refl) Refused _ reply t (λ l is. inr (inl (refl, inl (objection.TooManyFields, tt, o, is))))
+  objection-told objection.TooDeep o reply t = told c (inl refl) Refused _ reply t (λ l is. inr (inl (refl, inl (objection.TooDeep, tt, o, is))))
   objection-told (objection.Refused e) o reply (inl (es, explained, t)) = told c (inl refl) _ _ reply t (λ l is.
       error-told c (inl refl) (view_request_error e) (refusal-full (view_request_error e) o.1) l
       (objected-line S.schema S.introspection_disabled most (request_asked a) b (view_request_error e) o.1 es explained l is))
@@ -171,14 +183,14 @@ module _ {C N : Type 0} (S : Service C N) (b : Bounds) (a : Asked) (most : ℕ) 
 
   module _ (d : Document) (taken : IsTaken S b a d) where
     pub seen-writes : IsSeen (refused_among a.variables) w a.operation_name d look.Writes → (reply : Reply) → IsTold Writes (bare_line writes_text) reply →
-        Replies S b a most w c reply.outcome (string_bytes reply.line) c
+        Replies S b a most w c fields reply.outcome (string_bytes reply.line) c
     seen-writes (o, choice, (reads, kind)) reply t = told c (inl refl) Writes _ reply t (λ l is. (refl, reads, (d, o, (taken, choice), kind), is))
 
     pub seen-unfitting : (errors : Vec _ Global) → IsSeen (refused_among a.variables) w a.operation_name d (look.Unfitting errors) → (reply : Reply) →
         IsTold Refused (refusals_text (refusals_of (not_valid (map view_rule_error errors.items)))) reply →
-        Replies S b a most w c reply.outcome (string_bytes reply.line) c
+        Replies S b a most w c fields reply.outcome (string_bytes reply.line) c
     seen-unfitting errors (o, choice, (some, same)) reply t = told c (inl refl) Refused _ reply t
-        (λ l is. inr (refl, inr (d, o, (taken, choice), some, is ∙ ap (λ es. refusals_text (refusals_of (not_valid es))) same)))
+        (λ l is. inr (inl (refl, inr (d, o, (taken, choice), some, is ∙ ap (λ es. refusals_text (refusals_of (not_valid es))) same))))
 
     pub seen-free : IsSeen (refused_among a.variables) w a.operation_name d look.Passes → MayRun S b a w
     seen-free free = (d, taken, free)

@@ -8,7 +8,9 @@ use Rattle.graphql_spec.specs.Schema.{Schema}
 use Rattle.graphql_spec.specs.Shown.{Name, Text}
 use Rattle.juniper.specs.Objections.{objection_text}
 use Rattle.juniper.specs.RequestErrors.{RequestError, not_valid, view_request_error}
-use Rattle.juniper.specs.declared.error.GraphQLError.{GraphQLError}
+use Rattle.juniper.specs.Budgets.{within_text}
+use Rattle.juniper.specs.declared.budget.Within.{Within}
+use Rattle.juniper.specs.declared.budget.Within.TheVariants as within
 use Rattle.juniper.specs.declared.prepared.Bounds.{Bounds}
 use Rattle.juniper.specs.declared.prepared.Objection.{Objection}
 use Rattle.juniper.specs.declared.prepared.Objection.TheVariants as objection
@@ -85,23 +87,29 @@ module _ (s : Schema) (disabled : Bool) (most : ℕ) (q : Request) where
   abbrev pub IsMisfitTold : RequestError → Reply → Type 0
   IsMisfitTold e reply = IsToldWith (AreMisfits e) e reply
 
+  -- what is told of a request that has no answer
+  abbrev pub IsStopTold : Within → Reply → Type 0
+  IsStopTold (within.Refused e) reply = IsMisfitTold (view_request_error e) reply
+  IsStopTold within.Spent reply = IsTold outcome.Refused (bare_line (within_text within.Spent)) reply
+
   -- what is told of what the executor answers
-  abbrev pub IsAnswerTold : Result (Value DefaultScalarValue × Vec (ExecutionError DefaultScalarValue) Global) GraphQLError → Reply → Type 0
+  abbrev pub IsAnswerTold : Result (Value DefaultScalarValue × Vec (ExecutionError DefaultScalarValue) Global) Within → Reply → Type 0
   IsAnswerTold (Ok p) reply = IsTold (outcome_of (Ok p)) (outcome_text (Ok p)) reply
-  IsAnswerTold (Err e) reply = IsMisfitTold (view_request_error e) reply
+  IsAnswerTold (Err w) reply = IsStopTold w reply
 
 -- what explains that the values of a request do not fit, by what explains texts
 abbrev pub AreMisfitsBy : Explainer → Request → RequestError → List Refusal → Type 0
 AreMisfitsBy x q e rs = AreMisfits (view_schema default_shown x.schema.now) x.is_introspection_disabled x.most_bytes q e rs
 
 abbrev pub AreValuesBy : Explainer → Request → List Refusal → Type 0
-AreValuesBy x q rs = (d : Document) → Reads q.text (Some d) → rs ≡ values_explained (view_schema default_shown x.schema.now) x.is_introspection_disabled x.most_bytes q d
+AreValuesBy x q rs = (d : Document) → Reads q.text (Some d) →
+    rs ≡ values_explained (view_schema default_shown x.schema.now) x.is_introspection_disabled x.most_bytes q d
 
 -- it explains what is refused on this service
 abbrev pub ExplainsFor : {C N : Type 0} → Service C N → Explainer → Type 0
 ExplainsFor S e = (view_schema default_shown e.schema.now ≡ S.schema) × (e.is_introspection_disabled ≡ S.introspection_disabled)
 
 -- what is replied to what is asked of a prepared document, whatever the bounds within which it was taken
-abbrev pub RepliesPrepared : {C N : Type 0} → Service C N → Explainer → Asked → Document → Bool → C → Reply → C → Type 0
-RepliesPrepared S e a d may_write c reply after = (b : Bounds) → ExplainsFor S e → IsTaken S b a d →
-    Replies S b a e.most_bytes may_write c reply.outcome (string_bytes reply.line) after
+abbrev pub RepliesPrepared : {C N : Type 0} → Service C N → Explainer → Asked → Document → Bool → ℕ → C → Reply → C → Type 0
+RepliesPrepared S e a d may_write fields c reply after = (b : Bounds) → ExplainsFor S e → IsTaken S b a d →
+    Replies S b a e.most_bytes may_write c fields reply.outcome (string_bytes reply.line) after

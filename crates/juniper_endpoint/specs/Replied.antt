@@ -1,19 +1,21 @@
 -- What is replied to a request over a root, within bounds (6.1, 7.1; "GraphQL over HTTP", status codes).
-use Rattle.std.specs.Prelude.{◌≡◌, ◌≢◌, ◌⊎◌, ℕ, Bool, false, List, [], map, filter, Option, Some, None}
+use Rattle.std.specs.Prelude.{◌≡◌, ◌≢◌, ◌⊎◌, ◌≤◌, ℕ, Bool, false, List, [], map, filter, Option, Some, None}
 use Rattle.std.specs.List.{list_any}
 use Rattle.std.specs.Str.{bytes_eq}
 use Rattle.graphql_spec.specs.Documents.{Document, Operation, VariableDefinition, mutation, variables_of}
 use Rattle.graphql_spec.specs.Errors.{Listed}
 use Rattle.graphql_spec.specs.Inputs.{Variables}
-use Rattle.graphql_spec.specs.Outcomes.{Request, Service, Response, refuses, responds}
+use Rattle.graphql_spec.specs.Outcomes.{Request, Service, Response, out_of_memory, refuses, responds}
 use Rattle.graphql_spec.specs.Requests.{Refusal, choose, chosen, no_fitting_value}
 use Rattle.graphql_spec.specs.Rules.{RuleError}
 use Rattle.graphql_spec.specs.Shown.{Name, Text}
 use Rattle.graphql_spec.specs.Values.{Value}
 use Rattle.juniper.specs.Answering.{refusal_of}
+use Rattle.juniper.specs.Budgets.{within_text}
 use Rattle.juniper.specs.Objections.{IsAccepted, Objects, objection_text}
 use Rattle.juniper.specs.Promised.{IsFullOutcome}
 use Rattle.juniper.specs.RequestErrors.{RequestError, not_valid}
+use Rattle.juniper.specs.declared.budget.Within.TheVariants.{Spent}
 use Rattle.juniper.specs.declared.prepared.Bounds.{Bounds}
 use Rattle.juniper.specs.declared.prepared.Objection.{Objection}
 use Rattle.juniper.specs.declared.prepared.Objection.TheVariants as objection
@@ -25,6 +27,7 @@ use Rattle.juniper_json.specs.Refusals.{refusals_of}
 use Rattle.juniper_json.specs.RefusalText.{refusals_text}
 use Rattle.juniper_json.specs.declared.read.VariablesError.{VariablesError}
 use Rattle.juniper_request.specs.Requests.{Asked}
+use Rattle.juniper_walk.specs.Budget.{fields_in}
 use Rattle.serde_json.specs.Data.{Members}
 use Rattle.juniper_endpoint.specs.Explained.{TellsRefusal}
 use Rattle.juniper_endpoint.specs.Lines.{bare_line, writes_text}
@@ -104,12 +107,18 @@ module _ {C N : Type 0} (S : Service C N) (b : Bounds) (a : Asked) where
     IsRefused line after = (e : RequestError) × (r : Refusal) × (refusal_of e ≡ Some r)
         × IsFullOutcome S (request_asked a) c (refuses r) after × TellsRefusal S.schema S.introspection_disabled most (request_asked a) e line
 
-    -- What is replied, and the context after. Where it is executed, the line is the text of the response that the Specification's execution
-    -- has (7.1). Else the context is as it was, but for want of memory, which may stand in place of each and leave what it leaves.
-    abbrev pub Replies : Outcome → Text → C → Type 0
-    Replies Executed line after =
+    -- more fields were to be entered than may be, and the line says so; the context is as want of memory leaves it
+    abbrev pub IsSpent : Text → C → Type 0
+    IsSpent line after = MayRun may_write × IsFullOutcome S (request_asked a) c out_of_memory after × (line ≡ bare_line (within_text Spent))
+
+    -- What is replied where at most so many fields are entered, and the context after. Where it is executed, the line is the text of the
+    -- response that the Specification's execution has (7.1), with no more fields. Else the context is as it was, but where the budget is
+    -- spent, and but for want of memory, which may stand in place of each and leave what it leaves.
+    abbrev pub Replies : ℕ → Outcome → Text → C → Type 0
+    Replies fields Executed line after =
         MayRun may_write
-        × ((value : Value) × (es : List Listed) × IsFullOutcome S (request_asked a) c (responds value es) after × (line ≡ answer_text value es))
-    Replies Refused line after = IsRefused line after ⊎ ((after ≡ c) × (IsPastBounds line ⊎ IsUnfitting line))
-    Replies Writes line after = (after ≡ c) × (may_write ≡ false) × IsMutation × (line ≡ bare_line writes_text)
-    Replies OutOfMemory line after = (after ≡ c) ⊎ (MayRun may_write × ((r : Response) × IsFullOutcome S (request_asked a) c r after))
+        × ((value : Value) × (es : List Listed) × IsFullOutcome S (request_asked a) c (responds value es) after × (line ≡ answer_text value es)
+        × (fields_in value ≤ fields))
+    Replies fields Refused line after = IsRefused line after ⊎ (((after ≡ c) × (IsPastBounds line ⊎ IsUnfitting line)) ⊎ IsSpent line after)
+    Replies fields Writes line after = (after ≡ c) × (may_write ≡ false) × IsMutation × (line ≡ bare_line writes_text)
+    Replies fields OutOfMemory line after = (after ≡ c) ⊎ (MayRun may_write × ((r : Response) × IsFullOutcome S (request_asked a) c r after))

@@ -33,6 +33,10 @@ pub struct RootEndpoint<
     pub context: Q::Context,
     /// What is taken of a text.
     pub bounds: Bounds,
+    /// The most fields that a request enters, as [`juniper::execute_within`] counts them: lists multiply those that it selects. A request
+    /// that enters more is refused, with the message `The answer has too many fields`; that may be found late, and leaves the context as
+    /// want of memory does.
+    pub entered_fields: usize,
     /// The most bytes of a text that is explained where it is no valid document, or where the values that are given with it do not fit: what
     /// explains it may grow with the square of its length. Nothing is explained where introspection is disabled, since explanations name what
     /// the schema has.
@@ -46,7 +50,7 @@ impl<
 > Endpoint for RootEndpoint<'_, Q, M, Sub> {
     ghost replies = { λ old asked may_write reply new. (new ≡ record old { context = new.context })
         × Replies (service_of Q.concrete Q.answer Q.root M.step M.torn default_shown old.root.now) old.bounds asked old.explained_bytes may_write old.context
-        reply.outcome (string_bytes reply.line) new.context };
+        old.entered_fields reply.outcome (string_bytes reply.line) new.context };
 
     fn reply(&mut self, alloc: Global, request: &GraphQLRequest<'_>, may_write: bool) -> Reply {
         match given_by(alloc, request.variables) {
@@ -72,7 +76,7 @@ impl<
         requires { IsGivenBy (view_request request.now).variables given.now }
         ensures rest { self.new ≡ record self.old { context = self.new.context } }
         ensures said { Replies (service_of Q.concrete Q.answer Q.root M.step M.torn default_shown self.old.root.now) self.old.bounds (view_request request.now)
-            self.old.explained_bytes may_write self.old.context result.outcome (string_bytes result.line) self.new.context }
+            self.old.explained_bytes may_write self.old.context self.old.entered_fields result.outcome (string_bytes result.line) self.new.context }
     {
         let explainer = Explainer {
             schema: self.root.schema(),
@@ -88,6 +92,7 @@ impl<
                 request,
                 given,
                 may_write,
+                self.entered_fields,
                 &mut self.context,
             ),
         }

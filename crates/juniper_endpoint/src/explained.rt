@@ -5,19 +5,20 @@ ghost use Rattle.graphql_spec.specs.Documents as spec;
 ghost use Rattle.graphql_spec.specs.Outcomes.{Reads};
 ghost use Rattle.juniper.specs.RequestErrors.{view_request_error};
 ghost use Rattle.juniper_explain.specs.Explanations.{view_explanation};
+ghost use Rattle.juniper_explain.specs.GivenValues.{view_variable_explanation};
 ghost use Rattle.juniper_explain.specs.Nodes.{explanations};
 ghost use Rattle.juniper_json.specs.RefusalText.{view_refusal};
 ghost use Rattle.juniper_schema.specs.SchemaView.{view_schema};
 ghost use Rattle.juniper_syntax.specs.DocumentView.{view_document};
 ghost use Rattle.juniper_syntax.specs.Scalars.{default_shown};
-ghost use Rattle.juniper_endpoint.specs.Explained.{is_left_out, nodes_explained, of_explanation};
+ghost use Rattle.juniper_endpoint.specs.Explained.{is_left_out, nodes_explained, of_explanation, of_value};
 ghost use Rattle.juniper_endpoint.specs.Looks.{IsErrorTold, IsExplained, IsObjected};
 
 use crate::lines::{bare_reply, explained_reply, without_memory};
 use juniper::{
     DefaultScalarValue, Document, GraphQLError, Objection, SchemaType, parse_document_source,
 };
-use juniper_explain::{Explanation, explain};
+use juniper_explain::{Explanation, VariableExplanation, explain};
 use juniper_http::{Outcome, Reply};
 use juniper_json::Refusal;
 use std::alloc::{AllocError, Global};
@@ -130,24 +131,53 @@ fn explained_in(
     refusals_of(alloc, explanations)
 }
 
+/// What is told of a refusal beside its errors: a text and a place.
+pub trait Explains: Drop {
+    ghost use Rattle.juniper_json.specs.RefusalText.{Refusal};
+
+    /// How it is written.
+    ghost written: { Self → Refusal };
+
+    /// As it is written.
+    fn into_refusal(self) -> Refusal
+        ensures { view_refusal result ≡ written self };
+}
+
+/// An explanation of a node.
+impl Explains for Explanation {
+    ghost written = { λ e. of_explanation (view_explanation e) };
+
+    fn into_refusal(self) -> Refusal {
+        Refusal {
+            message: self.message,
+            place: Some(self.location),
+        }
+    }
+}
+
+/// An explanation of a given value.
+impl Explains for VariableExplanation {
+    ghost written = { λ e. of_value (view_variable_explanation e) };
+
+    fn into_refusal(self) -> Refusal {
+        Refusal {
+            message: self.message,
+            place: Some(self.location),
+        }
+    }
+}
+
 /// Explanations, as they are written.
-fn refusals_of(alloc: Global, explanations: Vec<Explanation>) -> Result<Vec<Refusal>, AllocError>
-    ensures { IfOk result (λ made. map view_refusal made.items ≡ map (λ e. of_explanation (view_explanation e)) explanations.items) }
+pub fn refusals_of<E: Explains>(
+    alloc: Global,
+    explanations: Vec<E>,
+) -> Result<Vec<Refusal>, AllocError>
+    ensures { IfOk result (λ made. map view_refusal made.items ≡ map E.written explanations.items) }
 {
     let mut refusals = Vec::with_capacity(alloc, explanations.len())?;
     for explanation in explanations {
-        let refusal = refusal_of(explanation);
+        let refusal = explanation.into_refusal();
         refusals.push(refusal)?;
     }
     Ok(refusals)
-}
-
-/// An explanation, as it is written.
-fn refusal_of(explanation: Explanation) -> Refusal
-    ensures { view_refusal result ≡ of_explanation (view_explanation explanation) }
-{
-    Refusal {
-        message: explanation.message,
-        place: Some(explanation.location),
-    }
 }

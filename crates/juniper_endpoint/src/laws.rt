@@ -23,8 +23,8 @@ use juniper_http::Endpoint;
 
 /// A request that may only read leaves the context as it was.
 pub fn reading_leaves<C, N>()
-    ensures { (S : outcomes.Service C N) (b : Bounds) (a : Asked) (most : ℕ) (c : C) (outcome : Outcome) (line : Text) (after : C) →
-        Replies S b a most false c outcome line after → after ≡ c }
+    ensures { (S : outcomes.Service C N) (b : Bounds) (a : Asked) (most : ℕ) (c : C) (fields : ℕ) (outcome : Outcome) (line : Text) (after : C) →
+        Replies S b a most false c fields outcome line after → after ≡ c }
 {}
 
 /// And so the endpoint over a root.

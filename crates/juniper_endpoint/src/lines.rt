@@ -12,14 +12,14 @@ use juniper_http::{Outcome, Reply};
 use juniper_json::{Refusal, explained_line, response_line};
 use std::alloc::{AllocError, Global};
 
+/// Data with errors.
+pub type Response = (
+    Value<DefaultScalarValue>,
+    Vec<ExecutionError<DefaultScalarValue>>,
+);
+
 /// What a call of the executor answers.
-pub type Answered = Result<
-    (
-        Value<DefaultScalarValue>,
-        Vec<ExecutionError<DefaultScalarValue>>,
-    ),
-    GraphQLError,
->;
+pub type Answered = Result<Response, GraphQLError>;
 
 /// The reply where memory is refused.
 pub fn without_memory(alloc: Global) -> Reply

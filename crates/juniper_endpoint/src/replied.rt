@@ -13,14 +13,14 @@ use crate::look::{Finding, look};
 use crate::values::executed_reply;
 use juniper::{
     DefaultScalarValue, GraphQLError, GraphQLMutationValue, GraphQLType, GraphQLValue, Prepared,
-    execute_prepared,
+    execute_prepared_within,
 };
 use juniper_http::{Outcome, Reply};
 use juniper_json::GivenVariables;
 use juniper_request::GraphQLRequest;
 use std::alloc::Global;
 
-/// Replies to a request whose document is prepared, with the values of its variables.
+/// Replies to a request whose document is prepared, with the values of its variables; at most so many fields are entered.
 pub fn reply_prepared<
     Q: GraphQLValue<DefaultScalarValue>,
     M: GraphQLMutationValue<DefaultScalarValue, Context = Q::Context, Node = Q::Node>,
@@ -32,12 +32,13 @@ pub fn reply_prepared<
     request: &GraphQLRequest<'_>,
     given: &GivenVariables,
     may_write: bool,
+    entered_fields: usize,
     context: &mut Q::Context,
 ) -> Reply
     requires text { source_of prepared.now ≡ request.now.query.now }
     requires given { IsGivenBy (view_request request.now).variables given.now }
     ensures { RepliesPrepared (service_of Q.concrete Q.answer Q.root M.step M.torn default_shown (root_of prepared.now)) explainer.now
-        (view_request request.now) (document_of default_shown prepared.now) may_write context.old result context.new }
+        (view_request request.now) (document_of default_shown prepared.now) may_write entered_fields context.old result context.new }
 {
     match look(alloc, request, &given.refused, may_write) {
         Err(_) => without_memory(alloc),
@@ -50,12 +51,13 @@ pub fn reply_prepared<
             answered_reply(alloc, Err(GraphQLError::ValidationError(errors)))
         }
         Ok(Finding::Passes) => {
-            let answered = execute_prepared(
+            let answered = execute_prepared_within(
                 alloc,
                 prepared,
                 request.operation_name,
                 &given.values,
                 context,
+                entered_fields,
             );
             executed_reply(alloc, explainer, request, &given.values, answered)
         }

@@ -4,41 +4,42 @@ ghost use Rattle.std.specs.Prelude.{◌≡◌, IfOk, map, option_map};
 ghost use Rattle.graphql_spec.specs.Requests.{choose};
 ghost use Rattle.juniper.specs.Answering.{request_of};
 ghost use Rattle.juniper.specs.RequestErrors.{view_request_error};
-ghost use Rattle.juniper_explain.specs.GivenValues.{view_variable_explanation};
 ghost use Rattle.juniper_json.specs.RefusalText.{view_refusal};
 ghost use Rattle.juniper_schema.specs.SchemaView.{view_schema};
 ghost use Rattle.juniper_syntax.specs.DocumentView.{view_document};
 ghost use Rattle.juniper_syntax.specs.InputView.{view_variables};
 ghost use Rattle.juniper_syntax.specs.Scalars.{default_shown};
-ghost use Rattle.juniper_endpoint.specs.Explained.{misfits, of_value};
+ghost use Rattle.juniper_endpoint.specs.Explained.{misfits};
 ghost use Rattle.juniper_endpoint.specs.Looks.{AreMisfitsBy, AreValuesBy, IsAnswerTold, IsMisfitTold};
 
-use crate::explained::{Explainer, is_left_out};
-use crate::lines::{Answered, answered_reply, explained_reply, without_memory};
+use crate::explained::{Explainer, is_left_out, refusals_of};
+use crate::lines::{Response, answered_reply, bare_reply, explained_reply, without_memory};
 use juniper::{
-    DefaultScalarValue, Document, GraphQLError, Variables, get_operation, parse_document_source,
+    DefaultScalarValue, Document, GraphQLError, Variables, Within, get_operation,
+    parse_document_source,
 };
-use juniper_explain::{VariableExplanation, explain_variables};
-use juniper_http::Reply;
+use juniper_explain::explain_variables;
+use juniper_http::{Outcome, Reply};
 use juniper_json::Refusal;
 use juniper_request::GraphQLRequest;
 use std::alloc::{AllocError, Global};
 
-/// The reply that tells what the executor answers to a request of a valid document with these values, and what explains that
-/// the values do not fit.
+/// The reply that tells what the executor answers to a request of a valid document with these values, what explains that the
+/// values do not fit, or that too many fields were to be entered.
 pub fn executed_reply(
     alloc: Global,
     explainer: &Explainer<'_>,
     request: &GraphQLRequest<'_>,
     values: &Variables<DefaultScalarValue>,
-    answered: Answered,
+    answered: Result<Response, Within>,
 ) -> Reply
     ensures { IsAnswerTold (view_schema default_shown explainer.now.schema.now) explainer.now.is_introspection_disabled explainer.now.most_bytes
         (request_of default_shown request.now.query.now request.now.operation_name values.now) answered result }
 {
     match answered {
         Ok(response) => answered_reply(alloc, Ok(response)),
-        Err(error) => misfit_reply(alloc, explainer, request, values, &error),
+        Err(Within::Refused(error)) => misfit_reply(alloc, explainer, request, values, &error),
+        Err(Within::Spent) => bare_reply(alloc, Outcome::Refused, "The answer has too many fields"),
     }
 }
 
@@ -113,29 +114,4 @@ fn misfits_in(
     let explanations = explain_variables(alloc, values, operation, explainer.schema)?;
     let refusals = refusals_of(alloc, explanations)?;
     Ok(refusals)
-}
-
-/// Explanations of given values, as they are written.
-fn refusals_of(
-    alloc: Global,
-    explanations: Vec<VariableExplanation>,
-) -> Result<Vec<Refusal>, AllocError>
-    ensures { IfOk result (λ made. map view_refusal made.items ≡ map (λ e. of_value (view_variable_explanation e)) explanations.items) }
-{
-    let mut refusals = Vec::with_capacity(alloc, explanations.len())?;
-    for explanation in explanations {
-        let refusal = refusal_of(explanation);
-        refusals.push(refusal)?;
-    }
-    Ok(refusals)
-}
-
-/// An explanation of a given value, as it is written.
-fn refusal_of(explanation: VariableExplanation) -> Refusal
-    ensures { view_refusal result ≡ of_value (view_variable_explanation explanation) }
-{
-    Refusal {
-        message: explanation.message,
-        place: Some(explanation.location),
-    }
 }

@@ -1,5 +1,6 @@
 //! Bytes of HTTP, and what the demo answers to them.
 
+use crate::requests::{given, received};
 use http_server::{Config, Connection, serve};
 use juniper::Bounds;
 use juniper_demo_server::{DemoContext, DemoRoot, demo_root};
@@ -10,8 +11,8 @@ use std::hash::RandomState;
 use std::test::Fail;
 
 /// Requests: method and target, fields, body; the status, the media type and the body of the answer; how often the context was added to.
-/// A dash is nothing. Texts of at most 120 bytes, 7 fields and 4 levels are taken, and of at most 100 bytes explained; bodies of at most 200
-/// bytes, batches of at most two.
+/// A dash is nothing. Texts of at most 120 bytes, 7 fields and 4 levels are taken, and of at most 100 bytes explained; at most 8 fields are
+/// entered; bodies of at most 200 bytes, batches of at most two.
 const REQUESTS: &str = r#"
 POST / | Content-Type: application/json | {"query":"{ id }"} | 200 | graphql-response+json | {"data":{"id":"q1"}} | 0
 POST /graphql | Content-Type: application/json ;; Accept: application/json | {"query":"{ id fail }"} | 200 | json | {"data":{"id":"q1","fail":null},"errors":[{"message":"failed","locations":[{"line":1,"column":6}],"path":["fail"]}]} | 0
@@ -53,6 +54,9 @@ POST / | Content-Type: application/json | {"query":"{ id }                      
 POST / | Content-Type: application/json | {"query":"{ id }                                                                                                                   "} | 400 | graphql-response+json | {"errors":[{"message":"The text is too long"}]} | 0
 POST / | Content-Type: application/json | {"query":"{ a: id b: id c: id d: id e: id f: id g: id }"} | 200 | graphql-response+json | {"data":{"a":"q1","b":"q1","c":"q1","d":"q1","e":"q1","f":"q1","g":"q1"}} | 0
 POST / | Content-Type: application/json | {"query":"{ a: id b: id c: id d: id e: id f: id g: id h: id }"} | 400 | graphql-response+json | {"errors":[{"message":"An operation selects too many fields"}]} | 0
+POST / | Content-Type: application/json | {"query":"{ grid { a b c: a } id }"} | 200 | graphql-response+json | {"data":{"grid":[[{"a":10,"b":20,"c":10}],[{"a":11,"b":21,"c":11}]],"id":"q1"}} | 0
+POST / | Content-Type: application/json | {"query":"{ grid { a b c: a } id name }"} | 400 | graphql-response+json | {"errors":[{"message":"The answer has too many fields"}]} | 0
+POST / | Content-Type: application/json ;; Accept: application/json | {"query":"{ grid { a b c: a } id name }"} | 200 | json | {"errors":[{"message":"The answer has too many fields"}]} | 0
 POST / | Content-Type: application/json | {"query":"{ hero { friends { friends { id } } } }"} | 200 | graphql-response+json | {"data":{"hero":{"friends":[{"friends":[{"id":"2001"}]},null]}}} | 0
 POST / | Content-Type: application/json | {"query":"{ hero { friends { friends { ... { id } } } } }"} | 400 | graphql-response+json | {"errors":[{"message":"An operation nests too deep"}]} | 0
 POST / | Content-Type: application/json | [{"query":"mutation { add(n: 1) { total } }"},{"query":"mutation { add(n: 2) { total } }"}] | 200 | graphql-response+json | [{"data":{"add":{"total":1}}},{"data":{"add":{"total":3}}}] | 2
@@ -99,11 +103,6 @@ fn row_of(line: &str) -> Option<Row<'_>> {
     })
 }
 
-/// What a dash stands for.
-fn given(text: &str) -> &str {
-    if text == "-" { "" } else { text }
-}
-
 /// What is taken.
 const BOUNDS: Bounds = Bounds {
     bytes: 120,
@@ -126,6 +125,7 @@ fn answer_on(rt: &HostRuntime, root: &DemoRoot, received: &[u8]) -> Result<Strin
         root,
         context: DemoContext::new(),
         bounds: BOUNDS,
+        entered_fields: 8,
         explained_bytes: 100,
     };
     let limits = Limits {
@@ -153,18 +153,6 @@ fn answer_on(rt: &HostRuntime, root: &DemoRoot, received: &[u8]) -> Result<Strin
     }
 }
 
-/// The bytes of a row's request.
-fn received(alloc: Global, row: &Row<'_>) -> Result<String, AllocError> {
-    let start = row.start;
-    let fields = given(row.fields).replace(alloc, " ;; ", "\r\n")?;
-    let line = if fields.is_empty() { "" } else { "\r\n" };
-    let body = given(row.body);
-    let len = body.len();
-    format!(in alloc;
-        "{start} HTTP/1.1\r\nHost: x\r\n{fields}{line}Content-Length: {len}\r\n\r\n{body}"
-    )
-}
-
 #[test]
 fn requests_are_answered(rt: HostRuntime) -> Result<(), Fail> {
     for line in REQUESTS.lines().skip(1) {
@@ -172,7 +160,7 @@ fn requests_are_answered(rt: HostRuntime) -> Result<(), Fail> {
             assert!(rt; false, "no row: {line}");
             return Ok(());
         };
-        let sent = received(rt.alloc(), &row)?;
+        let sent = received(rt.alloc(), row.start, row.fields, row.body)?;
         let found = answer(&rt, sent.as_str().as_bytes())?;
         let (head, rest) = found.as_str().split_once("\r\n\r\n").unwrap_or(("", ""));
         let (body, count) = rest.rsplit_once(" | ").unwrap_or(("", ""));

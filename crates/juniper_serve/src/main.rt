@@ -37,6 +37,9 @@ const MAX_READ: usize = 1024 * 1024;
 /// A batch of more requests is refused.
 const MAX_BATCH: usize = 50;
 
+/// A request that enters more fields is refused.
+const MAX_ENTERED: usize = 100_000;
+
 /// Of a longer text nothing is explained.
 const MAX_EXPLAINED: usize = 4 * 1024;
 
@@ -83,6 +86,7 @@ fn serve(rt: &HostRuntime, mode: Mode, root: &DemoRoot) -> io::Result<()> {
         root,
         context: DemoContext::new(),
         bounds: Bounds::DEFAULT,
+        entered_fields: MAX_ENTERED,
         explained_bytes: MAX_EXPLAINED,
     };
     match mode {

@@ -29,6 +29,7 @@ fn lines_are_answered(rt: HostRuntime) -> Result<(), Fail> {
         root: &root,
         context: DemoContext::new(),
         bounds: Bounds::DEFAULT,
+        entered_fields: 20,
         explained_bytes: 4096,
     };
     for row in LINES.lines() {

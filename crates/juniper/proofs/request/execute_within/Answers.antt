@@ -1,23 +1,15 @@
-use Rattle.std.proofs.Common.{◌≡◌, [], option_map, map, refl, subst, ap}
+use Rattle.std.proofs.Common.{[], ◌≡◌, option_map, subst, ap}
 use Rattle.graphql_spec.specs.Introspection.{rooted_service}
-use Rattle.graphql_spec.specs.Outcomes.{Request, IsReadAsValid, responds}
-use Rattle.graphql_spec.specs.Requests.{choose}
+use Rattle.graphql_spec.specs.Outcomes.{Request}
 use Rattle.graphql_spec.specs.Rules.{rule_errors}
-use Rattle.graphql_spec.proofs.ValidRuns.{choice-in}
-use Rattle.juniper_syntax.specs.DocumentView.{view_document, view_operation}
+use Rattle.juniper_syntax.specs.DocumentView.{view_document}
 use Rattle.juniper_syntax.specs.InputView.{view_variables}
-use Rattle.juniper_syntax.specs.ValueView.{view_value}
-use Rattle.juniper_conversions.specs.ErrorView.{view_listed}
 use Rattle.juniper_intro.specs.RootView.{schema_of}
 use Rattle.juniper_schema.specs.SchemaView.{view_schema}
-use Rattle.juniper.specs.Answering.{AreCoercible, AreRefused, IsInvalid, StandsFor, outcome_of}
-use Rattle.juniper.specs.Promised.{IsFullOutcome}
+use Rattle.juniper.specs.Answering.{IsInvalid, StandsFor}
 use Rattle.juniper.specs.RequestErrors.{view_request_error}
 use Rattle.juniper.specs.RootView.{service_of}
-use Rattle.juniper.specs.WalkedOutcomes.{IsWalkedOutcome}
-use Rattle.juniper_execute.specs.declared.walking.Walking.TheVariants.{Grouped}
-use Rattle.juniper.proofs.Bounded.{walked-full, within-refuses}
-use Rattle.juniper.proofs.Composing.{at-parse, at-validate, at-choose, at-coerce, full-execute, refused-full}
+use Rattle.juniper.proofs.Composing.{at-parse, at-validate, refused-full}
 use Rattle.juniper.proofs.request.execute_within.Goals as goal
 
 pub returns-in-Err-clause-answers : goal.returns-in-Err-clause-answers
@@ -43,7 +35,7 @@ returns-in-Err-check_document-clause-answers g c =
     let s = view_schema shown (schema_of root) in
     let S = service_of g.Q.GraphQLValue.concrete g.Q.GraphQLValue.answer g.Q.GraphQLValue.root g.M.GraphQLMutationValue.step g.M.GraphQLMutationValue.torn shown
     root in
-    let same = ap (view_schema shown) c.schema-schema.ensures in
+    let same = ap (view_schema shown) c.schema.ensures in
     let off = c.is_introspection_disabled.ensures in
     let q : Request = record {
       text = c.args.document_source.now;
@@ -57,135 +49,15 @@ returns-in-Err-check_document-clause-answers g c =
     (at-validate S q c.args.context.now d read e (subst (λ b. StandsFor (IsInvalid s b d) e) off
     (subst (λ x. StandsFor (IsInvalid x c.is_introspection_disabled.result d) e) same c.in-Err-check_document.ensures)))
 
-pub returns-in-Err-get_operation-clause-answers : goal.returns-in-Err-get_operation-clause-answers
-unfolding rooted_service
-returns-in-Err-get_operation-clause-answers g c =
-    let shown = g.S.ScalarValue.shown in
-    let root = c.args.root_node.now in
-    let s = view_schema shown (schema_of root) in
-    let S = service_of g.Q.GraphQLValue.concrete g.Q.GraphQLValue.answer g.Q.GraphQLValue.root g.M.GraphQLMutationValue.step g.M.GraphQLMutationValue.torn shown
-    root in
-    let same = ap (view_schema shown) c.schema-schema.ensures in
-    let off = c.is_introspection_disabled.ensures in
-    let q : Request = record {
-      text = c.args.document_source.now;
-      operation = option_map (λ n. n.now) c.args.operation_name;
-      variables = view_variables shown c.args.variables.now;
-    } in
-    let d = view_document shown c.in-Ok.document in
-    let read = c.in-Ok.ensures in
-    let valid : IsReadAsValid S q d = (
-      read,
-      subst (λ b. rule_errors s b d ≡ []) off
-          (subst (λ x. rule_errors x c.is_introspection_disabled.result d ≡ []) same c.in-Ok-check_document.ensures),
-    ) in
-    refused-full S q c.args.context.now (view_request_error c.in-Err-get_operation.error)
-    (at-choose S q c.args.context.now d read valid (choose d q.operation) refl (view_request_error c.in-Err-get_operation.error) c.in-Err-get_operation.ensures)
-
-pub returns-in-Err-check_variables-clause-answers : goal.returns-in-Err-check_variables-clause-answers
-unfolding rooted_service
-returns-in-Err-check_variables-clause-answers g c =
-    let shown = g.S.ScalarValue.shown in
-    let root = c.args.root_node.now in
-    let s = view_schema shown (schema_of root) in
-    let S = service_of g.Q.GraphQLValue.concrete g.Q.GraphQLValue.answer g.Q.GraphQLValue.root g.M.GraphQLMutationValue.step g.M.GraphQLMutationValue.torn shown
-    root in
-    let same = ap (view_schema shown) c.schema-schema.ensures in
-    let off = c.is_introspection_disabled.ensures in
-    let q : Request = record {
-      text = c.args.document_source.now;
-      operation = option_map (λ n. n.now) c.args.operation_name;
-      variables = view_variables shown c.args.variables.now;
-    } in
-    let d = view_document shown c.in-Ok.document in
-    let read = c.in-Ok.ensures in
-    let valid : IsReadAsValid S q d = (
-      read,
-      subst (λ b. rule_errors s b d ≡ []) off
-          (subst (λ x. rule_errors x c.is_introspection_disabled.result d ≡ []) same c.in-Ok-check_document.ensures),
-    ) in
-    let o = view_operation shown c.in-Ok-get_operation.operation.now in
-    let choice = c.in-Ok-get_operation.ensures in
-    let e = view_request_error c.in-Err-check_variables.error in
-    refused-full S q c.args.context.now e
-    (at-coerce S q c.args.context.now d read valid o choice e (subst (λ x. StandsFor (AreRefused x o q.variables) e) same c.in-Err-check_variables.ensures))
-
-pub execute_walked-requires-clause-valid : goal.execute_walked-requires-clause-valid
-execute_walked-requires-clause-valid g c =
+pub execute_chosen-requires : goal.execute_chosen-requires
+execute_chosen-requires g c =
     let shown = g.S.ScalarValue.shown in
     let d = view_document shown c.in-Ok.document in
     subst (λ b. rule_errors (view_schema shown (schema_of c.args.root_node.now)) b d ≡ []) c.is_introspection_disabled.ensures
-    (subst (λ x. rule_errors x c.is_introspection_disabled.result d ≡ []) (ap (view_schema shown) c.schema-schema.ensures) c.in-Ok-check_document.ensures)
+    (subst (λ x. rule_errors x c.is_introspection_disabled.result d ≡ []) (ap (view_schema shown) c.schema.ensures) c.in-Ok-check_document.ensures)
 
-pub execute_walked-requires-clause-member : goal.execute_walked-requires-clause-member
-execute_walked-requires-clause-member g c =
-    let shown = g.S.ScalarValue.shown in
-    choice-in (view_document shown c.in-Ok.document) (option_map (λ n. n.now) c.args.operation_name)
-    (view_operation shown c.in-Ok-get_operation.operation.now) c.in-Ok-get_operation.ensures
-
-pub execute_walked-requires-clause-coercible : goal.execute_walked-requires-clause-coercible
-execute_walked-requires-clause-coercible g c =
-    let shown = g.S.ScalarValue.shown in
-    subst (λ x. AreCoercible x (view_operation shown c.in-Ok-get_operation.operation.now) (view_variables shown c.args.variables.now))
-    (ap (view_schema shown) c.schema-schema.ensures) c.in-Ok-check_variables.ensures
-
-pub returns-in-Err-execute_walked-clause-answers : goal.returns-in-Err-execute_walked-clause-answers
-unfolding rooted_service
-returns-in-Err-execute_walked-clause-answers g c =
-    let shown = g.S.ScalarValue.shown in
-    let root = c.args.root_node.now in
-    let s = view_schema shown (schema_of root) in
-    let S = service_of g.Q.GraphQLValue.concrete g.Q.GraphQLValue.answer g.Q.GraphQLValue.root g.M.GraphQLMutationValue.step g.M.GraphQLMutationValue.torn shown
-    root in
-    let same = ap (view_schema shown) c.schema-schema.ensures in
-    let off = c.is_introspection_disabled.ensures in
-    let q : Request = record {
-      text = c.args.document_source.now;
-      operation = option_map (λ n. n.now) c.args.operation_name;
-      variables = view_variables shown c.args.variables.now;
-    } in
-    let d = view_document shown c.in-Ok.document in
-    let read = c.in-Ok.ensures in
-    let valid : IsReadAsValid S q d = (
-      read,
-      subst (λ b. rule_errors s b d ≡ []) off
-          (subst (λ x. rule_errors x c.is_introspection_disabled.result d ≡ []) same c.in-Ok-check_document.ensures),
-    ) in
-    let o = view_operation shown c.in-Ok-get_operation.operation.now in
-    let choice = c.in-Ok-get_operation.ensures in
-    let fits : AreCoercible s o q.variables = subst (λ x. AreCoercible x o q.variables) same c.in-Ok-check_variables.ensures in
-    let after = c.execute_walked.new.context in
-    within-refuses (λ r. IsWalkedOutcome S Grouped (outcome_of s d o q.variables) c.args.context.now r after)
-    (λ r. IsFullOutcome S q c.args.context.now r after)
-    (λ r p. full-execute S q c.args.context.now d read valid o choice fits r after
-    (walked-full S (outcome_of s d o q.variables) c.args.context.now r after p))
-    c.in-Err-execute_walked.within c.in-Err-execute_walked.ensures.answers
+pub returns-in-Err-execute_chosen-clause-answers : goal.returns-in-Err-execute_chosen-clause-answers
+returns-in-Err-execute_chosen-clause-answers g c = c.in-Err-execute_chosen.ensures.answers c.args.document_source.now c.in-Ok.ensures
 
 pub returns-clause-answers : goal.returns-clause-answers
-unfolding rooted_service
-returns-clause-answers g c =
-    let shown = g.S.ScalarValue.shown in
-    let root = c.args.root_node.now in
-    let s = view_schema shown (schema_of root) in
-    let S = service_of g.Q.GraphQLValue.concrete g.Q.GraphQLValue.answer g.Q.GraphQLValue.root g.M.GraphQLMutationValue.step g.M.GraphQLMutationValue.torn shown
-    root in
-    let same = ap (view_schema shown) c.schema-schema.ensures in
-    let off = c.is_introspection_disabled.ensures in
-    let q : Request = record {
-      text = c.args.document_source.now;
-      operation = option_map (λ n. n.now) c.args.operation_name;
-      variables = view_variables shown c.args.variables.now;
-    } in
-    let d = view_document shown c.in-Ok.document in
-    let read = c.in-Ok.ensures in
-    let valid : IsReadAsValid S q d = (
-      read,
-      subst (λ b. rule_errors s b d ≡ []) off
-          (subst (λ x. rule_errors x c.is_introspection_disabled.result d ≡ []) same c.in-Ok-check_document.ensures),
-    ) in
-    let o = view_operation shown c.in-Ok-get_operation.operation.now in
-    let choice = c.in-Ok-get_operation.ensures in
-    let fits : AreCoercible s o q.variables = subst (λ x. AreCoercible x o q.variables) same c.in-Ok-check_variables.ensures in
-    let answered = c.in-Ok-execute_walked.answered in
-    full-execute S q c.args.context.now d read valid o choice fits (responds (view_value shown answered.0) (map (view_listed shown) answered.1.items))
-    c.execute_walked.new.context c.in-Ok-execute_walked.ensures.answers
+returns-clause-answers g c = c.in-Ok-execute_chosen.ensures.answers c.args.document_source.now c.in-Ok.ensures

@@ -1,6 +1,7 @@
 use Rattle.std.proofs.Common.{Some, map, refl, sym, ap, subst, ◌∙◌}
 use Rattle.graphql_spec.specs.Outcomes.{Reads}
-use Rattle.juniper.specs.Answering.{AnswersAs, request_of}
+use Rattle.juniper.specs.Answering.{request_of}
+use Rattle.juniper.specs.Budgets.{AnswersWithin}
 use Rattle.juniper.specs.PreparedView.{document_of, root_of, source_of}
 use Rattle.juniper.specs.Promised.{IsFullOutcome}
 use Rattle.juniper.specs.RootView.{service_of}
@@ -22,7 +23,8 @@ returns-in-Ok-Writes g c = λ b explains taken.
     let d = document_of default_shown c.args.prepared.now in
     let seen = seen-so (refused_among a.variables) _ c.args.may_write a.operation_name d _ look.Writes
     (ap (map view_refused) c.deref.ensures.value ∙ c.requires.given.1) c.in-Ok-Writes.field-0-is (c.in-Ok-Writes.ensures d taken.0.0.1) in
-    seen-writes S b a c.args.explainer.now.most_bytes c.args.may_write c.args.context.now d taken seen c.bare_reply.result c.bare_reply.ensures
+    seen-writes S b a c.args.explainer.now.most_bytes c.args.may_write c.args.context.now c.args.entered_fields d taken seen
+    c.bare_reply.result c.bare_reply.ensures
 
 pub returns-in-Ok-Unfitting : goal.returns-in-Ok-Unfitting
 returns-in-Ok-Unfitting g c = λ b explains taken.
@@ -34,7 +36,7 @@ returns-in-Ok-Unfitting g c = λ b explains taken.
     let errors = c.in-Ok-Unfitting.errors in
     let seen = seen-so (refused_among a.variables) _ c.args.may_write a.operation_name d _ (look.Unfitting errors)
     (ap (map view_refused) c.deref.ensures.value ∙ c.requires.given.1) c.in-Ok-Unfitting.field-0-is (c.in-Ok-Unfitting.ensures d taken.0.0.1) in
-    seen-unfitting S b a c.args.explainer.now.most_bytes c.args.may_write c.args.context.now d taken errors seen c.answered_reply.result
+    seen-unfitting S b a c.args.explainer.now.most_bytes c.args.may_write c.args.context.now c.args.entered_fields d taken errors seen c.answered_reply.result
     c.answered_reply.ensures
 
 pub returns-in-Ok-Passes : goal.returns-in-Ok-Passes
@@ -46,15 +48,15 @@ returns-in-Ok-Passes g c = λ b explains taken.
     let d = document_of default_shown c.args.prepared.now in
     let most = c.args.explainer.now.most_bytes in
     let before = c.args.context.now in
-    let after = c.execute_prepared-answered.new.context in
-    let answered = c.execute_prepared-answered.result in
+    let after = c.execute_prepared_within-answered.new.context in
+    let answered = c.execute_prepared_within-answered.result in
     let seen = seen-so (refused_among a.variables) _ c.args.may_write a.operation_name d _ look.Passes
     (ap (map view_refused) c.deref.ensures.value ∙ c.requires.given.1) c.in-Ok-Passes.field-0-is (c.in-Ok-Passes.ensures d taken.0.0.1) in
-    let full = subst (λ q. AnswersAs default_shown (λ x. IsFullOutcome S q before x after) answered)
+    let full = subst (λ q. AnswersWithin default_shown (λ x. IsFullOutcome S q before x after) answered)
     (request-same a (source_of c.args.prepared.now) (view_variables default_shown c.args.given.now.values) c.requires.text c.requires.given.0)
-    (c.execute_prepared-answered.ensures (subst (λ t. Reads t (Some d)) (sym c.requires.text) taken.0.0.1)) in
+    (c.execute_prepared_within-answered.ensures.answers (subst (λ t. Reads t (Some d)) (sym c.requires.text) taken.0.0.1)) in
     let told = told-of S (request_of default_shown c.args.request.now.query.now c.args.request.now.operation_name c.args.given.now.values) (request_asked a)
     c.args.explainer.now answered c.executed_reply.result explains
     (request-same a a.query (view_variables default_shown c.args.given.now.values) refl c.requires.given.0) c.executed_reply.ensures in
-    answered-told S b a most c.args.may_write before (seen-free S b a most c.args.may_write before d taken seen) after answered full
-    c.executed_reply.result told
+    answered-told S b a most c.args.may_write before c.args.entered_fields (seen-free S b a most c.args.may_write before c.args.entered_fields d taken seen)
+    after answered full c.execute_prepared_within-answered.ensures.counted c.executed_reply.result told

@@ -24,7 +24,7 @@ returns-in-Err-clause-said g c =
     let objected = subst (λ x. IsObjected (view_schema default_shown x) (is_disabled root) most a.query c.in-Err.objection c.objection_reply.result)
     c.schema.ensures (subst (λ x. IsObjected (view_schema default_shown c.schema.result.now) x most a.query c.in-Err.objection c.objection_reply.result)
     c.is_introspection_disabled.ensures c.objection_reply.ensures) in
-    objection-told S c.args.self.now.bounds a most c.args.may_write c.args.self.now.context c.in-Err.objection c.in-Err.ensures
+    objection-told S c.args.self.now.bounds a most c.args.may_write c.args.self.now.context c.args.self.now.entered_fields c.in-Err.objection c.in-Err.ensures
     c.objection_reply.result objected
 
 pub returns-in-Ok-clause-said : goal.returns-in-Ok-clause-said
@@ -38,7 +38,7 @@ returns-in-Ok-clause-said g c =
     let d = document_of default_shown c.in-Ok.prepared in
     let taken = subst (λ r. IsAccepted b a.query (view_schema default_shown (schema_of r)) (is_disabled r) d) (sym c.in-Ok.ensures.0) c.in-Ok.ensures.2 in
     subst (λ r. Replies (service_of q.concrete q.answer q.root m.step m.torn default_shown r)
-    b a most c.args.may_write c.args.self.now.context c.reply_prepared.result.outcome (string_bytes c.reply_prepared.result.line)
+    b a most c.args.may_write c.args.self.now.context c.args.self.now.entered_fields c.reply_prepared.result.outcome (string_bytes c.reply_prepared.result.line)
     c.reply_prepared.new.context)
     c.in-Ok.ensures.0 (c.reply_prepared.ensures b (
       ap (view_schema default_shown) c.schema.ensures ∙ sym (ap (λ r. view_schema default_shown (schema_of r)) c.in-Ok.ensures.0),
