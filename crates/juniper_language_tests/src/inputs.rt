@@ -1,13 +1,13 @@
 //! Input values: how they are written, their copies, and what they are with values for their variables.
 
+use crate::piles::{Piled, made};
 use crate::rows::unmarked;
 use juniper_syntax::{InputField, InputValue, ScalarValue, Spanning, Variables};
 use std::alloc::{AllocError, Global};
 
 /// How a value is made, how it is written, and how what it is where the variable `a` is 1 is made: `=` where it has no
-/// variable, `none` where it has no value then. To make one, each word but the last two kinds is put on a pile: a text is
-/// written without its last quote and with marks, anything else as it is. A `,` puts the last value into the list before
-/// it, and a `k:` into the object before it.
+/// variable, `none` where it has no value then. To make one ([`made`]), a text is written without its last quote and with
+/// marks, anything else as it is.
 pub(crate) const ROWS: &str = "\
 null => null => =
 -7 => -7 => =
@@ -55,8 +55,6 @@ $b => $b => null
 {} 1 k: => {l: 1} => =
 \"a => a => =";
 
-type Pile<S> = Vec<InputValue<S>>;
-
 /// A value without parts, or with none yet.
 fn simple<S: ScalarValue>(alloc: Global, word: &str) -> Result<InputValue<S>, AllocError> {
     match word {
@@ -91,46 +89,21 @@ fn field<S: ScalarValue>(
     Ok((Spanning::unlocated(key), Spanning::unlocated(value)))
 }
 
-/// Puts an item into a list, or at the key into an object.
-fn put_into<S: ScalarValue>(
-    alloc: Global,
-    into: &mut InputValue<S>,
-    key: &str,
-    item: InputValue<S>,
-) -> Result<(), AllocError> {
-    match into {
-        InputValue::List(items) => Ok(items.push(Spanning::unlocated(item))?),
-        InputValue::Object(fields) => Ok(fields.push(field(alloc, key, item)?)?),
-        InputValue::Null | InputValue::Scalar(_) | InputValue::Enum(_) | InputValue::Variable(_) =>
-            Ok(()),
+impl<S: ScalarValue> Piled for InputValue<S> {
+    fn leaf(alloc: Global, word: &str) -> Result<Option<Self>, AllocError> {
+        Ok(Some(leaf(alloc, word)?))
     }
-}
 
-/// Puts the last value of the pile into the one before it.
-fn join<S: ScalarValue>(alloc: Global, pile: &mut Pile<S>, key: &str) -> Result<(), AllocError> {
-    match pile.pop() {
-        None => Ok(()),
-        Some(item) => match pile.last_mut() {
-            None => Ok(()),
-            Some(into) => put_into(alloc, into, key, item),
-        },
+    fn put_into(&mut self, alloc: Global, key: &str, item: Self) -> Result<(), AllocError> {
+        match self {
+            InputValue::List(items) => Ok(items.push(Spanning::unlocated(item))?),
+            InputValue::Object(fields) => Ok(fields.push(field(alloc, key, item)?)?),
+            InputValue::Null
+            | InputValue::Scalar(_)
+            | InputValue::Enum(_)
+            | InputValue::Variable(_) => Ok(()),
+        }
     }
-}
-
-fn step<S: ScalarValue>(alloc: Global, pile: &mut Pile<S>, word: &str) -> Result<(), AllocError> {
-    match word.strip_suffix(':') {
-        Some(key) => join(alloc, pile, key),
-        None if word == "," => join(alloc, pile, ""),
-        None => Ok(pile.push(leaf(alloc, word)?)?),
-    }
-}
-
-fn made<S: ScalarValue>(alloc: Global, words: &str) -> Result<Option<InputValue<S>>, AllocError> {
-    let mut pile = Vec::new(alloc);
-    for word in words.split(' ') {
-        step(alloc, &mut pile, word)?;
-    }
-    Ok(pile.pop())
 }
 
 fn is_written<S: ScalarValue>(
@@ -205,7 +178,7 @@ pub(crate) fn is_made<S: ScalarValue>(
     words: &str,
     said: &str,
 ) -> Result<bool, AllocError> {
-    match made::<S>(alloc, words)? {
+    match made::<InputValue<S>>(alloc, words)? {
         None => Ok(false),
         Some(value) => is_as_said(alloc, &value, said),
     }

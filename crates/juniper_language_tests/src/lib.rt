@@ -9,6 +9,8 @@ mod grammar;
 #[cfg(test)]
 mod inputs;
 #[cfg(test)]
+mod piles;
+#[cfg(test)]
 mod rows;
 pub mod scalar;
 #[cfg(test)]

@@ -1,12 +1,12 @@
 //! Values: how they are written.
 
+use crate::piles::{Piled, made};
 use crate::rows::unmarked;
 use juniper_syntax::{Object, ScalarValue, Value};
 use std::alloc::{AllocError, Global};
 
-/// How a value is made, and how it is written. To make one, each word but the last two kinds is put on a pile: a text is
-/// written without its last quote and with marks, anything else as it is. A `,` puts the last value into the list before
-/// it, and a `k:` into the object before it.
+/// How a value is made, and how it is written. To make one ([`made`]), a text is written without its last quote and with marks,
+/// anything else as it is.
 pub(crate) const ROWS: &str = "\
 null => null
 0 => 0
@@ -41,8 +41,6 @@ pub(crate) const WRONG: &str = "\
 {} 1 k: => {\"k\":1}
 {} 1 k: 2 l: => {\"l\": 2, \"k\": 1}";
 
-type Pile<S> = Vec<Value<S>>;
-
 /// A value without parts, or with none yet; no value where the word is none of these.
 fn simple<S: ScalarValue>(alloc: Global, word: &str) -> Result<Option<Value<S>>, AllocError> {
     match word {
@@ -55,62 +53,24 @@ fn simple<S: ScalarValue>(alloc: Global, word: &str) -> Result<Option<Value<S>>,
     }
 }
 
-fn leaf<S: ScalarValue>(alloc: Global, word: &str) -> Result<Option<Value<S>>, AllocError> {
-    if let Some(text) = word.strip_prefix('"') {
-        return Ok(Some(Value::Scalar(S::from_text(unmarked(alloc, text)?)?)));
+impl<S: ScalarValue> Piled for Value<S> {
+    fn leaf(alloc: Global, word: &str) -> Result<Option<Self>, AllocError> {
+        if let Some(text) = word.strip_prefix('"') {
+            return Ok(Some(Value::Scalar(S::from_text(unmarked(alloc, text)?)?)));
+        }
+        match word.parse::<i32>() {
+            Ok(number) => Ok(Some(Value::Scalar(S::from_int(number)))),
+            Err(_) => simple(alloc, word),
+        }
     }
-    match word.parse::<i32>() {
-        Ok(number) => Ok(Some(Value::Scalar(S::from_int(number)))),
-        Err(_) => simple(alloc, word),
-    }
-}
 
-/// Puts an item into a list, or at the key into an object.
-fn put_into<S: ScalarValue>(
-    alloc: Global,
-    into: &mut Value<S>,
-    key: &str,
-    item: Value<S>,
-) -> Result<(), AllocError> {
-    match into {
-        Value::List(items) => Ok(items.push(item)?),
-        Value::Object(object) => object.put_field(alloc, key, item),
-        Value::Null | Value::Scalar(_) => Ok(()),
+    fn put_into(&mut self, alloc: Global, key: &str, item: Self) -> Result<(), AllocError> {
+        match self {
+            Value::List(items) => Ok(items.push(item)?),
+            Value::Object(object) => object.put_field(alloc, key, item),
+            Value::Null | Value::Scalar(_) => Ok(()),
+        }
     }
-}
-
-/// Puts the last value of the pile into the one before it.
-fn join<S: ScalarValue>(alloc: Global, pile: &mut Pile<S>, key: &str) -> Result<(), AllocError> {
-    match pile.pop() {
-        None => Ok(()),
-        Some(item) => match pile.last_mut() {
-            None => Ok(()),
-            Some(into) => put_into(alloc, into, key, item),
-        },
-    }
-}
-
-fn push<S: ScalarValue>(alloc: Global, pile: &mut Pile<S>, word: &str) -> Result<(), AllocError> {
-    match leaf(alloc, word)? {
-        None => Ok(()),
-        Some(value) => Ok(pile.push(value)?),
-    }
-}
-
-fn step<S: ScalarValue>(alloc: Global, pile: &mut Pile<S>, word: &str) -> Result<(), AllocError> {
-    match word.strip_suffix(':') {
-        Some(key) => join(alloc, pile, key),
-        None if word == "," => join(alloc, pile, ""),
-        None => push(alloc, pile, word),
-    }
-}
-
-fn made<S: ScalarValue>(alloc: Global, words: &str) -> Result<Option<Value<S>>, AllocError> {
-    let mut pile = Vec::new(alloc);
-    for word in words.split(' ') {
-        step(alloc, &mut pile, word)?;
-    }
-    Ok(pile.pop())
 }
 
 /// Whether the value that the words make is written so.
@@ -119,7 +79,7 @@ pub(crate) fn is_written<S: ScalarValue>(
     words: &str,
     written: &str,
 ) -> Result<bool, AllocError> {
-    match made::<S>(alloc, words)? {
+    match made::<Value<S>>(alloc, words)? {
         None => Ok(false),
         Some(value) => Ok(value.to_string(alloc)?.as_str() == written),
     }
