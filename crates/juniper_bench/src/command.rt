@@ -30,17 +30,22 @@ pub enum Command<'a> {
     Make(Size),
     /// To make a request of so many fields whose aliases collide.
     MakeColliding(usize),
+    /// To make a text, and to tell what its document counts.
+    Count(Size),
+    /// To make a request of so many fields whose aliases collide, and to tell what its document counts.
+    CountColliding(usize),
     /// To make a schema of so many types, and to test so many times whether requests can be executed on it.
     Schema(usize, usize),
 }
 
 /// What the words ask for; nothing where they are none of `parse FILE TIMES`, `validate FILE TIMES`,
-/// `execute FILE TIMES`, `scan FILE TIMES`, `make FIELDS DEPTH`, `make-colliding FIELDS` and `schema TYPES TIMES`, or a
-/// number is not in its bounds.
+/// `execute FILE TIMES`, `scan FILE TIMES`, `make FIELDS DEPTH`, `make-colliding FIELDS`, `count FIELDS DEPTH`,
+/// `count-colliding FIELDS` and `schema TYPES TIMES`, or a number is not in its bounds.
 pub fn read_command(words: &[String]) -> Option<Command<'_>> {
     match words {
         [word, only] => match word.as_str() {
             "make-colliding" => Some(Command::MakeColliding(number(only.as_str())?)),
+            "count-colliding" => Some(Command::CountColliding(number(only.as_str())?)),
             _ => None,
         },
         [word, first, second] => read_long(word.as_str(), first, second),
@@ -59,6 +64,10 @@ fn read_long<'a>(word: &str, first: &'a String, second: &String) -> Option<Comma
         "make" => {
             let size = bounded_size(number(first.as_str())?, last)?;
             Some(Command::Make(size))
+        }
+        "count" => {
+            let size = bounded_size(number(first.as_str())?, last)?;
+            Some(Command::Count(size))
         }
         "schema" => Some(Command::Schema(number(first.as_str())?, last)),
         _ => None,

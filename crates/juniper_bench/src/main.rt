@@ -4,7 +4,9 @@
 //! prints its answer, `juniper_bench scan FILE TIMES` reads a file of JSON so many times, `juniper_bench make FIELDS DEPTH`
 //! prints a text to be parsed, `juniper_bench make-colliding FIELDS` prints a request whose aliases collide, and
 //! `juniper_bench schema TYPES TIMES` makes a schema of so many types, and tests so many times whether requests can be
-//! executed on it. The program takes no time itself: the one who runs it does.
+//! executed on it. `juniper_bench count FIELDS DEPTH` and `juniper_bench count-colliding FIELDS` make a text, and print what its
+//! document counts. Without words the program reads such commands from standard input, one in each line, and prints for each a
+//! status and what it answers. The program takes no time itself: the one who runs it does.
 #![tactic(auto)]
 
 ghost use Rattle.std.specs.Prelude.{◌≡◌, ◌++◌, IfOk, codes, string_bytes};
@@ -16,8 +18,6 @@ mod count;
 mod executing;
 mod make;
 mod schema;
-#[cfg(test)]
-mod tests;
 
 use crate::answers::{Answer, parse_answer, scan_answer, schema_answer, validate_answer};
 use crate::collide::colliding_text;
@@ -27,7 +27,12 @@ use crate::make::made_text;
 use std::alloc::{AllocError, Global};
 use std::process::ExitCode;
 use std::rt::Files;
-use std::{env, fs};
+use std::{env, fs, io};
+
+/// What is told of words that are not understood.
+const USAGE: &str =
+    "usage: juniper_bench parse FILE TIMES | validate FILE TIMES | execute FILE TIMES | scan FILE TIMES | \
+     make FIELDS DEPTH | make-colliding FIELDS | count FIELDS DEPTH | count-colliding FIELDS | schema TYPES TIMES";
 
 /// What the program answers to its words. An error where memory is refused.
 fn answer<R: Files + AllocGlobal>(rt: &R, words: &[String]) -> Result<Answer, AllocError> {
@@ -35,10 +40,7 @@ fn answer<R: Files + AllocGlobal>(rt: &R, words: &[String]) -> Result<Answer, Al
     match read_command(words) {
         None => Ok(Answer {
             status: 2,
-            line: String::from_str(
-                alloc,
-                "usage: juniper_bench parse FILE TIMES | validate FILE TIMES | execute FILE TIMES | scan FILE TIMES | make FIELDS DEPTH | make-colliding FIELDS | schema TYPES TIMES",
-            )?,
+            line: String::from_str(alloc, USAGE)?,
         }),
         Some(Command::Parse(file, times)) => match text_of(rt, file) {
             Some(text) => parse_answer(alloc, text.as_str(), times),
@@ -64,6 +66,10 @@ fn answer<R: Files + AllocGlobal>(rt: &R, words: &[String]) -> Result<Answer, Al
             status: 0,
             line: colliding_text(alloc, fields)?,
         }),
+        Some(Command::Count(size)) => parse_answer(alloc, made_text(alloc, size)?.as_str(), 1),
+        Some(Command::CountColliding(fields)) => {
+            parse_answer(alloc, colliding_text(alloc, fields)?.as_str(), 1)
+        }
         Some(Command::Schema(types, times)) => schema_answer(alloc, types, times),
     }
 }
@@ -84,27 +90,54 @@ fn unread(alloc: Global, file: &str) -> Result<Answer, AllocError>
     })
 }
 
-fn main(rt: HostRuntime) -> ExitCode {
-    let arguments = match env::args(&rt) {
+/// Answers the command in each line of standard input.
+fn answer_lines(rt: &HostRuntime) -> io::Result<()> {
+    let alloc = rt.alloc();
+    for line in rt.lines(alloc) {
+        let line = line?;
+        let words = words_of(alloc, line.as_str())?;
+        let answer = answer(rt, words.as_slice())?;
+        let (status, text) = (answer.status, answer.line);
+        println!(rt; "{status} {text}")?;
+    }
+    Ok(())
+}
+
+/// The words of a line, with a blank between each two.
+fn words_of(alloc: Global, line: &str) -> Result<Vec<String>, AllocError> {
+    let mut words = Vec::new(alloc);
+    for word in line.split(' ') {
+        words.push(String::from_str(alloc, word)?)?;
+    }
+    Ok(words)
+}
+
+/// Answers the words, or the commands of standard input where there are none, and tells the status with which the program ends.
+fn run(rt: &HostRuntime) -> io::Result<ExitCode> {
+    let arguments = match env::args(rt) {
         Ok(arguments) => arguments,
         Err(error) => {
-            let _written = println!(rt; "refused: The arguments cannot be read: {error}");
-            return ExitCode::from(1);
+            println!(rt; "refused: The arguments cannot be read: {error}")?;
+            return Ok(ExitCode::from(1));
         }
     };
-    let answered = match arguments.skip(1).collect::<Vec<String>>(rt.alloc()) {
-        Ok(words) => answer(&rt, words.as_slice()),
-        Err(refused) => Err(refused.into()),
-    };
-    let (status, written) = match answered {
-        Ok(answer) => {
-            let line = answer.line;
-            (answer.status, println!(rt; "{line}"))
+    let words = arguments.skip(1).collect::<Vec<String>>(rt.alloc())?;
+    if words.is_empty() {
+        answer_lines(rt)?;
+        return Ok(ExitCode::from(0));
+    }
+    let answer = answer(rt, words.as_slice())?;
+    let line = answer.line;
+    println!(rt; "{line}")?;
+    Ok(ExitCode::from(answer.status))
+}
+
+fn main(rt: HostRuntime) -> ExitCode {
+    match run(&rt) {
+        Ok(status) => status,
+        Err(error) => {
+            let _written = println!(rt; "refused: {error}");
+            ExitCode::from(1)
         }
-        Err(_) => (1, println!(rt; "refused: Out of memory")),
-    };
-    match written {
-        Ok(()) => ExitCode::from(status),
-        Err(_) => ExitCode::from(1),
     }
 }

@@ -6,7 +6,7 @@ use std::fmt::Write;
 
 /// A text of the size: an operation with variables and two fragments. Its fields have aliases, directives and arguments
 /// (Ints, strings with escapes, lists, objects, values of an enum, variables), and comments stand between them. No clause
-/// says that it spells a document: the tests parse what is made.
+/// says that it spells a document: the program's run counts what is made.
 pub fn made_text(alloc: Global, size: Size) -> Result<String, AllocError> {
     let mut text = String::new(alloc);
     text.push_str(

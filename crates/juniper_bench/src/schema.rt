@@ -16,7 +16,7 @@ type Types = HashMap<String, MetaType<DefaultScalarValue>>;
 
 /// A schema of so many object types beside its query type and an interface, which all of them implement. Each has a field of
 /// another one's type, and one of a list of another's with an argument and its default. No clause says that requests can be
-/// executed on it: the tests ask what is made.
+/// executed on it: the program's run asks what is made.
 pub fn made_schema(
     alloc: Global,
     count: usize,

@@ -2,9 +2,6 @@
 //! the values of variables of a JSON object, and prints its answer as one line of JSON.
 #![tactic(auto)]
 
-#[cfg(test)]
-mod tests;
-
 use juniper_demo_server::{DemoContext, answer};
 use std::env;
 use std::process::ExitCode;

@@ -3,7 +3,5 @@
 
 mod identifier;
 pub mod laws;
-#[cfg(test)]
-mod tests;
 
 pub use identifier::ID;

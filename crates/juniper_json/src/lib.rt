@@ -8,8 +8,6 @@ mod numbers;
 mod read;
 mod refusals;
 mod response;
-#[cfg(test)]
-mod tests;
 
 pub use given::{GivenVariables, RefusedVariable, given_variables};
 pub use line::answer_line;

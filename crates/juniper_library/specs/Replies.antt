@@ -1,7 +1,7 @@
 -- What the library's resolvers reply, and what its mutations leave (6.2.2, 6.4.2).
 use Rattle.std.specs.Prelude.{ℕ, ℤ, pos, negsuc, Bool, true, codes, eqb, cond, [], ◌∷◌, ◌++◌, List, length, take, Option, Some, None, option_map}
 use Rattle.std.specs.Prelude.{unwrap_or, Result, Ok, string_bytes}
-use Rattle.juniper.specs.Server.{Constant, Error, Members, Name, Reply, Text, answered, bytes_eq, decimal, find, given, input_field, input_field_or}
+use Rattle.juniper.specs.Server.{Constant, Error, Members, Name, Reply, Text, answered, bytes_eq, decimal, find, given, input_field, input_field_or, int_reply}
 use Rattle.juniper.specs.Server.{named_among, nat_eq, node, nodes_reply, nodes_where, nothing, object_or_null, position, read_enum, read_id, read_int}
 use Rattle.juniper.specs.Server.{read_option, read_text, slice_get, starts_with, text_reply, then_read, with_read, with_step}
 use Rattle.juniper_library.specs.Catalogue.{Catalogue, genre_name, genres}
@@ -89,12 +89,27 @@ author_field c i None field = answered nothing
 author_field c i (Some a) field =
     cond (bytes_eq field (codes "name")) (text_reply a.name) (cond (bytes_eq field (codes "books")) (nodes_reply (books_by c i)) (answered nothing))
 
+-- `copies`: how many there are of a book, if that is known
+abbrev pub copies : List ℤ → Node → Option ℤ
+copies known at.Query = None
+copies known (at.Book i) = slice_get known i
+copies known (at.Film i) = None
+copies known (at.Author i) = None
+
+abbrev pub copies_reply : Option ℤ → Reply Node
+copies_reply None = answered nothing
+copies_reply (Some number) = int_reply number
+
+-- a field that is not `copies`
+abbrev pub other_field : Catalogue → Node → Name → Members → Reply Node
+other_field c at.Query field arguments = query_field c field arguments
+other_field c (at.Book i) field arguments = book_field (slice_get c.books i) field
+other_field c (at.Film i) field arguments = film_field (slice_get c.films i) field
+other_field c (at.Author i) field arguments = author_field c i (slice_get c.authors i) field
+
 -- the reply to a field of a node, in a catalogue
 abbrev pub reply : Catalogue → Node → Name → Members → Reply Node
-reply c at.Query field arguments = query_field c field arguments
-reply c (at.Book i) field arguments = book_field (slice_get c.books i) field
-reply c (at.Film i) field arguments = film_field (slice_get c.films i) field
-reply c (at.Author i) field arguments = author_field c i (slice_get c.authors i) field
+reply c n field arguments = cond (bytes_eq field (codes "copies")) (copies_reply (copies c.copies n)) (other_field c n field arguments)
 
 -- ## Mutations (6.2.2)
 

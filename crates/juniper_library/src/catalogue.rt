@@ -70,12 +70,14 @@ pub struct Book {
     pub author: usize,
 }
 
-/// The catalogue of a library.
+/// The catalogue of a library, and beside it a table that stands for a slow store: how many copies there are of each book, by its place.
+/// A book that is added has no entry there.
 #[derive(Drop)]
 pub struct Library {
     pub books: Vec<Book>,
     pub films: Vec<Entry>,
     pub authors: Vec<Entry>,
+    pub copies: Vec<i32>,
 }
 
 impl Model for Library {
@@ -83,7 +85,16 @@ impl Model for Library {
 
     ghost Value = { Catalogue };
 
-    ghost view = { λ l. record { books = l.books.items; films = l.films.items; authors = l.authors.items } };
+    ghost view = { λ l. record { books = l.books.items; films = l.films.items; authors = l.authors.items; copies = l.copies.items } };
 }
 
 impl Context for Library {}
+
+impl Library {
+    /// How many copies there are of each book: all numbers, by one look-up.
+    pub fn load_copies(&self) -> &[i32]
+        ensures { result.now ≡ self.now.copies }
+    {
+        &self.copies
+    }
+}

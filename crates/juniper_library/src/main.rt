@@ -4,8 +4,6 @@
 
 mod catalogue;
 mod resolvers;
-#[cfg(test)]
-mod tests;
 mod types;
 
 use catalogue::{Book, Entry, Genre, Library};
@@ -41,10 +39,12 @@ fn shelves(alloc: Global) -> Result<Library, AllocError> {
     }
     let mut films = Vec::new(alloc);
     films.push(Entry::new(alloc, "f1", "Frankenstein (1931)")?)?;
+    let copies = vec![in alloc; 3, 1, 2, 4]?;
     Ok(Library {
         books,
         films,
         authors,
+        copies,
     })
 }
 

@@ -1,13 +1,13 @@
 //! The resolvers of the library: each field's answer by its name (sections 6.2.2 and 6.4.2 of the Specification).
 
-ghost use Rattle.std.specs.Prelude.{◌≡◌, IfOk};
-ghost use Rattle.juniper.specs.Server.{Answers, Leaves, id_text, view_arguments};
+ghost use Rattle.std.specs.Prelude.{◌≡◌, IfOk, map};
+ghost use Rattle.juniper.specs.Server.{AllAnswer, Answers, Leaves, id_text, view_arguments};
 ghost use Rattle.juniper_library.specs.Replies as reply;
 ghost use Rattle.juniper_library.specs.declared.resolvers.Node.TheVariants as at;
 
 use crate::catalogue::{Book, Entry, Genre, Library};
 use juniper::words::{
-    Answer, EnumType, InputType, MutationType, QueryType, given, input_field, input_field_or,
+    Answer, EnumType, InputType, MutationType, QueryType, given, input_field, input_field_or, int,
     nodes, nodes_where, null, object, object_or_null, text,
 };
 use juniper::{Arguments, Executor, ID, InputValue, ResolveError, ScalarValue};
@@ -26,6 +26,7 @@ pub enum Node {
 #[derive(Drop)]
 pub struct Query;
 
+/// The copies of up to 100 books are loaded at once.
 impl<S: ScalarValue> QueryType<S> for Query {
     type Context = Library;
 
@@ -58,35 +59,99 @@ impl<S: ScalarValue> QueryType<S> for Query {
         executor: &Executor<Library, S>,
     ) -> Answer<Node, S> {
         let library = executor.context();
-        match *node {
-            Node::Query => query_field(alloc, library, field_name, arguments),
-            Node::Book(place) => match library.books.get(place) {
-                None => null(),
-                Some(book) => match field_name {
-                    "id" => text(alloc, book.titled.id.as_str()),
-                    "title" => text(alloc, book.titled.name.as_str()),
-                    "genre" => text(alloc, book.genre.value_name()),
-                    "author" => object(Node::Author(book.author)),
-                    _ => null(),
-                },
-            },
-            Node::Film(place) => match library.films.get(place) {
-                None => null(),
-                Some(film) => match field_name {
-                    "id" => text(alloc, film.id.as_str()),
-                    "title" => text(alloc, film.name.as_str()),
-                    _ => null(),
-                },
-            },
-            Node::Author(place) => match library.authors.get(place) {
-                None => null(),
-                Some(author) => match field_name {
-                    "name" => text(alloc, author.name.as_str()),
-                    "books" => nodes(alloc, &books_by(alloc, library, place)?),
-                    _ => null(),
-                },
-            },
+        match field_name {
+            "copies" => copies_answer(library.load_copies(), node),
+            _ => other_field(alloc, library, node, field_name, arguments),
         }
+    }
+
+    fn nodes_at_once(type_name: &str) -> usize {
+        if type_name == "Book" { 100 } else { 1 }
+    }
+
+    fn resolve_fields(
+        alloc: Global,
+        nodes: &[&Node],
+        field_name: &str,
+        arguments: &Arguments<'_, S>,
+        executor: &Executor<Library, S>,
+    ) -> Result<Vec<Answer<Node, S>>, AllocError> {
+        if field_name == "copies" {
+            return copies_of(alloc, nodes, executor.context().load_copies());
+        }
+        <Self as QueryType<S>>::resolve_each(alloc, nodes, field_name, arguments, executor)
+    }
+}
+
+/// What `copies` answers of each of these nodes.
+fn copies_of<S: ScalarValue>(
+    alloc: Global,
+    nodes: &[&Node],
+    known: &[i32],
+) -> Result<Vec<Answer<Node, S>>, AllocError>
+    ensures { IfOk result (λ made. AllAnswer S.shown (λ n. reply.copies_reply (reply.copies known.now n)) (map (λ n. n.now) nodes.now) made.items) }
+{
+    let mut made = Vec::with_capacity(alloc, nodes.len())?;
+    for node in nodes {
+        let answer = copies_answer(known, node);
+        made.push(answer)?;
+    }
+    Ok(made)
+}
+
+/// What `copies` answers of a node: the number at its place if it is a book, null where there is none.
+fn copies_answer<S: ScalarValue>(known: &[i32], node: &Node) -> Answer<Node, S>
+    ensures { Answers S.shown result (reply.copies_reply (reply.copies known.now node.now)) }
+{
+    match *node {
+        Node::Book(place) => match known.get(place) {
+            Some(number) => int(*number),
+            None => null(),
+        },
+        Node::Query => null(),
+        Node::Film(_) => null(),
+        Node::Author(_) => null(),
+    }
+}
+
+/// A field of a node that is not `copies`.
+fn other_field<S: ScalarValue>(
+    alloc: Global,
+    library: &Library,
+    node: &Node,
+    field_name: &str,
+    arguments: &Arguments<'_, S>,
+) -> Answer<Node, S>
+    ensures { Answers S.shown result (reply.other_field library.now node.now field_name.now (view_arguments S.shown arguments.now)) }
+{
+    match *node {
+        Node::Query => query_field(alloc, library, field_name, arguments),
+        Node::Book(place) => match library.books.get(place) {
+            None => null(),
+            Some(book) => match field_name {
+                "id" => text(alloc, book.titled.id.as_str()),
+                "title" => text(alloc, book.titled.name.as_str()),
+                "genre" => text(alloc, book.genre.value_name()),
+                "author" => object(Node::Author(book.author)),
+                _ => null(),
+            },
+        },
+        Node::Film(place) => match library.films.get(place) {
+            None => null(),
+            Some(film) => match field_name {
+                "id" => text(alloc, film.id.as_str()),
+                "title" => text(alloc, film.name.as_str()),
+                _ => null(),
+            },
+        },
+        Node::Author(place) => match library.authors.get(place) {
+            None => null(),
+            Some(author) => match field_name {
+                "name" => text(alloc, author.name.as_str()),
+                "books" => nodes(alloc, &books_by(alloc, library, place)?),
+                _ => null(),
+            },
+        },
     }
 }
 

@@ -6,8 +6,6 @@ mod argument;
 mod arguments;
 mod children;
 mod children_below;
-#[cfg(test)]
-mod children_tests;
 mod choosing;
 mod collecting;
 mod conditions;
@@ -25,8 +23,6 @@ mod parts;
 mod selection;
 mod showing;
 mod singles;
-#[cfg(test)]
-mod tests;
 mod values;
 
 pub use argument::LookAheadArgument;

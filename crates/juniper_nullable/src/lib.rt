@@ -5,7 +5,5 @@ mod combinators;
 pub mod laws;
 mod nullable;
 mod references;
-#[cfg(test)]
-mod tests;
 
 pub use nullable::Nullable;

@@ -6,8 +6,6 @@
 mod error;
 mod read;
 mod request;
-#[cfg(test)]
-mod tests;
 
 pub use error::{NotJson, RequestError};
 pub use read::{GraphQLBatchRequest, read_request};

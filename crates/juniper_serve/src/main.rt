@@ -8,8 +8,6 @@
 mod lines;
 mod logged;
 mod mode;
-#[cfg(test)]
-mod tests;
 
 use http_server::{Config, Connection};
 use juniper::Bounds;

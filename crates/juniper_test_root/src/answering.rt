@@ -2,9 +2,9 @@
 
 use crate::reader::read_script;
 use crate::registry::registry_of;
+use crate::request::Request;
 use crate::script::{Notes, RootType, Script};
 use crate::sights::{push_seen, saw_as_told};
-use crate::table::Request;
 use crate::variables::variables_of;
 use juniper::{
     EmptySubscription, GraphQLError, RootError, RootNode, RuleError, Variables, execute_sync,
@@ -119,11 +119,11 @@ pub fn printed(alloc: Global, request: &Request) -> Result<String, AllocError> {
         Ok(ready) => ready,
         Err(unread) => return format!(in alloc; "unread: {unread}"),
     };
-    let sights = String::from_str(alloc, request.sights.as_str())?;
+    let sights = String::from_str(alloc, request.sights)?;
     let mut context = Notes::new(alloc, sights);
     let outcome = execute_sync(
         alloc,
-        request.document.as_str(),
+        request.document,
         operation_name(request),
         &root,
         &variables,

@@ -1,9 +1,9 @@
 //! The executor beside its twin, which resolves each occurrence of a field alone and joins the values: whether both answer alike.
 
 use crate::answering::{Ready, operation_name, read_request, refusal_line};
+use crate::request::Request;
 use crate::script::Notes;
 use crate::sights::saw_as_told;
-use crate::table::Request;
 use juniper::twin::execute_by_join;
 use juniper::{
     ExecutionError, GraphQLError, GraphQLMutationValue, GraphQLType, GraphQLValue, RootNode,
@@ -122,7 +122,7 @@ pub fn compared(alloc: Global, request: &Request) -> Result<Option<&'static str>
         return Ok(None);
     };
     let name = operation_name(request);
-    let text = request.document.as_str();
+    let text = request.document;
     let mut context = Notes::new(alloc, String::new(alloc));
     let planned = execute_sync(alloc, text, name, &root, &variables, &mut context);
     let sights = String::from_str(alloc, request.joined_sights())?;
@@ -159,7 +159,7 @@ fn is_validated_alike(
         return Ok(false);
     };
     let name = operation_name(request);
-    let text = request.document.as_str();
+    let text = request.document;
     let mut context = Notes::new(alloc, String::new(alloc));
     let stepped = execute_by_steps(
         alloc,

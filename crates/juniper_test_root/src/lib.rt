@@ -1,4 +1,4 @@
-//! A root whose schema and answers are texts, and tables of requests to it: for tests.
+//! A root whose schema and answers are texts, and requests to it: for tests.
 #![tactic(auto)]
 
 mod answering;
@@ -7,18 +7,16 @@ mod comparing;
 mod reader;
 mod registry;
 mod replies;
+mod request;
 mod root;
 mod script;
 mod sights;
-mod table;
-mod tally;
 mod variables;
 
 pub use answering::{ScriptRoot, Unread, printed, read_root};
 pub use columns::columns_asked_for;
 pub use comparing::{Outcome, Walk, compared, difference, execute_by_steps};
 pub use reader::read_script;
+pub use request::Request;
 pub use script::{Answer, Line, Node, Notes, RootType, Script, Tree};
-pub use table::{Request, Row, read_table};
-pub use tally::{Tally, report};
 pub use variables::variables_of;

@@ -6,7 +6,7 @@ ghost use Rattle.juniper_test_root.specs.Scripts.{concrete_type, reply, root_of,
 
 use crate::replies::reply;
 use crate::script::{Node, Notes, RootType, Script};
-use crate::sights::record;
+use crate::sights::{record, record_batch};
 use juniper_meta::MetaType;
 use juniper_syntax::{ScalarValue, Type};
 use juniper_types::{
@@ -51,7 +51,7 @@ impl<S: ScalarValue> GraphQLType<S> for Script {
 }
 
 /// A field of a node answers what the first line of the node says, else the first one of its object type, else null. What the executor shows
-/// there is noted in the context.
+/// there is noted in the context, and for how many nodes a field is asked at once.
 impl<S: ScalarValue> GraphQLValue<S> for Script {
     type Context = Notes;
 
@@ -96,6 +96,24 @@ impl<S: ScalarValue> GraphQLValue<S> for Script {
 
     fn nodes_at_once(&self, _info: &Self::TypeInfo, type_name: &str) -> usize {
         if type_name.starts_with("Many") { 3 } else { 1 }
+    }
+
+    fn resolve_fields(
+        &self,
+        alloc: Global,
+        info: &Self::TypeInfo,
+        nodes: &[&Self::Node],
+        field_name: &str,
+        arguments: &Arguments<'_, S>,
+        executor: &Executor<Self::Context, S>,
+    ) -> Result<Vec<Result<Resolved<Self::Node, S>, ResolveError<S>>>, AllocError> {
+        record_batch(executor.context(), executor, nodes.len())?;
+        let mut made = Vec::with_capacity(alloc, nodes.len())?;
+        for node in nodes {
+            let answer = self.resolve_field(alloc, info, node, field_name, arguments, executor);
+            made.push(answer)?;
+        }
+        Ok(made)
     }
 }
 

@@ -6,11 +6,14 @@
 //! - `for TYPE:CHILDREN`, the children for that type alone;
 //! - `columns NAME ..`, the columns that are asked for;
 //! - `names NAME ..`, the names of the children: the first, the last, and then the others from the front, until there is `none`;
+//! - `child NAME:`, and the child of that response key, or `none`;
+//! - `copy NAME, COUNT left`, what a copy of the children hands over last, and how many are left then;
 //! - `occurrences SELECTION .. | SELECTION ..`, all occurrences of the field, from the front and then from the back;
 //! - `place TYPE at LINE:COLUMN in KEY.POSITION.KEY`, the declared type of the field, where it starts, counted from 1, and the path of an
 //!   error that is made there;
 //! - `fragment NAME is there`, or `is not there`: whether a fragment has that name;
-//! - `variable NAME is VALUE`, or `has no value`: the value of a variable.
+//! - `variable NAME is VALUE`, or `has no value`: the value of a variable;
+//! - `at once COUNT`: for how many nodes the field is asked at once. Where lines tell that of a response key, calls for single nodes are left out.
 
 use crate::columns::columns_asked_for;
 use crate::script::Notes;
@@ -34,7 +37,7 @@ pub(crate) fn record<C, S: ScalarValue>(
 ) -> Result<(), AllocError> {
     let selection = executor.look_ahead();
     let key = selection.field_name();
-    if count_lines(notes.sights.as_str(), key) == 0 {
+    if count_lines(notes.sights.as_str(), key) == 0 || tells_batches(notes, key) {
         return Ok(());
     }
     match notes.seen.try_borrow_mut() {
@@ -48,6 +51,28 @@ pub(crate) fn record<C, S: ScalarValue>(
         }
         Err(_) => Ok(()),
     }
+}
+
+/// Notes for how many nodes a field is asked at once, where that is told of its response key. An error where memory is refused.
+pub(crate) fn record_batch<C, S: ScalarValue>(
+    notes: &Notes,
+    executor: &Executor<C, S>,
+    count: usize,
+) -> Result<(), AllocError> {
+    let selection = executor.look_ahead();
+    let key = selection.field_name();
+    if !tells_batches(notes, key) {
+        return Ok(());
+    }
+    match notes.seen.try_borrow_mut() {
+        Ok(mut seen) => write!(seen, "{key}: at once {count}\n"),
+        Err(_) => Ok(()),
+    }
+}
+
+/// Whether a line tells for how many nodes the field of a response key is asked at once.
+fn tells_batches(notes: &Notes, key: &str) -> bool {
+    line_of(notes.sights.as_str(), key, 0).starts_with("at once")
 }
 
 /// Whether resolvers were shown what the lines tell: at each call, in order, and no more.
@@ -127,6 +152,14 @@ fn show<C, S: ScalarValue>(
             return push_variable(executor, name, out);
         }
     }
+    if let Some(rest) = form.strip_prefix("child ") {
+        if let Some((name, _)) = rest.split_once(':') {
+            return push_child(alloc, executor, name, out);
+        }
+    }
+    if form.starts_with("copy") {
+        return push_last_of_copy(alloc, executor, out);
+    }
     if form.starts_with("columns") {
         return push_columns(alloc, executor, out);
     }
@@ -171,6 +204,39 @@ fn push_names<C, S: ScalarValue>(
         push_name(names.next(), out)?;
     }
     Ok(())
+}
+
+/// Adds the child of a response key; `none` where there is none.
+fn push_child<C, S: ScalarValue>(
+    alloc: Global,
+    executor: &Executor<C, S>,
+    name: &str,
+    out: &mut String,
+) -> Result<(), AllocError> {
+    let selection = executor.look_ahead();
+    let children = selection.children(alloc)?;
+    match children.select(name) {
+        Some(child) if children.has_child(name) => write!(out, "child {name}: {child:?}"),
+        _ => write!(out, "child {name}: none"),
+    }
+}
+
+/// Adds what a copy of the children hands over last, and how many are left then.
+fn push_last_of_copy<C, S: ScalarValue>(
+    alloc: Global,
+    executor: &Executor<C, S>,
+    out: &mut String,
+) -> Result<(), AllocError> {
+    let selection = executor.look_ahead();
+    let children = selection.children(alloc)?;
+    let mut handed = children.try_clone(alloc)?.into_iter();
+    match handed.next_back() {
+        Some(last) => {
+            let (name, left) = (last.field_original_name(), handed.len());
+            write!(out, "copy {name}, {left} left")
+        }
+        None => out.push_str("copy none"),
+    }
 }
 
 /// Adds a name, or `none`.

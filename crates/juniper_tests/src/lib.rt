@@ -1,10 +1,9 @@
-//! Tests over all crates: requests to scripted roots, and what they are answered; the errors of requests; names.
+//! Tests of what only code can say of the executor: its names, its errors, roots over resolvers that are held in several ways and over two types of
+//! scalars, and values of variables that hold variables. What a text can say is a row of `juniper_rows`.
 #![tactic(auto)]
 
 #[cfg(test)]
-mod ahead;
-#[cfg(test)]
-mod budgets;
+mod arena;
 #[cfg(test)]
 mod by_hand;
 #[cfg(test)]
@@ -12,30 +11,8 @@ mod demo;
 #[cfg(test)]
 mod errors;
 #[cfg(test)]
-mod flat;
-#[cfg(test)]
-mod hostile;
-#[cfg(test)]
-mod introspection;
-#[cfg(test)]
-mod lists;
-#[cfg(test)]
-mod mutations;
+mod held_variables;
 #[cfg(test)]
 mod names;
 #[cfg(test)]
-mod nulls;
-#[cfg(test)]
-mod objects;
-#[cfg(test)]
 mod roots;
-#[cfg(test)]
-mod serving;
-#[cfg(test)]
-mod shapes;
-#[cfg(test)]
-mod tables;
-#[cfg(test)]
-mod variables;
-#[cfg(test)]
-mod walks;

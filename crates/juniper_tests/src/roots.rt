@@ -11,7 +11,7 @@ use juniper_demo_server::{
     CELL, CHARACTER, DROID, Demo, DemoContext, DemoNode, EPISODES, HUMAN, QUERY,
 };
 use juniper_json::answer_line;
-use juniper_language_tests::scalar::TestScalar;
+use juniper_schema_text::OtherScalar;
 use std::alloc::{AllocError, Global};
 
 /// The demo's root without its mutations.
@@ -207,7 +207,7 @@ fn first_other(alloc: Global, told: Told, rows: &str) -> Result<Option<&str>, Al
             return Ok(Some(row));
         };
         if told_of::<DefaultScalarValue>(alloc, told, case)?.as_str() != text
-            || told_of::<TestScalar>(alloc, told, case)?.as_str() != text
+            || told_of::<OtherScalar>(alloc, told, case)?.as_str() != text
         {
             return Ok(Some(row));
         }

@@ -1,37 +1,29 @@
-//! An issue tracker: `juniper_tracker TEXT..` prints the response to the request of each text, one after the other on one tracker.
+//! An issue tracker: each line of standard input is a request of JSON, as clients send it, and the response to it is printed as
+//! a line of JSON. The requests are executed one after the other on one tracker.
 #![tactic(auto)]
 
 mod resolvers;
-#[cfg(test)]
-mod tests;
+mod start;
 mod tracker;
 mod types;
 
 use juniper::words::served;
 use juniper::{DefaultScalarValue, Variables, execute_sync};
-use juniper_json::response_line;
+use juniper_json::{given_variables, response_line};
+use juniper_request::{
+    GraphQLBatchRequest, GraphQLRequest, RequestError, read_request, request_of,
+};
 use resolvers::{Mutation, Query};
+use start::start;
 use std::alloc::{AllocError, Global};
-use std::{env, io};
-use tracker::{Tracker, User, Word};
+use std::io;
+use std::io::BufRead;
+use tracker::Tracker;
 
-/// The tracker of a server that starts: a user without an address.
-fn start(alloc: Global) -> Result<Tracker, AllocError> {
-    let text = String::from_str(alloc, "u1")?;
-    let id = Word { text };
-    let text = String::from_str(alloc, "ada")?;
-    let login = Word { text };
-    let email = None;
-    let mut users = Vec::new(alloc);
-    users.push(User { id, login, email })?;
-    let issues = Vec::new(alloc);
-    Ok(Tracker { users, issues })
-}
-
-/// The response to a request, as a line of JSON.
-fn respond(
+/// The response to a request with these values of its variables.
+fn executed(
     alloc: Global,
-    request: &str,
+    request: &GraphQLRequest<'_>,
     variables: &Variables<DefaultScalarValue>,
     tracker: &mut Tracker,
 ) -> Result<String, AllocError> {
@@ -39,16 +31,51 @@ fn respond(
         Ok(root) => root,
         Err(error) => return error.to_string(alloc),
     };
-    let outcome = execute_sync(alloc, request, None, &root, variables, tracker);
+    let name = request.operation_name;
+    let outcome = execute_sync(alloc, request.query, name, &root, variables, tracker);
     response_line(alloc, &outcome)
 }
 
+/// The response to a request, with the values of variables that it gives.
+fn respond(
+    alloc: Global,
+    request: &GraphQLRequest<'_>,
+    tracker: &mut Tracker,
+) -> Result<String, AllocError> {
+    let Some(members) = request.variables else {
+        return executed(alloc, request, &Variables::new(alloc), tracker);
+    };
+    let given = given_variables(alloc, members)?;
+    if !given.refused.is_empty() {
+        return refused(alloc, "a variable has a number that is no Int");
+    }
+    executed(alloc, request, &given.values, tracker)
+}
+
+/// The response to a line: to its request, or why it is none. A batch of requests is none here.
+fn response_to(alloc: Global, line: &[u8], tracker: &mut Tracker) -> Result<String, AllocError> {
+    match read_request(alloc, line)? {
+        Err(error) => refused(alloc, error.to_string(alloc)?.as_str()),
+        Ok(GraphQLBatchRequest::Batch(_)) => refused(alloc, RequestError::NotAnObject.message()),
+        Ok(GraphQLBatchRequest::Single(json)) => match request_of(&json) {
+            Err(error) => refused(alloc, error.message()),
+            Ok(request) => respond(alloc, &request, tracker),
+        },
+    }
+}
+
+/// The response that tells an error alone. The messages have no character that JSON writes otherwise.
+fn refused(alloc: Global, message: &str) -> Result<String, AllocError> {
+    format!(in alloc; "{{\"errors\":[{{\"message\":\"{message}\"}}]}}")
+}
+
 fn main(rt: HostRuntime) -> io::Result<()> {
-    let mut tracker = start(rt.alloc())?;
-    for request in env::args(&rt)?.skip(1) {
-        let none = Variables::new(rt.alloc());
-        let line = respond(rt.alloc(), request.as_str(), &none, &mut tracker)?;
-        println!(rt; "{line}")?;
+    let alloc = rt.alloc();
+    let mut tracker = start(alloc)?;
+    for line in rt.reader().split(alloc, b'\n') {
+        let request = line?;
+        let response = response_to(alloc, request.as_slice(), &mut tracker)?;
+        println!(rt; "{response}")?;
     }
     Ok(())
 }

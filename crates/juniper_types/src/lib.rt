@@ -9,10 +9,6 @@ mod executor;
 mod mutation;
 mod references;
 mod resolver;
-#[cfg(test)]
-mod samples;
-#[cfg(test)]
-mod tests;
 
 pub use context::{Context, FromContext};
 pub use empty::{EmptyMutation, EmptySubscription};

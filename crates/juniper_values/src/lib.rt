@@ -7,8 +7,6 @@ mod into_resolvable;
 mod reading;
 mod resolved;
 mod scalars;
-#[cfg(test)]
-mod tests;
 mod wrappers;
 
 pub use answers::{add, fails, int, list, null, object, text};

@@ -18,10 +18,6 @@ mod parts;
 mod registering;
 mod roots;
 mod serving;
-#[cfg(test)]
-mod tests;
-#[cfg(test)]
-mod told;
 mod values;
 
 pub use answers::{

@@ -1,9 +1,0 @@
-use Rattle.std.proofs.Common.{map, take}
-use Rattle.juniper.specs.Server.{AllAnswer}
-use Rattle.juniper_shop.specs.Shop.{price, price_reply}
-use Rattle.juniper_shop.proofs.prices_of.Given as goal
-
--- the nodes before this one are answered
-abbrev pub invariant-loop-node : goal.invariant-loop-node
-invariant-loop-node g l =
-    AllAnswer g.S.ScalarValue.shown (λ n. price_reply (price l.prices n)) (map (λ n. n.now) (take l.node-index l.nodes)) l.made.items
