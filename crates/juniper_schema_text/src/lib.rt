@@ -1,4 +1,4 @@
-//! Schemas, types and values from texts, given values of variables, lines that tell what is found, and a scalar type of one's own: for tests.
+//! Schemas, types and values from texts, given values of variables, and a scalar type of one's own: for tests.
 //!
 //! A text of a schema is written as in the language for type systems (section 3 of the Specification), with these own forms:
 //! - `query N`, then `mutation N` may stand first and name the root types; else `Query` is the query type, and there is no
@@ -22,7 +22,6 @@
 
 mod entries;
 mod given;
-mod line;
 mod members;
 mod reader;
 mod scalar;
@@ -30,6 +29,5 @@ mod values;
 
 pub use entries::{Declarations, kept, placed, read_declarations, read_schema, schema_of};
 pub use given::given_values;
-pub use line::Line;
 pub use reader::{Reader, Scalar};
 pub use scalar::OtherScalar;
