@@ -6,14 +6,14 @@ mod Telling
 mod Passed
 mod Listing
 mod Told
-mod Added
 mod Quiet
+mod QuietSets
 mod Rows
 mod Looked
-mod Alike
-mod Compared
-mod Looks
-mod Kept
+mod Indexed
+mod Beside
+mod Answered
+mod Distances
 mod Vertices
 pub mod Tables
 pub mod Gathered

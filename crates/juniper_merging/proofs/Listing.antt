@@ -1,10 +1,11 @@
 -- Lists at numbers, and what is put at one of them.
-use Rattle.std.specs.Prelude.{ℕ, zero, suc, Bool, true, false, cond, List, [], ◌∷◌, ◌++◌, ◌≡◌, ◌⊎◌, ◌<◌, Some, None, Vec, length, get_or, nat_eq}
+use Rattle.std.specs.Prelude.{ℕ, zero, suc, Bool, true, false, cond, List, [], ◌∷◌, ◌++◌, ◌≡◌, ◌⊎◌, ◌<◌, ◌≤◌, Some, None, Vec, length, get_or, nat_eq}
 use Rattle.std.specs.Prelude.{slice_index_or, slice_set}
 use Rattle.std.specs.List.{slice_get}
 use Rattle.std.specs.declared.alloc.Global.{Global}
 use Rattle.std.proofs.lemmas.Bool.{cases_Bool}
 use Rattle.std.proofs.lemmas.List.{append-nil}
+use Rattle.std.proofs.lemmas.Option.{slice_get_past}
 use Rattle.std.proofs.Common.{arith, refl, sym, ap, ◌∙◌, inl, inr, subst}
 use Rattle.graphql_spec.specs.Laws.{In}
 use Rattle.graphql_spec.proofs.Grouping.{in_append, in_first, in_second}
@@ -60,6 +61,17 @@ module _ (ls : List (Vec ℕ Global)) where
   listed-more p n v w l e more i = ap numbers_of (set-at w ls p i l) ∙ elim (cases_Bool (nat_eq p i)) [
     | inl q ↦ rw q (more ∙ ap (λ o. numbers_of o ++ n ∷ []) (sym e ∙ ap (slice_get ls) (same-number p i q)))
     | inr q ↦ rw q (sym (append-nil (numbers_of (slice_get ls i))))
+  ]
+
+  -- an empty list is put in the place of the one
+  pub listed-none : (p : ℕ) (w : Vec ℕ Global) → p < length ls → w.items ≡ [] → (i : ℕ) → listed (slice_set ls p w) i ≡ cond (nat_eq p i) [] (listed ls i)
+  unfolding listed numbers_of
+  listed-none p w l empty i = ap numbers_of (set-at w ls p i l) ∙ elim (cases_Bool (nat_eq p i)) [ inl q ↦ rw q empty | inr q ↦ rw q refl ]
+
+  pub past-listed : (p : ℕ) → length ls ≤ p → (i : ℕ) → listed ls i ≡ cond (nat_eq p i) [] (listed ls i)
+  past-listed p past i = elim (cases_Bool (nat_eq p i)) [
+    | inl q ↦ rw q (none-listed i (slice_get_past ls i (subst (λ n. length ls ≤ n) (same-number p i q) past)))
+    | inr q ↦ rw q refl
   ]
 
 -- what is listed still is

@@ -1,330 +1,196 @@
-//! Which sets of fields conflict with which, one set after the other, in the order in which they were made (section 5.3.2). Nothing is kept
-//! for a set that conflicts with none.
+//! How sets of fields clash, one set after the other, in the order in which they were made, and with those before them of which that is
+//! asked (section 5.3.2).
 
-ghost use Rattle.std.specs.Prelude.{◌≡◌, ◌++◌, ◌∷◌, ◌+◌, ◌<◌, IfOk, List, OnOk, Some, false, length, true, ℕ, []};
+ghost use Rattle.std.specs.Prelude.{◌≡◌, ◌++◌, ◌+◌, ◌-◌, ◌⊎◌, ◌≤◌, IfOk, List, None, OnOk, Option, Some, false, length, ℕ, []};
 ghost use Rattle.std.specs.List.{slice_get};
-ghost use Rattle.graphql_spec.specs.Laws.{In};
-ghost use Rattle.juniper_merging.specs.Conflicts.{AreKnown, AreTold, IsCompared, IsIndexOf, IsLook, IsMadeBefore, IsQuiet, IsRowAdded, IsRowOf, IsRowStep};
-ghost use Rattle.juniper_merging.specs.Conflicts.{AreFieldsLookedAt, AreRowed, AreRowedBehind, IsMarked, IsSettled, IsStep, WhereSettled};
-ghost use Rattle.juniper_merging.specs.Conflicts.{in_row};
+ghost use Rattle.juniper_merging.specs.Conflicts.{AreAnswered, AreKnown, AreTold, IsIndexOf, IsPutAt, asked_at, clash_at, found_in};
 ghost use Rattle.juniper_merging.specs.MergingGraph.{FieldAt, view_vertex};
-ghost use Rattle.juniper_merging.specs.Questions.{Pairs, Tells, Tested, Themselves, between_test, fields_of, seen, within_test};
+ghost use Rattle.juniper_merging.specs.Questions.{Beside, Between, Pairs, Tells, Tested, between_test, fields_of, seen, within_test};
 ghost use Rattle.juniper_merging.specs.Sets.{IsTable};
-ghost use Rattle.juniper_merging.specs.Tables.{below_in, joined, set_at, table_of};
 ghost use Rattle.juniper_merging.specs.declared.clash.Clash.{Clash};
-ghost use Rattle.juniper_merging.specs.declared.graph.Vertex.{Vertex};
-ghost use Rattle.juniper_merging.specs.declared.clash.Clash.TheVariants as clash;
+ghost use Rattle.juniper_merging.specs.Tables.{below_in, joined, set_at, table_of};
 
-use crate::clash::{Clash, is_clash, worse};
-use crate::field_index::{FieldIndex, list_at};
+use crate::asking::asked_pairs;
+use crate::asks::Asks;
+use crate::clash::{Clash, worse};
 use crate::graph::{Graph, Vertex};
-use crate::marks::{differing_keys, is_marked, mark_if};
+use crate::key_index::{clear_fields, empty_lists, list_at, put_field};
+use crate::loud::{is_loud, is_loud_set, loud_sets};
 use crate::pairs::over;
-use crate::row::{clash_or_nothing, is_empty, mark_each, put_at_each, put_clash, spread};
-use crate::sets::FieldSet;
+use crate::sets::{FieldSet, is_empty};
 use std::alloc::{AllocError, Global};
 
-/// What is known of the sets that were looked at.
+/// What is known of sets, and of the pairs of them that are asked.
 #[derive(Drop)]
 pub(crate) struct Conflicts {
-    /// Where memory comes from.
-    alloc: Global,
-    /// Response keys, by the number of the first vertex with it: some field differs from that vertex, or what it selects clashes within.
-    dirty: Vec<bool>,
-    /// For each set how it clashes with those before it and with itself, each field of the one with each of the other; nothing is there
-    /// where it does not.
-    rows: Vec<Vec<Clash>>,
-    /// Whether it clashes with one that was looked at, or with itself.
+    /// Whether a set holds a field that is unlike the first of its response key, at any depth.
     loud: Vec<bool>,
-    /// How each two fields of it clash.
+    /// For each set of which of those before it, and of itself, it is asked how they clash with it.
+    asks: Vec<Asks>,
+    /// For each set that was looked at what is known of these, place by place.
+    known: Vec<Vec<Option<Clash>>>,
+    /// How each two fields of a set clash.
     within: Vec<Clash>,
 }
 
-/// How what was looked at of a set clashes.
-#[derive(Drop)]
-struct Look {
-    /// With each of the sets before it.
-    row: Vec<Clash>,
-    /// Each two of its fields.
-    within: Clash,
-    /// Each of its fields with each.
-    itself: Clash,
-}
-
 /// How each two fields of each set of a graph clash. An error where memory is refused, or where a set or a field refers to a set that was
-/// not made before it.
+/// not made before it, or a set has both fields and parts.
 pub(crate) fn clashes_within(alloc: Global, graph: &Graph<'_, '_>) -> Result<Vec<Clash>, AllocError>
     ensures { IfOk result (λ within. IsTable graph.now.sets.now → AreTold (fields_of graph.now) (table_of graph.now.sets.now) within.items) }
 {
-    let mut conflicts = Conflicts::new(alloc, graph.vertices)?;
-    let mut index = FieldIndex::new(alloc, graph.vertices.len())?;
+    let loud = loud_sets(alloc, graph)?;
+    let asks = asked_pairs(alloc, graph, &loud)?;
+    let mut conflicts = Conflicts {
+        loud,
+        asks,
+        known: Vec::new(alloc),
+        within: Vec::new(alloc),
+    };
+    let mut index = empty_lists(alloc, graph.vertices.len())?;
     for set in 0..graph.sets.len() {
-        conflicts.look_at_set(graph, set, &graph.sets[set], &mut index)?;
+        conflicts.answer_set(alloc, graph, set, &graph.sets[set], &mut index)?;
     }
     Ok(conflicts.within)
 }
 
 impl Conflicts {
-    /// No set was looked at.
-    fn new(alloc: Global, vertices: &[Vertex<'_>]) -> Result<Self, AllocError>
-        ensures { IfOk result (λ c. (t : List (List ℕ)) → AreKnown (seen t vertices.now) t c 0) }
-    {
-        let dirty = differing_keys(alloc, vertices)?;
-        Ok(Conflicts {
-            alloc,
-            dirty,
-            rows: Vec::new(alloc),
-            loud: Vec::new(alloc),
-            within: Vec::new(alloc),
-        })
-    }
-
-    /// Looks at a set, where those before it were looked at.
-    fn look_at_set(
+    /// Answers what is asked of a set, where those before it were looked at.
+    fn answer_set(
         &mut self,
+        alloc: Global,
         graph: &Graph<'_, '_>,
         set: usize,
         held: &FieldSet,
-        index: &mut FieldIndex,
+        index: &mut Vec<Vec<usize>>,
     ) -> Result<(), AllocError>
         ensures { OnOk result (IsTable graph.now.sets.now → slice_get graph.now.sets.now set ≡ Some held.now
-            → IsStep graph.now self.old self.new index.old index.new set) }
+            → AreAnswered graph.now self.old index.old.items set → AreAnswered graph.now self.new index.new.items (set + 1)) }
     {
-        self.mark_keys(graph.vertices, &held.fields)?;
-        let mut look = self.look_at_fields(graph, set, &held.fields, index)?;
-        self.add_parts(set, &held.parts, &mut look)?;
-        put_clash(&mut look.row, set, look.itself)?;
-        self.keep(look.row, look.within)?;
+        let within = self.clash_within(graph.vertices, held, index)?;
+        self.within.push(within)?;
+        self.answer_pairs(alloc, graph, set, held, index)?;
+        clear_fields(graph.vertices, &held.fields, index);
         Ok(())
     }
 
-    /// How the own fields of a set clash; puts them to the index.
-    fn look_at_fields(
-        &self,
-        graph: &Graph<'_, '_>,
-        set: usize,
-        fields: &[usize],
-        index: &mut FieldIndex,
-    ) -> Result<Look, AllocError>
-        ensures { IfOk result (λ look. IsTable graph.now.sets.now → AreFieldsLookedAt graph.now self.now index.old index.new set fields.now look) }
-    {
-        let mut row = self.row_of_fields(graph.vertices, set, fields, index)?;
-        spread(graph.sets, set, &mut row)?;
-        let within = clash_or_nothing(&row, set);
-        row.truncate(set);
-        let own = self.with_themselves(graph.vertices, fields)?;
-        Ok(Look {
-            row,
-            within,
-            itself: worse(within, own),
-        })
-    }
-
-    /// How these fields of a set clash with the own fields of each set before it; behind these, how each two of them clash. Puts them to
-    /// the index.
-    fn row_of_fields(
+    /// How each two fields of a set clash; the index has its own fields then.
+    fn clash_within(
         &self,
         vertices: &[Vertex<'_>],
-        set: usize,
-        fields: &[usize],
-        index: &mut FieldIndex,
-    ) -> Result<Vec<Clash>, AllocError>
-        ensures { IfOk result (λ row. (t : List (List ℕ)) (own : ℕ → List ℕ) → WhereSettled (seen t vertices.now) t self.now own set fields.now
-            (IsIndexOf (seen t vertices.now) index.old own set [] → AreRowed (seen t vertices.now) index.new own set fields.now row.items)) }
-    {
-        let mut row = Vec::new(self.alloc);
-        for field in fields {
-            self.look_at_field(vertices, set, *field, index, &mut row)?;
-        }
-        Ok(row)
-    }
-
-    /// The same of one field, behind those before it in the set.
-    fn look_at_field(
-        &self,
-        vertices: &[Vertex<'_>],
-        set: usize,
-        field: usize,
-        index: &mut FieldIndex,
-        row: &mut Vec<Clash>,
-    ) -> Result<(), AllocError>
-        ensures { OnOk result ((t : List (List ℕ)) (own : ℕ → List ℕ) (before : List ℕ) →
-            WhereSettled (seen t vertices.now) t self.now own set (before ++ field ∷ [])
-            (AreRowedBehind (seen t vertices.now) index.old index.new own set before field row.old.items row.new.items)) }
-    {
-        match vertices.get(field) {
-            Some(vertex) => {
-                self.compare_if_loud(vertices, field, vertex, index, row)?;
-                index.put(vertex.key, field, set)?;
-                Ok(())
-            }
-            None => Ok(()),
-        }
-    }
-
-    /// Puts how a field, with this vertex, clashes with those of its response key into the row, if it may clash with any.
-    fn compare_if_loud(
-        &self,
-        vertices: &[Vertex<'_>],
-        field: usize,
-        vertex: &Vertex<'_>,
-        index: &FieldIndex,
-        row: &mut Vec<Clash>,
-    ) -> Result<(), AllocError>
-        ensures { OnOk result ((t : List (List ℕ)) (own : ℕ → List ℕ) (k : ℕ) (before : List ℕ) →
-            WhereSettled (seen t vertices.now) t self.now own k (before ++ field ∷ [])
-            (IsRowStep (seen t vertices.now) index.now own k before field (view_vertex t vertex.now) row.old.items row.new.items)) }
-    {
-        if !self.is_loud(vertex) {
-            return Ok(());
-        }
-        self.compare(
-            vertices,
-            field,
-            list_at(&index.fields_of_key, vertex.key),
-            index,
-            row,
-        )?;
-        Ok(())
-    }
-
-    /// Puts how a field clashes with others into the row, at each set that they stand in.
-    fn compare(
-        &self,
-        vertices: &[Vertex<'_>],
-        field: usize,
-        others: &[usize],
-        index: &FieldIndex,
-        row: &mut Vec<Clash>,
-    ) -> Result<(), AllocError>
-        ensures { OnOk result ((t : List (List ℕ)) (k : ℕ) → AreKnown (seen t vertices.now) t self.now k
-            → IsCompared (seen t vertices.now) index.now.sets_of_field.items field others.now row.old.items row.new.items) }
-    {
-        for other in others {
-            let clash = self.pair_at(vertices, field, *other)?;
-            put_at_each(row, list_at(&index.sets_of_field, *other), clash)?;
-        }
-        Ok(())
-    }
-
-    /// How each of these fields clashes with itself.
-    fn with_themselves(
-        &self,
-        vertices: &[Vertex<'_>],
-        fields: &[usize],
+        held: &FieldSet,
+        index: &mut Vec<Vec<usize>>,
     ) -> Result<Clash, AllocError>
-        ensures { IfOk result (λ c. (t : List (List ℕ)) (k : ℕ) → AreKnown (seen t vertices.now) t self.now k
-            → Tells (Themselves (seen t vertices.now) fields.now) c) }
+        ensures { IfOk result (λ c. (t : List (List ℕ)) → AreKnown (seen t vertices.now) t self.now → IsIndexOf (seen t vertices.now) index.old.items []
+            → IsIndexOf (seen t vertices.now) index.new.items held.now.fields.items
+            × Tells (Pairs (seen t vertices.now) (held.now.fields.items ++ joined t held.now.parts.items)) c) }
+    {
+        if is_empty(&held.parts) {
+            let clash = self.fields_within(vertices, &held.fields, index)?;
+            return Ok(clash);
+        }
+        if is_empty(&held.fields) {
+            let clash = self.parts_within(&held.parts)?;
+            return Ok(clash);
+        }
+        Err(AllocError)
+    }
+
+    /// How each two of these fields clash; the index has them then.
+    fn fields_within(
+        &self,
+        vertices: &[Vertex<'_>],
+        fields: &[usize],
+        index: &mut Vec<Vec<usize>>,
+    ) -> Result<Clash, AllocError>
+        ensures { IfOk result (λ c. (t : List (List ℕ)) → AreKnown (seen t vertices.now) t self.now → IsIndexOf (seen t vertices.now) index.old.items []
+            → IsIndexOf (seen t vertices.now) index.new.items fields.now × Tells (Pairs (seen t vertices.now) fields.now) c) }
     {
         let mut found = Clash::Nothing;
         for field in fields {
-            let clash = self.pair_at(vertices, *field, *field)?;
+            let clash = self.with_field(vertices, *field, index)?;
+            found = worse(found, clash);
+            put_field(vertices, *field, index)?;
+        }
+        Ok(found)
+    }
+
+    /// How a field clashes with the fields of the index.
+    fn with_field(
+        &self,
+        vertices: &[Vertex<'_>],
+        field: usize,
+        index: &[Vec<usize>],
+    ) -> Result<Clash, AllocError>
+        ensures { IfOk result (λ c. (t : List (List ℕ)) (fields : List ℕ) → AreKnown (seen t vertices.now) t self.now
+            → IsIndexOf (seen t vertices.now) index.now fields → Tells (Beside (seen t vertices.now) field fields) c) }
+    {
+        match vertices.get(field) {
+            Some(vertex) => {
+                let clash = self.with_each(vertices, vertex, list_at(index, vertex.key))?;
+                Ok(clash)
+            }
+            None => Ok(Clash::Nothing),
+        }
+    }
+
+    /// How a field clashes with each of these.
+    fn with_each(
+        &self,
+        vertices: &[Vertex<'_>],
+        vertex: &Vertex<'_>,
+        others: &[usize],
+    ) -> Result<Clash, AllocError>
+        ensures { IfOk result (λ c. (t : List (List ℕ)) (i : ℕ) → AreKnown (seen t vertices.now) t self.now
+            → slice_get (seen t vertices.now) i ≡ Some (view_vertex t vertex.now) → Tells (Beside (seen t vertices.now) i others.now) c) }
+    {
+        let mut found = Clash::Nothing;
+        for other in others {
+            let clash = self.with_one(vertices, vertex, *other)?;
             found = worse(found, clash);
         }
         Ok(found)
     }
 
-    /// Adds other sets to what was looked at of a set.
-    fn add_parts(&self, set: usize, parts: &[usize], look: &mut Look) -> Result<(), AllocError>
-        ensures { OnOk result ((vs : List FieldAt) (t : List (List ℕ)) (fields : List ℕ) → AreKnown vs t self.now set
-            → IsLook vs t set fields look.old → IsLook vs t set (fields ++ joined t parts.now) look.new) }
-    {
-        for part in parts {
-            self.add_part(set, *part, look)?;
-        }
-        Ok(())
-    }
-
-    /// Adds another set to it.
-    fn add_part(&self, set: usize, part: usize, look: &mut Look) -> Result<(), AllocError>
-        ensures { OnOk result ((vs : List FieldAt) (t : List (List ℕ)) (fields : List ℕ) → AreKnown vs t self.now set
-            → IsLook vs t set fields look.old → IsLook vs t set (fields ++ set_at t part) look.new) }
-    {
-        let inside = self.within_set(part)?;
-        let across = clash_or_nothing(&look.row, part);
-        let itself = self.at(part, part)?;
-        look.within = worse(look.within, worse(inside, across));
-        look.itself = worse(look.itself, worse(across, itself));
-        self.add_row(set, part, &mut look.row)?;
-        Ok(())
-    }
-
-    /// Adds how another set clashes with each of those before a set.
-    fn add_row(&self, set: usize, part: usize, row: &mut Vec<Clash>) -> Result<(), AllocError>
-        ensures { OnOk result ((vs : List FieldAt) (t : List (List ℕ)) → AreKnown vs t self.now set → part < set →
-            IsRowAdded vs t set part row.old.items row.new.items) }
-    {
-        if !is_marked(&self.loud, part) {
-            return Ok(());
-        }
-        for other in 0..set {
-            let clash = self.at(part, other)?;
-            put_clash(row, other, clash)?;
-        }
-        Ok(())
-    }
-
-    /// Marks the response keys of fields such that what they select clashes within.
-    fn mark_keys(&mut self, vertices: &[Vertex<'_>], fields: &[usize]) -> Result<(), AllocError>
-        ensures { OnOk result ((t : List (List ℕ)) (k : ℕ) → AreKnown (seen t vertices.now) t self.old k → AreKnown (seen t vertices.now) t self.new k
-            × ((i : ℕ) → In i fields.now → IsSettled (seen t vertices.now) t self.new.dirty.items k i)) }
-    {
-        for field in fields {
-            self.mark_key(vertices, *field)?;
-        }
-        Ok(())
-    }
-
-    /// Marks the response key of a field, if what it selects clashes within.
-    fn mark_key(&mut self, vertices: &[Vertex<'_>], field: usize) -> Result<(), AllocError>
-        ensures { OnOk result ((t : List (List ℕ)) (k : ℕ) → IsMarked (seen t vertices.now) t self.old self.new k field) }
-    {
-        match vertices.get(field) {
-            Some(vertex) => {
-                let clash = self.within_below(vertex)?;
-                mark_if(&mut self.dirty, vertex.key, is_clash(clash));
-                Ok(())
-            }
-            None => Ok(()),
-        }
-    }
-
-    /// Whether some field of its response key is unlike it, or what it selects clashes with something.
-    fn is_loud(&self, vertex: &Vertex<'_>) -> bool
-        ensures { result ≡ false → (t : List (List ℕ)) → IsQuiet t self.now (view_vertex t vertex.now) }
-    {
-        if is_marked(&self.dirty, vertex.key) {
-            return true;
-        }
-        match vertex.below {
-            Some(set) => is_marked(&self.loud, set),
-            None => false,
-        }
-    }
-
-    /// How two fields clash, if there are such fields, and they have one response key.
-    fn pair_at(
+    /// How a field clashes with that of this number, if there is one.
+    fn with_one(
         &self,
         vertices: &[Vertex<'_>],
-        first: usize,
-        second: usize,
+        vertex: &Vertex<'_>,
+        other: usize,
     ) -> Result<Clash, AllocError>
-        ensures { IfOk result (λ c. (t : List (List ℕ)) (k : ℕ) → AreKnown (seen t vertices.now) t self.now k
-            → Tells (Tested (seen t vertices.now) first second) c) }
+        ensures { IfOk result (λ c. (t : List (List ℕ)) (i : ℕ) → AreKnown (seen t vertices.now) t self.now
+            → slice_get (seen t vertices.now) i ≡ Some (view_vertex t vertex.now) → Tells (Tested (seen t vertices.now) i other) c) }
     {
-        match (vertices.get(first), vertices.get(second)) {
-            (Some(x), Some(y)) => {
-                let clash = self.pair(x, y)?;
+        match vertices.get(other) {
+            Some(found) => {
+                let clash = self.pair(vertices, vertex, found)?;
                 Ok(clash)
             }
-            (Some(_), None) => Ok(Clash::Nothing),
-            (None, _) => Ok(Clash::Nothing),
+            None => Ok(Clash::Nothing),
         }
     }
 
     /// How two fields clash, if they have one response key.
-    fn pair(&self, x: &Vertex<'_>, y: &Vertex<'_>) -> Result<Clash, AllocError>
-        ensures { IfOk result (λ c. (vs : List FieldAt) (t : List (List ℕ)) (k : ℕ) → AreKnown vs t self.now k → (i j : ℕ) →
+    fn pair(
+        &self,
+        vertices: &[Vertex<'_>],
+        x: &Vertex<'_>,
+        y: &Vertex<'_>,
+    ) -> Result<Clash, AllocError>
+        ensures { IfOk result (λ c. (t : List (List ℕ)) (i j : ℕ) → AreKnown (seen t vertices.now) t self.now
+            → slice_get (seen t vertices.now) i ≡ Some (view_vertex t x.now) → slice_get (seen t vertices.now) j ≡ Some (view_vertex t y.now)
+            → Tells (Tested (seen t vertices.now) i j) c) }
+    {
+        if !is_loud(vertices, &self.loud, x) && !is_loud(vertices, &self.loud, y) {
+            return Ok(Clash::Nothing);
+        }
+        let clash = self.loud_pair(x, y)?;
+        Ok(clash)
+    }
+
+    /// The same, where one of them may be loud.
+    fn loud_pair(&self, x: &Vertex<'_>, y: &Vertex<'_>) -> Result<Clash, AllocError>
+        ensures { IfOk result (λ c. (vs : List FieldAt) (t : List (List ℕ)) → AreKnown vs t self.now → (i j : ℕ) →
             slice_get vs i ≡ Some (view_vertex t x.now) → slice_get vs j ≡ Some (view_vertex t y.now)
             → Tells (Tested vs i j) c) }
     {
@@ -340,7 +206,7 @@ impl Conflicts {
 
     /// How what two fields select clashes, all together.
     fn below(&self, x: &Vertex<'_>, y: &Vertex<'_>) -> Result<Clash, AllocError>
-        ensures { IfOk result (λ c. (vs : List FieldAt) (t : List (List ℕ)) (k : ℕ) → AreKnown vs t self.now k →
+        ensures { IfOk result (λ c. (vs : List FieldAt) (t : List (List ℕ)) → AreKnown vs t self.now →
             Tells (Pairs vs (below_in t x.now.below ++ below_in t y.now.below)) c) }
     {
         match (x.below, y.below) {
@@ -362,24 +228,151 @@ impl Conflicts {
         }
     }
 
-    /// How what a field selects clashes within.
-    fn within_below(&self, vertex: &Vertex<'_>) -> Result<Clash, AllocError>
-        ensures { IfOk result (λ c. (vs : List FieldAt) (t : List (List ℕ)) (k : ℕ) → AreKnown vs t self.now k →
-            IsMadeBefore t k (below_in t vertex.now.below) × Tells (Pairs vs (below_in t vertex.now.below)) c) }
+    /// How each two fields of these sets clash, all together.
+    fn parts_within(&self, parts: &[usize]) -> Result<Clash, AllocError>
+        ensures { IfOk result (λ c. (vs : List FieldAt) (t : List (List ℕ)) → AreKnown vs t self.now → Tells (Pairs vs (joined t parts.now)) c) }
     {
-        match vertex.below {
-            Some(set) => {
-                let clash = self.within_set(set)?;
+        let mut found = Clash::Nothing;
+        for place in 0..parts.len() {
+            let inside = self.within_set(parts[place])?;
+            let across = self.with_parts(&parts[..place], parts[place])?;
+            found = worse(found, worse(inside, across));
+        }
+        Ok(found)
+    }
+
+    /// How the fields of these sets clash with those of another, each with each.
+    fn with_parts(&self, parts: &[usize], other: usize) -> Result<Clash, AllocError>
+        ensures { IfOk result (λ c. (vs : List FieldAt) (t : List (List ℕ)) → AreKnown vs t self.now
+            → Tells (Between vs (joined t parts.now) (set_at t other)) c) }
+    {
+        let mut found = Clash::Nothing;
+        for part in parts {
+            let clash = self.at(*part, other)?;
+            found = worse(found, clash);
+        }
+        Ok(found)
+    }
+
+    /// Answers how a set clashes with those of which it is asked; the index has its own fields.
+    fn answer_pairs(
+        &mut self,
+        alloc: Global,
+        graph: &Graph<'_, '_>,
+        set: usize,
+        held: &FieldSet,
+        index: &[Vec<usize>],
+    ) -> Result<(), AllocError>
+        ensures known { OnOk result (IsTable graph.now.sets.now → slice_get graph.now.sets.now set ≡ Some held.now
+            → IsIndexOf (fields_of graph.now) index.now held.now.fields.items
+            → AreKnown (fields_of graph.now) (table_of graph.now.sets.now) self.old → AreKnown (fields_of graph.now) (table_of graph.now.sets.now) self.new) }
+        ensures within { OnOk result (self.new.within ≡ self.old.within) }
+    {
+        let places = self.places_of(set);
+        self.known.push(nothing_known(alloc, places)?)?;
+        for before in 0..places {
+            self.answer_pair(graph, set, held, index, places - 1 - before)?;
+        }
+        Ok(())
+    }
+
+    /// Answers the pair at a place.
+    fn answer_pair(
+        &mut self,
+        graph: &Graph<'_, '_>,
+        set: usize,
+        held: &FieldSet,
+        index: &[Vec<usize>],
+        place: usize,
+    ) -> Result<(), AllocError>
+        ensures known { OnOk result (IsTable graph.now.sets.now → slice_get graph.now.sets.now set ≡ Some held.now
+            → IsIndexOf (fields_of graph.now) index.now held.now.fields.items
+            → AreKnown (fields_of graph.now) (table_of graph.now.sets.now) self.old → AreKnown (fields_of graph.now) (table_of graph.now.sets.now) self.new) }
+        ensures within { OnOk result (self.new.within ≡ self.old.within) }
+    {
+        match self.distance_at(set, place) {
+            Some(far) => {
+                let clash = self.clash_between(graph, set, held, index, set.saturating_sub(far))?;
+                put_known(&mut self.known, set, place, clash);
+                Ok(())
+            }
+            None => Ok(()),
+        }
+    }
+
+    /// How the fields of a set clash with those of another, each with each.
+    fn clash_between(
+        &self,
+        graph: &Graph<'_, '_>,
+        set: usize,
+        held: &FieldSet,
+        index: &[Vec<usize>],
+        other: usize,
+    ) -> Result<Clash, AllocError>
+        ensures { IfOk result (λ c. IsTable graph.now.sets.now → slice_get graph.now.sets.now set ≡ Some held.now
+            → IsIndexOf (fields_of graph.now) index.now held.now.fields.items
+            → AreKnown (fields_of graph.now) (table_of graph.now.sets.now) self.now
+            → Tells (λ m. between_test (fields_of graph.now) (table_of graph.now.sets.now) m set other) c) }
+    {
+        if !is_empty(&held.parts) {
+            if !is_empty(&held.fields) {
+                return Err(AllocError);
+            }
+            let clash = self.with_parts(&held.parts, other)?;
+            return Ok(clash);
+        }
+        match graph.sets.get(other) {
+            Some(others) => {
+                let clash = self.with_set(graph.vertices, set, index, others)?;
                 Ok(clash)
             }
-            None => Ok(Clash::Nothing),
+            None => Err(AllocError),
         }
+    }
+
+    /// How the fields of the index, which are those of a set, clash with those of another, each with each.
+    fn with_set(
+        &self,
+        vertices: &[Vertex<'_>],
+        set: usize,
+        index: &[Vec<usize>],
+        others: &FieldSet,
+    ) -> Result<Clash, AllocError>
+        ensures { IfOk result (λ c. (t : List (List ℕ)) → IsIndexOf (seen t vertices.now) index.now (set_at t set) → AreKnown (seen t vertices.now) t self.now
+            → Tells (Between (seen t vertices.now) (set_at t set) (others.now.fields.items ++ joined t others.now.parts.items)) c) }
+    {
+        if is_empty(&others.parts) {
+            let clash = self.with_fields(vertices, index, &others.fields)?;
+            return Ok(clash);
+        }
+        if is_empty(&others.fields) {
+            let clash = self.with_parts(&others.parts, set)?;
+            return Ok(clash);
+        }
+        Err(AllocError)
+    }
+
+    /// How the fields of the index clash with these, each with each.
+    fn with_fields(
+        &self,
+        vertices: &[Vertex<'_>],
+        index: &[Vec<usize>],
+        others: &[usize],
+    ) -> Result<Clash, AllocError>
+        ensures { IfOk result (λ c. (t : List (List ℕ)) (fields : List ℕ) → AreKnown (seen t vertices.now) t self.now
+            → IsIndexOf (seen t vertices.now) index.now fields → Tells (Between (seen t vertices.now) fields others.now) c) }
+    {
+        let mut found = Clash::Nothing;
+        for other in others {
+            let clash = self.with_field(vertices, *other, index)?;
+            found = worse(found, clash);
+        }
+        Ok(found)
     }
 
     /// How each two fields of a set that was looked at clash.
     fn within_set(&self, set: usize) -> Result<Clash, AllocError>
-        ensures { IfOk result (λ c. (vs : List FieldAt) (t : List (List ℕ)) (k : ℕ) → AreKnown vs t self.now k →
-            (set < k) × Tells (λ m. within_test vs t m set) c) }
+        ensures { IfOk result (λ c. (vs : List FieldAt) (t : List (List ℕ)) → AreKnown vs t self.now → Tells (λ m. within_test vs t m set) c) }
     {
         match self.within.get(set) {
             Some(clash) => Ok(*clash),
@@ -387,39 +380,118 @@ impl Conflicts {
         }
     }
 
-    /// How the fields of two sets that were looked at clash, each of the one with each of the other.
+    /// How the fields of two sets clash, each of the one with each of the other, if that is known.
     fn at(&self, a: usize, b: usize) -> Result<Clash, AllocError>
-        ensures { IfOk result (λ c. (vs : List FieldAt) (t : List (List ℕ)) (k : ℕ) → AreKnown vs t self.now k → Tells (λ m. between_test vs t m a b) c) }
+        ensures { IfOk result (λ c. (vs : List FieldAt) (t : List (List ℕ)) → AreKnown vs t self.now → Tells (λ m. between_test vs t m a b) c) }
     {
         if a < b {
-            let clash = self.in_row(b, a)?;
+            let clash = self.at_later(b, a)?;
             Ok(clash)
         } else {
-            let clash = self.in_row(a, b)?;
+            let clash = self.at_later(a, b)?;
             Ok(clash)
         }
     }
 
     /// The same, where the first was not made before the second.
-    fn in_row(&self, later: usize, earlier: usize) -> Result<Clash, AllocError>
-        ensures { IfOk result (λ c. (later < length self.now.rows.items) × (c ≡ in_row (slice_get self.now.rows.items later) earlier)) }
+    fn at_later(&self, later: usize, earlier: usize) -> Result<Clash, AllocError>
+        ensures { IfOk result (λ c. (vs : List FieldAt) (t : List (List ℕ)) → AreKnown vs t self.now → earlier ≤ later
+            → Tells (λ m. between_test vs t m later earlier) c) }
     {
-        match self.rows.get(later) {
-            Some(row) => Ok(clash_or_nothing(row, earlier)),
+        if !is_loud_set(&self.loud, later) && !is_loud_set(&self.loud, earlier) {
+            return Ok(Clash::Nothing);
+        }
+        match self.known_of(later, later.saturating_sub(earlier)) {
+            Some(clash) => Ok(clash),
             None => Err(AllocError),
         }
     }
 
-    /// Keeps what was found of the set behind those that were looked at.
-    fn keep(&mut self, row: Vec<Clash>, within: Clash) -> Result<(), AllocError>
-        ensures { OnOk result ((vs : List FieldAt) (t : List (List ℕ)) (k : ℕ) → AreKnown vs t self.old k → ((i : ℕ) → In i (set_at t k) →
-            IsSettled vs t self.old.dirty.items k i)
-            → IsRowOf vs t k row.items → Tells (λ m. within_test vs t m k) within → AreKnown vs t self.new (k + 1)) }
+    /// What is known of a set and the one that stands so far before it.
+    fn known_of(&self, set: usize, far: usize) -> Option<Clash>
+        ensures { (c : Clash) → result ≡ Some c →
+            (p : ℕ) × (asked_at self.now.asks.items set p ≡ Some far) × (clash_at self.now.known.items set p ≡ Some c) }
     {
-        self.loud.push(!is_empty(&row))?;
-        self.within.push(within)?;
-        mark_each(&mut self.loud, &row);
-        self.rows.push(row)?;
-        Ok(())
+        match self.place_of(set, far) {
+            Some(place) => known_at(&self.known, set, place),
+            None => None,
+        }
+    }
+
+    /// The place of a distance that is asked of a set.
+    fn place_of(&self, set: usize, far: usize) -> Option<usize>
+        ensures { (p : ℕ) → result ≡ Some p → asked_at self.now.asks.items set p ≡ Some far }
+    {
+        match self.asks.get(set) {
+            Some(asks) => asks.place_of(far),
+            None => None,
+        }
+    }
+
+    /// The distance at a place of those that are asked of a set.
+    fn distance_at(&self, set: usize, place: usize) -> Option<usize>
+        ensures { (far : ℕ) → result ≡ Some far → asked_at self.now.asks.items set place ≡ Some far }
+    {
+        match self.asks.get(set) {
+            Some(asks) => asks.distance_at(place),
+            None => None,
+        }
+    }
+
+    /// How many places of distances a set has.
+    fn places_of(&self, set: usize) -> usize {
+        match self.asks.get(set) {
+            Some(asks) => asks.places(),
+            None => 0,
+        }
+    }
+}
+
+/// Nothing is known at so many places. An error where memory is refused.
+fn nothing_known(alloc: Global, places: usize) -> Result<Vec<Option<Clash>>, AllocError>
+    ensures { IfOk result (λ row. (p : ℕ) (o : Option Clash) → slice_get row.items p ≡ Some o → o ≡ None) }
+{
+    let mut row = Vec::with_capacity(alloc, places)?;
+    for _place in 0..places {
+        row.push(None)?;
+    }
+    Ok(row)
+}
+
+/// What is known of a set at a place.
+fn known_at(known: &[Vec<Option<Clash>>], set: usize, place: usize) -> Option<Clash>
+    ensures { result ≡ clash_at known.now set place }
+{
+    match known.get(set) {
+        Some(row) => clash_in(row, place),
+        None => None,
+    }
+}
+
+/// What a row has at a place.
+fn clash_in(row: &[Option<Clash>], place: usize) -> Option<Clash>
+    ensures { result ≡ found_in row.now place }
+{
+    match row.get(place) {
+        Some(clash) => *clash,
+        None => None,
+    }
+}
+
+/// Puts what is known of a set at a place, if it has that place.
+fn put_known(known: &mut Vec<Vec<Option<Clash>>>, set: usize, place: usize, clash: Clash)
+    ensures { IsPutAt known.old.items known.new.items set place clash }
+{
+    if set < known.len() {
+        put_at(&mut known[set], place, clash);
+    }
+}
+
+/// Puts what is known at a place, if there is one.
+fn put_at(row: &mut Vec<Option<Clash>>, place: usize, clash: Clash)
+    ensures { (p : ℕ) (c : Clash) → found_in row.new.items p ≡ Some c → (found_in row.old.items p ≡ Some c) ⊎ ((p ≡ place) × (c ≡ clash)) }
+{
+    if place < row.len() {
+        row[place] = Some(clash);
     }
 }

@@ -2,16 +2,17 @@
 //! often fragments are spread.
 #![tactic(auto)]
 
+mod asking;
+mod asks;
 mod clash;
 mod conflicts;
-mod field_index;
 mod graph;
 mod groups;
+mod key_index;
 mod known;
 mod laws;
-mod marks;
+mod loud;
 mod pairs;
-mod row;
 mod sets;
 
 pub use graph::{Graph, Vertex};

@@ -15,6 +15,13 @@ pub struct FieldSet {
     pub parts: Vec<usize>,
 }
 
+/// Whether these are no numbers.
+pub(crate) fn is_empty(numbers: &[usize]) -> bool
+    ensures { result ≡ true → numbers.now ≡ [] }
+{
+    numbers.is_empty()
+}
+
 /// Whether both sets are made of few fields and sets, and of the same.
 pub fn are_same(sets: &[FieldSet], first: usize, second: usize) -> bool
     ensures { result ≡ true → IsTable sets.now → set_at (table_of sets.now) first ≡ set_at (table_of sets.now) second }

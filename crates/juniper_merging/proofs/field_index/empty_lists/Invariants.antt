@@ -1,7 +1,0 @@
-use Rattle.std.proofs.Common.{◌≡◌, ℕ, []}
-use Rattle.juniper_merging.specs.Listed.{listed}
-use Rattle.juniper_merging.proofs.field_index.empty_lists.Given as goal
-
--- nothing is listed
-abbrev pub invariant-loop-index : goal.invariant-loop-index
-invariant-loop-index l = (i : ℕ) → listed l.lists.items i ≡ []
