@@ -1,7 +1,7 @@
 //! Sets of fields, made of fields and of other sets.
 
 ghost use Rattle.std.specs.Prelude.{◌≡◌, ◌++◌, ◌∷◌, IfOk, List, OnOk, Some, true, ℕ, []};
-ghost use Rattle.juniper_merging.specs.Sets.{IsInside, IsPut, IsSetOf, IsTable};
+ghost use Rattle.juniper_merging.specs.Sets.{IsInside, IsListOf, IsPut, IsSetOf, IsTable};
 ghost use Rattle.juniper_merging.specs.Tables.{set_at, table_of};
 
 use std::alloc::{AllocError, Global};
@@ -59,7 +59,11 @@ const FEW: usize = 8;
 /// What a selection set holds, while it is gathered: fields, and sets of fragments in it.
 #[derive(Drop)]
 pub struct Gathering {
+    /// Where memory comes from.
+    alloc: Global,
+    /// The fields.
     fields: Vec<usize>,
+    /// The sets of fragments.
     parts: Vec<usize>,
 }
 
@@ -69,6 +73,7 @@ impl Gathering {
         ensures { (t : List (List ℕ)) → IsSetOf t result [] }
     {
         Gathering {
+            alloc,
             fields: Vec::new(alloc),
             parts: Vec::new(alloc),
         }
@@ -90,8 +95,8 @@ impl Gathering {
         Ok(())
     }
 
-    /// Makes a set of all of this, behind those that were made, unless one has it all, and gives its number. An error where memory is
-    /// refused.
+    /// Makes a set of all of this, behind those that were made, unless one has it all, and gives its number. Where there are fields and sets,
+    /// the fields are a set of their own. An error where memory is refused.
     pub fn put_into(self, sets: &mut Vec<FieldSet>) -> Result<usize, AllocError>
         ensures { IfOk result (λ i. IsTable sets.old.items → (all : List ℕ) → IsSetOf (table_of sets.old.items) self all →
             IsPut sets.old.items sets.new.items all i) }
@@ -99,13 +104,29 @@ impl Gathering {
         if let Some(part) = single_part(&self.fields, &self.parts) {
             return Ok(part);
         }
-        let number = sets.len();
-        sets.push(FieldSet {
-            fields: self.fields,
-            parts: self.parts,
-        })?;
+        if is_empty(&self.fields) || is_empty(&self.parts) {
+            return push_set(sets, self.fields, self.parts);
+        }
+        let own = push_set(sets, self.fields, Vec::new(self.alloc))?;
+        let mut parts = self.parts;
+        parts.push(own)?;
+        let number = push_set(sets, Vec::new(self.alloc), parts)?;
         Ok(number)
     }
+}
+
+/// Puts a set of these fields and parts behind the others, and gives its number. An error where memory is refused.
+fn push_set(
+    sets: &mut Vec<FieldSet>,
+    fields: Vec<usize>,
+    parts: Vec<usize>,
+) -> Result<usize, AllocError>
+    ensures { IfOk result (λ i. IsTable sets.old.items → (all : List ℕ) → IsListOf (table_of sets.old.items) fields.items parts.items all →
+        IsPut sets.old.items sets.new.items all i) }
+{
+    let number = sets.len();
+    sets.push(FieldSet { fields, parts })?;
+    Ok(number)
 }
 
 /// The only part, if there are no fields.
