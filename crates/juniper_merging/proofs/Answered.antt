@@ -1,8 +1,7 @@
 -- What is known of sets and of pairs, and one thing more.
-use Rattle.std.specs.Prelude.{ℕ, zero, suc, Bool, List, [], ◌∷◌, ◌++◌, ◌-◌, ◌≡◌, ◌⊎◌, ◌<◌, ◌+◌, Option, Some, None, Vec, cond, length, nat_eq, slice_set}
+use Rattle.std.specs.Prelude.{ℕ, Bool, List, [], ◌∷◌, ◌++◌, ◌-◌, ◌≡◌, ◌⊎◌, ◌<◌, Option, Some, None, Vec, cond, length, nat_eq, slice_set}
 use Rattle.std.specs.List.{slice_get}
 use Rattle.std.specs.declared.alloc.Global.{Global}
-use Rattle.std.proofs.lemmas.List.{length-append}
 use Rattle.std.proofs.lemmas.Bool.{cases_Bool}
 use Rattle.std.proofs.Common.{refl, sym, ap, ◌∙◌, inl, inr, subst}
 use Rattle.juniper_merging.specs.Conflicts.{AreKnown, AreQuiet, IsPutAt, asked_at, clash_at, flat, found_in, row_or_none}
@@ -14,7 +13,7 @@ use Rattle.juniper_merging.specs.declared.conflicts.Conflicts.{Conflicts}
 use Rattle.juniper_merging.proofs.Listing.{set-at}
 use Rattle.juniper_merging.proofs.Looked.{none-some}
 use Rattle.juniper_merging.proofs.Numbers.{same-number}
-use Rattle.juniper_merging.proofs.Tables.{is-there, one-of}
+use Rattle.juniper_merging.proofs.Tables.{one-of}
 use Rattle.juniper_merging.proofs.Told.{some-same}
 
 module _ (vs : List FieldAt) (t : List (List ℕ)) where
@@ -52,7 +51,6 @@ module _ (vs : List FieldAt) (t : List (List ℕ)) where
     | inr r ↦ inr (moved a p f y r.0 r.2
         (some-same (sym asked ∙ ((λ u. asked_at old.asks.items (sym r.0 u) (sym r.1 u)) ∙ e))))
   ])
-
     where
       moved : (a p f : ℕ) (y : Clash) → a ≡ set → y ≡ x → far ≡ f → Tells (λ m. between_test vs t m a (a - f)) y
       moved a p f y q r same = subst (λ n. Tells (λ m. between_test vs t m n (n - f)) y) (sym q)

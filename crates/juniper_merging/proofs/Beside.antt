@@ -1,5 +1,5 @@
 -- How fields and sets clash, one behind the other.
-use Rattle.std.specs.Prelude.{ℕ, Bool, true, ◌&&◌, List, [], ◌∷◌, ◌++◌, ◌≡◌, ◌<◌, ◌+◌, length, get_or, take}
+use Rattle.std.specs.Prelude.{ℕ, Bool, ◌&&◌, List, [], ◌++◌, ◌≡◌, ◌<◌, ◌+◌, length, get_or, take}
 use Rattle.std.specs.List.{list_all}
 use Rattle.std.proofs.lemmas.List.{append-nil}
 use Rattle.std.proofs.Common.{refl, sym, ap, ◌∙◌, subst}

@@ -4,7 +4,7 @@ use Rattle.std.specs.List.{HoldsAt, slice_get}
 use Rattle.std.specs.Ordering.{nat_cmp}
 use Rattle.std.specs.declared.alloc.Global.{Global}
 use Rattle.std.proofs.lemmas.Map.Lookups.{exact_unsigned}
-use Rattle.std.proofs.Common.{Equal, refl, sym, ap, ◌∙◌}
+use Rattle.std.proofs.Common.{Equal, refl, ap, ◌∙◌}
 use Rattle.juniper_merging.specs.Conflicts.{asked_at, clash_at, distance_at, distance_or_none, flat, found_in, row_or_none}
 use Rattle.juniper_merging.specs.declared.asks.Asks.{Asks}
 use Rattle.juniper_merging.specs.declared.clash.Clash.{Clash}

@@ -1,6 +1,6 @@
 -- The fields of a set by their response keys.
-use Rattle.std.specs.Prelude.{ℕ, Bool, true, false, cond, List, [], ◌∷◌, ◌++◌, ◌≡◌, ◌⊎◌, Some, None, Vec, nat_eq}
-use Rattle.std.specs.List.{list_all, slice_get}
+use Rattle.std.specs.Prelude.{ℕ, true, false, cond, List, [], ◌∷◌, ◌++◌, ◌≡◌, Some, None, Vec, nat_eq}
+use Rattle.std.specs.List.{slice_get}
 use Rattle.std.specs.declared.alloc.Global.{Global}
 use Rattle.std.proofs.lemmas.Bool.{cases_Bool}
 use Rattle.std.proofs.Common.{refl, sym, ap, ◌∙◌, inl, inr, subst}
@@ -97,12 +97,14 @@ module _ (vs : List FieldAt) where
   pub cleared-more : (xs : List ℕ) (x : ℕ) (old mid new : List (Vec ℕ Global)) → IsCleared vs x mid new → AreCleared xs old mid → AreCleared (xs ++ x ∷ []) old new
   cleared-more xs x old mid new one before k y m =
       let r = one k y m in
-      let s = before k y r.0 in
-      (s.0, λ z i v e. elim (in_append z xs (x ∷ []) i) [
-        | inl j ↦ s.1 z j v e
-        | inr (inl q) ↦ r.1 v (sym (ap (slice_get vs) q) ∙ e)
-        | inr (inr j) ↦ absurd j
-      ])
+      let s = before k y r.0 in (
+        s.0,
+        λ z i v e. elim (in_append z xs (x ∷ []) i) [
+          | inl j ↦ s.1 z j v e
+          | inr (inl q) ↦ r.1 v (sym (ap (slice_get vs) q) ∙ e)
+          | inr (inr j) ↦ absurd j
+        ],
+      )
 
   pub all-cleared : (xs : List ℕ) (old new : List (Vec ℕ Global)) → IsIndexOf vs old xs → AreCleared xs old new → (k : ℕ) → listed new k ≡ []
   all-cleared xs old new is cleared k = no-members (listed new k) (λ y m.

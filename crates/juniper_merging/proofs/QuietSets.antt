@@ -1,19 +1,17 @@
 -- Sets that are not loud, one after the other.
-use Rattle.std.specs.Prelude.{ℕ, Bool, true, false, List, [], ◌∷◌, ◌++◌, ◌≡◌, ◌⊎◌, Option, Some, None, length, map, option_map}
+use Rattle.std.specs.Prelude.{ℕ, Bool, false, List, [], ◌∷◌, ◌++◌, ◌≡◌, ◌⊎◌, Some, None, length}
 use Rattle.std.specs.List.{slice_get}
-use Rattle.std.proofs.lemmas.Option.{slice_get-map}
 use Rattle.std.proofs.Common.{refl, sym, ap, ◌∙◌, inl, inr, subst}
 use Rattle.graphql_spec.specs.Laws.{In}
 use Rattle.graphql_spec.proofs.Grouping.{in_append}
 use Rattle.juniper_merging.specs.Conflicts.{AreQuiet, IsLikeFirst, IsQuiet, IsQuietNumber}
 use Rattle.juniper_merging.specs.MergingGraph.{FieldAt, view_vertex}
 use Rattle.juniper_merging.specs.Questions.{seen}
-use Rattle.juniper_merging.specs.Sets.{IsTable}
-use Rattle.juniper_merging.specs.Tables.{below_in, joined, set_at, set_of, table_of}
+use Rattle.juniper_merging.specs.Tables.{below_in, joined, set_at, set_of}
 use Rattle.juniper_merging.specs.declared.graph.Vertex.{Vertex}
 use Rattle.juniper_merging.specs.declared.sets.FieldSet.{FieldSet}
 use Rattle.juniper_merging.proofs.Looked.{none-some}
-use Rattle.juniper_merging.proofs.Tables.{in-first, one-of, set-held}
+use Rattle.juniper_merging.proofs.Tables.{in-first, one-of}
 use Rattle.juniper_merging.proofs.Told.{some-same}
 use Rattle.juniper_merging.proofs.Vertices.{vertex-some}
 
@@ -66,7 +64,7 @@ module _ (vs : List FieldAt) (t : List (List ℕ)) where
     | inl g ↦ quiet-still loud x v (are a i g m v f)
     | inr r ↦ (let q = own r.1 in
         elim (in_append i s.fields.items (joined t s.parts.items) (subst (In i) (ap (set_at t) r.0 ∙ held) m)) [
-      | inl h ↦ quiet-still loud x v (q.0 i h v f)
-      | inr h ↦ (let p = in-parts i s.parts.items h in quiet-still loud x v (are p.0 i (q.1 p.0 p.1) p.2 v f))
-    ])
+          | inl h ↦ quiet-still loud x v (q.0 i h v f)
+          | inr h ↦ (let p = in-parts i s.parts.items h in quiet-still loud x v (are p.0 i (q.1 p.0 p.1) p.2 v f))
+        ])
   ])

@@ -1,6 +1,6 @@
 -- How sets of fields conflict, of which some were looked at, in the order in which they were made (5.3.2). Only private clauses cite what
 -- stands here.
-use Rattle.std.specs.Prelude.{ℕ, Bool, true, false, List, [], ◌∷◌, ◌++◌, Option, Some, None, Vec, cond, length, ◌+◌, ◌-◌, ◌≡◌, ◌<◌, ◌⊎◌}
+use Rattle.std.specs.Prelude.{ℕ, Bool, true, false, List, [], Option, Some, None, Vec, cond, length, ◌-◌, ◌≡◌, ◌⊎◌}
 use Rattle.std.specs.List.{slice_get}
 use Rattle.std.specs.declared.alloc.Global.{Global}
 use Rattle.graphql_spec.specs.Laws.{In}

@@ -60,11 +60,7 @@ fn push_at(lists: &mut Vec<Vec<usize>>, place: usize, number: usize) -> Result<(
 }
 
 /// Takes all fields out of the index, which are these.
-pub(crate) fn clear_fields(
-    vertices: &[Vertex<'_>],
-    fields: &[usize],
-    index: &mut Vec<Vec<usize>>,
-)
+pub(crate) fn clear_fields(vertices: &[Vertex<'_>], fields: &[usize], index: &mut Vec<Vec<usize>>)
     ensures { (t : List (List ℕ)) → IsIndexOf (seen t vertices.now) index.old.items fields.now → (k : ℕ) → listed index.new.items k ≡ [] }
 {
     for field in fields {

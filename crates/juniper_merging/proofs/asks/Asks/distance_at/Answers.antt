@@ -1,4 +1,4 @@
-use Rattle.std.proofs.Common.{◌≡◌, Some, subst, sym, ◌∙◌}
+use Rattle.std.proofs.Common.{◌≡◌, Some, subst, ◌∙◌}
 use Rattle.std.specs.List.{slice_get}
 use Rattle.juniper_merging.proofs.Distances.{dense-at, listed-at}
 use Rattle.juniper_merging.proofs.Vertices.{found-at}

@@ -1,4 +1,4 @@
-use Rattle.std.proofs.Common.{◌<◌, ◌≤◌, arith, rules}
+use Rattle.std.proofs.Common.{◌≤◌, rules}
 use Rattle.juniper_merging.proofs.Tables.{between-turned}
 use Rattle.juniper_merging.proofs.conflicts.Conflicts.at.Goals as goal
 
