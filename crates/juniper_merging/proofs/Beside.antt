@@ -11,7 +11,8 @@ use Rattle.juniper_merging.specs.declared.clash.Clash.TheVariants as clash
 use Rattle.juniper_merging.proofs.Gathered.{joined-more}
 use Rattle.juniper_merging.proofs.Passed.{all-more, one-more}
 use Rattle.juniper_merging.proofs.Telling.{keyed-at-turn, merge-at-turn}
-use Rattle.juniper_merging.proofs.Told.{between-left, between-none, between-turn, pairs-both, pairs-last, pairs-none, tells-both, tells-nothing, tells-same, tells-worse}
+use Rattle.juniper_merging.proofs.Told.{between-left, between-none, between-turn, pairs-both, pairs-last, pairs-none}
+use Rattle.juniper_merging.proofs.Told.{tells-both, tells-nothing, tells-same, tells-worse}
 
 module _ (vs : List FieldAt) where
   -- ## A field beside others
@@ -37,8 +38,8 @@ module _ (vs : List FieldAt) where
   pub pairs-more : (xs : List ℕ) (i x : ℕ) (a b c : Clash) → i < length xs → x ≡ get_or xs i x → c ≡ worse a b → Tells (Pairs vs (take i xs)) a →
       Tells (Beside vs x (take i xs)) b → Tells (Pairs vs (take (i + 1) xs)) c
   pairs-more xs i x a b c below at is p q = subst (Tells (Pairs vs (take (i + 1) xs))) (sym is) (tells-both (Pairs vs (take i xs)) (Beside vs x (take i xs))
-      (Pairs vs (take (i + 1) xs)) a b (λ m n. ap (each_pair_at vs (merge_at vs n m)) (one-more xs i x below at) ∙ (pairs-last vs (merge_at vs n m) (take i xs) x
-      ∙ ap (λ b. each_pair_at vs (merge_at vs n m) (take i xs) && b) (turned x (take i xs) m n))) p q)
+      (Pairs vs (take (i + 1) xs)) a b (λ m n. ap (each_pair_at vs (merge_at vs n m)) (one-more xs i x below at)
+      ∙ (pairs-last vs (merge_at vs n m) (take i xs) x ∙ ap (λ b. each_pair_at vs (merge_at vs n m) (take i xs) && b) (turned x (take i xs) m n))) p q)
 
   -- ## Fields with others
 
@@ -49,8 +50,9 @@ module _ (vs : List FieldAt) where
   pub between-more : (xs ys : List ℕ) (i y : ℕ) (a b c : Clash) → i < length ys → y ≡ get_or ys i y → c ≡ worse a b → Tells (Between vs xs (take i ys)) a →
       Tells (Beside vs y xs) b → Tells (Between vs xs (take (i + 1) ys)) c
   unfolding between_at
-  between-more xs ys i y a b c below at is p q = subst (Tells (Between vs xs (take (i + 1) ys))) (sym is) (tells-both (Between vs xs (take i ys)) (Beside vs y xs)
-      (Between vs xs (take (i + 1) ys)) a b (λ m n. all-more ys i (λ j. list_all (λ k. tested_at vs (merge_at vs n m) k j) xs) y below at
+  between-more xs ys i y a b c below at is p q = subst (Tells (Between vs xs (take (i + 1) ys))) (sym is)
+      (tells-both (Between vs xs (take i ys)) (Beside vs y xs) (Between vs xs (take (i + 1) ys)) a b
+      (λ m n. all-more ys i (λ j. list_all (λ k. tested_at vs (merge_at vs n m) k j) xs) y below at
       ∙ ap (λ b. between_at vs (merge_at vs n m) xs (take i ys) && b) (turned y xs m n)) p q)
 
   pub other-way : (xs ys : List ℕ) (c : Clash) → Tells (Between vs xs ys) c → Tells (Between vs ys xs) c

@@ -153,7 +153,8 @@ fields-list t fields parts none = record {
 }
 
 -- the fields of a set, made a set of their own
-module _ (xs ys : List FieldSet) (fields parts more empty all : List ℕ) (own : ℕ) (put : IsPut xs ys fields own) (so : IsListOf (table_of xs) fields parts all) where
+module _ (xs ys : List FieldSet) (fields parts more empty all : List ℕ) (own : ℕ) (put : IsPut xs ys fields own)
+    (so : IsListOf (table_of xs) fields parts all) where
   extended-joined : (ps : List ℕ) → ((p : ℕ) → In p ps → IsInside (table_of xs) p) → joined (table_of ys) ps ≡ joined (table_of xs) ps
   unfolding joined
   extended-joined [] inside = refl
@@ -168,10 +169,12 @@ module _ (xs ys : List FieldSet) (fields parts more empty all : List ℕ) (own :
       | inr (inr j) ↦ absurd j
     ];
     alike = subst (λ l. Alike all (l ++ joined (table_of ys) more)) (sym none) (subst (λ l. Alike all (joined (table_of ys) l)) (sym push)
-        (subst (Alike all) (sym (joined-more (table_of ys) parts own ∙ (λ k. extended-joined parts so.inside k ++ set-some (table_of ys) own put.kept put.there k)))
+        (subst (Alike all) (sym (joined-more (table_of ys) parts own
+        ∙ (λ k. extended-joined parts so.inside k ++ set-some (table_of ys) own put.kept put.there k)))
         (alike-through all (fields ++ joined (table_of xs) parts) (joined (table_of xs) parts ++ put.kept) so.alike
         (alike-through (fields ++ joined (table_of xs) parts) (put.kept ++ joined (table_of xs) parts) (joined (table_of xs) parts ++ put.kept)
-        (alike-both (λ x i. x ≡ i) fields (joined (table_of xs) parts) put.kept (joined (table_of xs) parts) put.alike (itself-alike (joined (table_of xs) parts)))
+        (alike-both (λ x i. x ≡ i) fields (joined (table_of xs) parts) put.kept (joined (table_of xs) parts) put.alike
+        (itself-alike (joined (table_of xs) parts)))
         (moved-alike (put.kept ++ joined (table_of xs) parts) [] put.kept (joined (table_of xs) parts)
         (itself-alike (put.kept ++ joined (table_of xs) parts)))))));
   }

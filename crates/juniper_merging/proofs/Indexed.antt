@@ -89,12 +89,14 @@ module _ (vs : List FieldAt) where
 
   -- what is left has none of the response keys of these fields
   abbrev pub AreCleared : List ℕ → List (Vec ℕ Global) → List (Vec ℕ Global) → Type 0
-  AreCleared xs old new = (k y : ℕ) → In y (listed new k) → In y (listed old k) × ((x : ℕ) → In x xs → (v : FieldAt) → slice_get vs x ≡ Some v → (v.key ≡ k → ⊥))
+  AreCleared xs old new = (k y : ℕ) → In y (listed new k) →
+      In y (listed old k) × ((x : ℕ) → In x xs → (v : FieldAt) → slice_get vs x ≡ Some v → (v.key ≡ k → ⊥))
 
   pub cleared-none : (index : List (Vec ℕ Global)) → AreCleared [] index index
   cleared-none index k y m = (m, λ x i. absurd i)
 
-  pub cleared-more : (xs : List ℕ) (x : ℕ) (old mid new : List (Vec ℕ Global)) → IsCleared vs x mid new → AreCleared xs old mid → AreCleared (xs ++ x ∷ []) old new
+  pub cleared-more : (xs : List ℕ) (x : ℕ) (old mid new : List (Vec ℕ Global)) → IsCleared vs x mid new → AreCleared xs old mid →
+      AreCleared (xs ++ x ∷ []) old new
   cleared-more xs x old mid new one before k y m =
       let r = one k y m in
       let s = before k y r.0 in (

@@ -1,5 +1,5 @@
 -- Lists at numbers, and what is put at one of them.
-use Rattle.std.specs.Prelude.{ℕ, zero, suc, Bool, true, false, cond, List, [], ◌∷◌, ◌++◌, ◌≡◌, ◌⊎◌, ◌<◌, ◌≤◌, Some, None, Vec, length, get_or, nat_eq}
+use Rattle.std.specs.Prelude.{ℕ, zero, suc, true, false, cond, List, [], ◌∷◌, ◌++◌, ◌≡◌, ◌⊎◌, ◌<◌, ◌≤◌, Some, None, Vec, length, get_or, nat_eq}
 use Rattle.std.specs.Prelude.{slice_index_or, slice_set}
 use Rattle.std.specs.List.{slice_get}
 use Rattle.std.specs.declared.alloc.Global.{Global}
@@ -107,11 +107,6 @@ empty-more ls ms v empty e none i = ap (λ l. numbers_of (slice_get l i)) e ∙ 
     at [] (suc i) n = refl
     at (w ∷ ls) zero n = n
     at (w ∷ ls) (suc i) n = at ls i n
-
--- it is listed, or something is listed elsewhere
-pub is-listed : {A B : Type 0} (b : Bool) → (b ≡ true → A) → (b ≡ false → B) → A ⊎ B
-is-listed true f g = inl (f refl)
-is-listed false f g = inr (g refl)
 
 pub something : (l : List ℕ) → nat_eq (length l) 0 ≡ false → (i : ℕ) × In i l
 something [] e = cc

@@ -8,7 +8,7 @@ use Rattle.graphql_spec.specs.Merging.{each_two}
 use Rattle.graphql_spec.proofs.Grouping.{in_append}
 use Rattle.juniper_merging.specs.Conflicts.{AreQuiet, IsQuiet, IsQuietNumber}
 use Rattle.juniper_merging.specs.MergingGraph.{FieldAt, agree, can_meet, each_pair_at, merge_at}
-use Rattle.juniper_merging.specs.Questions.{Tells, between_at, between_test, tested_at, within_test}
+use Rattle.juniper_merging.specs.Questions.{Tells, between_at, between_test, tested_at}
 use Rattle.juniper_merging.specs.Tables.{set_at}
 use Rattle.juniper_merging.specs.declared.clash.Clash.TheVariants as clash
 use Rattle.juniper_merging.proofs.Numbers.{itself, same-number}
@@ -83,12 +83,6 @@ module _ (vs : List FieldAt) (t : List (List ℕ)) (loud : List Bool) (are : Are
       ] in
       found-pair vs n m i j x y e f ∙ both (agree m x y) (each_pair_at vs (merge_at vs n k) (x.below ++ y.below)) (quiet-agree m x y (p x e) (q y f) same)
       (pairs-from vs (merge_at vs n k) (x.below ++ y.below) (λ a b h l. quiet-tested n k a b (inside a h) (inside b l))))
-
-  -- so do the fields of sets that are not loud
-  pub quiet-within : (a : ℕ) → slice_get loud a ≡ Some false → Tells (λ m. within_test vs t m a) clash.Nothing
-  unfolding within_test
-  quiet-within a e = tells-nothing (λ m. within_test vs t m a)
-      (λ m n. pairs-from vs (merge_at vs n m) (set_at t a) (λ i j p q. quiet-tested n m i j (are a i e p) (are a j e q)))
 
   pub quiet-between : (a b : ℕ) → slice_get loud a ≡ Some false → slice_get loud b ≡ Some false → Tells (λ m. between_test vs t m a b) clash.Nothing
   unfolding between_test

@@ -78,14 +78,3 @@ module _ (t : List (List ℕ)) (vs : List FieldAt) (f g : Option ℕ) where
   unfolding below_in
   none-below e h = tells-nothing Below
       (λ m n. (λ k. Pairs vs (below_in t (e k) ++ below_in t (h k)) m n) ∙ pairs-none vs (merge_at vs n m))
-
-  pub own-below : (a : ℕ) (x : Clash) → f ≡ Some a → Tells (λ m. within_test vs t m a) x →
-      Tells (Pairs vs (below_in t f)) x
-  unfolding below_in within_test
-  own-below a x e = tells-same (λ m. within_test vs t m a) (Pairs vs (below_in t f)) x
-      (λ m n k. Pairs vs (below_in t (e k)) m n)
-
-  pub own-none : f ≡ None → Tells (Pairs vs (below_in t f)) clash.Nothing
-  unfolding below_in
-  own-none e = tells-nothing (Pairs vs (below_in t f))
-      (λ m n. (λ k. Pairs vs (below_in t (e k)) m n) ∙ pairs-none vs (merge_at vs n m))

@@ -27,9 +27,6 @@ told-true T all = record { yes = λ e. all; no = λ e. some-true-false e }
 pub told-false : (T : ℕ → Bool) (n : ℕ) → T n ≡ false → IsTold T (Some false)
 told-false T n e = record { yes = λ f. some-true-false (sym f); no = λ f. (n, e) }
 
-pub told-when : (T : ℕ → Bool) (b : Bool) → (b ≡ true → (n : ℕ) → T n ≡ true) → (b ≡ false → (n : ℕ) × (T n ≡ false)) → IsTold T (Some b)
-told-when T b right wrong = record { yes = λ e. right (some-same e); no = λ e. wrong (some-same e) }
-
 -- an answer serves for each test that is the same
 pub told-same : (T U : ℕ → Bool) (o : Option Bool) → ((n : ℕ) → U n ≡ T n) → IsTold T o → IsTold U o
 told-same T U o same told = record { yes = λ e n. same n ∙ told.yes e n; no = λ e. let r = told.no e in (r.0, same r.0 ∙ r.1) }
@@ -80,11 +77,6 @@ pub tells-nothing : (T : Bool → ℕ → Bool) → ((m : Bool) (n : ℕ) → T 
 unfolding passes
 tells-nothing T all m = told-true (T m) (all m)
 
--- nothing stands against it: it holds
-pub tells-all : (T : Bool → ℕ → Bool) (a : Clash) → a ≡ clash.Nothing → Tells T a → (m : Bool) (n : ℕ) → T m n ≡ true
-unfolding passes
-tells-all T a e p m = (p m).yes (ap (λ c. Some (passes m c)) e)
-
 -- ## Pairs of lists
 
 all-both : {A : Type 0} (f g : A → Bool) (xs : List A) → list_all (λ x. f x && g x) xs ≡ (list_all f xs && list_all g xs)
@@ -124,10 +116,6 @@ module _ (vs : List FieldAt) (R : ℕ → ℕ → Bool) where
   unfolding between_at tested_at
   between-turn turn [] js = between-none js
   between-turn turn (i ∷ is) js = between-more i is js ∙ (λ t. list_all (λ k. keyed-at-turn vs R turn i k t) js && between-turn turn is js t)
-
-  pub between-right : (is js ks : List ℕ) → B is (js ++ ks) ≡ (B is js && B is ks)
-  unfolding between_at
-  between-right is js ks = list_all-append (λ j. list_all (λ k. T k j) is) js ks
 
   pub pairs-both : (is js : List ℕ) → each_pair_at vs R (is ++ js) ≡ (each_pair_at vs R is && (each_pair_at vs R js && B is js))
   unfolding each_pair_at each_two tested_at

@@ -56,9 +56,6 @@ module _ (vs : List FieldAt) where
   abbrev pub Beside : ℕ → List ℕ → Bool → ℕ → Bool
   Beside i js m n = list_all (tested_at (merge_at vs n m) i) js
 
-  abbrev pub Themselves : List ℕ → Bool → ℕ → Bool
-  Themselves is m n = list_all (λ i. tested_at (merge_at vs n m) i i) is
-
   module _ (t : List (List ℕ)) where
     -- each two fields of a set
     unfoldable pub within_test : Bool → ℕ → ℕ → Bool

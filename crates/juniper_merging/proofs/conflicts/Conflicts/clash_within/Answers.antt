@@ -13,7 +13,8 @@ returns-then-is_empty c t known is =
     let x = c.in_ok-clash.clash in
     let r = c.in_ok-clash.ensures t known is in (
       subst (IsIndexOf vs c.fields_within.new.index.items) c.deref-then-is_empty.ensures.value r.0,
-      fields-alone vs t (λ l. Tells (Pairs vs l) x) held.fields.items held.parts.items none (subst (λ l. Tells (Pairs vs l) x) c.deref-then-is_empty.ensures.value r.1),
+      fields-alone vs t (λ l. Tells (Pairs vs l) x) held.fields.items held.parts.items none
+          (subst (λ l. Tells (Pairs vs l) x) c.deref-then-is_empty.ensures.value r.1),
     )
 
 pub returns-then-is_empty-2 : goal.returns-then-is_empty-2
