@@ -1,5 +1,5 @@
 -- Types that agree, and calls that are the same, are so from either side.
-use Rattle.std.proofs.Common.{◌≡◌, Bool, true, false, not, ◌&&◌, ◌||◌, refl, sym, ap, ap₂, ◌∙◌, inl, inr, subst}
+use Rattle.std.proofs.Common.{◌≡◌, Bool, true, false, not, ◌&&◌, ◌||◌, refl, sym, ap, ap₂, ◌∙◌, inl, inr}
 use Rattle.std.specs.Str.{bytes_eq}
 use Rattle.std.proofs.lemmas.Bool.{cases_Bool, both_ways, and_parts, and_from}
 use Rattle.std.proofs.lemmas.Bool.Decides.{Decides-int_eq}
@@ -126,17 +126,6 @@ mutual
       and_from (bytes_eq k k) (same_constant u u && same_members us us) (same_refl k)
       (and_from (same_constant u u) (same_members us us) (same_constant-itself u) (same_members-itself us))
 
-either-way : (a b : Bool) → (a ≡ true → b ≡ true) → (b ≡ true → a ≡ true) → a ≡ b
-either-way true b f g = sym (f refl)
-either-way false true f g = g refl
-either-way false false f g = refl
-
-pub same_members-turned : (us vs : Members) → same_members us vs ≡ same_members vs us
-same_members-turned us vs = either-way (same_members us vs) (same_members vs us) (back us vs) (back vs us)
-  where
-    back : (us vs : Members) → same_members us vs ≡ true → same_members vs us ≡ true
-    back us vs e = subst (λ z. same_members z us ≡ true) (same_members-true us vs e) (same_members-itself us)
-
 pub same_members-across : (us vs ws : Members) → same_members us vs ≡ true → same_members vs ws ≡ same_members us ws
 same_members-across us vs ws e = ap (λ z. same_members z ws) (sym (same_members-true us vs e))
 
@@ -146,9 +135,6 @@ same_call c d = bytes_eq c.0 d.0 && same_members c.1 d.1
 
 pub calls-itself : (c : Name × Members) → same_call c c ≡ true
 calls-itself c = and_from (bytes_eq c.0 c.0) (same_members c.1 c.1) (same_refl c.0) (same_members-itself c.1)
-
-pub calls-turned : (c d : Name × Members) → same_call c d ≡ same_call d c
-calls-turned c d = ap₂ (λ x y. x && y) (same_sym c.0 d.0) (same_members-turned c.1 d.1)
 
 pub calls-across : (c d f : Name × Members) → same_call c d ≡ true → same_call d f ≡ same_call c f
 calls-across c d f e =

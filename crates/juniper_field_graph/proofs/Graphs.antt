@@ -22,9 +22,11 @@ use Rattle.juniper_meta.specs.MetaView.{view_type}
 use Rattle.juniper_syntax.specs.DocumentView.{view_field}
 use Rattle.juniper_field_graph.specs.GraphView.{IsGraphOf, IsPushed, head_or_none, heads_of, table_in, vertices_of, written_of}
 use Rattle.juniper_field_graph.specs.Keys.{IsNumbered, number_at}
-use Rattle.juniper_field_graph.specs.KindsView.{AreKept, IsOnce, has_call, has_type, heads_in, number_among, types_in}
+use Rattle.juniper_field_graph.specs.CallParts.{call_parts, number_of_parts}
+use Rattle.juniper_field_graph.specs.KindsView.{AreKept, has_type, heads_in, number_among, types_in}
 use Rattle.juniper_field_graph.specs.declared.graph.FieldGraph.{FieldGraph}
 use Rattle.juniper_field_graph.specs.declared.graph.WrittenField.{WrittenField}
+use Rattle.juniper_field_graph.proofs.CallNumbers.{no-calls}
 use Rattle.juniper_field_graph.proofs.Places.{no-numbers}
 use Rattle.juniper_field_graph.proofs.Numbering.{last-is}
 use Rattle.juniper_field_graph.proofs.SetTables.{empty-table, one-of}
@@ -38,10 +40,9 @@ none-some e f = cc
 
 module _ {S : Type 0} (shown : S → Shown) (s : Schema) where
   pub empty-graph : (g : FieldGraph S) → g.vertices.items ≡ [] → g.sets.items ≡ [] → g.fields.items ≡ [] → g.keys.entries ≡ [] →
-      g.kinds.entries ≡ [] → IsGraphOf shown s g
-  empty-graph g none setless fieldless keyless kindless =
+      g.calls.entries ≡ [] → g.shapes.entries ≡ [] → IsGraphOf shown s g
+  empty-graph g none setless fieldless keyless callless shapeless =
       let bare : vertices_of shown g ≡ [] = ap (map (view_vertex (table_in shown g))) none in
-      let headless : written_of shown g ≡ [] = ap (heads_in shown) fieldless in
       record {
         numbered = record {
           keys = λ i j v w e f. none-at (vertices_of shown g) bare i v e;
@@ -52,13 +53,18 @@ module _ {S : Type 0} (shown : S → Shown) (s : Schema) where
           typed = rw (none, fieldless) refl;
           headed = rw (none, fieldless) refl;
           types = λ i v e. none-at (vertices_of shown g) bare i v e;
-          once = λ i h e. none-at (written_of shown g) headless i h e;
-          names = λ i v e. none-at (vertices_of shown g) bare i v e;
-          apart = λ k l n e f. none-some (no-numbers g.keys keyless k) e;
-          least = λ k n e. none-some (no-numbers g.keys keyless k) e;
-          keyed = λ k r i. absurd (subst (In r) (empty-groups g.kinds kindless k) i);
-          shapes = λ i v e. none-at (vertices_of shown g) bare i v e;
-          calls = λ i v e. none-at (vertices_of shown g) bare i v e;
+          named = λ i v e. none-at (vertices_of shown g) bare i v e;
+          called = λ i v e. none-at (vertices_of shown g) bare i v e;
+          one_name = record {
+            apart = λ k l n e f. none-some (no-numbers g.keys keyless k) e;
+            least = λ k n e. none-some (no-numbers g.keys keyless k) e;
+          };
+          one_call = record {
+            apart = λ k l n e f. none-some (no-calls g.calls callless k) e;
+            least = λ k n e. none-some (no-calls g.calls callless k) e;
+          };
+          keyed = λ k r i. absurd (subst (In r) (empty-groups g.shapes shapeless k) i);
+          shaped = λ i v e. none-at (vertices_of shown g) bare i v e;
           below = λ i v e. none-at (vertices_of shown g) bare i v e;
         };
         table = empty-table g.sets.items setless;
@@ -68,21 +74,18 @@ module _ {S : Type 0} (shown : S → Shown) (s : Schema) where
   -- the field's vertex is put at the end, with its numbers
   pub record IsMade (old : FieldGraph S) (v : Vertex) (f : WrittenField S) : Type 0 where
     pub typed : view_type f.declared_type.now ≡ declared_type (field_of s v.parent.now (view_field shown f.field.now).name.item)
-    pub once : IsOnce (view_field shown f.field.now)
     pub on_object : v.on_object ≡ is_object (type_named s v.parent.now)
     pub shape : v.shape ≡ number_among (λ w. w.shape) (vertices_of shown old)
         (λ r. has_type s (view_type f.declared_type.now) (slice_get (types_in shown old.fields.items) r))
-        (group_in old.kinds v.key)
-    pub call : v.call ≡ number_among (λ w. w.call) (vertices_of shown old) (λ r. has_call (view_field shown f.field.now) (slice_get (written_of shown old) r))
-        (group_in old.kinds v.key)
+        (group_in old.shapes v.key)
 
   module _ (old new : FieldGraph S) (v : Vertex) (f : WrittenField S) (g : IsGraphOf shown s old) (made : IsMade old v f) (n : ℕ)
       (sets : new.sets.items ≡ old.sets.items) (below : (b : ℕ) → v.below ≡ Some b → IsInside (table_in shown old) b)
       (count : n ≡ length old.vertices.items)
       (vertices : new.vertices.items ≡ old.vertices.items ++ v ∷ []) (fields : new.fields.items ≡ old.fields.items ++ f ∷ [])
       (keys : IsNumbered (response_key (view_field shown f.field.now)) v.key n (number_at old.keys) (number_at new.keys))
-      (added : IsAdded (n ≡ n) v.key n (group_in old.kinds) (group_in new.kinds))
-      (own-shape : v.shape ≡ n → In n (group_in new.kinds v.key)) (own-call : v.call ≡ n → In n (group_in new.kinds v.key)) where
+      (calls : IsNumbered (call_parts (view_field shown f.field.now)) v.call n (number_of_parts old.calls) (number_of_parts new.calls))
+      (added : IsAdded v.key n (group_in old.shapes) (group_in new.shapes)) (own-shape : v.shape ≡ n → In n (group_in new.shapes v.key)) where
     abbrev vs : List FieldAt
     vs = vertices_of shown old
 
@@ -114,44 +117,41 @@ module _ {S : Type 0} (shown : S → Shown) (s : Schema) where
     heads-are : written_of shown new ≡ hs ++ h ∷ []
     heads-are = ap (heads_in shown) fields ∙ map-append (λ (f : WrittenField S). view_field shown f.field.now) old.fields.items (f ∷ [])
 
-    added' : IsAdded (length vs ≡ length vs) x.key (length vs) (group_in old.kinds) (group_in new.kinds)
+    added' : IsAdded x.key (length vs) (group_in old.shapes) (group_in new.shapes)
     unfolding view_vertex
-    added' = subst (λ m. IsAdded (m ≡ m) v.key m (group_in old.kinds) (group_in new.kinds)) is added
+    added' = subst (λ m. IsAdded v.key m (group_in old.shapes) (group_in new.shapes)) is added
 
     keys' : IsNumbered (response_key h) x.key (length vs) (number_at old.keys) (number_at new.keys)
     unfolding view_vertex
     keys' = subst (λ m. IsNumbered (response_key h) v.key m (number_at old.keys) (number_at new.keys)) is keys
 
-    own-shape' : x.shape ≡ length vs → In (length vs) (group_in new.kinds x.key)
+    calls' : IsNumbered (call_parts h) x.call (length vs) (number_of_parts old.calls) (number_of_parts new.calls)
     unfolding view_vertex
-    own-shape' = subst (λ m. v.shape ≡ m → In m (group_in new.kinds v.key)) is own-shape
+    calls' = subst (λ m. IsNumbered (call_parts h) v.call m (number_of_parts old.calls) (number_of_parts new.calls)) is calls
 
-    own-call' : x.call ≡ length vs → In (length vs) (group_in new.kinds x.key)
+    own-shape' : x.shape ≡ length vs → In (length vs) (group_in new.shapes x.key)
     unfolding view_vertex
-    own-call' = subst (λ m. v.call ≡ m → In m (group_in new.kinds v.key)) is own-call
+    own-shape' = subst (λ m. v.shape ≡ m → In m (group_in new.shapes v.key)) is own-shape
 
     numbered-now : AreNumbered s (vertices_of shown new) (heads_of shown new)
     unfolding view_vertex
     numbered-now = rw (vertices-are) (subst (λ gs. AreNumbered s (vs ++ x ∷ []) (head_in gs)) (sym heads-are)
-        (still-numbered s vs ts hs (number_at old.keys) (number_at new.keys) (group_in old.kinds) (group_in new.kinds) x t h
-        g.numbered g.kept made.typed made.once keys' added' made.shape own-shape' made.call
-        own-call'))
+        (still-numbered s vs ts hs (number_at old.keys) (number_at new.keys) (number_of_parts old.calls) (number_of_parts new.calls) (group_in old.shapes)
+        (group_in new.shapes) x t h g.numbered g.kept made.typed keys' calls' added' made.shape own-shape'))
 
     kept-now : AreKept s (vertices_of shown new) (types_in shown new.fields.items) (written_of shown new) (heads_of shown new) (number_at new.keys)
-        (group_in new.kinds)
+        (number_of_parts new.calls) (group_in new.shapes)
     unfolding view_vertex
     kept-now = rw (vertices-are, types-are) (subst (λ gs. AreKept s (vs ++ x ∷ []) (ts ++ t ∷ []) gs (head_in gs) (number_at new.keys)
-        (group_in new.kinds)) (sym heads-are)
-        (still-kept s vs ts hs (number_at old.keys) (number_at new.keys) (group_in old.kinds) (group_in new.kinds) x t h
-        g.numbered g.kept made.typed made.once keys' added' made.shape own-shape' made.call
-        own-call'))
+        (number_of_parts new.calls) (group_in new.shapes)) (sym heads-are)
+        (still-kept s vs ts hs (number_at old.keys) (number_at new.keys) (number_of_parts old.calls) (number_of_parts new.calls) (group_in old.shapes)
+        (group_in new.shapes) x t h g.numbered g.kept made.typed keys' calls' added' made.shape own-shape'))
 
     grown-now : Grows vs (vertices_of shown new) (heads_of shown old) (heads_of shown new)
     unfolding view_vertex
     grown-now = rw (vertices-are) (subst (λ gs. Grows vs (vs ++ x ∷ []) (head_in hs) (head_in gs)) (sym heads-are)
-        (has-grown s vs ts hs (number_at old.keys) (number_at new.keys) (group_in old.kinds) (group_in new.kinds) x t h
-        g.numbered g.kept made.typed made.once keys' added' made.shape own-shape' made.call
-        own-call'))
+        (has-grown s vs ts hs (number_at old.keys) (number_at new.keys) (number_of_parts old.calls) (number_of_parts new.calls) (group_in old.shapes)
+        (group_in new.shapes) x t h g.numbered g.kept made.typed keys' calls' added' made.shape own-shape'))
 
     there-now : slice_get (vertices_of shown new) n ≡ Some x
     there-now = ap (λ ws. slice_get ws n) vertices-are ∙ last-is vs x n (sym is)

@@ -15,7 +15,7 @@ use Rattle.juniper_written.specs.Order.{IsInOrder, StandsBehind}
 use Rattle.juniper_field_graph.specs.Gathering.{AreHeld, AreWritten, HoldsFragment, IsKnown, IsReady}
 use Rattle.juniper_field_graph.proofs.Readiness.{holds-more}
 
-none-some : {A : Type 0} {x : A} → None ≡ Some x → ⊥
+pub none-some : {A : Type 0} {x : A} → None ≡ Some x → ⊥
 none-some e = cc
 
 some-same : {A : Type 0} {x y : A} → Some x ≡ Some y → x ≡ y

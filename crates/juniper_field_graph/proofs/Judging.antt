@@ -1,7 +1,7 @@
 -- Whether all sets of a definition merge.
-use Rattle.std.proofs.Common.{◌≡◌, ℕ, Bool, true, false, not, ◌&&◌, List, [], ◌∷◌, Option, Some, None, map, inl, inr, refl, sym, ap, ◌∙◌}
+use Rattle.std.proofs.Common.{◌≡◌, ℕ, Bool, true, false, not, ◌&&◌, List, [], ◌∷◌, ◌++◌, Option, Some, None, map, inl, inr, refl, sym, ap, ◌∙◌}
 use Rattle.std.specs.List.{list_all}
-use Rattle.std.proofs.lemmas.Bool.{cases_Bool}
+use Rattle.std.proofs.lemmas.Bool.{and_from, and_parts, both_ways, cases_Bool}
 use Rattle.std.proofs.lemmas.List.Folds.{list_all-append}
 use Rattle.graphql_spec.specs.Shown.{Name}
 use Rattle.graphql_spec.specs.Types.{innermost}
@@ -18,7 +18,7 @@ use Rattle.juniper_merging.specs.Standing.{AreNumbered, Covers}
 use Rattle.juniper_merging.proofs.Tests.{all-from}
 use Rattle.juniper_merging.proofs.Whole.{whole}
 use Rattle.graphql_spec.specs.Rules.{cannot_merge}
-use Rattle.juniper_field_graph.specs.Gathering.{AreCovered, AreSets, IsAnswer, IsListed, Pairwise, sets_if, sets_in}
+use Rattle.juniper_field_graph.specs.Gathering.{AreCovered, AreSets, IsAnswer, IsCovered, IsListed, Pairwise, StandsIn, sets_if, sets_in}
 use Rattle.juniper_field_graph.proofs.SetTables.{list-of, number-of}
 
 and-assoc : (a b c : Bool) → (a && b && c) ≡ (a && (b && c))
@@ -33,6 +33,23 @@ all-fails test (y ∷ xs) x (inr i) e = elim (cases_Bool (test y)) [
   | inl q ↦ rw (q) (all-fails test xs x i e)
   | inr q ↦ rw (q) refl
 ]
+
+module _ {A : Type 0} (R : A → A → Bool) where
+  all-first : (test : A → Bool) (xs ys : List A) → list_all test (xs ++ ys) ≡ true → list_all test xs ≡ true
+  all-first test xs ys e = (and_parts (list_all test xs) (list_all test ys) (sym (list_all-append test xs ys) ∙ e)).0
+
+  -- each two of some first ones, and of some last ones
+  each-first : (xs ys : List A) → each_two R (xs ++ ys) ≡ true → each_two R xs ≡ true
+  unfolding each_two
+  each-first [] ys e = refl
+  each-first (x ∷ xs) ys e =
+      let p = and_parts (list_all (R x) (xs ++ ys)) (each_two R (xs ++ ys)) e in
+      and_from (list_all (R x) xs) (each_two R xs) (all-first (R x) xs ys p.0) (each-first xs ys p.1)
+
+  each-second : (xs ys : List A) → each_two R (xs ++ ys) ≡ true → each_two R ys ≡ true
+  unfolding each_two
+  each-second [] ys e = e
+  each-second (x ∷ xs) ys e = each-second xs ys (and_parts (list_all (R x) (xs ++ ys)) (each_two R (xs ++ ys)) e).1
 
 module _ (s : Schema) (fs : List Fragment) where
   -- the set merges
@@ -80,10 +97,29 @@ module _ (s : Schema) (fs : List Fragment) where
         never : false ≡ true → ⊥
         never e = cc
 
+    -- what merges to each depth merges in each stretch of it
+    stretch-merges : (d : ℕ) (m n : List ℕ) → StandsIn m n → set_merges_at vs d n ≡ true → set_merges_at vs d m ≡ true
+    unfolding set_merges_at each_pair_at
+    stretch-merges d m n (before, after, e) all =
+        each-first _ m after (each-second _ before (m ++ after) (ap (set_merges_at vs d) (sym e) ∙ all))
+
+    -- what stands for a set that merges does, to each depth
+    set-merges : (x : PlacedSet) (n : List ℕ) → Covers s vs words fs x.parent x.selections n → merges x ≡ true → (d : ℕ) → set_merges_at vs d n ≡ true
+    set-merges x n c e d = elim (cases_Bool (set_merges_at vs d n)) [
+      | inl q ↦ q
+      | inr q ↦ absurd (both_ways (merges x) (fails-by x n c (d, q)) e)
+    ]
+
+    covered-merges : (x : PlacedSet) (ms : List (List ℕ)) → IsCovered s fs vs words x ms →
+        ((n : List ℕ) → In n ([] ∷ ms) → (d : ℕ) → set_merges_at vs d n ≡ true) → merges x ≡ true
+    covered-merges x ms a each = merges-by x a.part.own a.part.covers
+        (λ d. stretch-merges d a.part.own a.all a.part.stands
+        (set-merges a.outer a.all a.covers (merges-by a.outer a.kept a.covers_kept (each a.kept a.listed)) d))
+
     pub all-judged : (t : List (List ℕ)) (xs : List PlacedSet) (bs : List ℕ) (ms : List (List ℕ)) → AreSets t bs ms → AreCovered s fs vs words xs ms →
         (c : Bool) →
         IsAnswer vs t bs c → not c ≡ list_all merges xs
-    all-judged t xs bs ms are c false (all, some) = sym (all-from merges xs (λ x i. let r = c.one x i in merges-by x r.0 r.2 (each r.0 r.1)))
+    all-judged t xs bs ms are c false (all, some) = sym (all-from merges xs (λ x i. covered-merges x ms (c.one x i) each))
       where
         each : (m : List ℕ) → In m ([] ∷ ms) → (d : ℕ) → set_merges_at vs d m ≡ true
         each m (inl e) d = ap (set_merges_at vs d) e ∙ none-merge d

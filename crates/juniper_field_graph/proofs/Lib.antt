@@ -18,8 +18,15 @@ mod Judging
 mod ListingSteps
 mod Whole
 mod WrittenOnce
+mod OwnNames
 mod Choosing
 mod Numbering
+mod Numbered
+mod CallParts
+mod CallOrder
+mod CallNumbers
+mod CallMembers
+mod CallValues
 mod Pushing
 mod Graphs
 mod Found

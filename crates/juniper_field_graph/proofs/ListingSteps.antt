@@ -11,7 +11,9 @@ use Rattle.graphql_spec.specs.Placed.{root_type}
 use Rattle.graphql_spec.specs.Written.{selections_of}
 use Rattle.juniper_syntax.specs.DocumentView.{view_definition}
 use Rattle.juniper_syntax.specs.declared.ast.Definition.{Definition}
-use Rattle.juniper_field_graph.specs.Gathering.{AreCovered, AreGathered, IsDefinitionGathered, IsListed, IsMore, IsReadyIn, IsSetGatheredAt, Pairwise, sets_if}
+use Rattle.graphql_spec.specs.Fragments.{fragment_of}
+use Rattle.juniper_field_graph.specs.Gathering.{AreCovered, AreGathered, AreListed, IsDefinitionGathered, IsListed, IsListedAs, IsMore}
+use Rattle.juniper_field_graph.specs.Gathering.{IsReadyIn, IsSetGatheredAt, Pairwise, sets_if}
 use Rattle.juniper_field_graph.specs.Gathering.{sets_in}
 use Rattle.juniper_field_graph.specs.GraphView.{IsGraphOf, heads_of, table_in, vertices_of}
 use Rattle.juniper_field_graph.specs.declared.graph.FieldGraph.{FieldGraph}
@@ -23,7 +25,7 @@ use Rattle.juniper_field_graph.proofs.Taken.{in-taken, taken-more}
 
 module _ {S : Type 0} (shown : S → Shown) (s : Schema) (fs : List spec.Fragment) where
   -- what the numbers of a definition's sets say, they say in each graph that has more
-  listed-more : (a b : FieldGraph S) → IsMore shown s a b → (x : spec.Definition) (bs : List ℕ) →
+  pub listed-more : (a b : FieldGraph S) → IsMore shown s a b → (x : spec.Definition) (bs : List ℕ) →
       IsListed s fs (vertices_of shown a) (heads_of shown a) (table_in shown a) x bs → IsListed s fs (vertices_of shown b) (heads_of shown b)
       (table_in shown b) x bs
   listed-more a b m x bs (ms, are, covered) = (
@@ -44,22 +46,53 @@ module _ {S : Type 0} (shown : S → Shown) (s : Schema) (fs : List spec.Fragmen
         (pairwise-none (IsListed s fs (vertices_of shown g) (heads_of shown g) (table_in shown g)));
   }
 
-  pub gathered-so-far-next : (old now new : FieldGraph S) (document : List (Definition S)) (lists more : List (List ℕ)) (sets then bs : List ℕ) (i : ℕ)
+  pub gathered-so-far-next : (old now new : FieldGraph S) (document : List (Definition S)) (lists more : List (List ℕ)) (bs : List ℕ) (i : ℕ)
       (x : Definition S) → i < length document → x ≡ get_or document i x → AreGatheredSoFar old now document lists i →
-      IsDefinitionGathered shown s fs now new sets then (view_definition shown x) → sets ≡ [] → bs ≡ then → more ≡ lists ++ bs ∷ [] →
-      AreGatheredSoFar old new document more (i + 1)
-  gathered-so-far-next old now new document lists more sets then bs i x below is before a none same put =
+      IsMore shown s now new → IsListed s fs (vertices_of shown new) (heads_of shown new) (table_in shown new) (view_definition shown x) bs →
+      more ≡ lists ++ bs ∷ [] → AreGatheredSoFar old new document more (i + 1)
+  gathered-so-far-next old now new document lists more bs i x below is before grown own put =
       let Is : spec.Definition → List ℕ → Type 0 = IsListed s fs (vertices_of shown new) (heads_of shown new) (table_in shown new) in
-      let own : bs ≡ a.bs = same ∙ (a.added ∙ ap (λ l. l ++ a.bs) none) in
       record {
-        grown = more-further shown s old now new before.grown a.grown;
+        grown = more-further shown s old now new before.grown grown;
         listed = subst (λ xs. Pairwise Is xs more) (sym (taken-more (view_definition shown) document i x below is))
             (subst (Pairwise Is (map (view_definition shown) (take i document) ++ view_definition shown x ∷ [])) (sym put)
             (pairwise-both Is (map (view_definition shown) (take i document)) (view_definition shown x ∷ []) lists (bs ∷ [])
             (pairwise-more (IsListed s fs (vertices_of shown now) (heads_of shown now) (table_in shown now)) Is
-            (listed-more now new a.grown) (map (view_definition shown) (take i document)) lists before.listed)
-            (pairwise-one Is (view_definition shown x) bs (subst (Is (view_definition shown x)) (sym own) (a.ms, a.are, a.covered)))));
+            (listed-more now new grown) (map (view_definition shown) (take i document)) lists before.listed)
+            (pairwise-one Is (view_definition shown x) bs own)));
       }
+
+  -- what was gathered, from nothing, is the list
+  pub gathered-listed : (old new : FieldGraph S) (sets then bs : List ℕ) (x : spec.Definition) → IsDefinitionGathered shown s fs old new sets then x →
+      sets ≡ [] → bs ≡ then →
+      IsMore shown s old new × IsListed s fs (vertices_of shown new) (heads_of shown new) (table_in shown new) x bs
+  gathered-listed old new sets then bs x a none same =
+      let own : bs ≡ a.bs = same ∙ (a.added ∙ ap (λ l. l ++ a.bs) none) in (
+        a.grown,
+        subst (IsListed s fs (vertices_of shown new) (heads_of shown new) (table_in shown new) x) (sym own) (a.ms, a.are, a.covered),
+      )
+
+  -- the list of the fragment that its name finds
+  pub listed-own : (g : FieldGraph S) (lists : Name → Option (List ℕ)) (x : spec.Definition) (bs cs : List ℕ) → IsGraphOf shown s g →
+      ((f : spec.Fragment) → x ≡ spec.fragment f → fragment_of fs f.name.item ≡ Some f) →
+      AreListed s fs (vertices_of shown g) (heads_of shown g) (table_in shown g) lists → IsListedAs lists x bs → cs ≡ bs →
+      IsMore shown s g g × IsListed s fs (vertices_of shown g) (heads_of shown g) (table_in shown g) x cs
+  listed-own g lists x bs cs is finds are (f, own, there) same =
+      let (y, found, listed) = are f.name.item bs there in
+      let one : y ≡ f = some-same (sym found ∙ finds f own) in (
+        more-itself shown s g is,
+        subst (IsListed s fs (vertices_of shown g) (heads_of shown g) (table_in shown g) x) (sym same)
+            (subst (λ z. IsListed s fs (vertices_of shown g) (heads_of shown g) (table_in shown g) z bs) (ap spec.fragment one ∙ sym own) listed),
+      )
+    where
+      some-same : {A : Type 0} {x y : A} → Some x ≡ Some y → x ≡ y
+      some-same e = cc
+
+  -- lists stay right
+  pub lists-more : (a b : FieldGraph S) → IsMore shown s a b → (lists : Name → Option (List ℕ)) →
+      AreListed s fs (vertices_of shown a) (heads_of shown a) (table_in shown a) lists →
+      AreListed s fs (vertices_of shown b) (heads_of shown b) (table_in shown b) lists
+  lists-more a b m lists are k bs e = let (f, found, listed) = are k bs e in (f, found, listed-more a b m (spec.fragment f) bs listed)
 
   pub gathered-so-far-all : (old now : FieldGraph S) (document : List (Definition S)) (lists : List (List ℕ)) (i : ℕ) → length document ≤ i →
       AreGatheredSoFar old now document lists i → AreGathered shown s fs old now (map (view_definition shown) document) lists

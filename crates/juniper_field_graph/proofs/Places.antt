@@ -14,6 +14,7 @@ use Rattle.std.proofs.Common.{Ordering, Equal, Greater, Less, refl, sym, ap, ◌
 use Rattle.graphql_spec.specs.Shown.{Name}
 use Rattle.graphql_spec.proofs.Lists.{same_refl, same_true}
 use Rattle.juniper_field_graph.specs.Keys.{IsNumbered, number_at}
+use Rattle.juniper_field_graph.proofs.Numbered.{new-number}
 use Rattle.juniper_syntax.specs.NameNumbers.{name_number}
 
 -- ## Places
@@ -87,31 +88,8 @@ no-numbers m none k = ap (λ es. lookup (is_at (at (name_number k) k)) es) none
 
 -- ## One name more
 
-pub found-number : (numbers : Name → Option ℕ) (name : Name) (key n : ℕ) → numbers name ≡ Some key → IsNumbered name key n numbers numbers
-found-number numbers name key n e = record { own = e; grown = λ k m f. f; only = λ k m f. inl f }
-
-some-none : {A B : Type 0} {x : A} → None ≡ Some x → B
-some-none e = cc
-
-some-same : {A : Type 0} {x y : A} → Some x ≡ Some y → x ≡ y
-some-same e = cc
-
-new-number : (old new : Name → Option ℕ) (name : Name) (n : ℕ) → old name ≡ None → ((k : Name) → new k ≡ cond (bytes_eq name k) (Some n) (old k)) →
-    IsNumbered name n n old new
-new-number old new name n none put = record {
-  own = put name ∙ rw (same_refl name) refl;
-  grown = λ k m e. elim (cases_Bool (bytes_eq name k)) [
-    | inl q ↦ some-none (sym (ap old (sym (same_true name k q)) ∙ none) ∙ e)
-    | inr q ↦ put k ∙ rw q e
-  ];
-  only = λ k m e. elim (cases_Bool (bytes_eq name k)) [
-    | inl q ↦
-        (let f : Some n ≡ Some m = subst (λ b. cond b (Some n) (old k) ≡ Some m) q (sym (put k) ∙ e) in
-        inr (sym (same_true name k q), sym (some-same f)))
-    | inr q ↦ inl (subst (λ b. cond b (Some n) (old k) ≡ Some m) q (sym (put k) ∙ e))
-  ];
-}
-
 pub number-put : (old new : BTreeMap Place ℕ) (name : Name) (n key : ℕ) → n ≡ name_number name → number_at old name ≡ None →
     tree.UpdatesBy order (at n name) old new (Some key) → IsNumbered name key key (number_at old) (number_at new)
-number-put old new name n key is none put = new-number (number_at old) (number_at new) name key none (put-place old new name n key is put)
+number-put old new name n key is none put =
+    new-number (bytes_eq name) (number_at old) (number_at new) name key (λ k e. same_true name k e) (same_refl name) none
+    (put-place old new name n key is put)

@@ -2,7 +2,7 @@
 use Rattle.std.specs.Prelude.{ℕ, false, List, ◌≡◌, Option, Some, None}
 use Rattle.std.proofs.Common.{refl, sym, subst, inl, inr, ◌∙◌}
 use Rattle.graphql_spec.specs.Shown.{Name}
-use Rattle.graphql_spec.specs.Documents.{Fragment, Head, Inline, Selections, Spread, end, field, spread, inline, written}
+use Rattle.graphql_spec.specs.Documents.{Fragment, Head, Inline, Selections, Spread, field, spread, inline, written}
 use Rattle.graphql_spec.specs.Fragments.{fragment_of, spreads}
 use Rattle.graphql_spec.specs.Schema.{Schema}
 use Rattle.graphql_spec.specs.Written.{arguments_repeat, heads}
@@ -43,10 +43,6 @@ module _ (s : Schema) (fs : List Fragment) where
   module _ (vs : List FieldAt) (words : ℕ → Head) (t : List (List ℕ)) (held : Name → Option ℕ) where
     abbrev Ready : Selections → Type 0
     Ready = IsReady s fs vs words t held
-
-    pub ready-end : Ready end
-    unfolding heads spreads
-    ready-end = record { once = λ h i. absurd i; known = λ k i. absurd i }
 
     pub ready-field : (h : Head) (below rest : Selections) → Ready (field h below rest) →
         (arguments_repeat (written h.arguments) ≡ false) × Ready below × Ready rest

@@ -12,7 +12,7 @@ use Rattle.juniper_field_graph.specs.NamedValues.{as_fields}
 use Rattle.juniper_field_graph.specs.SameValues.{all_keyed, same_fields}
 use Rattle.juniper_field_graph.proofs.SameMeanings.{object-told}
 
-meaning-as : (as' : List Argument) → written_meaning as' ≡ members (as_fields as')
+pub meaning-as : (as' : List Argument) → written_meaning as' ≡ members (as_fields as')
 unfolding written_meaning meaning as_fields
 meaning-as [] = refl
 meaning-as (a ∷ rest) = ap (insert a.name.item (meaning a.value.item)) (meaning-as rest)

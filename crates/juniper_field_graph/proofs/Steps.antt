@@ -32,7 +32,7 @@ use Rattle.juniper_field_graph.specs.Gathering.{IsBelowGathered, IsGathered, IsK
 use Rattle.juniper_field_graph.specs.GraphView.{IsGraphOf, IsPushed, heads_of, table_in, vertices_of}
 use Rattle.juniper_field_graph.specs.declared.gathering.Gathered.{Gathered}
 use Rattle.juniper_field_graph.specs.declared.graph.FieldGraph.{FieldGraph}
-use Rattle.juniper_field_graph.proofs.Leading.{covered-end, covered-from, covered-more, leads-field, leads-inline, leads-nothing, leads-spread, leads-then}
+use Rattle.juniper_field_graph.proofs.Leading.{covered-end, covered-from, covered-more-in, leads-field, leads-inline, leads-nothing, leads-spread, leads-then}
 use Rattle.juniper_field_graph.proofs.Leading.{leads-unknown, leads-whole}
 use Rattle.juniper_field_graph.proofs.More.{more-further, more-itself, more-made, more-pushed}
 use Rattle.juniper_field_graph.proofs.SetTables.{pairwise-both, pairwise-none, pairwise-one, set-of-more, sets-more}
@@ -146,24 +146,19 @@ module _ {S : Type 0} (shown : S → Shown) (s : Schema) (fs : List Fragment) wh
         (known-none s fs (vertices_of shown g) (heads_of shown g) (table_in shown g) held x.name.item known at);
   }
 
-  -- an inline fragment, by its set
-  pub inline-gathered : (old new : FieldGraph S) (sets then : List ℕ) (n m : Gathering) (p : Name) (x : spec.Inline) (below rest : Selections) (b : ℕ) →
-      IsSetGatheredAt shown s fs old new sets then (name_or x.condition p) below b →
-      IsPutTo (table_in shown new) n m b →
-      IsGathered shown s fs old new sets then n m p rest (inline x below rest)
-  inline-gathered old new sets then n m p x below rest b (inner, at, a) numbers =
-      let t = table_in shown new in
-      record {
-        grown = a.grown;
-        is = inner;
-        numbers = λ all c. subst (λ l. IsSetOf t m (all ++ l)) (set-some t b inner at)
-            (numbers all (inner, at) (set-of-more (table_in shown old) t a.grown.more n all c));
-        bs = a.bs;
-        ms = a.ms;
-        added = a.added;
-        are = a.are;
-        leads = leads-inline s fs (vertices_of shown new) (heads_of shown new) p x below rest inner a.ms a.stands a.covered;
-      }
+  -- an inline fragment, by what was gathered of its set
+  pub inline-gathered : (old new : FieldGraph S) (sets then : List ℕ) (n m : Gathering) (p : Name) (x : spec.Inline) (below rest : Selections) →
+      IsGathered shown s fs old new sets then n m (name_or x.condition p) end below → IsGathered shown s fs old new sets then n m p rest (inline x below rest)
+  inline-gathered old new sets then n m p x below rest a = record {
+    grown = a.grown;
+    is = a.is;
+    numbers = a.numbers;
+    bs = a.bs;
+    ms = a.ms;
+    added = a.added;
+    are = a.are;
+    leads = leads-inline s fs (vertices_of shown new) (heads_of shown new) p x below rest a.is a.ms a.leads;
+  }
 
   -- ## One selection behind the other
 
@@ -220,8 +215,9 @@ module _ {S : Type 0} (shown : S → Shown) (s : Schema) (fs : List Fragment) wh
               (sets-more (table_in shown now) (table_in shown new) more.more a.bs a.ms a.are)
               (pairwise-one (λ c m. slice_get (table_in shown new) c ≡ Some m) b made.kept made.there);
           stands = stands;
-          covered = covered-from s fs (vertices_of shown new) (heads_of shown new) p whole made.kept a.ms stands
-              (covered-more s fs (vertices_of shown now) (vertices_of shown new) (heads_of shown now) (heads_of shown new) more.grows
+          covered = covered-from s fs (vertices_of shown new) (heads_of shown new) p whole a.is made.kept a.ms
+              (covers-more s (vertices_of shown now) (vertices_of shown new) (heads_of shown now) (heads_of shown new) fs more.grows p whole a.is c.0) stands
+              (covered-more-in s fs (vertices_of shown now) (vertices_of shown new) (heads_of shown now) (heads_of shown new) more.grows a.is
               (sets_below s p whole) a.ms
               c.1);
         },
@@ -280,14 +276,12 @@ module _ {S : Type 0} (shown : S → Shown) (s : Schema) (fs : List Fragment) (e
             (rest-ready now x rest ready),
       )
 
-  pub so-far-all : (old now new : FieldGraph S) (sets then last : List ℕ) (n m : Gathering) (selections : List (Selection S)) (i b : ℕ) →
-      length selections ≤ i → ((t : List (List ℕ)) → IsSetOf t n []) → IsSoFar old now sets then n m selections i →
-      (IsGraphOf shown s now → (all : List ℕ) → IsSetOf (table_in shown now) m all → IsSetMade shown s now new then last all b) →
-      IsSetGatheredAt shown s fs old new sets last p (view_selections shown selections) b
-  so-far-all old now new sets then last n m selections i b done none a make =
+  pub so-far-all : (old now : FieldGraph S) (sets then : List ℕ) (n m : Gathering) (selections : List (Selection S)) (i : ℕ) →
+      length selections ≤ i → IsSoFar old now sets then n m selections i →
+      IsGathered shown s fs old now sets then n m p end (view_selections shown selections)
+  so-far-all old now sets then n m selections i done a =
       let e : view_selections shown (drop i selections) ≡ end = ap (view_selections shown) (drop_all i selections done) in
-      set-gathered shown s fs old now new sets then last n m p (view_selections shown selections) b none
-      (subst (λ t. IsGathered shown s fs old now sets then n m p t (view_selections shown selections)) e a.0) make
+      subst (λ t. IsGathered shown s fs old now sets then n m p t (view_selections shown selections)) e a.0
 
   -- ## Each kind of selection
 
@@ -338,16 +332,15 @@ module _ {S : Type 0} (shown : S → Shown) (s : Schema) (fs : List Fragment) (e
 
   -- an inline fragment, by what was gathered of its set
   pub inline-step : (old new : FieldGraph S) (sets then : List ℕ) (n m : Gathering) (rest : Selections) (x : Selection S)
-      (f : Spanning (InlineType S) Span) (below : Selections) (inner : ℕ) →
+      (f : Spanning (InlineType S) Span) (below : Selections) →
       x ≡ InlineFragment f → view_selections shown (out-InlineFragment S f.item).selection_set.items ≡ below →
       IsReadyIn shown s fs old held (put_selection shown x rest) →
-      (IsReadyIn shown s fs old held below → IsSetGatheredAt shown s fs old new sets then (name_or (view_inline shown f).condition p) below inner) →
-      IsPutTo (table_in shown new) n m inner →
+      (IsReadyIn shown s fs old held below → IsGathered shown s fs old new sets then n m (name_or (view_inline shown f).condition p) end below) →
       IsGathered shown s fs old new sets then n m p rest (put_selection shown x rest)
-  inline-step old new sets then n m rest x f below inner is set ready inside numbers =
+  inline-step old new sets then n m rest x f below is set ready inside =
       let e : put_selection shown x rest ≡ inline (view_inline shown f) below rest = ap (λ y. put_selection shown y rest) is
       ∙ (put-InlineFragment shown f rest ∙ ap (λ b. inline (view_inline shown f) b rest) set) in
       let r = ready-inline s fs (vertices_of shown old) (heads_of shown old) (table_in shown old) held (view_inline shown f) below rest
       (subst (IsReadyIn shown s fs old held) e ready) in
       subst (IsGathered shown s fs old new sets then n m p rest) (sym e)
-      (inline-gathered shown s fs old new sets then n m p (view_inline shown f) below rest inner (inside r.0) numbers)
+      (inline-gathered shown s fs old new sets then n m p (view_inline shown f) below rest (inside r.0))

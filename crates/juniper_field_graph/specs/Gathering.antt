@@ -1,12 +1,13 @@
 -- Numbers that stand for the fields of selections, and for those of the sets that are written in them; only private clauses
 -- cite what stands here.
-use Rattle.std.specs.Prelude.{ℕ, zero, Bool, true, cond, false, List, [], ◌∷◌, ◌++◌, Option, Some, None, map, ◌≡◌, ◌⊎◌}
+use Rattle.std.specs.Prelude.{ℕ, zero, Bool, true, cond, false, List, [], ◌∷◌, ◌++◌, Option, Some, None, Vec, map, option_map, ◌≡◌, ◌⊎◌}
 use Rattle.std.specs.Borrow.{Bor}
 use Rattle.std.specs.BTreeMap.{BTreeMap, get_by}
 use Rattle.std.specs.Cmp.Lexicographic.{slice_cmp}
 use Rattle.std.specs.List.{slice_get}
 use Rattle.std.specs.Ordering.{nat_cmp}
 use Rattle.std.specs.Str.{bytes_eq}
+use Rattle.std.specs.declared.alloc.Global.{Global}
 use Rattle.std.specs.declared.cmp.PartialEq.{Ghosts as Equality}
 use Rattle.std.specs.declared.fmt.Debug.{Ghosts as Shows}
 use Rattle.graphql_spec.specs.Shown.{Shown, Name}
@@ -38,6 +39,10 @@ use Rattle.juniper_field_graph.specs.declared.graph.FieldGraph.{FieldGraph}
 unfoldable pub set_named : BTreeMap (Bor (List ℕ)) ℕ → Name → Option ℕ
 set_named m k = get_by (λ n. slice_cmp nat_cmp k n.now) m
 
+-- the list that a map has at a name
+unfoldable pub list_named : BTreeMap (Bor (List ℕ)) (Vec ℕ Global) → Name → Option (List ℕ)
+list_named m k = option_map (λ v. v.items) (get_by (λ n. slice_cmp nat_cmp k n.now) m)
+
 -- the elements of the one list stand to those of the other, each to its own
 abbrev pub Pairwise : {A B : Type 0} → (A → B → Type 0) → List A → List B → Type 0
 Pairwise R [] [] = zero ≡ zero
@@ -63,10 +68,35 @@ unfoldable pub sets_in : Schema → Definition → List PlacedSet
 sets_in s (operation o) = sets_if s (root_type s o.kind) o.selections
 sets_in s (fragment f) = sets_from s f.condition.item f.selections
 
+-- the one list stands in the other, in a row
+abbrev pub StandsIn : List ℕ → List ℕ → Type 0
+StandsIn m n = (before : List ℕ) × (after : List ℕ) × (n ≡ before ++ (m ++ after))
+
 module _ (s : Schema) (fs : List Fragment) (vs : List FieldAt) (words : ℕ → Head) where
-  -- each set has its numbers, or holds no field; and all numbers are those of a set
+  -- numbers of a set stand in these
+  pub record IsPart (x : PlacedSet) (around : List ℕ) : Type 0 where
+    pub own : List ℕ
+    pub covers : Covers s vs words fs x.parent x.selections own
+    pub stands : StandsIn own around
+
+  -- so they do in numbers of a set for which one of these lists stands too; a set that holds no field may have no list
+  pub record IsCovered (x : PlacedSet) (ns : List (List ℕ)) : Type 0 where
+    pub outer : PlacedSet
+    pub all : List ℕ
+    pub part : IsPart x all
+    pub covers : Covers s vs words fs outer.parent outer.selections all
+    pub kept : List ℕ
+    pub covers_kept : Covers s vs words fs outer.parent outer.selections kept
+    pub listed : In kept ([] ∷ ns)
+
+  -- each set is covered, and all lists are those of a set
   pub record AreCovered (sets : List PlacedSet) (ns : List (List ℕ)) : Type 0 where
-    pub one : (x : PlacedSet) → In x sets → (n : List ℕ) × In n ([] ∷ ns) × Covers s vs words fs x.parent x.selections n
+    pub one : (x : PlacedSet) → In x sets → IsCovered x ns
+    pub back : (n : List ℕ) → In n ns → (x : PlacedSet) × In x sets × Covers s vs words fs x.parent x.selections n
+
+  -- the same, where sets of inline fragments are parts of what is gathered around them
+  pub record AreCoveredIn (around : List ℕ) (sets : List PlacedSet) (ns : List (List ℕ)) : Type 0 where
+    pub one : (x : PlacedSet) → In x sets → IsPart x around ⊎ IsCovered x ns
     pub back : (n : List ℕ) → In n ns → (x : PlacedSet) × In x sets × Covers s vs words fs x.parent x.selections n
 
   module _ (t : List (List ℕ)) where
@@ -88,8 +118,8 @@ module _ (s : Schema) (fs : List Fragment) (vs : List FieldAt) (words : ℕ → 
   -- numbers and sets that, before those of what follows, are those of the whole; in each graph that has these vertices
   abbrev pub Leads : Name → Selections → Selections → List ℕ → List (List ℕ) → Type 0
   Leads p rest whole is ms = (ws : List FieldAt) (more : ℕ → Head) → Grows vs ws words more → (js : List ℕ) (ns : List (List ℕ)) →
-      Covers s ws more fs p rest js → AreCovered s fs ws more (sets_below s p rest) ns →
-      Covers s ws more fs p whole (is ++ js) × AreCovered s fs ws more (sets_below s p whole) (ms ++ ns)
+      Covers s ws more fs p rest js → AreCoveredIn s fs ws more js (sets_below s p rest) ns →
+      Covers s ws more fs p whole (is ++ js) × AreCoveredIn s fs ws more (is ++ js) (sets_below s p whole) (ms ++ ns)
 
 module _ {S : Type 0} (shown : S → Shown) (s : Schema) where
   -- the graph has all that it had
@@ -153,22 +183,30 @@ module _ (s : Schema) (fs : List Fragment) (vs : List FieldAt) (words : ℕ → 
   abbrev pub IsListed : Definition → List ℕ → Type 0
   IsListed x bs = (ms : List (List ℕ)) × AreSets t bs ms × AreCovered s fs vs words (sets_in s x) ms
 
+  -- lists at names are those of the sets of their fragments
+  abbrev pub AreListed : (Name → Option (List ℕ)) → Type 0
+  AreListed lists = (k : Name) (bs : List ℕ) → lists k ≡ Some bs → (f : Fragment) × (fragment_of fs k ≡ Some f) × IsListed (fragment f) bs
+
 -- no field of the fragments that names find has an argument twice
 abbrev pub AreWritten : List Fragment → Type 0
 AreWritten fs = (k : Name) (f : Fragment) → fragment_of fs k ≡ Some f → (h : Head) → In h (heads f.selections) → arguments_repeat (written h.arguments) ≡ false
 
 module _ {S : Type 0} (shown : S → Shown) (s : Schema) (fs : List Fragment) where
   -- a fragment is held beside those before it
-  pub record IsHeld (old new : FieldGraph S) (held more : Name → Option ℕ) (f : Fragment) : Type 0 where
+  pub record IsHeld (old new : FieldGraph S) (held more : Name → Option ℕ) (lists longer : Name → Option (List ℕ)) (f : Fragment) : Type 0 where
     pub grown : IsMore shown s old new
     pub set : ℕ
     pub added : (k : Name) → more k ≡ cond (bytes_eq f.name.item k) (Some set) (held k)
     pub holds : HoldsFragment s fs (vertices_of shown new) (heads_of shown new) (table_in shown new) f set
+    pub sets : List ℕ
+    pub put : (k : Name) → longer k ≡ cond (bytes_eq f.name.item k) (Some sets) (lists k)
+    pub listed : IsListed s fs (vertices_of shown new) (heads_of shown new) (table_in shown new) (fragment f) sets
 
-  -- all fragments that a name finds are known
-  pub record AllKnown (old new : FieldGraph S) (held : Name → Option ℕ) : Type 0 where
+  -- all fragments that a name finds are known, and lists are those of their sets
+  pub record AllKnown (old new : FieldGraph S) (held : Name → Option ℕ) (lists : Name → Option (List ℕ)) : Type 0 where
     pub grown : IsMore shown s old new
     pub known : (k : Name) → IsKnown s fs (vertices_of shown new) (heads_of shown new) (table_in shown new) held k
+    pub listed : AreListed s fs (vertices_of shown new) (heads_of shown new) (table_in shown new) lists
 
   -- the sets of a definition were gathered, and put to the sets
   pub record IsDefinitionGathered (old new : FieldGraph S) (sets then : List ℕ) (x : Definition) : Type 0 where
@@ -189,6 +227,10 @@ abbrev pub IsAnswer : List FieldAt → List (List ℕ) → List ℕ → Bool →
 IsAnswer vs t bs c = (c ≡ false → (b : ℕ) → In b bs → (n : ℕ) → set_merges_at vs n (set_at t b) ≡ true)
     × (c ≡ true → (b : ℕ) × In b bs × ((n : ℕ) × (set_merges_at vs n (set_at t b) ≡ false)))
 
+-- a fragment's name has this list
+abbrev pub IsListedAs : (Name → Option (List ℕ)) → Definition → List ℕ → Type 0
+IsListedAs lists x bs = (f : Fragment) × (x ≡ fragment f) × (lists f.name.item ≡ Some bs)
+
 -- where the rules on names find nothing, it is told of each definition whether two fields of some set in it cannot be merged (5.3.2)
 abbrev pub JudgesEach : Schema → Bool → Document → List Bool → Type 0
 JudgesEach s disabled d found = HasGoodNames s disabled d → found ≡ map (cannot_merge s d) d
@@ -199,13 +241,16 @@ WhereEnding fs t conclusion = HasNoCycle fs → t ≡ declared_type None → con
 
 module _ {S : Type 0} (shown : S → Shown) (s : Schema) (fs : List Fragment) where
   -- where what a fragment spreads is known, it is held too
-  abbrev pub HoldsToo : FieldGraph S → FieldGraph S → (Name → Option ℕ) → (Name → Option ℕ) → Fragment → Type 0
-  HoldsToo old new held more f = IsGraphOf shown s old → IsReadyIn shown s fs old held f.selections → IsHeld shown s fs old new held more f
+  abbrev pub HoldsToo : FieldGraph S → FieldGraph S → (Name → Option ℕ) → (Name → Option ℕ) → (Name → Option (List ℕ)) → (Name → Option (List ℕ)) →
+      Fragment → Type 0
+  HoldsToo old new held more lists longer f = IsGraphOf shown s old → IsReadyIn shown s fs old held f.selections →
+      IsHeld shown s fs old new held more lists longer f
 
   -- where no field has an argument twice, each fragment stands behind those that it spreads, and none was held, all are
-  abbrev pub HoldsAll : FieldGraph S → FieldGraph S → (Name → Option ℕ) → (Name → Option ℕ) → List Fragment → Type 0
-  HoldsAll old new held more order = AreWritten fs → IsInOrder fs order → ((k : Name) → held k ≡ None) → IsGraphOf shown s old →
-      AllKnown shown s fs old new more
+  abbrev pub HoldsAll : FieldGraph S → FieldGraph S → (Name → Option ℕ) → (Name → Option ℕ) → (Name → Option (List ℕ)) → (Name → Option (List ℕ)) →
+      List Fragment → Type 0
+  HoldsAll old new held more lists longer order = AreWritten fs → IsInOrder fs order → ((k : Name) → held k ≡ None) → ((k : Name) → lists k ≡ None) →
+      IsGraphOf shown s old → AllKnown shown s fs old new more longer
 
 module _ {S : Type 0} (shown : S → Shown) where
   -- where a field fits, it is pushed, and its number is put to what is gathered
@@ -241,6 +286,19 @@ module _ {S : Type 0} {scalar : Scalars S} {equality : Equality S} {shows : Show
     GathersDefinition old new x = IsReadyFor old (selections_of x) →
         IsDefinitionGathered shown schema_in fs old.graph new.graph old.sets.items new.sets.items x
 
-    -- where those of each definition are ready, the sets of each are gathered
-    abbrev pub GathersEach : Gathered S → Gathered S → Document → List (List ℕ) → Type 0
-    GathersEach old new d lists = ((x : Definition) → In x d → IsReadyFor old (selections_of x)) → AreGathered shown schema_in fs old.graph new.graph d lists
+    -- a fragment of the document is the one that its name finds
+    abbrev pub FindsItself : Definition → Type 0
+    FindsItself x = (f : Fragment) → x ≡ fragment f → fragment_of fs f.name.item ≡ Some f
+
+    -- where a definition's selections are ready, and lists are those of fragments, its sets have this list
+    abbrev pub ListsDefinition : Gathered S → Gathered S → (Name → Option (List ℕ)) → Definition → List ℕ → Type 0
+    ListsDefinition old new lists x bs = FindsItself x →
+        AreListed schema_in fs (vertices_of shown old.graph) (heads_of shown old.graph) (table_in shown old.graph) lists → IsReadyFor old (selections_of x) →
+        IsMore shown schema_in old.graph new.graph
+        × IsListed schema_in fs (vertices_of shown new.graph) (heads_of shown new.graph) (table_in shown new.graph) x bs
+
+    -- where those of each definition are ready, each has the list of its sets
+    abbrev pub GathersEach : Gathered S → Gathered S → (Name → Option (List ℕ)) → Document → List (List ℕ) → Type 0
+    GathersEach old new listed d lists = ((x : Definition) → In x d → FindsItself x) →
+        AreListed schema_in fs (vertices_of shown old.graph) (heads_of shown old.graph) (table_in shown old.graph) listed →
+        ((x : Definition) → In x d → IsReadyFor old (selections_of x)) → AreGathered shown schema_in fs old.graph new.graph d lists

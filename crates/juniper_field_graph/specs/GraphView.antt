@@ -14,6 +14,7 @@ use Rattle.juniper_merging.specs.Groups.{group_in}
 use Rattle.juniper_merging.specs.Sets.{IsInside, IsTable}
 use Rattle.juniper_merging.specs.Tables.{below_in, table_of}
 use Rattle.juniper_merging.specs.declared.graph.Vertex.{Vertex}
+use Rattle.juniper_field_graph.specs.CallParts.{number_of_parts}
 use Rattle.juniper_field_graph.specs.Keys.{number_at}
 use Rattle.juniper_field_graph.specs.KindsView.{AreKept, IsOnce, heads_in, types_in}
 use Rattle.juniper_field_graph.specs.declared.graph.FieldGraph.{FieldGraph}
@@ -52,7 +53,8 @@ module _ {S : Type 0} (shown : S → Shown) where
   -- equal numbers say that types agree, and that names and arguments are the same; and what new numbers are found by is kept
   pub record IsGraphOf (s : Schema) (g : FieldGraph S) : Type 0 where
     pub numbered : AreNumbered s (vertices_of g) (heads_of g)
-    pub kept : AreKept s (vertices_of g) (types_in shown g.fields.items) (written_of g) (heads_of g) (number_at g.keys) (group_in g.kinds)
+    pub kept : AreKept s (vertices_of g) (types_in shown g.fields.items) (written_of g) (heads_of g) (number_at g.keys)
+        (number_of_parts g.calls) (group_in g.shapes)
     pub table : IsTable g.sets.items
     pub inside : AreInside g
 

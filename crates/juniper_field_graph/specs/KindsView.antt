@@ -1,5 +1,5 @@
 -- How a new vertex gets its numbers, and what a graph keeps for this.
-use Rattle.std.specs.Prelude.{ℕ, Bool, false, not, cond, nat_eq, ◌&&◌, List, Option, Some, None, map, length, ◌≡◌, ◌⊎◌, ◌<◌}
+use Rattle.std.specs.Prelude.{ℕ, Bool, false, not, cond, nat_eq, ◌&&◌, List, Option, Some, None, map, length, ◌≡◌, ◌<◌}
 use Rattle.std.specs.List.{slice_get, find}
 use Rattle.std.specs.Str.{bytes_eq}
 use Rattle.graphql_spec.specs.Shown.{Shown, Name}
@@ -14,6 +14,8 @@ use Rattle.graphql_spec.specs.Merging.{types_agree}
 use Rattle.graphql_spec.specs.Laws.{In}
 use Rattle.juniper_meta.specs.MetaView.{view_type}
 use Rattle.juniper_merging.specs.MergingGraph.{FieldAt}
+use Rattle.juniper_field_graph.specs.CallParts.{Part, call_parts}
+use Rattle.juniper_field_graph.specs.Keys.{AreOneEach}
 use Rattle.juniper_syntax.specs.DocumentView.{view_field}
 use Rattle.juniper_field_graph.specs.declared.graph.WrittenField.{WrittenField}
 
@@ -33,18 +35,9 @@ has_type s t (Some u) = types_agree s u t
 abbrev pub same_call : Head → Head → Bool
 same_call g h = bytes_eq g.name.item h.name.item && same_members (written_meaning (written g.arguments)) (written_meaning (written h.arguments))
 
--- there is a field, and it has the name and arguments of h
-unfoldable pub has_call : Head → Option Head → Bool
-has_call h None = false
-has_call h (Some g) = same_call g h
-
 -- no argument of the field is written twice
 abbrev pub IsOnce : Head → Type 0
 IsOnce h = arguments_repeat (written h.arguments) ≡ false
-
--- no argument of any of these fields is written twice
-abbrev pub HaveOnce : List Head → Type 0
-HaveOnce hs = (i : ℕ) (h : Head) → slice_get hs i ≡ Some h → IsOnce h
 
 -- the number of a vertex, else n
 unfoldable pub number_or : (FieldAt → ℕ) → ℕ → Option FieldAt → ℕ
@@ -60,10 +53,6 @@ first_alike vs (Some r) = slice_get vs r
 unfoldable pub number_among : (FieldAt → ℕ) → List FieldAt → (ℕ → Bool) → List ℕ → ℕ
 number_among number vs alike kinds = number_or number (length vs) (first_alike vs (find alike kinds))
 
--- the vertex of this number is the first of its shape or of its call
-abbrev pub IsOwn : ℕ → FieldAt → Type 0
-IsOwn n v = (v.shape ≡ n) ⊎ (v.call ≡ n)
-
 -- one of these kinds has the number of v
 abbrev pub HasKind : (FieldAt → ℕ) → List FieldAt → List ℕ → FieldAt → Type 0
 HasKind number vs kinds v = (r : ℕ) × (w : FieldAt) × In r kinds × (slice_get vs r ≡ Some w) × (number w ≡ number v)
@@ -73,18 +62,17 @@ unfoldable pub are_alike : FieldAt → FieldAt → Bool
 are_alike v w =
     nat_eq v.shape w.shape && (nat_eq v.call w.call && (cond v.on_object w.on_object (not w.on_object) && (bytes_eq v.parent w.parent && nat_eq v.key w.key)))
 
--- each vertex has its field's declared type and the number of its response key, and no two of these have one number; kinds are vertices
--- of their response key, one at least for each number there
-pub record AreKept (s : Schema) (vs : List FieldAt) (ts : List TypeRef) (hs : List Head) (heads : ℕ → Head) (numbers : Name → Option ℕ)
-    (kinds : ℕ → List ℕ) : Type 0 where
+-- each vertex has its field's declared type and the numbers of its response key and of its call, and no two of these have one number;
+-- the shapes of a response key are vertices that have it, one at least of each number there
+pub record AreKept (s : Schema) (vs : List FieldAt) (ts : List TypeRef) (hs : List Head) (heads : ℕ → Head) (names : Name → Option ℕ)
+    (calls : List Part → Option ℕ) (shapes : ℕ → List ℕ) : Type 0 where
   pub typed : length ts ≡ length vs
   pub headed : length hs ≡ length vs
   pub types : (i : ℕ) (v : FieldAt) → slice_get vs i ≡ Some v → slice_get ts i ≡ Some (declared_type (field_of s v.parent (heads i).name.item))
-  pub once : (i : ℕ) (h : Head) → slice_get hs i ≡ Some h → IsOnce h
-  pub names : (i : ℕ) (v : FieldAt) → slice_get vs i ≡ Some v → numbers (response_key (heads i)) ≡ Some v.key
-  pub apart : (k l : Name) (n : ℕ) → numbers k ≡ Some n → numbers l ≡ Some n → k ≡ l
-  pub least : (k : Name) (n : ℕ) → numbers k ≡ Some n → n < length vs
-  pub keyed : (k r : ℕ) → In r (kinds k) → (v : FieldAt) × (slice_get vs r ≡ Some v) × (v.key ≡ k)
-  pub shapes : (i : ℕ) (v : FieldAt) → slice_get vs i ≡ Some v → HasKind (λ w. w.shape) vs (kinds v.key) v
-  pub calls : (i : ℕ) (v : FieldAt) → slice_get vs i ≡ Some v → HasKind (λ w. w.call) vs (kinds v.key) v
-  pub below : (i : ℕ) (v : FieldAt) → slice_get vs i ≡ Some v → (v.shape < length vs) × (v.call < length vs)
+  pub named : (i : ℕ) (v : FieldAt) → slice_get vs i ≡ Some v → names (response_key (heads i)) ≡ Some v.key
+  pub called : (i : ℕ) (v : FieldAt) → slice_get vs i ≡ Some v → calls (call_parts (heads i)) ≡ Some v.call
+  pub one_name : AreOneEach names (length vs)
+  pub one_call : AreOneEach calls (length vs)
+  pub keyed : (k r : ℕ) → In r (shapes k) → (v : FieldAt) × (slice_get vs r ≡ Some v) × (v.key ≡ k)
+  pub shaped : (i : ℕ) (v : FieldAt) → slice_get vs i ≡ Some v → HasKind (λ w. w.shape) vs (shapes v.key) v
+  pub below : (i : ℕ) (v : FieldAt) → slice_get vs i ≡ Some v → v.shape < length vs

@@ -2,6 +2,7 @@ pub mod NamedValues
 pub mod SameValues
 pub mod GraphView
 pub mod Gathering
+pub mod CallParts
 pub mod KindsView
 pub mod Keys
 pub mod PlainKeys

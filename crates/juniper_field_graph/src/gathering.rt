@@ -1,7 +1,7 @@
 //! The fields of selection sets, gathered into a graph.
 
 ghost use Rattle.std.specs.Prelude.{◌≡◌, ℕ, IfOk, List, None, OnOk, Some};
-ghost use Rattle.graphql_spec.specs.Documents.{Fragment as SpecFragment, Selections, name_or};
+ghost use Rattle.graphql_spec.specs.Documents.{Fragment as SpecFragment, Selections, end, name_or};
 ghost use Rattle.graphql_spec.specs.Fields as fields;
 ghost use Rattle.graphql_spec.specs.Fields.{field_of};
 ghost use Rattle.juniper_meta.specs.MetaView.{view_type};
@@ -40,7 +40,8 @@ pub(crate) struct Gathered<'d, 'a, S: ScalarValue> {
     pub(crate) sets: Vec<usize>,
 }
 
-/// Gathers a selection set on a type, and all sets in it; gives the number of the set of the fields that it holds.
+/// Gathers a selection set on a type, and all sets in it; gives the number of the set of the fields that it holds. What stands in an
+/// inline fragment is part of the set around it.
 #[cycle(gathering)]
 pub(crate) fn gather_set<'d, 'a, S: ScalarValue>(
     alloc: Global,
@@ -53,11 +54,28 @@ pub(crate) fn gather_set<'d, 'a, S: ScalarValue>(
         (GathersSet S.shown known.now fs gathered.old gathered.new parent.now (view_selections S.shown selections.now) v)) }
 {
     let mut numbers = Gathering::new(alloc);
-    for selection in selections {
-        gather_selection(alloc, known, parent, selection, &mut numbers, gathered)?;
-    }
+    gather_selections(alloc, known, parent, selections, &mut numbers, gathered)?;
     let set = put_set(numbers, gathered)?;
     Ok(set)
+}
+
+/// Gathers the selections of a set on a type, and all sets in it.
+#[cycle(gathering)]
+fn gather_selections<'d, 'a, S: ScalarValue>(
+    alloc: Global,
+    known: &Known<'d, '_, S>,
+    parent: &'d str,
+    selections: &'d [Selection<'a, S>],
+    numbers: &mut Gathering,
+    gathered: &mut Gathered<'d, 'a, S>,
+) -> Result<(), AllocError>
+    ensures { OnOk result ((fs : List SpecFragment) → WhereKnown S.shown known.now fs gathered.old
+        (GathersBefore S.shown known.now fs gathered.old gathered.new numbers.old numbers.new parent.now end (view_selections S.shown selections.now))) }
+{
+    for selection in selections {
+        gather_selection(alloc, known, parent, selection, numbers, gathered)?;
+    }
+    Ok(())
 }
 
 /// Gathers a selection on a type, before those that follow it.
@@ -90,8 +108,8 @@ fn gather_selection<'d, 'a, S: ScalarValue>(
         }
         Selection::InlineFragment(inline) => {
             let inner = type_inside(parent, inline);
-            let held = gather_set(alloc, known, inner, &inline.item.selection_set, gathered)?;
-            numbers.put(held)?;
+            let selections = &inline.item.selection_set;
+            gather_selections(alloc, known, inner, selections, numbers, gathered)?;
             Ok(())
         }
     }

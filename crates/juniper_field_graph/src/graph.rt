@@ -1,6 +1,6 @@
 //! A graph of written fields.
 
-ghost use Rattle.std.specs.Prelude.{◌≡◌, ◌||◌, ℕ, IfOk, List, None, Some, cond, false, length, map, nat_eq, not, true, []};
+ghost use Rattle.std.specs.Prelude.{◌≡◌, ℕ, IfOk, List, Some, cond, length, map, not, true, []};
 ghost use Rattle.std.specs.List.{find, slice_get};
 ghost use Rattle.graphql_spec.specs.Documents as documents;
 ghost use Rattle.graphql_spec.specs.Fields as fields;
@@ -10,14 +10,14 @@ ghost use Rattle.juniper_meta.specs.MetaView.{view_type};
 ghost use Rattle.juniper_schema.specs.SchemaView.{view_schema};
 ghost use Rattle.juniper_syntax.specs.DocumentView.{view_field};
 ghost use Rattle.juniper_field_graph.specs.GraphView.{IsGraphOf, IsPushed, WhereFits, vertices_of};
-ghost use Rattle.juniper_merging.specs.Sets.{IsTable};
-ghost use Rattle.juniper_merging.specs.Tables.{below_in, table_of};
 ghost use Rattle.juniper_field_graph.specs.KindsView as kinds_view;
-ghost use Rattle.juniper_field_graph.specs.KindsView.{HaveOnce, IsOnce, IsOwn, heads_in, number_among, number_or, types_in};
+ghost use Rattle.juniper_field_graph.specs.KindsView.{number_among, number_or, types_in};
 
+use crate::call_parts::parts_of_call;
+use crate::calls::{CallNumbers, number_of_call};
 use crate::keys::{KeyNumbers, number_of_key};
-use crate::{same_call, types_agree};
-use juniper_merging::{FieldSet, Graph, Groups, Vertex, are_same, put_group, take_group};
+use crate::types_agree;
+use juniper_merging::{FieldSet, Graph, Groups, Vertex, put_group, take_group};
 use juniper_schema::SchemaType;
 use juniper_syntax::{Field, ScalarValue, Span, Spanning, Type};
 use std::alloc::{AllocError, Global};
@@ -43,7 +43,11 @@ pub struct FieldGraph<'d, 'a, S> {
     fields: Vec<WrittenField<'d, 'a, S>>,
     /// The number of each response key: that of the first vertex that has it.
     keys: KeyNumbers<'d>,
-    /// For the number of each response key the numbers of vertices that differ from one another.
+    /// The number of each response key with a name and arguments: that of the first vertex that has them.
+    calls: CallNumbers<'d>,
+    /// For the number of each response key the first vertex of each shape.
+    shapes: Groups,
+    /// For the number of each call vertices that differ from one another.
     kinds: Groups,
 }
 
@@ -58,6 +62,8 @@ impl<'d, 'a, S: ScalarValue> FieldGraph<'d, 'a, S> {
             sets: Vec::new(alloc),
             fields: Vec::new(alloc),
             keys: BTreeMap::new(alloc),
+            calls: BTreeMap::new(alloc),
+            shapes: HashMap::new(alloc),
             kinds: HashMap::new(alloc),
         }
     }
@@ -79,9 +85,14 @@ impl<'d, 'a, S: ScalarValue> FieldGraph<'d, 'a, S> {
     {
         let number = self.vertices.len();
         let key = number_of_key(&mut self.keys, Field::response_key(field), number)?;
-        let mut kinds = take_group(alloc, &mut self.kinds, key);
-        let shape = shape_among(schema, &self.vertices, &self.fields, &kinds, declared_type);
-        let call = call_among(&self.vertices, &self.fields, &kinds, field);
+        let parts = parts_of_call(alloc, field)?;
+        let call = number_of_call(&mut self.calls, parts, number)?;
+        let mut shapes = take_group(alloc, &mut self.shapes, key);
+        let shape = shape_among(schema, &self.vertices, &self.fields, &shapes, declared_type);
+        if shape == number {
+            shapes.push(number)?;
+        }
+        put_group(&mut self.shapes, key, shapes)?;
         let vertex = Vertex {
             key,
             parent,
@@ -90,11 +101,7 @@ impl<'d, 'a, S: ScalarValue> FieldGraph<'d, 'a, S> {
             call,
             below,
         };
-        let first = first_like(&self.vertices, &self.sets, &kinds, &vertex);
-        if is_kind(number, &vertex, first, kinds.len()) {
-            kinds.push(number)?;
-        }
-        put_group(&mut self.kinds, key, kinds)?;
+        let first = first_kind(alloc, &mut self.kinds, &self.vertices, &vertex)?;
         self.vertices.push(vertex)?;
         self.fields.push(WrittenField {
             field,
@@ -114,40 +121,51 @@ impl<'d, 'a, S: ScalarValue> FieldGraph<'d, 'a, S> {
     }
 }
 
-/// Whether the shape or the call is a new vertex's own number.
-fn is_own(number: usize, shape: usize, call: usize) -> bool
-    ensures { result ≡ (nat_eq shape number || nat_eq call number) }
+/// Of a call's kinds the first that has the same vertex. Where there is none, a field that selects nothing becomes a kind; one that does
+/// select something has a vertex of its own. An error where memory is refused.
+fn first_kind(
+    alloc: Global,
+    kinds: &mut Groups,
+    vertices: &[Vertex<'_>],
+    vertex: &Vertex<'_>,
+) -> Result<Option<usize>, AllocError>
+    ensures { IfOk result (λ first. (r : ℕ) → first ≡ Some r → (t : List (List ℕ)) →
+        slice_get (map (view_vertex t) vertices.now) r ≡ Some (view_vertex t vertex.now)) }
 {
-    shape == number || call == number
+    if vertex.below.is_some() {
+        return Ok(None);
+    }
+    let mut of_call = take_group(alloc, kinds, vertex.call);
+    let first = first_like(vertices, &of_call, vertex);
+    if first.is_none() {
+        of_call.push(vertices.len())?;
+    }
+    put_group(kinds, vertex.call, of_call)?;
+    Ok(first)
 }
 
 /// The first of these kinds that has the same vertex.
-fn first_like(
-    vertices: &[Vertex<'_>],
-    sets: &[FieldSet],
-    kinds: &[usize],
-    vertex: &Vertex<'_>,
-) -> Option<usize>
-    ensures { (r : ℕ) → result ≡ Some r → IsTable sets.now →
-        slice_get (map (view_vertex (table_of sets.now)) vertices.now) r ≡ Some (view_vertex (table_of sets.now) vertex.now) }
+fn first_like(vertices: &[Vertex<'_>], kinds: &[usize], vertex: &Vertex<'_>) -> Option<usize>
+    ensures { (r : ℕ) → result ≡ Some r → (t : List (List ℕ)) →
+        slice_get (map (view_vertex t) vertices.now) r ≡ Some (view_vertex t vertex.now) }
 {
     for kind in kinds {
-        if is_like(vertices, sets, *kind, vertex) {
+        if is_like(vertices, *kind, vertex) {
             return Some(*kind);
         }
     }
     None
 }
 
-/// Whether the vertex of this number is the same, as far as one sees at once.
-fn is_like(vertices: &[Vertex<'_>], sets: &[FieldSet], number: usize, vertex: &Vertex<'_>) -> bool
-    ensures { result ≡ true → IsTable sets.now →
-        slice_get (map (view_vertex (table_of sets.now)) vertices.now) number ≡ Some (view_vertex (table_of sets.now) vertex.now) }
+/// Whether the vertex of this number is the same, and selects nothing.
+fn is_like(vertices: &[Vertex<'_>], number: usize, vertex: &Vertex<'_>) -> bool
+    ensures { result ≡ true → (t : List (List ℕ)) →
+        slice_get (map (view_vertex t) vertices.now) number ≡ Some (view_vertex t vertex.now) }
 {
     match vertices.get(number) {
         Some(other) => {
             if are_alike(other, vertex) {
-                return select_same(sets, other.below, vertex.below);
+                return select_nothing(other, vertex);
             }
             false
         }
@@ -155,14 +173,13 @@ fn is_like(vertices: &[Vertex<'_>], sets: &[FieldSet], number: usize, vertex: &V
     }
 }
 
-/// Whether two fields select the same, as far as one sees at once.
-fn select_same(sets: &[FieldSet], first: Option<usize>, second: Option<usize>) -> bool
-    ensures { result ≡ true → IsTable sets.now → below_in (table_of sets.now) first ≡ below_in (table_of sets.now) second }
+/// Whether neither field selects anything.
+fn select_nothing(x: &Vertex<'_>, y: &Vertex<'_>) -> bool
+    ensures { result ≡ true → x.now.below ≡ y.now.below }
 {
-    match (first, second) {
-        (Some(a), Some(b)) => are_same(sets, a, b),
+    match (x.below, y.below) {
         (None, None) => true,
-        (Some(_), None) => false,
+        (Some(_), _) => false,
         (None, Some(_)) => false,
     }
 }
@@ -186,30 +203,6 @@ fn is_same_truth(a: bool, b: bool) -> bool
     if a { b } else { !b }
 }
 
-/// Whether a field selects something.
-fn selects(vertex: &Vertex<'_>) -> bool
-    ensures { result ≡ false → vertex.now.below ≡ None }
-{
-    match vertex.below {
-        Some(_) => true,
-        None => false,
-    }
-}
-
-/// Whether a new vertex is a kind: the first of its shape or of its call, or like none before it, where it selects nothing or kinds
-/// are few.
-fn is_kind(number: usize, vertex: &Vertex<'_>, first: Option<usize>, kinds: usize) -> bool
-    ensures { IsOwn number (view_vertex [] vertex.now) → result ≡ true }
-{
-    if is_own(number, vertex.shape, vertex.call) {
-        return true;
-    }
-    first.is_none() && (kinds < FEW || !selects(vertex))
-}
-
-/// How many kinds are few.
-const FEW: usize = 8;
-
 /// The shape of the first kind whose declared type agrees, else the number of a new vertex.
 fn shape_among<S: ScalarValue>(
     schema: &SchemaType<S>,
@@ -229,25 +222,6 @@ fn shape_among<S: ScalarValue>(
     vertices.len()
 }
 
-/// The call of the first kind of this name with the same arguments, else the number of a new vertex.
-fn call_among<S: ScalarValue>(
-    vertices: &[Vertex<'_>],
-    fields: &[WrittenField<'_, '_, S>],
-    kinds: &[usize],
-    field: &Spanning<Field<'_, S>, Span>,
-) -> usize
-    ensures { HaveOnce (heads_in S.shown fields.now) → IsOnce (view_field S.shown field.now)
-        → (t : List (List ℕ)) → result ≡ number_among (λ v. v.call) (map (view_vertex t) vertices.now)
-        (λ r. kinds_view.has_call (view_field S.shown field.now) (slice_get (heads_in S.shown fields.now) r)) kinds.now }
-{
-    for kind in kinds {
-        if has_call(fields, *kind, field) {
-            return call_at(vertices, *kind);
-        }
-    }
-    vertices.len()
-}
-
 /// The shape of a vertex, else the number of a new one.
 #[tactic(auto, unfolding(crate::specs::KindsView::number_or, juniper_merging::specs::MergingGraph::view_vertex))]
 fn shape_at(vertices: &[Vertex<'_>], number: usize) -> usize
@@ -255,17 +229,6 @@ fn shape_at(vertices: &[Vertex<'_>], number: usize) -> usize
 {
     match vertices.get(number) {
         Some(vertex) => vertex.shape,
-        None => vertices.len(),
-    }
-}
-
-/// The call of a vertex, else the number of a new one.
-#[tactic(auto, unfolding(crate::specs::KindsView::number_or, juniper_merging::specs::MergingGraph::view_vertex))]
-fn call_at(vertices: &[Vertex<'_>], number: usize) -> usize
-    ensures { (t : List (List ℕ)) → result ≡ number_or (λ v. v.call) (length vertices.now) (slice_get (map (view_vertex t) vertices.now) number) }
-{
-    match vertices.get(number) {
-        Some(vertex) => vertex.call,
         None => vertices.len(),
     }
 }
@@ -282,22 +245,6 @@ fn has_type<S: ScalarValue>(
 {
     match fields.get(number) {
         Some(field) => types_agree(schema, field.declared_type, declared_type),
-        None => false,
-    }
-}
-
-/// Whether the field of this number has this field's name and the same arguments.
-#[tactic(auto, unfolding(crate::specs::KindsView::has_call))]
-fn has_call<S: ScalarValue>(
-    fields: &[WrittenField<'_, '_, S>],
-    number: usize,
-    field: &Spanning<Field<'_, S>, Span>,
-) -> bool
-    ensures { HaveOnce (heads_in S.shown fields.now) → IsOnce (view_field S.shown field.now)
-        → result ≡ kinds_view.has_call (view_field S.shown field.now) (slice_get (heads_in S.shown fields.now) number) }
-{
-    match fields.get(number) {
-        Some(other) => same_call(other.field, field),
         None => false,
     }
 }

@@ -2,6 +2,8 @@
 #![tactic(auto)]
 
 mod agreeing_types;
+mod call_parts;
+mod calls;
 mod gathering;
 mod graph;
 mod keys;

@@ -1,34 +1,35 @@
 //! Whether the fields of each selection set can be merged (FieldsInSetCanMerge, section 5.3.2).
 
-ghost use Rattle.std.specs.Prelude.{◌≡◌, Bool, IfOk, List, None, OnOk, Some, ℕ, cond, false, map, true};
+ghost use Rattle.std.specs.Prelude.{◌≡◌, Bool, IfOk, IfSome, List, None, OnOk, Some, ℕ, cond, false, map};
 ghost use Rattle.std.specs.Str.{bytes_eq};
 ghost use Rattle.graphql_spec.specs.Shown.{Name};
 ghost use Rattle.graphql_spec.specs.Documents as documents;
 ghost use Rattle.graphql_spec.specs.Fields as fields;
-ghost use Rattle.graphql_spec.specs.Laws.{In};
 ghost use Rattle.graphql_spec.specs.Schema.{Schema};
 ghost use Rattle.juniper_meta.specs.MetaView.{view_type};
-ghost use Rattle.juniper_merging.specs.MergingGraph.{set_merges_at};
-ghost use Rattle.juniper_merging.specs.Questions.{IsSoundIn, fields_of};
+ghost use Rattle.juniper_merging.specs.Questions.{fields_of};
 ghost use Rattle.juniper_merging.specs.Sets.{IsTable};
-ghost use Rattle.juniper_merging.specs.Tables.{set_at, table_of};
+ghost use Rattle.juniper_merging.specs.Tables.{table_of};
 ghost use Rattle.juniper_schema.specs.SchemaView.{view_schema};
 ghost use Rattle.juniper_written.specs.SpreadsView.{AreFragmentsOf};
 ghost use Rattle.juniper_syntax.specs.DocumentView.{view_definition, view_fragment};
 ghost use Rattle.juniper_field_graph.specs.Gathering.{GathersDefinition, HoldsAll, HoldsToo, IsAnswer, JudgesEach, Pairwise, WhereEnding, WhereKnown};
-ghost use Rattle.juniper_field_graph.specs.Gathering.{GathersEach, set_named};
+ghost use Rattle.juniper_field_graph.specs.Gathering.{GathersEach, IsListedAs, ListsDefinition, list_named, set_named};
 ghost use Rattle.juniper_field_graph.specs.GraphView.{IsGraphOf};
 
 use crate::gathering::{Gathered, Known, gather_set};
 use crate::graph::FieldGraph;
 use crate::plain_keys::has_plain_keys;
-use juniper_merging::{Graph, Known as Answers, set_merges};
+use juniper_merging::{Graph, Known as Answers, sets_merge};
 use juniper_placed::root_name;
 use juniper_schema::SchemaType;
 use juniper_syntax::{Definition, Fragment, ScalarValue, Selection, Span, Spanning, Type};
 use juniper_written::FragmentsByName;
 use std::alloc::{AllocError, Global};
 use std::collections::BTreeMap;
+
+/// For the name of each fragment the numbers of its sets.
+type SetLists<'d> = BTreeMap<&'d str, Vec<usize>>;
 
 /// For each definition of a document with these fragments, whether two fields in one of its selection sets cannot be merged
 /// (5.3.2), where the rules on names find nothing. Each field of the document is looked at once, and no more where those of one
@@ -75,14 +76,23 @@ fn judge_all<'u, 'd: 'u, 'a: 'u, S: ScalarValue>(
 {
     let order = fragments.in_order(alloc)?;
     let mut held: BTreeMap<&'u str, usize> = BTreeMap::new(alloc);
+    let mut listed: SetLists<'u> = BTreeMap::new(alloc);
     let mut gathered = nothing_gathered(alloc);
-    hold_fragments(alloc, schema, undeclared, &order, &mut held, &mut gathered)?;
+    hold_fragments(
+        alloc,
+        schema,
+        undeclared,
+        &order,
+        &mut held,
+        &mut listed,
+        &mut gathered,
+    )?;
     let known = Known {
         schema,
         undeclared,
         fragments: &held,
     };
-    let lists = gather_each(alloc, &known, document, &mut gathered)?;
+    let lists = list_each(alloc, &known, document, &listed, &mut gathered)?;
     let graph = gathered.graph.as_graph();
     let found = judge_each(alloc, &graph, &lists)?;
     Ok(found)
@@ -106,39 +116,42 @@ fn nothing_gathered<'d, 'a, S: ScalarValue>(alloc: Global) -> Gathered<'d, 'a, S
     }
 }
 
-/// Gathers what fragments hold, in an order in which each stands behind those that it spreads.
+/// Gathers what fragments hold, in an order in which each stands behind those that it spreads, and lists their sets.
 fn hold_fragments<'d, 'f: 'd, 'a, S: ScalarValue>(
     alloc: Global,
     schema: &'d SchemaType<S>,
     undeclared: &'d Type<String>,
     order: &Vec<&'f Spanning<Fragment<'a, S>, Span>>,
     held: &mut BTreeMap<&'d str, usize>,
+    listed: &mut SetLists<'d>,
     gathered: &mut Gathered<'d, 'a, S>,
 ) -> Result<(), AllocError>
     ensures { OnOk result ((fs : List documents.Fragment) → WhereEnding fs (view_type undeclared.now)
         (HoldsAll S.shown (view_schema S.shown schema.now) fs gathered.old.graph gathered.new.graph (set_named held.old) (set_named held.new)
-        (map (λ f. view_fragment S.shown f.now) order.now.items))) }
+        (list_named listed.old) (list_named listed.new) (map (λ f. view_fragment S.shown f.now) order.now.items))) }
 {
     for index in 0..order.len() {
         let fragment = order[index];
-        hold_fragment(alloc, schema, undeclared, fragment, held, gathered)?;
+        hold_fragment(alloc, schema, undeclared, fragment, held, listed, gathered)?;
     }
     Ok(())
 }
 
-/// Gathers what a fragment holds, where those that it spreads are held.
+/// Gathers what a fragment holds, where those that it spreads are held, and lists its sets.
 fn hold_fragment<'d, 'a, S: ScalarValue>(
     alloc: Global,
     schema: &'d SchemaType<S>,
     undeclared: &'d Type<String>,
     fragment: &'d Spanning<Fragment<'a, S>, Span>,
     held: &mut BTreeMap<&'d str, usize>,
+    listed: &mut SetLists<'d>,
     gathered: &mut Gathered<'d, 'a, S>,
 ) -> Result<(), AllocError>
     ensures { OnOk result ((fs : List documents.Fragment) → WhereEnding fs (view_type undeclared.now)
         (HoldsToo S.shown (view_schema S.shown schema.now) fs gathered.old.graph gathered.new.graph (set_named held.old) (set_named held.new)
-        (view_fragment S.shown fragment.now))) }
+        (list_named listed.old) (list_named listed.new) (view_fragment S.shown fragment.now))) }
 {
+    gathered.sets.clear();
     let known = Known {
         schema,
         undeclared,
@@ -153,6 +166,8 @@ fn hold_fragment<'d, 'a, S: ScalarValue>(
         gathered,
     )?;
     put_set_at(held, fragment.item.name.item, set)?;
+    let sets = copied(alloc, &gathered.sets)?;
+    put_list_at(listed, fragment.item.name.item, sets)?;
     Ok(())
 }
 
@@ -168,25 +183,86 @@ fn put_set_at<'d>(
     Ok(())
 }
 
+/// Puts the list at a name.
+fn put_list_at<'d>(
+    listed: &mut SetLists<'d>,
+    name: &'d str,
+    sets: Vec<usize>,
+) -> Result<(), AllocError>
+    ensures { OnOk result ((k : Name) → list_named listed.new k ≡ cond (bytes_eq name.now k) (Some sets.items) (list_named listed.old k)) }
+{
+    drop(listed.insert(name, sets)?);
+    Ok(())
+}
+
+/// The same numbers in memory of their own.
+fn copied(alloc: Global, sets: &[usize]) -> Result<Vec<usize>, AllocError>
+    ensures { IfOk result (λ made. made.items ≡ sets.now) }
+{
+    let mut made = Vec::new(alloc);
+    made.extend_from_slice(sets)?;
+    Ok(made)
+}
+
 /// For each definition the sets in it.
-fn gather_each<'d, 'a, S: ScalarValue>(
+fn list_each<'d, 'a, S: ScalarValue>(
     alloc: Global,
     known: &Known<'d, '_, S>,
     document: &'d [Definition<'a, S>],
+    listed: &SetLists<'d>,
     gathered: &mut Gathered<'d, 'a, S>,
 ) -> Result<Vec<Vec<usize>>, AllocError>
     ensures { IfOk result (λ lists. (fs : List documents.Fragment) → WhereKnown S.shown known.now fs gathered.old
-        (GathersEach S.shown known.now fs gathered.old gathered.new (map (view_definition S.shown) document.now) (map (λ l. l.items) lists.items))) }
+        (GathersEach S.shown known.now fs gathered.old gathered.new (list_named listed.now) (map (view_definition S.shown) document.now)
+        (map (λ l. l.items) lists.items))) }
 {
     let mut lists = Vec::new(alloc);
     for definition in document {
-        gathered.sets.clear();
-        gather_definition(alloc, known, definition, gathered)?;
-        let mut sets = Vec::new(alloc);
-        sets.extend_from_slice(&gathered.sets)?;
+        let sets = list_definition(alloc, known, definition, listed, gathered)?;
         lists.push(sets)?;
     }
     Ok(lists)
+}
+
+/// The sets in a definition: of a fragment those that were listed; else they are gathered.
+fn list_definition<'d, 'a, S: ScalarValue>(
+    alloc: Global,
+    known: &Known<'d, '_, S>,
+    definition: &'d Definition<'a, S>,
+    listed: &SetLists<'d>,
+    gathered: &mut Gathered<'d, 'a, S>,
+) -> Result<Vec<usize>, AllocError>
+    ensures { IfOk result (λ sets. (fs : List documents.Fragment) → WhereKnown S.shown known.now fs gathered.old
+        (ListsDefinition S.shown known.now fs gathered.old gathered.new (list_named listed.now) (view_definition S.shown definition.now) sets.items)) }
+{
+    match sets_listed(listed, definition) {
+        Some(sets) => {
+            let made = copied(alloc, sets)?;
+            Ok(made)
+        }
+        None => {
+            gathered.sets.clear();
+            gather_definition(alloc, known, definition, gathered)?;
+            let made = copied(alloc, &gathered.sets)?;
+            Ok(made)
+        }
+    }
+}
+
+/// The sets that were listed for a fragment, where there are some.
+fn sets_listed<'k, S: ScalarValue>(
+    listed: &'k SetLists<'_>,
+    definition: &Definition<'_, S>,
+) -> Option<&'k [usize]>
+    ensures { IfSome result (λ sets. IsListedAs (list_named listed.now) (view_definition S.shown definition.now) sets.now) }
+{
+    match definition {
+        Definition::Operation(_) => None,
+        Definition::Fragment(fragment) => match listed.get(fragment.item.name.item) {
+            Some(sets) => Some(sets.as_slice()),
+            None => None,
+        },
+    }
 }
 
 /// Gathers the sets of a definition.
@@ -228,32 +304,11 @@ fn judge_each(
     ensures { IfOk result (λ found. IsTable graph.now.sets.now
         → Pairwise (IsAnswer (fields_of graph.now) (table_of graph.now.sets.now)) (map (λ l. l.items) lists.now) found.items) }
 {
-    let mut answers = Answers::new(alloc, graph)?;
+    let answers = Answers::new(alloc, graph)?;
     let mut found = Vec::new(alloc);
     for sets in lists {
-        let merge = all_merge(alloc, graph, sets, &mut answers)?;
+        let merge = sets_merge(graph, sets, &answers)?;
         found.push(!merge)?;
     }
     Ok(found)
-}
-
-/// Whether each of the sets can be merged.
-fn all_merge(
-    alloc: Global,
-    graph: &Graph<'_, '_>,
-    sets: &[usize],
-    answers: &mut Answers,
-) -> Result<bool, AllocError>
-    ensures sound { OnOk result (IsTable graph.now.sets.now → IsSoundIn graph.now answers.old → IsSoundIn graph.now answers.new) }
-    ensures merges { IfOk result (λ b. IsTable graph.now.sets.now → IsSoundIn graph.now answers.old → b ≡ true → (set : ℕ) → In set sets.now → (n : ℕ) →
-        set_merges_at (fields_of graph.now) n (set_at (table_of graph.now.sets.now) set) ≡ true) }
-    ensures differs { IfOk result (λ b. IsTable graph.now.sets.now → IsSoundIn graph.now answers.old → b ≡ false → (set : ℕ) × In set sets.now
-        × ((n : ℕ) × (set_merges_at (fields_of graph.now) n (set_at (table_of graph.now.sets.now) set) ≡ false))) }
-{
-    for set in sets {
-        if !set_merges(alloc, graph, *set, answers)? {
-            return Ok(false);
-        }
-    }
-    Ok(true)
 }

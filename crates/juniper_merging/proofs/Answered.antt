@@ -1,12 +1,12 @@
--- What is known of sets and of pairs, and one thing more.
+-- What is known of nodes and of pairs, and one thing more.
 use Rattle.std.specs.Prelude.{ℕ, Bool, List, [], ◌∷◌, ◌++◌, ◌-◌, ◌≡◌, ◌⊎◌, ◌<◌, Option, Some, None, Vec, cond, length, nat_eq, slice_set}
 use Rattle.std.specs.List.{slice_get}
 use Rattle.std.specs.declared.alloc.Global.{Global}
 use Rattle.std.proofs.lemmas.Bool.{cases_Bool}
 use Rattle.std.proofs.Common.{refl, sym, ap, ◌∙◌, inl, inr, subst}
-use Rattle.juniper_merging.specs.Conflicts.{AreKnown, AreQuiet, IsPutAt, asked_at, clash_at, flat, found_in, row_or_none}
+use Rattle.juniper_merging.specs.Conflicts.{AreKnown, AreQuiet, IsPutAt, asked_at, clash_at, flat_option, found_in, row_or_none}
 use Rattle.juniper_merging.specs.MergingGraph.{FieldAt}
-use Rattle.juniper_merging.specs.Questions.{Tells, between_test, within_test}
+use Rattle.juniper_merging.specs.Nodes.{Says, SaysBoth}
 use Rattle.juniper_merging.specs.declared.asks.Asks.{Asks}
 use Rattle.juniper_merging.specs.declared.clash.Clash.{Clash}
 use Rattle.juniper_merging.specs.declared.conflicts.Conflicts.{Conflicts}
@@ -16,15 +16,15 @@ use Rattle.juniper_merging.proofs.Numbers.{same-number}
 use Rattle.juniper_merging.proofs.Tables.{one-of}
 use Rattle.juniper_merging.proofs.Told.{some-same}
 
-module _ (vs : List FieldAt) (t : List (List ℕ)) where
-  -- how each two fields of one set more clash
+module _ (vs : List FieldAt) (H : ℕ → List ℕ) where
+  -- how each two fields of one node more clash
   pub within-more : (old new : Conflicts) (x : Clash) → new.loud ≡ old.loud → new.asks ≡ old.asks → new.known ≡ old.known →
-      new.within.items ≡ old.within.items ++ x ∷ [] → Tells (λ m. within_test vs t m (length old.within.items)) x → AreKnown vs t old → AreKnown vs t new
+      new.within.items ≡ old.within.items ++ x ∷ [] → Says vs (H (length old.within.items)) x → AreKnown vs H old → AreKnown vs H new
   within-more old new x loud asks known within tells is = record {
-    quiet = subst (λ (v : Vec Bool Global). AreQuiet vs t v.items) (sym loud) is.quiet;
+    quiet = subst (λ (v : Vec Bool Global). AreQuiet vs H v.items) (sym loud) is.quiet;
     within = λ a y e. elim (one-of old.within.items x y a (subst (λ l. slice_get l a ≡ Some y) within e)) [
       | inl f ↦ is.within a y f
-      | inr r ↦ subst (λ n. Tells (λ m. within_test vs t m n) y) (sym r.0) (subst (Tells (λ m. within_test vs t m (length old.within.items))) r.1 tells)
+      | inr r ↦ subst (λ n. Says vs (H n) y) (sym r.0) (subst (Says vs (H (length old.within.items))) r.1 tells)
     ];
     between = λ a p far y e f. is.between a p far y (subst (λ (v : Vec Asks Global). asked_at v.items a p ≡ Some far) asks e)
         (subst (λ (v : Vec (Vec (Option Clash) Global) Global). clash_at v.items a p ≡ Some y) known f);
@@ -33,39 +33,49 @@ module _ (vs : List FieldAt) (t : List (List ℕ)) where
   -- what is known of pairs was known, or tells how they clash
   pub pairs-changed : (old new : Conflicts) → new.loud ≡ old.loud → new.asks ≡ old.asks → new.within ≡ old.within →
       ((a p far : ℕ) (y : Clash) → asked_at old.asks.items a p ≡ Some far → clash_at new.known.items a p ≡ Some y →
-      (clash_at old.known.items a p ≡ Some y) ⊎ Tells (λ m. between_test vs t m a (a - far)) y) → AreKnown vs t old → AreKnown vs t new
+      (clash_at old.known.items a p ≡ Some y) ⊎ SaysBoth vs (H a) (H (a - far)) y) → AreKnown vs H old → AreKnown vs H new
   pairs-changed old new loud asks within changed is = record {
-    quiet = subst (λ (v : Vec Bool Global). AreQuiet vs t v.items) (sym loud) is.quiet;
+    quiet = subst (λ (v : Vec Bool Global). AreQuiet vs H v.items) (sym loud) is.quiet;
     within = λ a y e. is.within a y (subst (λ (v : Vec Clash Global). slice_get v.items a ≡ Some y) within e);
     between = λ a p far y e f.
         let g = subst (λ (v : Vec Asks Global). asked_at v.items a p ≡ Some far) asks e in
         elim (changed a p far y g f) [ inl h ↦ is.between a p far y g h | inr h ↦ h ];
   }
 
+  -- the distances of each set are as they were
+  pub asks-same : (old new : Conflicts) → new.loud ≡ old.loud → new.known ≡ old.known → new.within ≡ old.within →
+      ((a p : ℕ) → asked_at new.asks.items a p ≡ asked_at old.asks.items a p) → AreKnown vs H old → AreKnown vs H new
+  asks-same old new loud known within same is = record {
+    quiet = subst (λ (v : Vec Bool Global). AreQuiet vs H v.items) (sym loud) is.quiet;
+    within = λ a y e. is.within a y (subst (λ (v : Vec Clash Global). slice_get v.items a ≡ Some y) within e);
+    between = λ a p far y e f. is.between a p far y (sym (same a p) ∙ e)
+        (subst (λ (v : Vec (Vec (Option Clash) Global) Global). clash_at v.items a p ≡ Some y) known f);
+  }
+
   -- one pair more
   pub pair-put : (old new : Conflicts) (set place far : ℕ) (x : Clash) → new.loud ≡ old.loud → new.asks ≡ old.asks → new.within ≡ old.within →
       IsPutAt old.known.items new.known.items set place x → asked_at old.asks.items set place ≡ Some far →
-      Tells (λ m. between_test vs t m set (set - far)) x → AreKnown vs t old → AreKnown vs t new
+      SaysBoth vs (H set) (H (set - far)) x → AreKnown vs H old → AreKnown vs H new
   pair-put old new set place far x loud asks within put asked tells = pairs-changed old new loud asks within (λ a p f y e g. elim (put a p y g) [
     | inl h ↦ inl h
     | inr r ↦ inr (moved a p f y r.0 r.2
         (some-same (sym asked ∙ ((λ u. asked_at old.asks.items (sym r.0 u) (sym r.1 u)) ∙ e))))
   ])
     where
-      moved : (a p f : ℕ) (y : Clash) → a ≡ set → y ≡ x → far ≡ f → Tells (λ m. between_test vs t m a (a - f)) y
-      moved a p f y q r same = subst (λ n. Tells (λ m. between_test vs t m n (n - f)) y) (sym q)
-          (subst (λ n. Tells (λ m. between_test vs t m set (set - n)) y) same
-          (subst (Tells (λ m. between_test vs t m set (set - far))) (sym r) tells))
+      moved : (a p f : ℕ) (y : Clash) → a ≡ set → y ≡ x → far ≡ f → SaysBoth vs (H a) (H (a - f)) y
+      moved a p f y q r same = subst (λ n. SaysBoth vs (H n) (H (n - f)) y) (sym q)
+          (subst (λ n. SaysBoth vs (H set) (H (set - n)) y) same
+          (subst (SaysBoth vs (H set) (H (set - far))) (sym r) tells))
 
   -- nothing at all is known of what a set more is asked
   pub nothing-known : (old new : Conflicts) (row : Vec (Option Clash) Global) → new.loud ≡ old.loud → new.asks ≡ old.asks → new.within ≡ old.within →
       new.known.items ≡ old.known.items ++ row ∷ [] → ((p : ℕ) (o : Option Clash) → slice_get row.items p ≡ Some o → o ≡ None) →
-      AreKnown vs t old → AreKnown vs t new
-  unfolding row_or_none flat
+      AreKnown vs H old → AreKnown vs H new
+  unfolding row_or_none flat_option
   nothing-known old new row loud asks within push none = pairs-changed old new loud asks within (λ a p far y e f.
       inl (at a p y (subst (λ l. clash_at l a p ≡ Some y) push f)))
     where
-      never : (p : ℕ) (y : Clash) (o : Option (Option Clash)) → slice_get row.items p ≡ o → flat o ≡ Some y → ⊥
+      never : (p : ℕ) (y : Clash) (o : Option (Option Clash)) → slice_get row.items p ≡ o → flat_option o ≡ Some y → ⊥
       never p y None e f = none-some f
       never p y (Some x) e f = none-some (sym (none p x e) ∙ f)
 
@@ -81,8 +91,8 @@ module _ (vs : List FieldAt) (t : List (List ℕ)) where
       at a p y f = found a p y (slice_get (old.known.items ++ row ∷ []) a) refl f
 
   -- at the beginning nothing is
-  pub nothing-answered : (c : Conflicts) → AreQuiet vs t c.loud.items → c.known.items ≡ [] → c.within.items ≡ [] → AreKnown vs t c
-  unfolding row_or_none flat
+  pub nothing-answered : (c : Conflicts) → AreQuiet vs H c.loud.items → c.known.items ≡ [] → c.within.items ≡ [] → AreKnown vs H c
+  unfolding row_or_none flat_option
   nothing-answered c quiet known within = record {
     quiet = quiet;
     within = λ a y e. none-some (subst (λ l. slice_get l a ≡ Some y) within e);
@@ -98,10 +108,10 @@ none-pushed row more push none p o e = elim (one-of row None o p (subst (λ l. s
 
 pub clash-put : (row : List (Option Clash)) (place : ℕ) (x : Clash) → place < length row → (p : ℕ) (c : Clash) →
     found_in (slice_set row place (Some x)) p ≡ Some c → (found_in row p ≡ Some c) ⊎ ((p ≡ place) × (c ≡ x))
-unfolding flat
+unfolding flat_option
 clash-put row place x below p c e = elim (cases_Bool (nat_eq place p)) [
-  | inl q ↦ inr (sym (same-number place p q), sym (some-same (sym (ap flat (at ∙ ap (λ b. cond b (Some (Some x)) (slice_get row p)) q)) ∙ e)))
-  | inr q ↦ inl (sym (ap flat (at ∙ ap (λ b. cond b (Some (Some x)) (slice_get row p)) q)) ∙ e)
+  | inl q ↦ inr (sym (same-number place p q), sym (some-same (sym (ap flat_option (at ∙ ap (λ b. cond b (Some (Some x)) (slice_get row p)) q)) ∙ e)))
+  | inr q ↦ inl (sym (ap flat_option (at ∙ ap (λ b. cond b (Some (Some x)) (slice_get row p)) q)) ∙ e)
 ]
   where
     at : slice_get (slice_set row place (Some x)) p ≡ cond (nat_eq place p) (Some (Some x)) (slice_get row p)
@@ -122,7 +132,7 @@ module _ (set place : ℕ) (x : Clash) where
   pub row-put : (old new : List (Vec (Option Clash) Global)) (was now : Vec (Option Clash) Global) → ((a : ℕ) (r : Vec (Option Clash) Global) →
       slice_get new a ≡ Some r → (slice_get old a ≡ Some r) ⊎ ((a ≡ set) × (r ≡ now))) → slice_get old set ≡ Some was →
       ((p : ℕ) (c : Clash) → found_in now.items p ≡ Some c → (found_in was.items p ≡ Some c) ⊎ ((p ≡ place) × (c ≡ x))) → IsPutAt old new set place x
-  unfolding row_or_none flat
+  unfolding row_or_none flat_option
   row-put old new was now rows there put a p c e = found (slice_get new a) refl e
     where
       found : (o : Option (Vec (Option Clash) Global)) → slice_get new a ≡ o → found_in (row_or_none o) p ≡ Some c →

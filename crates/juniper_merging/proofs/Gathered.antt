@@ -7,13 +7,12 @@ use Rattle.std.proofs.Common.{refl, sym, ap, ◌∙◌, inl, inr, subst}
 use Rattle.graphql_spec.specs.Laws.{In}
 use Rattle.graphql_spec.proofs.Grouping.{in_append, in_first, in_second}
 use Rattle.juniper_merging.specs.Standing.{AreAlike, Both}
-use Rattle.juniper_merging.specs.Sets.{IsInside, IsListOf, IsPut, IsSetOf, IsTable}
+use Rattle.juniper_merging.specs.Sets.{IsInside, IsPut, IsSetOf, IsTable}
 use Rattle.juniper_merging.specs.Tables.{joined, set_at, set_of, table_of}
 use Rattle.juniper_merging.specs.declared.sets.FieldSet.{FieldSet}
 use Rattle.juniper_merging.specs.declared.sets.Gathering.{Gathering}
-use Rattle.juniper_merging.proofs.Growing.{alike-kept}
 use Rattle.juniper_merging.proofs.Places.{alike-both, both-across, both-first, both-parts, both-second, both-turned}
-use Rattle.juniper_merging.proofs.Tables.{extends-more, last-set, set-some, table-with}
+use Rattle.juniper_merging.proofs.Tables.{extends-more, last-set, table-with}
 
 -- ## Lists that hold the same in some order
 
@@ -57,10 +56,6 @@ module _ (xs ys zs : List ℕ) where
         | inl k ↦ both-first x y (xs ++ zs) ys (both-across x y xs zs k j)
         | inr k ↦ both-turned y x ((xs ++ zs) ++ ys) (both-across y x (xs ++ zs) ys (in_second y xs zs j) k)
       ]
-
--- what is alike by way of another list
-alike-through : (xs ys zs : List ℕ) → Alike xs ys → Alike ys zs → Alike xs zs
-alike-through xs ys zs a b = alike-kept (λ x i. x ≡ i) xs ys zs a b
 
 moved-alike : (all xs ys zs : List ℕ) → Alike all ((xs ++ ys) ++ zs) → Alike all ((xs ++ zs) ++ ys)
 moved-alike all xs ys zs a = record {
@@ -114,77 +109,15 @@ module _ (t : List (List ℕ)) where
 -- ## The set that is made
 
 module _ (xs : List FieldSet) (g : Gathering) (all : List ℕ) (is : IsTable xs) (so : IsSetOf (table_of xs) g all) where
-  -- where all that was gathered is a set, this is it
-  pub single-put : (i : ℕ) → g.fields.items ≡ [] → g.parts.items ≡ i ∷ [] → IsPut xs xs all i
-  unfolding joined
-  single-put i none single =
-      let r = so.inside i (subst (In i) (sym single) (inl refl)) in
-      record {
-        table = is;
-        more = λ j l e. e;
-        kept = r.0;
-        there = r.1;
-        alike = subst (Alike all) (append-nil r.0)
-            (subst (λ l. Alike all (l ++ [])) (set-some (table_of xs) i r.0 r.1)
-            (subst (λ l. Alike all (joined (table_of xs) l)) single
-            (subst (λ l. Alike all (l ++ joined (table_of xs) g.parts.items)) none so.alike)));
-      }
-
--- else a set is put behind the others
-pub whole-put : (xs : List FieldSet) (fields parts : Vec ℕ Global) (all : List ℕ) → IsTable xs → IsListOf (table_of xs) fields.items parts.items all →
-    (ys : List FieldSet) (i : ℕ) → ys ≡ xs ++ (record { fields = fields; parts = parts }) ∷ [] → i ≡ length xs → IsPut xs ys all i
-unfolding set_of
-whole-put xs fields parts all is so ys i put at =
-    let s : FieldSet = record { fields = fields; parts = parts } in
-    subst (λ zs. IsPut xs zs all i) (sym put) (record {
-      table = table-with xs s is so.inside;
-      more = extends-more xs s is;
-      kept = set_of (table_of xs) s;
-      there = subst (λ n. slice_get (table_of (xs ++ s ∷ [])) n ≡ Some (set_of (table_of xs) s)) (sym at) (last-set xs s is);
-      alike = so.alike;
-    })
-
--- fields alone are a list of them
-pub fields-list : (t : List (List ℕ)) (fields parts : List ℕ) → parts ≡ [] → IsListOf t fields parts fields
-unfolding joined
-fields-list t fields parts none = record {
-  inside = λ i m. absurd (subst (In i) none m);
-  alike = subst (λ l. Alike fields (fields ++ joined t l)) (sym none) (subst (Alike fields) (sym (append-nil fields)) (itself-alike fields));
-}
-
--- the fields of a set, made a set of their own
-module _ (xs ys : List FieldSet) (fields parts more empty all : List ℕ) (own : ℕ) (put : IsPut xs ys fields own)
-    (so : IsListOf (table_of xs) fields parts all) where
-  extended-joined : (ps : List ℕ) → ((p : ℕ) → In p ps → IsInside (table_of xs) p) → joined (table_of ys) ps ≡ joined (table_of xs) ps
-  unfolding joined
-  extended-joined [] inside = refl
-  extended-joined (p ∷ ps) inside = let r = inside p (inl refl) in
-      (λ k. (set-some (table_of ys) p r.0 (put.more p r.0 r.1) ∙ sym (set-some (table_of xs) p r.0 r.1)) k ++ extended-joined ps (λ q m. inside q (inr m)) k)
-
-  pub split-list : more ≡ parts ++ own ∷ [] → empty ≡ [] → IsListOf (table_of ys) empty more all
-  split-list push none = record {
-    inside = λ i m. elim (in_append i parts (own ∷ []) (subst (In i) push m)) [
-      | inl j ↦ (let r = so.inside i j in (r.0, put.more i r.0 r.1))
-      | inr (inl q) ↦ subst (IsInside (table_of ys)) (sym q) (put.kept, put.there)
-      | inr (inr j) ↦ absurd j
-    ];
-    alike = subst (λ l. Alike all (l ++ joined (table_of ys) more)) (sym none) (subst (λ l. Alike all (joined (table_of ys) l)) (sym push)
-        (subst (Alike all) (sym (joined-more (table_of ys) parts own
-        ∙ (λ k. extended-joined parts so.inside k ++ set-some (table_of ys) own put.kept put.there k)))
-        (alike-through all (fields ++ joined (table_of xs) parts) (joined (table_of xs) parts ++ put.kept) so.alike
-        (alike-through (fields ++ joined (table_of xs) parts) (put.kept ++ joined (table_of xs) parts) (joined (table_of xs) parts ++ put.kept)
-        (alike-both (λ x i. x ≡ i) fields (joined (table_of xs) parts) put.kept (joined (table_of xs) parts) put.alike
-        (itself-alike (joined (table_of xs) parts)))
-        (moved-alike (put.kept ++ joined (table_of xs) parts) [] put.kept (joined (table_of xs) parts)
-        (itself-alike (put.kept ++ joined (table_of xs) parts)))))));
-  }
-
--- two sets more, one after the other
-pub put-twice : (xs ys zs : List FieldSet) (fields all : List ℕ) (own i : ℕ) → IsPut xs ys fields own → IsPut ys zs all i → IsPut xs zs all i
-put-twice xs ys zs fields all own i first second = record {
-  table = second.table;
-  more = λ j l e. second.more j l (first.more j l e);
-  kept = second.kept;
-  there = second.there;
-  alike = second.alike;
-}
+  -- else it is put behind the others
+  pub whole-put : (ys : List FieldSet) (i : ℕ) (s : FieldSet) → s.fields ≡ g.fields → s.parts ≡ g.parts → ys ≡ xs ++ s ∷ [] → i ≡ length xs →
+      IsPut xs ys all i
+  unfolding set_of
+  whole-put ys i s e f put at = subst (λ zs. IsPut xs zs all i) (sym put) (record {
+    table = table-with xs s is (λ p m. so.inside p (subst (λ (v : Vec ℕ Global). In p v.items) f m));
+    more = extends-more xs s is;
+    kept = set_of (table_of xs) s;
+    there = subst (λ n. slice_get (table_of (xs ++ s ∷ [])) n ≡ Some (set_of (table_of xs) s)) (sym at) (last-set xs s is);
+    alike = subst (λ (v : Vec ℕ Global). Alike all (v.items ++ joined (table_of xs) s.parts.items)) (sym e)
+        (subst (λ (v : Vec ℕ Global). Alike all (g.fields.items ++ joined (table_of xs) v.items)) (sym f) so.alike);
+  })

@@ -6,13 +6,17 @@ mod Telling
 mod Passed
 mod Listing
 mod Told
+mod Joint
 mod Quiet
-mod QuietSets
 mod Rows
 mod Looked
 mod Indexed
 mod Beside
 mod Answered
+mod OfHeads
+mod Held
+mod Making
+mod Few
 mod Distances
 mod Vertices
 pub mod Tables
@@ -21,3 +25,5 @@ mod Settling
 pub mod Whole
 pub mod Growing
 pub mod Covering
+mod Numbering
+mod Placing

@@ -1,5 +1,5 @@
 -- Lists at numbers, and what is put at one of them.
-use Rattle.std.specs.Prelude.{ℕ, zero, suc, true, false, cond, List, [], ◌∷◌, ◌++◌, ◌≡◌, ◌⊎◌, ◌<◌, ◌≤◌, Some, None, Vec, length, get_or, nat_eq}
+use Rattle.std.specs.Prelude.{ℕ, zero, suc, true, false, cond, List, [], ◌∷◌, ◌++◌, ◌≡◌, ◌⊎◌, ◌<◌, ◌≤◌, Some, None, Vec, length, get_or, nat_eq, take}
 use Rattle.std.specs.Prelude.{slice_index_or, slice_set}
 use Rattle.std.specs.List.{slice_get}
 use Rattle.std.specs.declared.alloc.Global.{Global}
@@ -9,8 +9,8 @@ use Rattle.std.proofs.lemmas.Option.{slice_get_past}
 use Rattle.std.proofs.Common.{arith, refl, sym, ap, ◌∙◌, inl, inr, subst}
 use Rattle.graphql_spec.specs.Laws.{In}
 use Rattle.graphql_spec.proofs.Grouping.{in_append, in_first, in_second}
-use Rattle.juniper_merging.specs.Groups.{numbers_of}
-use Rattle.juniper_merging.specs.Listed.{IsListedMore, listed}
+use Rattle.juniper_merging.specs.Listed.{IsListedMore, items_of, listed}
+use Rattle.juniper_merging.specs.Standing.{Both}
 use Rattle.juniper_merging.proofs.Numbers.{itself, same-number}
 
 module _ {A : Type 0} (x : A) where
@@ -40,33 +40,33 @@ got-at [] p x d l e = absurd (omega (arith, l))
 got-at (y ∷ xs) zero x d l e = ap Some (sym e)
 got-at (y ∷ xs) (suc p) x d l e = got-at xs p x d (omega (arith, l)) e
 
-pub in-got : (xs : List ℕ) (i x : ℕ) → i < length xs → x ≡ get_or xs i x → In x xs
+pub in-got : {A : Type 0} (xs : List A) (i : ℕ) (x : A) → i < length xs → x ≡ get_or xs i x → In x xs
 in-got [] i x l e = absurd (omega (arith, l))
 in-got (y ∷ xs) zero x l e = inl e
 in-got (y ∷ xs) (suc i) x l e = inr (in-got xs i x (omega (arith, l)) e)
 
-module _ (ls : List (Vec ℕ Global)) where
-  pub listed-at : (i : ℕ) (v : Vec ℕ Global) → slice_get ls i ≡ Some v → listed ls i ≡ v.items
-  unfolding listed numbers_of
-  listed-at i v e = ap numbers_of e
+module _ {A : Type 0} (ls : List (Vec A Global)) where
+  pub listed-at : (i : ℕ) (v : Vec A Global) → slice_get ls i ≡ Some v → listed ls i ≡ v.items
+  unfolding listed items_of
+  listed-at i v e = ap items_of e
 
   pub none-listed : (i : ℕ) → slice_get ls i ≡ None → listed ls i ≡ []
-  unfolding listed numbers_of
-  none-listed i e = ap numbers_of e
+  unfolding listed items_of
+  none-listed i e = ap items_of e
 
   -- a list with one number more is put in the place of the one
-  pub listed-more : (p n : ℕ) (v w : Vec ℕ Global) → p < length ls → slice_get ls p ≡ Some v → w.items ≡ v.items ++ n ∷ [] →
+  pub listed-more : (p : ℕ) (n : A) (v w : Vec A Global) → p < length ls → slice_get ls p ≡ Some v → w.items ≡ v.items ++ n ∷ [] →
       IsListedMore ls (slice_set ls p w) p n
-  unfolding listed numbers_of
-  listed-more p n v w l e more i = ap numbers_of (set-at w ls p i l) ∙ elim (cases_Bool (nat_eq p i)) [
-    | inl q ↦ rw q (more ∙ ap (λ o. numbers_of o ++ n ∷ []) (sym e ∙ ap (slice_get ls) (same-number p i q)))
-    | inr q ↦ rw q (sym (append-nil (numbers_of (slice_get ls i))))
+  unfolding listed items_of
+  listed-more p n v w l e more i = ap items_of (set-at w ls p i l) ∙ elim (cases_Bool (nat_eq p i)) [
+    | inl q ↦ rw q (more ∙ ap (λ o. items_of o ++ n ∷ []) (sym e ∙ ap (slice_get ls) (same-number p i q)))
+    | inr q ↦ rw q (sym (append-nil (items_of (slice_get ls i))))
   ]
 
   -- an empty list is put in the place of the one
-  pub listed-none : (p : ℕ) (w : Vec ℕ Global) → p < length ls → w.items ≡ [] → (i : ℕ) → listed (slice_set ls p w) i ≡ cond (nat_eq p i) [] (listed ls i)
-  unfolding listed numbers_of
-  listed-none p w l empty i = ap numbers_of (set-at w ls p i l) ∙ elim (cases_Bool (nat_eq p i)) [ inl q ↦ rw q empty | inr q ↦ rw q refl ]
+  pub listed-none : (p : ℕ) (w : Vec A Global) → p < length ls → w.items ≡ [] → (i : ℕ) → listed (slice_set ls p w) i ≡ cond (nat_eq p i) [] (listed ls i)
+  unfolding listed items_of
+  listed-none p w l empty i = ap items_of (set-at w ls p i l) ∙ elim (cases_Bool (nat_eq p i)) [ inl q ↦ rw q empty | inr q ↦ rw q refl ]
 
   pub past-listed : (p : ℕ) → length ls ≤ p → (i : ℕ) → listed ls i ≡ cond (nat_eq p i) [] (listed ls i)
   past-listed p past i = elim (cases_Bool (nat_eq p i)) [
@@ -75,15 +75,16 @@ module _ (ls : List (Vec ℕ Global)) where
   ]
 
 -- what is listed still is
-pub still-listed : (old new : List (Vec ℕ Global)) (p n : ℕ) → IsListedMore old new p n → (k i : ℕ) → In i (listed old k) → In i (listed new k)
+pub still-listed : {A : Type 0} (old new : List (Vec A Global)) (p : ℕ) (n : A) → IsListedMore old new p n → (k : ℕ) (i : A) → In i (listed old k) →
+    In i (listed new k)
 still-listed old new p n more k i m = subst (In i) (sym (more k)) (in_first i (listed old k) (cond (nat_eq p k) (n ∷ []) []) m)
 
 -- so is the number
-pub now-listed : (old new : List (Vec ℕ Global)) (p n : ℕ) → IsListedMore old new p n → In n (listed new p)
+pub now-listed : {A : Type 0} (old new : List (Vec A Global)) (p : ℕ) (n : A) → IsListedMore old new p n → In n (listed new p)
 now-listed old new p n more = subst (In n) (sym (more p)) (in_second n (listed old p) (cond (nat_eq p p) (n ∷ []) []) (rw (itself p) (inl refl)))
 
 -- and nothing else
-pub only-listed : (old new : List (Vec ℕ Global)) (p n : ℕ) → IsListedMore old new p n → (k i : ℕ) → In i (listed new k) →
+pub only-listed : {A : Type 0} (old new : List (Vec A Global)) (p : ℕ) (n : A) → IsListedMore old new p n → (k : ℕ) (i : A) → In i (listed new k) →
     In i (listed old k) ⊎ ((i ≡ n) × (k ≡ p))
 only-listed old new p n more k i m = elim (in_append i (listed old k) (cond (nat_eq p k) (n ∷ []) []) (subst (In i) (more k) m)) [
   | inl a ↦ inl a
@@ -93,21 +94,31 @@ only-listed old new p n more k i m = elim (in_append i (listed old k) (cond (nat
   ]
 ]
 
-pub nothing-listed : (ls : List (Vec ℕ Global)) (i : ℕ) → ls ≡ [] → listed ls i ≡ []
-unfolding listed numbers_of
-nothing-listed ls i e = ap (λ l. numbers_of (slice_get l i)) e
+pub nothing-listed : {A : Type 0} (ls : List (Vec A Global)) (i : ℕ) → ls ≡ [] → listed ls i ≡ []
+unfolding listed items_of
+nothing-listed ls i e = ap (λ l. items_of (slice_get l i)) e
 
 -- with an empty list more, nothing more is listed
-pub empty-more : (ls ms : List (Vec ℕ Global)) (v : Vec ℕ Global) → v.items ≡ [] → ms ≡ ls ++ v ∷ [] → ((i : ℕ) → listed ls i ≡ []) → (i : ℕ) → listed ms i ≡ []
-unfolding listed numbers_of
-empty-more ls ms v empty e none i = ap (λ l. numbers_of (slice_get l i)) e ∙ at ls i (none i)
+pub empty-more : {A : Type 0} (ls ms : List (Vec A Global)) (v : Vec A Global) → v.items ≡ [] → ms ≡ ls ++ v ∷ [] → ((i : ℕ) → listed ls i ≡ []) →
+    (i : ℕ) → listed ms i ≡ []
+unfolding listed items_of
+empty-more {A = A} ls ms v empty e none i = ap (λ l. items_of (slice_get l i)) e ∙ at ls i (none i)
   where
-    at : (ls : List (Vec ℕ Global)) (i : ℕ) → numbers_of (slice_get ls i) ≡ [] → numbers_of (slice_get (ls ++ v ∷ []) i) ≡ []
+    at : (ls : List (Vec A Global)) (i : ℕ) → items_of (slice_get ls i) ≡ [] → items_of (slice_get (ls ++ v ∷ []) i) ≡ []
     at [] zero n = empty
     at [] (suc i) n = refl
     at (w ∷ ls) zero n = n
     at (w ∷ ls) (suc i) n = at ls i n
 
-pub something : (l : List ℕ) → nat_eq (length l) 0 ≡ false → (i : ℕ) × In i l
-something [] e = cc
-something (i ∷ l) e = (i, inl refl)
+pub in-taken : {A : Type 0} (xs : List A) (i : ℕ) (x : A) → In x (take i xs) → In x xs
+in-taken xs zero x m = absurd m
+in-taken [] (suc i) x m = absurd m
+in-taken (y ∷ xs) (suc i) x (inl q) = inl q
+in-taken (y ∷ xs) (suc i) x (inr m) = inr (in-taken xs i x m)
+
+-- one of the first so many, and the next one, stand at two places
+pub two-taken : {A : Type 0} (xs : List A) (i : ℕ) (x y : A) → i < length xs → y ≡ get_or xs i y → In x (take i xs) → Both x y xs
+two-taken [] i x y l e m = absurd (omega (arith, l))
+two-taken (z ∷ xs) zero x y l e m = absurd m
+two-taken (z ∷ xs) (suc i) x y l e (inl q) = inl (q, in-got xs i y (omega (arith, l)) e)
+two-taken (z ∷ xs) (suc i) x y l e (inr m) = inr (inr (two-taken xs i x y (omega (arith, l)) e m))

@@ -1,18 +1,13 @@
--- Tables of sets, and tests of what sets hold.
-use Rattle.std.specs.Prelude.{ℕ, zero, suc, ◌&&◌, List, [], ◌∷◌, ◌++◌, ◌≡◌, ◌⊎◌, ◌<◌, ◌+◌, Option, Some, None, length, get_or}
+-- Tables of sets.
+use Rattle.std.specs.Prelude.{ℕ, zero, suc, List, [], ◌∷◌, ◌++◌, ◌≡◌, ◌⊎◌, ◌<◌, ◌+◌, Option, Some, None, length, get_or}
 use Rattle.std.specs.List.{slice_get}
 use Rattle.std.proofs.lemmas.List.{length-append}
 use Rattle.std.proofs.lemmas.Option.{slice_get-get_or, slice_get_within}
 use Rattle.std.proofs.Common.{refl, sym, ap, ◌∙◌, inl, inr, subst, arith}
-use Rattle.juniper_merging.specs.MergingGraph.{FieldAt, merge_at}
 use Rattle.graphql_spec.specs.Laws.{In}
-use Rattle.juniper_merging.specs.Questions.{Pairs, Tells, between_test, within_test, worse}
-use Rattle.juniper_merging.specs.declared.clash.Clash.{Clash}
 use Rattle.juniper_merging.specs.Sets.{Extends, IsInside, IsTable}
 use Rattle.juniper_merging.specs.Tables.{joined, list_or_none, set_at, set_of, table_from, table_of}
 use Rattle.juniper_merging.specs.declared.sets.FieldSet.{FieldSet}
-use Rattle.juniper_merging.proofs.Telling.{merge-at-turn}
-use Rattle.juniper_merging.proofs.Told.{between-turn, pairs-both, tells-both, tells-same, tells-worse}
 
 -- ## What stands at a number
 
@@ -60,23 +55,6 @@ pub same-held : (xs : List FieldSet) → IsTable xs → (i j : ℕ) (s u : Field
 unfolding set_of
 same-held xs is i j s u e f own parts =
     set-held xs is i s e ∙ ((λ k. own k ++ joined (table_of xs) (parts k)) ∙ sym (set-held xs is j u f))
-
--- ## The tests of a set by its parts
-
-module _ (t : List (List ℕ)) (vs : List FieldAt) where
-  -- what two sets hold, one behind the other
-  pub pairs-told : (a b : ℕ) (x y z : Clash) → Tells (λ m. within_test vs t m a) x → Tells (λ m. within_test vs t m b) y →
-      Tells (λ m. between_test vs t m a b) z → Tells (Pairs vs (set_at t a ++ set_at t b)) (worse x (worse y z))
-  unfolding within_test between_test
-  pairs-told a b x y z p q r = tells-both (λ m. within_test vs t m a) (λ m n. within_test vs t m b n && between_test vs t m a b n) (Pairs vs
-      (set_at t a ++ set_at t b))
-      x (worse y z) (λ m n. pairs-both vs (merge_at vs n m) (set_at t a) (set_at t b)) p (tells-worse (λ m. within_test vs t m b)
-      (λ m. between_test vs t m a b) y z q r)
-
-  pub between-turned : (i j : ℕ) (x : Clash) → Tells (λ m. between_test vs t m i j) x → Tells (λ m. between_test vs t m j i) x
-  unfolding between_test
-  between-turned i j x = tells-same (λ m. between_test vs t m i j) (λ m. between_test vs t m j i) x
-      (λ m n. between-turn vs (merge_at vs n m) (merge-at-turn vs n m) (set_at t j) (set_at t i))
 
 -- ## One set more
 

@@ -5,4 +5,8 @@ pub mod Listed
 pub mod Standing
 pub mod Sets
 pub mod Questions
+pub mod Nodes
+pub mod Uniting
+pub mod United
+pub mod Numbered
 pub mod Conflicts

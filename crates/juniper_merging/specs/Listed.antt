@@ -1,13 +1,17 @@
--- Lists of numbers, each at a number.
-use Rattle.std.specs.Prelude.{ℕ, List, [], ◌∷◌, ◌++◌, ◌≡◌, Vec, cond, nat_eq}
+-- Lists of things, each at a number.
+use Rattle.std.specs.Prelude.{ℕ, List, [], ◌∷◌, ◌++◌, ◌≡◌, Option, Some, None, Vec, cond, nat_eq}
 use Rattle.std.specs.List.{slice_get}
 use Rattle.std.specs.declared.alloc.Global.{Global}
-use Rattle.juniper_merging.specs.Groups.{numbers_of}
+
+-- the things, if any
+unfoldable pub items_of : {A : Type 0} → Option (Vec A Global) → List A
+items_of None = []
+items_of (Some v) = v.items
 
 -- what is listed at a number
-unfoldable pub listed : List (Vec ℕ Global) → ℕ → List ℕ
-listed ls i = numbers_of (slice_get ls i)
+unfoldable pub listed : {A : Type 0} → List (Vec A Global) → ℕ → List A
+listed ls i = items_of (slice_get ls i)
 
--- a number is listed at a place, behind what is listed there
-abbrev pub IsListedMore : List (Vec ℕ Global) → List (Vec ℕ Global) → ℕ → ℕ → Type 0
-IsListedMore old new place number = (i : ℕ) → listed new i ≡ listed old i ++ cond (nat_eq place i) (number ∷ []) []
+-- a thing is listed at a place, behind what is listed there
+abbrev pub IsListedMore : {A : Type 0} → List (Vec A Global) → List (Vec A Global) → ℕ → A → Type 0
+IsListedMore {A} old new place x = (i : ℕ) → listed new i ≡ listed old i ++ cond (nat_eq place i) (x ∷ []) []

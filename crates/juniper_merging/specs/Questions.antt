@@ -1,10 +1,11 @@
 -- Questions on sets of fields and their answers; only private clauses cite most of what stands here.
-use Rattle.std.specs.Prelude.{ℕ, Bool, true, false, not, ◌||◌, List, Option, Some, length, map, ◌≡◌}
+use Rattle.std.specs.Prelude.{ℕ, Bool, true, false, not, ◌||◌, List, Option, Some, map, ◌≡◌}
 use Rattle.std.specs.List.{list_all, slice_get}
-use Rattle.juniper_merging.specs.MergingGraph.{FieldAt, each_pair_at, merge_at, same_key_at, view_vertex}
+use Rattle.juniper_merging.specs.MergingGraph.{FieldAt, each_pair_at, merge_at, same_key_at, set_merges_at, view_vertex}
 use Rattle.juniper_merging.specs.Tables.{set_at, table_of}
 use Rattle.juniper_merging.specs.declared.clash.Clash.{Clash}
 use Rattle.juniper_merging.specs.declared.clash.Clash.TheVariants as clash
+use Rattle.juniper_merging.specs.declared.known.Judged.{Judged}
 use Rattle.juniper_merging.specs.declared.known.Known.{Known}
 use Rattle.juniper_merging.specs.declared.graph.Graph.{Graph}
 use Rattle.juniper_merging.specs.declared.graph.Vertex.{Vertex}
@@ -42,33 +43,20 @@ module _ (vs : List FieldAt) where
   unfoldable pub between_at : (ℕ → ℕ → Bool) → List ℕ → List ℕ → Bool
   between_at R is js = list_all (λ j. list_all (λ i. tested_at R i j) is) js
 
-  -- these tests, of whether fields merge or agree in shape, to each depth: of two fields, of each of the first with each of the second, of
-  -- each two, of one with each, and of each with itself
-  abbrev pub Tested : ℕ → ℕ → Bool → ℕ → Bool
-  Tested i j m n = tested_at (merge_at vs n m) i j
-
-  abbrev pub Between : List ℕ → List ℕ → Bool → ℕ → Bool
-  Between is js m n = between_at (merge_at vs n m) is js
-
   abbrev pub Pairs : List ℕ → Bool → ℕ → Bool
   Pairs is m n = each_pair_at vs (merge_at vs n m) is
 
   abbrev pub Beside : ℕ → List ℕ → Bool → ℕ → Bool
   Beside i js m n = list_all (tested_at (merge_at vs n m) i) js
 
-  module _ (t : List (List ℕ)) where
-    -- each two fields of a set
-    unfoldable pub within_test : Bool → ℕ → ℕ → Bool
-    within_test m a n = each_pair_at vs (merge_at vs n m) (set_at t a)
+-- what is known of a set that holds these fields
+pub record IsJudgedSet (vs : List FieldAt) (l : List ℕ) (j : Judged) : Type 0 where
+  pub merges : j.merges ≡ true → (n : ℕ) → set_merges_at vs n l ≡ true
+  pub differs : j.differs ≡ true → (n : ℕ) × (set_merges_at vs n l ≡ false)
 
-    -- each field of a set with each of another
-    unfoldable pub between_test : Bool → ℕ → ℕ → ℕ → Bool
-    between_test m a b n = between_at (merge_at vs n m) (set_at t a) (set_at t b)
-
-    -- for each set it is known what stands against the merging of each two of its fields
-    pub record IsSound (k : Known) : Type 0 where
-      pub count : length k.within.items ≡ length t
-      pub told : (a : ℕ) (c : Clash) → slice_get k.within.items a ≡ Some c → Tells (λ m. within_test m a) c
+-- what is known of each set is right
+abbrev pub IsSound : List FieldAt → List (List ℕ) → Known → Type 0
+IsSound vs t k = (set : ℕ) (j : Judged) → slice_get k.judged.items set ≡ Some j → IsJudgedSet vs (set_at t set) j
 
 -- the fields of vertices
 abbrev pub seen : List (List ℕ) → List Vertex → List FieldAt

@@ -21,14 +21,10 @@ pub record IsTable (xs : List FieldSet) : Type 0 where
   pub held : (i : ℕ) (s : FieldSet) → slice_get xs i ≡ Some s → slice_get (table_of xs) i ≡ Some (set_of (table_of xs) s)
   pub before : (i : ℕ) (s : FieldSet) (p : ℕ) → slice_get xs i ≡ Some s → In p s.parts.items → p < i
 
--- these fields and sets hold all of these fields, in some order
-pub record IsListOf (t : List (List ℕ)) (fields parts all : List ℕ) : Type 0 where
-  pub inside : (i : ℕ) → In i parts → IsInside t i
-  pub alike : AreAlike (λ x i. x ≡ i) all (fields ++ joined t parts)
-
--- all of these fields were gathered
-abbrev pub IsSetOf : List (List ℕ) → Gathering → List ℕ → Type 0
-IsSetOf t g all = IsListOf t g.fields.items g.parts.items all
+-- all of these fields were gathered, in some order
+pub record IsSetOf (t : List (List ℕ)) (g : Gathering) (all : List ℕ) : Type 0 where
+  pub inside : (i : ℕ) → In i g.parts.items → IsInside t i
+  pub alike : AreAlike (λ x i. x ≡ i) all (g.fields.items ++ joined t g.parts.items)
 
 -- a set of all of these fields is there at a number, beside those that were
 pub record IsPut (xs ys : List FieldSet) (all : List ℕ) (i : ℕ) : Type 0 where

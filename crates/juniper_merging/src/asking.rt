@@ -1,11 +1,11 @@
-//! Which pairs of sets are asked, so that it is known of each set how each two of its fields clash: the sets of two fields of one response
-//! key in one set, two parts of one set; and those that these pairs are made of. Sets that are quiet clash with none of their kind.
+//! Which pairs of nodes are asked, so that it is known of each node how each two of its fields clash: what two entries of one response key
+//! select, and two parts of one node; and those that these pairs are made of. Two nodes that are quiet do not clash.
 
 use crate::asks::Asks;
-use crate::graph::{Graph, Vertex};
-use crate::key_index::{clear_fields, empty_lists, list_at, put_field};
-use crate::loud::is_loud_set;
-use crate::sets::FieldSet;
+use crate::graph::Vertex;
+use crate::key_index::{clear_entries, empty_lists, list_at, put_entry};
+use crate::loud::is_loud_at;
+use crate::nodes::{Entry, Node};
 use std::alloc::{AllocError, Global};
 
 /// Pairs while they are asked.
@@ -13,34 +13,35 @@ use std::alloc::{AllocError, Global};
 struct Asking<'g, 'a> {
     /// The fields.
     vertices: &'g [Vertex<'a>],
-    /// The sets.
-    sets: &'g [FieldSet],
-    /// Whether each set is loud.
+    /// The nodes.
+    nodes: &'g [Node],
+    /// Whether each node is loud.
     loud: &'g [bool],
-    /// What is asked of each set.
+    /// What is asked of each node.
     asks: Vec<Asks>,
-    /// The fields of the set that is looked at.
-    index: Vec<Vec<usize>>,
+    /// The entries of the node that is looked at.
+    index: Vec<Vec<Entry>>,
 }
 
-/// For each set those before it, and itself, of which it is asked how they clash with it. An error where memory is refused.
+/// For each node those before it, and itself, of which it is asked how they clash with it. An error where memory is refused.
 pub(crate) fn asked_pairs(
     alloc: Global,
-    graph: &Graph<'_, '_>,
+    vertices: &[Vertex<'_>],
+    nodes: &[Node],
     loud: &[bool],
 ) -> Result<Vec<Asks>, AllocError> {
-    let mut asks = Vec::with_capacity(alloc, graph.sets.len())?;
-    for _set in 0..graph.sets.len() {
+    let count = nodes.len();
+    let mut asks = Vec::with_capacity(alloc, count)?;
+    for _node in 0..count {
         asks.push(Asks::new(alloc))?;
     }
     let mut asking = Asking {
-        vertices: graph.vertices,
-        sets: graph.sets,
+        vertices,
+        nodes,
         loud,
         asks,
-        index: empty_lists(alloc, graph.vertices.len())?,
+        index: empty_lists(alloc, vertices.len())?,
     };
-    let count = graph.sets.len();
     for before in 0..count {
         asking.ask_of(count - 1 - before)?;
     }
@@ -48,49 +49,49 @@ pub(crate) fn asked_pairs(
 }
 
 impl<'g, 'a> Asking<'g, 'a> {
-    /// Asks what a set asks, and what the pairs with those before it do that are asked.
-    fn ask_of(&mut self, set: usize) -> Result<(), AllocError> {
-        let sets = self.sets;
-        match sets.get(set) {
-            Some(held) => {
-                if self.is_left_out(set) {
+    /// Asks what a node asks, and what the pairs with those before it do that are asked.
+    fn ask_of(&mut self, number: usize) -> Result<(), AllocError> {
+        let nodes = self.nodes;
+        match nodes.get(number) {
+            Some(node) => {
+                if self.is_left_out(number) {
                     return Ok(());
                 }
-                self.ask_within(held)?;
-                self.ask_pairs(set, held)?;
-                clear_fields(self.vertices, &held.fields, &mut self.index);
+                self.ask_within(node)?;
+                self.ask_pairs(number, node)?;
+                clear_entries(self.vertices, &node.entries, &mut self.index);
                 Ok(())
             }
             None => Ok(()),
         }
     }
 
-    /// Whether a set is quiet, and nothing is asked of it.
-    fn is_left_out(&self, set: usize) -> bool {
-        !is_loud_set(self.loud, set) && self.next_asked(set, 0).is_none()
+    /// Whether a node is quiet, and nothing is asked of it.
+    fn is_left_out(&self, number: usize) -> bool {
+        !is_loud_at(self.loud, number) && self.next_asked(number, 0).is_none()
     }
 
-    /// Asks what each two fields and parts of a set ask; the index has its fields then.
-    fn ask_within(&mut self, held: &FieldSet) -> Result<(), AllocError> {
-        for field in &held.fields {
-            self.ask_with_field(*field)?;
-            put_field(self.vertices, *field, &mut self.index)?;
+    /// Asks what each two entries and parts of a node ask; the index has its entries then.
+    fn ask_within(&mut self, node: &Node) -> Result<(), AllocError> {
+        for entry in &node.entries {
+            self.ask_with_entry(entry)?;
+            put_entry(self.vertices, entry, &mut self.index)?;
         }
-        for place in 0..held.parts.len() {
+        for place in 0..node.parts.len() {
             for other in 0..place {
-                self.ask(held.parts[place], held.parts[other])?;
+                self.ask(node.parts[place], node.parts[other])?;
             }
         }
         Ok(())
     }
 
-    /// Asks what the pairs of a set ask of which it is asked.
-    fn ask_pairs(&mut self, set: usize, held: &FieldSet) -> Result<(), AllocError> {
+    /// Asks what the pairs of a node ask of which it is asked.
+    fn ask_pairs(&mut self, number: usize, node: &Node) -> Result<(), AllocError> {
         let mut from = 0;
-        for _turn in 0..set.saturating_add(1) {
-            match self.next_asked(set, from) {
+        for _turn in 0..number.saturating_add(1) {
+            match self.next_asked(number, from) {
                 Some(far) => {
-                    self.ask_between(set, held, set.saturating_sub(far))?;
+                    self.ask_between(number, node, number.saturating_sub(far))?;
                     from = far.saturating_add(1);
                 }
                 None => return Ok(()),
@@ -99,24 +100,24 @@ impl<'g, 'a> Asking<'g, 'a> {
         Ok(())
     }
 
-    /// The next distance that is asked of a set, from this one on.
-    fn next_asked(&self, set: usize, from: usize) -> Option<usize> {
-        match self.asks.get(set) {
+    /// The next distance that is asked of a node, from this one on.
+    fn next_asked(&self, number: usize, from: usize) -> Option<usize> {
+        match self.asks.get(number) {
             Some(asks) => asks.next(from),
             None => None,
         }
     }
 
-    /// Asks what a pair asks: of the parts of the one, else of those of the other, else of what fields of one response key select.
-    fn ask_between(&mut self, set: usize, held: &FieldSet, other: usize) -> Result<(), AllocError> {
-        let sets = self.sets;
-        for part in &held.parts {
+    /// Asks what a pair asks: of the parts of the one, else of those of the other, else of what entries of one response key select.
+    fn ask_between(&mut self, number: usize, node: &Node, other: usize) -> Result<(), AllocError> {
+        let nodes = self.nodes;
+        for part in &node.parts {
             self.ask(*part, other)?;
         }
-        match sets.get(other) {
+        match nodes.get(other) {
             Some(others) => {
-                if held.parts.is_empty() {
-                    self.ask_with_set(set, others)?;
+                if node.parts.is_empty() {
+                    self.ask_with_node(number, others)?;
                 }
                 Ok(())
             }
@@ -124,26 +125,24 @@ impl<'g, 'a> Asking<'g, 'a> {
         }
     }
 
-    /// Asks what another set asks with the fields of the index, which are those of a set.
-    fn ask_with_set(&mut self, set: usize, others: &FieldSet) -> Result<(), AllocError> {
+    /// Asks what another node asks with the entries of the index, which are those of a node.
+    fn ask_with_node(&mut self, number: usize, others: &Node) -> Result<(), AllocError> {
         for part in &others.parts {
-            self.ask(set, *part)?;
+            self.ask(number, *part)?;
         }
-        if others.parts.is_empty() {
-            for field in &others.fields {
-                self.ask_with_field(*field)?;
-            }
+        for entry in &others.entries {
+            self.ask_with_entry(entry)?;
         }
         Ok(())
     }
 
-    /// Asks for what a field selects, with what the fields of its response key select that the index has.
-    fn ask_with_field(&mut self, field: usize) -> Result<(), AllocError> {
+    /// Asks for what an entry selects, with what the entries of its response key select that the index has.
+    fn ask_with_entry(&mut self, entry: &Entry) -> Result<(), AllocError> {
         let vertices = self.vertices;
-        match vertices.get(field) {
+        match vertices.get(entry.field) {
             Some(vertex) => {
-                match vertex.below {
-                    Some(set) => self.ask_with_key(vertex, set),
+                match entry.child {
+                    Some(child) => self.ask_with_key(vertex, child),
                     None => Ok(()),
                 }
             }
@@ -151,31 +150,31 @@ impl<'g, 'a> Asking<'g, 'a> {
         }
     }
 
-    /// Asks for a set that a field selects, with those that the fields of its response key select.
-    fn ask_with_key(&mut self, vertex: &Vertex<'_>, set: usize) -> Result<(), AllocError> {
+    /// Asks for a node that an entry selects, with those that the entries of its response key select.
+    fn ask_with_key(&mut self, vertex: &Vertex<'_>, child: usize) -> Result<(), AllocError> {
         for place in 0..list_at(&self.index, vertex.key).len() {
-            let other = self.selected_at(vertex, place);
-            if let Some(other) = other {
-                self.ask(set, other)?;
+            match self.selected_at(vertex, place) {
+                Some(other) => self.ask(child, other)?,
+                None => {}
             }
         }
         Ok(())
     }
 
-    /// The set that the field at this place of a field's response key selects, where their shapes agree.
+    /// The node that the entry at this place of a field's response key selects, where their shapes agree.
     fn selected_at(&self, vertex: &Vertex<'_>, place: usize) -> Option<usize> {
-        let field = list_at(&self.index, vertex.key).get(place)?;
-        let other = self.vertices.get(*field)?;
+        let entry = list_at(&self.index, vertex.key).get(place)?;
+        let other = self.vertices.get(entry.field)?;
         if other.shape == vertex.shape {
-            other.below
+            entry.child
         } else {
             None
         }
     }
 
-    /// Asks how two sets clash, unless both are quiet.
+    /// Asks how two nodes clash, unless both are quiet.
     fn ask(&mut self, first: usize, second: usize) -> Result<(), AllocError> {
-        if !is_loud_set(self.loud, first) && !is_loud_set(self.loud, second) {
+        if !is_loud_at(self.loud, first) && !is_loud_at(self.loud, second) {
             return Ok(());
         }
         let (later, earlier) = if first < second {

@@ -1,7 +1,7 @@
 //! Of which sets it is asked how they clash with one set, by how far they stand before it.
 
 ghost use Rattle.std.specs.Prelude.{◌≡◌, Some, ℕ};
-ghost use Rattle.juniper_merging.specs.Conflicts.{distance_at};
+ghost use Rattle.juniper_merging.specs.Conflicts.{asked_at, distance_at};
 
 use std::alloc::{AllocError, Global};
 
@@ -78,16 +78,12 @@ impl Asks {
         }
     }
 
-    /// The place of a distance that is asked.
+    /// The place of a distance. It is one that is asked, unless they stand dense.
     pub(crate) fn place_of(&self, far: usize) -> Option<usize>
         ensures { (place : ℕ) → result ≡ Some place → distance_at self.now place ≡ Some far }
     {
         if self.is_dense {
-            return if is_marked(&self.is_asked, far) {
-                Some(far)
-            } else {
-                None
-            };
+            return Some(far);
         }
         match self.far.binary_search(&far) {
             Ok(place) => Some(place),
@@ -110,6 +106,15 @@ impl Asks {
             Some(far) => Some(*far),
             None => None,
         }
+    }
+}
+
+/// Lets the marks of the distances go that are asked of a set; each has its place as before.
+pub(crate) fn forget_marks(alloc: Global, asks: &mut Vec<Asks>, number: usize)
+    ensures { (a p : ℕ) → asked_at asks.new.items a p ≡ asked_at asks.old.items a p }
+{
+    if number < asks.len() {
+        asks[number].is_asked = Vec::new(alloc);
     }
 }
 

@@ -1,73 +1,78 @@
-//! Which sets hold fields that are unlike the first of their response key, at any depth: only these may clash.
+//! Which nodes hold fields that are unlike the first of their response key, at any depth: only these may clash.
 
 ghost use Rattle.std.specs.Prelude.{◌≡◌, IfOk, List, Some, false, ℕ};
 ghost use Rattle.std.specs.List.{slice_get};
 ghost use Rattle.graphql_spec.specs.Laws.{In};
-ghost use Rattle.juniper_merging.specs.Conflicts.{AreQuiet, IsLikeFirst, IsQuiet, IsQuietNumber};
-ghost use Rattle.juniper_merging.specs.MergingGraph.{FieldAt, view_vertex};
-ghost use Rattle.juniper_merging.specs.Questions.{fields_of, seen};
-ghost use Rattle.juniper_merging.specs.Sets.{IsTable};
-ghost use Rattle.juniper_merging.specs.Tables.{table_of};
+ghost use Rattle.juniper_merging.specs.Conflicts.{AreQuiet, IsLikeFirst, IsQuietEntry};
+ghost use Rattle.juniper_merging.specs.Nodes.{AreNodes};
+ghost use Rattle.juniper_merging.specs.Questions.{seen};
+ghost use Rattle.juniper_merging.specs.declared.nodes.Entry.{Entry};
+ghost use Rattle.juniper_merging.specs.declared.graph.Vertex.{Vertex};
 
-use crate::graph::{Graph, Vertex};
+use crate::graph::Vertex;
+use crate::nodes::{Entry, Node};
 use crate::pairs::are_alike;
-use crate::sets::FieldSet;
 use std::alloc::{AllocError, Global};
 
-/// For each set whether it is loud: it holds a field that is. An error where memory is refused.
-pub(crate) fn loud_sets(alloc: Global, graph: &Graph<'_, '_>) -> Result<Vec<bool>, AllocError>
-    ensures { IfOk result (λ loud. IsTable graph.now.sets.now → AreQuiet (fields_of graph.now) (table_of graph.now.sets.now) loud.items) }
+/// For each node whether it is loud: it holds a field that is. An error where memory is refused.
+pub(crate) fn loud_nodes(
+    alloc: Global,
+    vertices: &[Vertex<'_>],
+    nodes: &[Node],
+) -> Result<Vec<bool>, AllocError>
+    ensures { IfOk result (λ loud. (t : List (List ℕ)) (H : ℕ → List ℕ) → AreNodes (seen t vertices.now) H nodes.now →
+        AreQuiet (seen t vertices.now) H loud.items) }
 {
-    let mut loud = Vec::with_capacity(alloc, graph.sets.len())?;
-    for held in graph.sets {
-        let is_loud = holds_loud(graph.vertices, &loud, held);
+    let mut loud = Vec::with_capacity(alloc, nodes.len())?;
+    for node in nodes {
+        let is_loud = is_loud_node(vertices, &loud, node);
         loud.push(is_loud)?;
     }
     Ok(loud)
 }
 
-/// Whether a set of these fields and parts is loud.
-fn holds_loud(vertices: &[Vertex<'_>], loud: &[bool], held: &FieldSet) -> bool
-    ensures fields { result ≡ false → (t : List (List ℕ)) → (i : ℕ) → In i held.now.fields.items → IsQuietNumber (seen t vertices.now) t loud.now i }
-    ensures parts { result ≡ false → (p : ℕ) → In p held.now.parts.items → slice_get loud.now p ≡ Some false }
+/// Whether a node has an entry or a part that is loud.
+fn is_loud_node(vertices: &[Vertex<'_>], loud: &[bool], node: &Node) -> bool
+    ensures entries { result ≡ false → (e : Entry) → In e node.now.entries.items → IsQuietEntry vertices.now loud.now e }
+    ensures parts { result ≡ false → (p : ℕ) → In p node.now.parts.items → slice_get loud.now p ≡ Some false }
 {
-    if has_loud_field(vertices, loud, &held.fields) {
+    if has_loud_entry(vertices, loud, &node.entries) {
         return true;
     }
-    has_loud_part(loud, &held.parts)
+    has_loud_part(loud, &node.parts)
 }
 
-/// Whether one of these fields is loud.
-fn has_loud_field(vertices: &[Vertex<'_>], loud: &[bool], fields: &[usize]) -> bool
-    ensures { result ≡ false → (t : List (List ℕ)) → (i : ℕ) → In i fields.now → IsQuietNumber (seen t vertices.now) t loud.now i }
+/// Whether one of these entries is loud.
+fn has_loud_entry(vertices: &[Vertex<'_>], loud: &[bool], entries: &[Entry]) -> bool
+    ensures { result ≡ false → (e : Entry) → In e entries.now → IsQuietEntry vertices.now loud.now e }
 {
-    for field in fields {
-        if is_loud_number(vertices, loud, *field) {
+    for entry in entries {
+        if is_loud(vertices, loud, entry) {
             return true;
         }
     }
     false
 }
 
-/// Whether the field of this number is loud, if there is one.
-fn is_loud_number(vertices: &[Vertex<'_>], loud: &[bool], field: usize) -> bool
-    ensures { result ≡ false → (t : List (List ℕ)) → IsQuietNumber (seen t vertices.now) t loud.now field }
+/// Whether an entry is unlike the first field of its response key, or selects a loud node.
+pub(crate) fn is_loud(vertices: &[Vertex<'_>], loud: &[bool], entry: &Entry) -> bool
+    ensures { result ≡ false → IsQuietEntry vertices.now loud.now entry.now }
 {
-    match vertices.get(field) {
-        Some(vertex) => is_loud(vertices, loud, vertex),
+    if is_unlike(vertices, entry.field) {
+        return true;
+    }
+    match entry.child {
+        Some(child) => is_loud_at(loud, child),
         None => false,
     }
 }
 
-/// Whether a field is unlike the first of its response key, or selects a loud set.
-pub(crate) fn is_loud(vertices: &[Vertex<'_>], loud: &[bool], vertex: &Vertex<'_>) -> bool
-    ensures { result ≡ false → (t : List (List ℕ)) → IsQuiet (seen t vertices.now) t loud.now (view_vertex t vertex.now) }
+/// Whether the field of this number, if there is one, is unlike the first of its response key.
+fn is_unlike(vertices: &[Vertex<'_>], field: usize) -> bool
+    ensures { result ≡ false → (v : Vertex) → slice_get vertices.now field ≡ Some v → IsLikeFirst vertices.now v }
 {
-    if differs_from_first(vertices, vertex) {
-        return true;
-    }
-    match vertex.below {
-        Some(set) => is_loud_set(loud, set),
+    match vertices.get(field) {
+        Some(vertex) => differs_from_first(vertices, vertex),
         None => false,
     }
 }
@@ -82,23 +87,23 @@ fn differs_from_first(vertices: &[Vertex<'_>], vertex: &Vertex<'_>) -> bool
     }
 }
 
-/// Whether one of these sets is loud.
+/// Whether one of these nodes is loud.
 fn has_loud_part(loud: &[bool], parts: &[usize]) -> bool
     ensures { result ≡ false → (p : ℕ) → In p parts.now → slice_get loud.now p ≡ Some false }
 {
     for part in parts {
-        if is_loud_set(loud, *part) {
+        if is_loud_at(loud, *part) {
             return true;
         }
     }
     false
 }
 
-/// Whether a set is loud, or was not looked at.
-pub(crate) fn is_loud_set(loud: &[bool], set: usize) -> bool
-    ensures { result ≡ false → slice_get loud.now set ≡ Some false }
+/// Whether a node is loud, or was not looked at.
+pub(crate) fn is_loud_at(loud: &[bool], node: usize) -> bool
+    ensures { result ≡ false → slice_get loud.now node ≡ Some false }
 {
-    match loud.get(set) {
+    match loud.get(node) {
         Some(is_loud) => *is_loud,
         None => true,
     }

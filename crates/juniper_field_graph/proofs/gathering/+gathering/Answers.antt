@@ -4,40 +4,49 @@ use Rattle.graphql_spec.specs.Documents as spec
 use Rattle.juniper_schema.specs.SchemaView.{view_schema}
 use Rattle.juniper_syntax.specs.DocumentView.{put_selection, view_selections, view_set}
 use Rattle.juniper_syntax.specs.declared.ast.Selection as selections
-use Rattle.juniper_field_graph.specs.Gathering.{IsGathered, IsReadyIn, IsSetGatheredAt, set_named}
+use Rattle.juniper_field_graph.specs.Gathering.{IsGathered, IsReadyIn, set_named}
 use Rattle.juniper_field_graph.specs.GraphView.{table_in}
 use Rattle.juniper_field_graph.proofs.Holding.{set-none, set-some}
-use Rattle.juniper_field_graph.proofs.Steps.{field-step, none-as, set-as, spread-step, unknown-step, inline-step, so-far-all, so-far-next, so-far-none}
+use Rattle.juniper_field_graph.proofs.Steps.{field-step, inline-step, none-as, set-as, set-gathered, so-far-all, so-far-next, so-far-none, spread-step}
+use Rattle.juniper_field_graph.proofs.Steps.{unknown-step}
 use Rattle.juniper_field_graph.proofs.gathering.+gathering.Goals as goal
 use Rattle.juniper_field_graph.proofs.gathering.+gathering.Goals.{gather_field-in-Some+in_ok-set-in-Some, gather_field-in-None}
 
-pub gather_set-loop-selection-preserved : goal.gather_set-loop-selection-preserved
-gather_set-loop-selection-preserved g t c fs ends unknown is ready =
+pub gather_selections-loop-selection-preserved : goal.gather_selections-loop-selection-preserved
+gather_selections-loop-selection-preserved g t c fs ends unknown is ready =
     let shown = g.S.ScalarValue.shown in
     let before = c.loop-selection.invariant fs ends unknown is ready in
     so-far-next shown (view_schema shown c.args.known.now.schema.now) fs ends
     (set_named c.args.known.now.fragments.now) c.args.parent.now c.args.gathered.now.graph c.loop-selection.gathered.graph
     c.gather_selection.new.gathered.graph
     c.args.gathered.now.sets.items c.loop-selection.gathered.sets.items
-    c.gather_selection.new.gathered.sets.items c.new-numbers.result c.loop-selection.numbers c.gather_selection.new.numbers
+    c.gather_selection.new.gathered.sets.items c.args.numbers.now c.loop-selection.numbers c.gather_selection.new.numbers
     c.args.selections.now c.loop-selection.selection-index c.selection-item.result c.loop-selection-test.true c.selection-item.is before
     (c.in_ok-gather_selection.ensures fs ends unknown before.0.grown.graph)
 
-pub gather_set-loop-selection-init : goal.gather_set-loop-selection-init
-gather_set-loop-selection-init g t c fs ends unknown is ready =
+pub gather_selections-loop-selection-init : goal.gather_selections-loop-selection-init
+gather_selections-loop-selection-init g t c fs ends unknown is ready =
     let shown = g.S.ScalarValue.shown in
     so-far-none shown (view_schema shown c.args.known.now.schema.now) fs ends
     (set_named c.args.known.now.fragments.now) c.args.parent.now c.args.gathered.now.graph
-    c.args.gathered.now.sets.items c.new-numbers.result c.args.selections.now is ready
+    c.args.gathered.now.sets.items c.args.numbers.now c.args.selections.now is ready
+
+pub gather_selections-returns : goal.gather_selections-returns
+gather_selections-returns g t c fs ends unknown is ready =
+    let shown = g.S.ScalarValue.shown in
+    so-far-all shown (view_schema shown c.args.known.now.schema.now) fs ends (set_named c.args.known.now.fragments.now) c.args.parent.now
+    c.args.gathered.now.graph c.loop-selection.gathered.graph c.args.gathered.now.sets.items c.loop-selection.gathered.sets.items
+    c.args.numbers.now c.loop-selection.numbers c.args.selections.now c.loop-selection.selection-index c.loop-selection-test.false
+    (c.loop-selection.invariant fs ends unknown is ready)
 
 pub gather_set-returns : goal.gather_set-returns
 gather_set-returns g t c fs ends unknown is ready =
     let shown = g.S.ScalarValue.shown in
     let s = view_schema shown c.args.known.now.schema.now in
-    so-far-all shown s fs ends (set_named c.args.known.now.fragments.now) c.args.parent.now c.args.gathered.now.graph c.loop-selection.gathered.graph
-    c.put_set.new.gathered.graph c.args.gathered.now.sets.items c.loop-selection.gathered.sets.items c.put_set.new.gathered.sets.items c.new-numbers.result
-    c.loop-selection.numbers c.args.selections.now c.loop-selection.selection-index c.in_ok-set.set c.loop-selection-test.false c.new-numbers.ensures
-    (c.loop-selection.invariant fs ends unknown is ready) (c.in_ok-set.ensures s)
+    set-gathered shown s fs c.args.gathered.now.graph c.gather_selections.new.gathered.graph c.put_set.new.gathered.graph
+    c.args.gathered.now.sets.items c.gather_selections.new.gathered.sets.items c.put_set.new.gathered.sets.items c.new-numbers.result
+    c.gather_selections.new.numbers c.args.parent.now (view_selections shown c.args.selections.now) c.in_ok-set.set c.new-numbers.ensures
+    (c.in_ok-gather_selections.ensures fs ends unknown is ready) (c.in_ok-set.ensures s)
 
 pub gather_field-returns : goal.gather_field-returns
 gather_field-returns g t c fs ends unknown is rest ready =
@@ -92,17 +101,14 @@ gather_selection-returns-in-None g t c fs ends unknown is rest ready =
     rest c.args.selection.now c.in-FragmentSpread.spread c.in-FragmentSpread.is is ready
     (set-none c.args.known.now.fragments.now c.in-FragmentSpread.spread.item.name.item.now c.in-None.ensures.value)
 
-pub gather_selection-returns-in_ok-put-in-InlineFragment : goal.gather_selection-returns-in_ok-put-in-InlineFragment
-gather_selection-returns-in_ok-put-in-InlineFragment g t c fs ends unknown is rest ready =
+pub gather_selection-returns-in_ok-gather_selections-in-InlineFragment : goal.gather_selection-returns-in_ok-gather_selections-in-InlineFragment
+gather_selection-returns-in_ok-gather_selections-in-InlineFragment g t c fs ends unknown is rest ready =
     let shown = g.S.ScalarValue.shown in
-    inline-step shown (view_schema shown c.args.known.now.schema.now) fs ends
-    (set_named c.args.known.now.fragments.now) c.args.parent.now c.args.gathered.now.graph c.gather_set.new.gathered.graph
-    c.args.gathered.now.sets.items c.gather_set.new.gathered.sets.items c.args.numbers.now c.put-in-InlineFragment.new.self rest
-    c.args.selection.now c.in-InlineFragment.inline
-    (view_selections shown c.deref.result.now) c.in_ok-held-in-InlineFragment.held c.in-InlineFragment.is
-    (sym (ap (view_selections shown) c.deref.ensures.value)) ready
-    (λ r. subst (λ q. IsSetGatheredAt shown (view_schema shown c.args.known.now.schema.now) fs c.args.gathered.now.graph c.gather_set.new.gathered.graph
-    c.args.gathered.now.sets.items c.gather_set.new.gathered.sets.items q
-    (view_selections shown c.deref.result.now) c.in_ok-held-in-InlineFragment.held)
-    c.type_inside-inner.ensures (c.in_ok-held-in-InlineFragment.ensures fs ends unknown is r))
-    (c.in_ok-put-in-InlineFragment.ensures (table_in shown c.gather_set.new.gathered.graph))
+    let s = view_schema shown c.args.known.now.schema.now in
+    inline-step shown s fs ends (set_named c.args.known.now.fragments.now) c.args.parent.now c.args.gathered.now.graph
+    c.gather_selections.new.gathered.graph c.args.gathered.now.sets.items c.gather_selections.new.gathered.sets.items c.args.numbers.now
+    c.gather_selections.new.numbers rest c.args.selection.now c.in-InlineFragment.inline
+    (view_selections shown c.deref.result.now) c.in-InlineFragment.is (sym (ap (view_selections shown) c.deref.ensures.value)) ready
+    (λ r. subst (λ q. IsGathered shown s fs c.args.gathered.now.graph c.gather_selections.new.gathered.graph
+    c.args.gathered.now.sets.items c.gather_selections.new.gathered.sets.items c.args.numbers.now c.gather_selections.new.numbers q spec.end
+    (view_selections shown c.deref.result.now)) c.type_inside-inner.ensures (c.in_ok-gather_selections-in-InlineFragment.ensures fs ends unknown is r))

@@ -11,8 +11,8 @@ use Rattle.juniper_field_graph.specs.GraphView.{IsGraphOf}
 use Rattle.juniper_field_graph.proofs.Steps.{IsSoFar}
 use Rattle.juniper_field_graph.proofs.gathering.+gathering.Given as goal
 
-abbrev pub invariant-gather_set-loop-selection : goal.invariant-gather_set-loop-selection
-invariant-gather_set-loop-selection g l =
+abbrev pub invariant-gather_selections-loop-selection : goal.invariant-gather_selections-loop-selection
+invariant-gather_selections-loop-selection g l =
     let shown = g.S.ScalarValue.shown in
     let s = view_schema shown l.known.schema.now in
     (fs : List SpecFragment) (ends : HasNoCycle fs) → view_type l.known.undeclared.now ≡ fields.declared_type None →

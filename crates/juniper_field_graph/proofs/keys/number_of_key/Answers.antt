@@ -1,7 +1,8 @@
 use Rattle.std.proofs.Common.{ap, sym, ◌∙◌}
 use Rattle.std.specs.Option.{option_copied}
 use Rattle.juniper_field_graph.specs.Keys.{number_at}
-use Rattle.juniper_field_graph.proofs.Places.{found-number, found-place, number-put}
+use Rattle.juniper_field_graph.proofs.Numbered.{found-number}
+use Rattle.juniper_field_graph.proofs.Places.{found-place, number-put}
 use Rattle.juniper_field_graph.proofs.keys.number_of_key.Goals as goal
 
 pub returns-in-Some : goal.returns-in-Some

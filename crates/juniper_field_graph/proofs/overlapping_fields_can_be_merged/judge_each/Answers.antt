@@ -29,7 +29,7 @@ loop-sets-preserved c is =
       λ e set j. c.in_ok-merge.ensures.merges is before.0 (was-true merge e) set (subst (In set) (sym c.deref.ensures.value) j),
       λ e. let w = c.in_ok-merge.ensures.differs is before.0 (was-false merge e) in (w.0, subst (In w.0) c.deref.ensures.value w.1, w.2),
     ) in (
-      c.in_ok-merge.ensures.sound is before.0,
+      before.0,
       subst (λ l. Pairwise Is l c.push.new.self.items) (sym (taken-more (λ v. v.items) lists i item c.loop-sets-test.true c.sets-item.is))
           (subst (Pairwise Is (map (λ v. v.items) (take i lists) ++ item.items ∷ [])) (sym c.in_ok-push.ensures.items)
           (pairwise-both Is (map (λ v. v.items) (take i lists)) (item.items ∷ []) c.loop-sets.found.items (not merge ∷ []) before.1

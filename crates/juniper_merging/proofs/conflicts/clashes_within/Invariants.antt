@@ -1,7 +1,10 @@
+use Rattle.std.proofs.Common.{ℕ, List}
 use Rattle.juniper_merging.specs.Conflicts.{AreAnswered}
-use Rattle.juniper_merging.specs.Sets.{IsTable}
+use Rattle.juniper_merging.specs.Nodes.{AreNodes}
+use Rattle.juniper_merging.specs.Questions.{seen}
 use Rattle.juniper_merging.proofs.conflicts.clashes_within.Given as goal
 
--- the sets before this one were looked at
-abbrev pub invariant-loop-set : goal.invariant-loop-set
-invariant-loop-set l = IsTable l.graph.sets.now → AreAnswered l.graph l.conflicts l.index.items l.set
+-- the nodes before this one were looked at
+abbrev pub invariant-loop-number : goal.invariant-loop-number
+invariant-loop-number l = (t : List (List ℕ)) (H : ℕ → List ℕ) → AreNodes (seen t l.vertices) H l.nodes →
+    AreAnswered (seen t l.vertices) H l.conflicts l.index.items l.number

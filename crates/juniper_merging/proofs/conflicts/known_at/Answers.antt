@@ -6,9 +6,10 @@ use Rattle.juniper_merging.proofs.conflicts.known_at.Goals as goal
 
 pub returns-in-Some : goal.returns-in-Some
 returns-in-Some c =
-    c.clash_in.ensures ∙ (ap (λ l. found_in l c.args.place) c.deref.ensures.value ∙ sym (clash-there c.args.set c.args.place c.args.known.now c.in-Some.row.now
-    (found-at c.args.known.now c.args.set c.get.result c.in-Some.row c.get.ensures.lookup.3 c.in-Some.is)))
+    c.clash_in.ensures ∙ (ap (λ l. found_in l c.args.place) c.deref.ensures.value ∙ sym (clash-there c.args.number c.args.place c.args.known.now
+    c.in-Some.row.now
+    (found-at c.args.known.now c.args.number c.get.result c.in-Some.row c.get.ensures.lookup.3 c.in-Some.is)))
 
 pub returns-in-None : goal.returns-in-None
-returns-in-None c = sym (no-clash-there c.args.set c.args.place c.args.known.now
-    (missing-at c.args.known.now c.args.set c.get.result c.get.ensures.lookup.3 c.in-None.is))
+returns-in-None c = sym (no-clash-there c.args.number c.args.place c.args.known.now
+    (missing-at c.args.known.now c.args.number c.get.result c.get.ensures.lookup.3 c.in-None.is))

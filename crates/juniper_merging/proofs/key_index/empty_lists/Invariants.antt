@@ -4,4 +4,4 @@ use Rattle.juniper_merging.proofs.key_index.empty_lists.Given as goal
 
 -- nothing is listed
 abbrev pub invariant-loop-index : goal.invariant-loop-index
-invariant-loop-index l = (i : ℕ) → listed l.lists.items i ≡ []
+invariant-loop-index g l = (i : ℕ) → listed l.lists.items i ≡ []

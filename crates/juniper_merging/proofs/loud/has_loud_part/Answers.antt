@@ -12,7 +12,7 @@ loop-part-preserved c =
     let parts = c.args.parts.now in
     let i = c.loop-part.part-index in
     one-before (λ p. slice_get c.args.loud.now p ≡ Some false) parts i (get_or parts i 0) c.loop-part-test.true
-    (sym (get_or_default_zero parts i (get_or parts i 0) c.loop-part-test.true)) c.loop-part.invariant (c.is_loud_set.ensures c.if-is_loud_set.false)
+    (sym (get_or_default_zero parts i (get_or parts i 0) c.loop-part-test.true)) c.loop-part.invariant (c.is_loud_at.ensures c.if-is_loud_at.false)
 
 pub returns : goal.returns
 returns c e = all-before (λ p. slice_get c.args.loud.now p ≡ Some false) c.args.parts.now c.loop-part.part-index c.loop-part-test.false c.loop-part.invariant

@@ -1,12 +1,15 @@
-use Rattle.std.proofs.Common.{inl, inr}
-use Rattle.juniper_merging.proofs.QuietSets.{vertex-quiet}
+use Rattle.std.proofs.Common.{◌≡◌, Some, false, ◌∙◌, sym}
+use Rattle.std.specs.List.{slice_get}
+use Rattle.std.proofs.Common.{subst}
+use Rattle.juniper_merging.proofs.Told.{some-same}
+use Rattle.juniper_merging.proofs.Looked.{none-some}
 use Rattle.juniper_merging.proofs.loud.is_loud.Goals as goal
 
 pub returns-in-Some : goal.returns-in-Some
-returns-in-Some c e t =
-    vertex-quiet c.args.vertices.now t c.args.loud.now c.args.vertex.now (c.differs_from_first.ensures c.if-differs_from_first.false)
-    (inr (c.in-Some.set, c.in-Some.is, c.is_loud_set.ensures e))
+returns-in-Some c e v there = (
+  c.is_unlike.ensures c.if-is_unlike.false v there,
+  λ d f. subst (λ n. slice_get c.args.loud.now n ≡ Some false) (some-same (sym c.in-Some.is ∙ f)) (c.is_loud_at.ensures e),
+)
 
 pub returns-in-None : goal.returns-in-None
-returns-in-None c e t =
-    vertex-quiet c.args.vertices.now t c.args.loud.now c.args.vertex.now (c.differs_from_first.ensures c.if-differs_from_first.false) (inl c.in-None.is)
+returns-in-None c e v there = (c.is_unlike.ensures c.if-is_unlike.false v there, λ d f. none-some (sym c.in-None.is ∙ f))

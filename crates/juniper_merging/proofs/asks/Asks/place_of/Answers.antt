@@ -5,12 +5,12 @@ use Rattle.juniper_merging.proofs.Distances.{dense-at, listed-at, searched-at}
 use Rattle.juniper_merging.proofs.Told.{some-same}
 use Rattle.juniper_merging.proofs.asks.Asks.place_of.Goals as goal
 
-pub returns-then-is_marked : goal.returns-then-is_marked
-returns-then-is_marked c place e = dense-at c.args.self.now place c.if-self.true ∙ sym e
-
 pub returns-in-Ok : goal.returns-in-Ok
 returns-in-Ok c place e =
     let a = c.args.self.now in
     subst (λ p. distance_at a p ≡ Some c.args.far) (some-same e)
-    (listed-at a c.in-Ok.place c.args.far c.if-self.false (subst (λ l. slice_get l c.in-Ok.place ≡ Some c.args.far) c.deref-2.ensures.value
-    (searched-at c.deref-2.result.now c.args.far c.in-Ok.place c.in-Ok.ensures.bound c.in-Ok.ensures.ok)))
+    (listed-at a c.in-Ok.place c.args.far c.if-self.false (subst (λ l. slice_get l c.in-Ok.place ≡ Some c.args.far) c.deref.ensures.value
+    (searched-at c.deref.result.now c.args.far c.in-Ok.place c.in-Ok.ensures.bound c.in-Ok.ensures.ok)))
+
+pub returns-then-self : goal.returns-then-self
+returns-then-self c place e = dense-at c.args.self.now place c.if-self.true ∙ sym e

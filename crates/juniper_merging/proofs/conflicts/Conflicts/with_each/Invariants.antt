@@ -1,11 +1,13 @@
-use Rattle.std.proofs.Common.{◌≡◌, ℕ, List, Some, take}
-use Rattle.std.specs.List.{slice_get}
-use Rattle.juniper_merging.specs.Conflicts.{AreKnown}
-use Rattle.juniper_merging.specs.MergingGraph.{view_vertex}
-use Rattle.juniper_merging.specs.Questions.{Beside, Tells, seen}
+use Rattle.std.proofs.Common.{ℕ, List, take}
+use Rattle.graphql_spec.specs.Laws.{In}
+use Rattle.juniper_merging.specs.Conflicts.{AreAllPaired, AreKnown}
+use Rattle.juniper_merging.specs.Nodes.{IsEntry}
+use Rattle.juniper_merging.specs.Questions.{seen}
+use Rattle.juniper_merging.specs.declared.nodes.Entry.{Entry}
 use Rattle.juniper_merging.proofs.conflicts.Conflicts.with_each.Given as goal
 
--- how it clashes with those before this place
+-- how they clash with those before this place
 abbrev pub invariant-loop-other : goal.invariant-loop-other
-invariant-loop-other l = (t : List (List ℕ)) (i : ℕ) → AreKnown (seen t l.vertices) t l.self → slice_get (seen t l.vertices) i ≡ Some (view_vertex t l.vertex) →
-    Tells (Beside (seen t l.vertices) i (take l.other-index l.others)) l.found
+invariant-loop-other l = (t : List (List ℕ)) (H : ℕ → List ℕ) (F G : List ℕ) → AreKnown (seen t l.vertices) H l.self →
+    ((e : Entry) → In e l.others → IsEntry (seen t l.vertices) H F e) → (own : IsEntry (seen t l.vertices) H G l.entry) →
+    AreAllPaired (seen t l.vertices) F G (take l.other-index l.others) own.head l.found

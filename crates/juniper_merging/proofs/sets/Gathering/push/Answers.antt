@@ -6,5 +6,5 @@ use Rattle.juniper_merging.proofs.sets.Gathering.push.Goals as goal
 pub returns : goal.returns
 returns c t all =
     let old = c.args.self.now in
-    let new : Gathering = record { alloc = old.alloc; fields = c.push.new.self; parts = old.parts } in
+    let new : Gathering = record { fields = c.push.new.self; parts = old.parts } in
     field-gathered t old new all c.args.field refl c.in_ok-push.ensures.items
