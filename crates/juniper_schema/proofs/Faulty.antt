@@ -2,7 +2,7 @@
 use Rattle.std.proofs.Common.{◌≡◌, Bool, true, false, not, ◌&&◌, ◌⊎◌, cond, codes, List, [], ◌∷◌, map, Option, Some, None, option_map}
 use Rattle.std.proofs.Common.{MatchOption, bytes_eq, refl, sym, ap, subst, ◌∙◌, inl, inr}
 use Rattle.std.specs.List.{list_all, list_any}
-use Rattle.std.specs.Option.{option_or}
+use Rattle.std.specs.Option.{is_none, option_or}
 use Rattle.std.proofs.lemmas.Bool.{and_from, and_left, and_parts, and_right, both_ways, cases_Bool, false_from_ne_true, or_from, or_left, or_right}
 use Rattle.std.proofs.lemmas.Option.{none-some, same_Some}
 use Rattle.graphql_spec.specs.Shown.{Name}
@@ -306,17 +306,20 @@ module _ (s : Schema) where
   tells_unless true d n = record { none = λ h. refl; some = λ f h. absurd (none-some f h) }
   tells_unless false d n = record { none = λ h. absurd (none-some (at_type d n) (sym h)); some = λ f h. (refl, (refl, sym (same_Some (at_type d n) f h))) }
 
-  mutation_part : Tells (mutation_is_apart s s.mutation) (λ f. (f.demand ≡ RootTypes) × (root_fails s f.type_name ≡ true)) (mutation_fault s s.mutation)
+  -- the root type fails itself
+  abbrev FailsAtRoot : Fault → Type 0
+  FailsAtRoot f = (f.demand ≡ RootTypes) × ((is_none f.member && root_fails s f.type_name) ≡ true)
+
+  mutation_part : Tells (mutation_is_apart s s.mutation) FailsAtRoot (mutation_fault s s.mutation)
   unfolding mutation_fault mutation_is_apart root_fails entry_named
   mutation_part = go s.mutation refl
     where
-      go : (o : Option Name) → s.mutation ≡ o → Tells (mutation_is_apart s o) (λ f. (f.demand ≡ RootTypes) × (root_fails s f.type_name ≡ true))
-          (mutation_fault s o)
+      go : (o : Option Name) → s.mutation ≡ o → Tells (mutation_is_apart s o) FailsAtRoot (mutation_fault s o)
       go None is = record { none = λ h. refl; some = λ f h. absurd (none-some f h) }
       go (Some m) is = tells_more (mutation_is_apart s (Some m)) (mutation_is_apart s (Some m)) _ _ (mutation_fault s (Some m)) refl
           (λ f told. (
             ap (λ g. g.demand) told.1,
-            subst (λ n. root_fails s n ≡ true) (sym (ap (λ g. g.type_name) told.1))
+            subst (λ g. (is_none g.member && root_fails s g.type_name) ≡ true) (sym told.1)
                 (rw is (or_right (bytes_eq m s.query && not (is_object (entry_named s m))) _ (and_from (bytes_eq m m) _ (same_refl m) (ap not told.0)))),
           ))
           (tells_unless (mutation_is_apart s (Some m)) RootTypes m)

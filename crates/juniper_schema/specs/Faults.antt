@@ -1,6 +1,7 @@
 -- Why requests cannot be executed on a schema (3): what is asked of one, in order, and where it fails.
 use Rattle.std.specs.Prelude.{◌≡◌, Bool, true, false, not, ◌&&◌, ◌||◌, codes, map, List, Option, Some, None, option_map}
 use Rattle.std.specs.List.{list_all, list_any}
+use Rattle.std.specs.Option.{is_none}
 use Rattle.std.specs.Str.{bytes_eq}
 use Rattle.graphql_spec.specs.Shown.{Name}
 use Rattle.graphql_spec.specs.Tokens.{is_name}
@@ -118,11 +119,11 @@ scalar_fails s n = (bytes_eq n (codes "String") && not (accepts_just false true 
 abbrev pub fails_in : Schema → Fault → Bool
 fails_in s f = list_any (λ e. bytes_eq f.type_name e.key && entry_fails s f.demand e f.member) s.entries
 
--- the clause fails where the fault says
+-- the clause fails where the fault says; of a root type and of a built-in scalar it is told that they fail themselves
 unfoldable pub fails_at : Schema → Fault → Bool
 fails_at s f = elim f.demand [
-  | RootTypes ↦ root_fails s f.type_name
-  | BuiltInScalars ↦ scalar_fails s f.type_name
+  | RootTypes ↦ is_none f.member && root_fails s f.type_name
+  | BuiltInScalars ↦ is_none f.member && scalar_fails s f.type_name
   | EntryNames ↦ fails_in s f
   | KnownTypes ↦ fails_in s f
   | DistinctNames ↦ fails_in s f
