@@ -9,7 +9,7 @@ use Rattle.std.proofs.lemmas.List.{append_assoc, drop_all, map-append}
 use Rattle.std.proofs.Common.{Ordering, Equal, Greater, Less, refl, sym, ap, ◌∙◌, arith}
 use Rattle.graphql_spec.specs.Constants.{Constant, Members, insert, meaning, meanings, member, members, no_members}
 use Rattle.graphql_spec.specs.Arguments.{written_meaning}
-use Rattle.graphql_spec.specs.Documents.{Head, response_key, written}
+use Rattle.graphql_spec.specs.Documents.{Head, written}
 use Rattle.graphql_spec.specs.Inputs.{InputFields}
 use Rattle.graphql_spec.specs.Shown.{Name, Shown}
 use Rattle.juniper_syntax.specs.InputView.{view_input, view_items}
@@ -17,7 +17,7 @@ use Rattle.juniper_syntax.specs.declared.input.InputValue.{InputValue}
 use Rattle.juniper_syntax.specs.declared.position.Span.{Span}
 use Rattle.juniper_syntax.specs.declared.position.Spanning.{Spanning}
 use Rattle.juniper_syntax.proofs.Lists.{left-is, seen-push}
-use Rattle.juniper_field_graph.specs.CallParts.{Part, a_name, call_parts, item_parts, joined_parts, listed_parts, member_parts, put_in_order, the_end}
+use Rattle.juniper_field_graph.specs.CallParts.{Part, a_key, a_name, call_parts, item_parts, joined_parts, listed_parts, member_parts, put_in_order, the_end}
 use Rattle.juniper_field_graph.specs.CallParts.{value_parts, view_members, view_part, view_parts}
 use Rattle.juniper_field_graph.specs.NamedValues.{as_fields, view_named}
 use Rattle.juniper_field_graph.proofs.SameArguments.{meaning-as}
@@ -153,14 +153,14 @@ joined-done ps qs s whole put none before =
 
 -- ## A field's parts
 
--- a response key, a name, and members behind them
-pub call-put : (h : Head) (fs : InputFields) (ps qs rs : List CodePart) (whole : List Part) (key name : Bor Name) → ps ≡ [] → key.now ≡ response_key h →
-    name.now ≡ h.name.item → qs ≡ ps ++ code.Name key ∷ [] → rs ≡ qs ++ code.Name name ∷ [] → fs ≡ as_fields (written h.arguments) →
-    whole ≡ view_parts rs ++ member_parts (members fs) → whole ≡ call_parts h
+-- the number of a response key, a name, and members behind them
+pub call-put : (k : ℕ) (h : Head) (fs : InputFields) (ps qs rs : List CodePart) (whole : List Part) (name : Bor Name) → ps ≡ [] →
+    name.now ≡ h.name.item → qs ≡ ps ++ code.Key k ∷ [] → rs ≡ qs ++ code.Name name ∷ [] → fs ≡ as_fields (written h.arguments) →
+    whole ≡ view_parts rs ++ member_parts (members fs) → whole ≡ call_parts k h
 unfolding call_parts view_part
-call-put h fs ps qs rs whole key name none own word first second arguments put =
-    let one : view_parts qs ≡ a_name key.now ∷ [] = ap view_parts (first ∙ ap (λ xs. xs ++ code.Name key ∷ []) none) in
-    let two : view_parts rs ≡ a_name key.now ∷ a_name name.now ∷ [] = seen-push view_part qs rs (code.Name name) second
+call-put k h fs ps qs rs whole name none word first second arguments put =
+    let one : view_parts qs ≡ a_key k ∷ [] = ap view_parts (first ∙ ap (λ xs. xs ++ code.Key k ∷ []) none) in
+    let two : view_parts rs ≡ a_key k ∷ a_name name.now ∷ [] = seen-push view_part qs rs (code.Name name) second
     ∙ ap (λ xs. xs ++ a_name name.now ∷ []) one in
     let rest : members fs ≡ written_meaning (written h.arguments) = ap members arguments ∙ sym (meaning-as (written h.arguments)) in
-    put ∙ (ap (λ xs. xs ++ member_parts (members fs)) two ∙ (λ i. a_name (own i) ∷ a_name (word i) ∷ member_parts (rest i)))
+    put ∙ (ap (λ xs. xs ++ member_parts (members fs)) two ∙ (λ i. a_key k ∷ a_name (word i) ∷ member_parts (rest i)))

@@ -2,11 +2,11 @@
 use Rattle.std.specs.Prelude.{Bool, true, false, List, [], ◌∷◌, ◌≡◌}
 use Rattle.std.specs.Cmp.Lexicographic.{slice_cmp}
 use Rattle.std.specs.Ordering.{bool_cmp, ordering_then}
-use Rattle.std.proofs.lemmas.Cmp.{int_cmp_total, nat_list_cmp_total, tied_itself}
-use Rattle.std.proofs.lemmas.Map.Lookups.{exact_bytes, exact_signed}
+use Rattle.std.proofs.lemmas.Cmp.{int_cmp_total, nat_cmp_total, nat_list_cmp_total, tied_itself}
+use Rattle.std.proofs.lemmas.Map.Lookups.{exact_bytes, exact_signed, exact_unsigned}
 use Rattle.std.proofs.Common.{Ordering, Equal, Greater, Less, refl, ap, ap₂, ◌∙◌}
 use Rattle.graphql_spec.specs.Shown.{Shown, boolean, int, text}
-use Rattle.juniper_field_graph.specs.CallParts.{Part, a_list, a_name, a_null, a_scalar, a_variable, an_enum, an_object, the_end}
+use Rattle.juniper_field_graph.specs.CallParts.{Part, a_key, a_list, a_name, a_null, a_scalar, a_variable, an_enum, an_object, the_end}
 use Rattle.juniper_field_graph.specs.CallParts.{compare_held, compare_parts, compare_shown, rank, view_part, view_parts}
 use Rattle.juniper_field_graph.specs.declared.calls.Part.{Part as CodePart}
 use Rattle.juniper_field_graph.specs.declared.calls.Part.TheVariants as code
@@ -34,6 +34,7 @@ shown-exact s t e = cc
 
 part-exact : (p q : Part) → compare_parts p q ≡ Equal → p ≡ q
 unfolding compare_parts rank compare_held
+part-exact (a_key k) (a_key l) e = ap a_key (exact_unsigned k l e)
 part-exact (a_name n) (a_name m) e = ap a_name (exact_bytes n m e)
 part-exact a_null a_null e = refl
 part-exact (a_scalar s) (a_scalar t) e = ap a_scalar (shown-exact s t e)
@@ -66,6 +67,7 @@ shown-itself (boolean b) = truth-itself b
 
 part-itself : (p : Part) → compare_parts p p ≡ Equal
 unfolding compare_parts rank compare_held
+part-itself (a_key k) = tied_itself nat_cmp_total k
 part-itself (a_name n) = tied_itself nat_list_cmp_total n
 part-itself a_null = refl
 part-itself (a_scalar s) = shown-itself s
@@ -83,6 +85,7 @@ parts-itself (p ∷ ps) = ap (λ o. ordering_then o (slice_cmp compare_parts ps 
 
 part-seen : (x y : CodePart) → (parts.ghosts).cmp x y ≡ compare_parts (view_part x) (view_part y)
 unfolding compare_parts rank compare_held compare_shown view_part
+part-seen (code.Key k) (code.Key l) = refl
 part-seen (code.Name n) (code.Name m) = refl
 part-seen code.Null code.Null = refl
 part-seen (code.Int i) (code.Int j) = refl

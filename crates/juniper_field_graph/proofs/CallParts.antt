@@ -1,13 +1,13 @@
--- Calls with the same parts have one response key, one name and the same arguments.
-use Rattle.std.specs.Prelude.{List, [], ◌∷◌, ◌++◌, ◌≡◌}
+-- Calls with the same parts have one name and the same arguments.
+use Rattle.std.specs.Prelude.{ℕ, List, [], ◌∷◌, ◌++◌, ◌≡◌}
 use Rattle.std.proofs.lemmas.List.{append-nil, append_assoc}
 use Rattle.std.proofs.Common.{refl, sym, ap, ◌∙◌}
 use Rattle.graphql_spec.specs.Shown.{Name, Shown}
 use Rattle.graphql_spec.specs.Arguments.{written_meaning}
 use Rattle.graphql_spec.specs.Constants.{Constant, Constants, Members, constant, enumerated, list, member, no_constants, no_members, null, object}
 use Rattle.graphql_spec.specs.Constants.{scalar, variable}
-use Rattle.graphql_spec.specs.Documents.{Head, response_key, written}
-use Rattle.juniper_field_graph.specs.CallParts.{Part, a_list, a_name, a_null, a_scalar, a_variable, an_enum, an_object, the_end}
+use Rattle.graphql_spec.specs.Documents.{Head, written}
+use Rattle.juniper_field_graph.specs.CallParts.{Part, a_key, a_list, a_name, a_null, a_scalar, a_variable, an_enum, an_object, the_end}
 use Rattle.juniper_field_graph.specs.CallParts.{call_parts, item_parts, member_parts, value_parts}
 
 -- ## Where two lists of parts are the same
@@ -87,22 +87,21 @@ mutual
 
 -- ## Calls
 
-pub calls-told : (g h : Head) → call_parts g ≡ call_parts h →
-    (response_key g ≡ response_key h) × (g.name.item ≡ h.name.item) × (written_meaning (written g.arguments) ≡ written_meaning (written h.arguments))
+pub calls-told : (k l : ℕ) (g h : Head) → call_parts k g ≡ call_parts l h →
+    (g.name.item ≡ h.name.item) × (written_meaning (written g.arguments) ≡ written_meaning (written h.arguments))
 unfolding call_parts
-calls-told g h e =
+calls-told k l g h e =
     let us = written_meaning (written g.arguments) in
     let vs = written_meaning (written h.arguments) in
     let d : a_name g.name.item ∷ member_parts us ≡ a_name h.name.item ∷ member_parts vs =
-    rest-same (a_name (response_key g)) (a_name (response_key h)) (a_name g.name.item ∷ member_parts us) (a_name h.name.item ∷ member_parts vs) e in
+    rest-same (a_key k) (a_key l) (a_name g.name.item ∷ member_parts us) (a_name h.name.item ∷ member_parts vs) e in
     let f : member_parts us ≡ member_parts vs = rest-same (a_name g.name.item) (a_name h.name.item) (member_parts us) (member_parts vs) d in (
-      same-names (response_key g) (response_key h) (a_name g.name.item ∷ member_parts us) (a_name h.name.item ∷ member_parts vs) e,
       same-names g.name.item h.name.item (member_parts us) (member_parts vs) d,
       (members-told us vs [] [] (append-nil (member_parts us) ∙ (f ∙ sym (append-nil (member_parts vs))))).0,
     )
 
--- fields with one response key, one name and the same arguments have the same parts
-pub parts-told : (g h : Head) → response_key g ≡ response_key h → g.name.item ≡ h.name.item →
-    written_meaning (written g.arguments) ≡ written_meaning (written h.arguments) → call_parts g ≡ call_parts h
+-- fields whose response keys have one number, with one name and the same arguments, have the same parts
+pub parts-told : (k l : ℕ) (g h : Head) → k ≡ l → g.name.item ≡ h.name.item →
+    written_meaning (written g.arguments) ≡ written_meaning (written h.arguments) → call_parts k g ≡ call_parts l h
 unfolding call_parts
-parts-told g h key name arguments = λ i. a_name (key i) ∷ a_name (name i) ∷ member_parts (arguments i)
+parts-told k l g h key name arguments = λ i. a_key (key i) ∷ a_name (name i) ∷ member_parts (arguments i)

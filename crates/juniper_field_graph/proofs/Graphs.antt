@@ -84,7 +84,7 @@ module _ {S : Type 0} (shown : S → Shown) (s : Schema) where
       (count : n ≡ length old.vertices.items)
       (vertices : new.vertices.items ≡ old.vertices.items ++ v ∷ []) (fields : new.fields.items ≡ old.fields.items ++ f ∷ [])
       (keys : IsNumbered (response_key (view_field shown f.field.now)) v.key n (number_at old.keys) (number_at new.keys))
-      (calls : IsNumbered (call_parts (view_field shown f.field.now)) v.call n (number_of_parts old.calls) (number_of_parts new.calls))
+      (calls : IsNumbered (call_parts v.key (view_field shown f.field.now)) v.call n (number_of_parts old.calls) (number_of_parts new.calls))
       (added : IsAdded v.key n (group_in old.shapes) (group_in new.shapes)) (own-shape : v.shape ≡ n → In n (group_in new.shapes v.key)) where
     abbrev vs : List FieldAt
     vs = vertices_of shown old
@@ -125,9 +125,9 @@ module _ {S : Type 0} (shown : S → Shown) (s : Schema) where
     unfolding view_vertex
     keys' = subst (λ m. IsNumbered (response_key h) v.key m (number_at old.keys) (number_at new.keys)) is keys
 
-    calls' : IsNumbered (call_parts h) x.call (length vs) (number_of_parts old.calls) (number_of_parts new.calls)
+    calls' : IsNumbered (call_parts x.key h) x.call (length vs) (number_of_parts old.calls) (number_of_parts new.calls)
     unfolding view_vertex
-    calls' = subst (λ m. IsNumbered (call_parts h) v.call m (number_of_parts old.calls) (number_of_parts new.calls)) is calls
+    calls' = subst (λ m. IsNumbered (call_parts v.key h) v.call m (number_of_parts old.calls) (number_of_parts new.calls)) is calls
 
     own-shape' : x.shape ≡ length vs → In (length vs) (group_in new.shapes x.key)
     unfolding view_vertex

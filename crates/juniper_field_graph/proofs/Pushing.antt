@@ -115,20 +115,20 @@ beside (z ∷ xs) (y ∷ ys) l (suc i) x e = beside xs ys (omega (arith, l)) i x
 
 -- ## Calls and their parts
 
-same-parts-call : (g h : Head) → call_parts g ≡ call_parts h → same_call g h ≡ true
-same-parts-call g h e =
-    let r = calls-told g h e in
+same-parts-call : (k l : ℕ) (g h : Head) → call_parts k g ≡ call_parts l h → same_call g h ≡ true
+same-parts-call k l g h e =
+    let r = calls-told k l g h e in
     let us = written_meaning (written g.arguments) in
     let vs = written_meaning (written h.arguments) in
-    and_from (bytes_eq g.name.item h.name.item) (same_members us vs) (subst (λ z. bytes_eq g.name.item z ≡ true) r.1 (same_refl g.name.item))
-    (subst (λ z. same_members us z ≡ true) r.2 (same_members-itself us))
+    and_from (bytes_eq g.name.item h.name.item) (same_members us vs) (subst (λ z. bytes_eq g.name.item z ≡ true) r.0 (same_refl g.name.item))
+    (subst (λ z. same_members us z ≡ true) r.1 (same_members-itself us))
 
-same-call-parts : (g h : Head) → response_key g ≡ response_key h → same_call g h ≡ true → call_parts g ≡ call_parts h
-same-call-parts g h key e =
+same-call-parts : (k l : ℕ) (g h : Head) → k ≡ l → same_call g h ≡ true → call_parts k g ≡ call_parts l h
+same-call-parts k l g h key e =
     let us = written_meaning (written g.arguments) in
     let vs = written_meaning (written h.arguments) in
     let r = and_parts (bytes_eq g.name.item h.name.item) (same_members us vs) e in
-    parts-told g h key (same_true g.name.item h.name.item r.0) (same_members-true us vs r.1)
+    parts-told k l g h key (same_true g.name.item h.name.item r.0) (same_members-true us vs r.1)
 
 -- ## A vertex more
 
@@ -140,7 +140,7 @@ module _ (s : Schema) (vs : List FieldAt) (ts : List TypeRef) (hs : List Head) (
     (numbered : AreNumbered s vs (head_in hs)) (kept : AreKept s vs ts hs (head_in hs) names calls shapes)
     (typed : t ≡ declared_type (field_of s x.parent h.name.item))
     (name : IsNumbered (response_key h) x.key (length vs) names names')
-    (call : IsNumbered (call_parts h) x.call (length vs) calls calls')
+    (call : IsNumbered (call_parts x.key h) x.call (length vs) calls calls')
     (added : IsAdded x.key (length vs) shapes more)
     (shape : x.shape ≡ number_among (λ v. v.shape) vs (λ r. has_type s t (slice_get ts r)) (shapes x.key))
     (own-shape : x.shape ≡ length vs → In (length vs) (more x.key)) where
@@ -172,17 +172,17 @@ module _ (s : Schema) (vs : List FieldAt) (ts : List TypeRef) (hs : List Head) (
     | inr (p, q) ↦ rw (p, q) (ap (λ (g : Head). names' (response_key g)) head-last ∙ name.own)
   ]
 
-  called-now : (i : ℕ) (v : FieldAt) → slice_get (vs ++ x ∷ []) i ≡ Some v → calls' (call_parts (now i)) ≡ Some v.call
+  called-now : (i : ℕ) (v : FieldAt) → slice_get (vs ++ x ∷ []) i ≡ Some v → calls' (call_parts v.key (now i)) ≡ Some v.call
   called-now i v e = elim (old-or-last vs x i v e) [
-    | inl f ↦ call.grown _ v.call (subst (λ (g : Head). calls (call_parts g) ≡ Some v.call) (head-kept i v f) (kept.called i v f))
-    | inr (p, q) ↦ rw (p, q) (ap (λ (g : Head). calls' (call_parts g)) head-last ∙ call.own)
+    | inl f ↦ call.grown _ v.call (subst (λ (g : Head). calls (call_parts v.key g) ≡ Some v.call) (head-kept i v f) (kept.called i v f))
+    | inr (p, q) ↦ rw (p, q) (ap (λ (g : Head). calls' (call_parts x.key g)) head-last ∙ call.own)
   ]
 
   one-name-now : AreOneEach names' (length (vs ++ x ∷ []))
   one-name-now = still-one-each names names' (response_key h) x.key (length vs) (length (vs ++ x ∷ [])) kept.one_name name is-longer
 
   one-call-now : AreOneEach calls' (length (vs ++ x ∷ []))
-  one-call-now = still-one-each calls calls' (call_parts h) x.call (length vs) (length (vs ++ x ∷ [])) kept.one_call call is-longer
+  one-call-now = still-one-each calls calls' (call_parts x.key h) x.call (length vs) (length (vs ++ x ∷ [])) kept.one_call call is-longer
 
   keys-now : (i j : ℕ) (v w : FieldAt) → slice_get (vs ++ x ∷ []) i ≡ Some v → slice_get (vs ++ x ∷ []) j ≡ Some w →
       nat_eq v.key w.key ≡ bytes_eq (response_key (now i)) (response_key (now j))
@@ -196,10 +196,10 @@ module _ (s : Schema) (vs : List FieldAt) (ts : List TypeRef) (hs : List Head) (
   calls-now : (i j : ℕ) (v w : FieldAt) → slice_get (vs ++ x ∷ []) i ≡ Some v → slice_get (vs ++ x ∷ []) j ≡ Some w → nat_eq v.key w.key ≡ true →
       nat_eq v.call w.call ≡ same_call (now i) (now j)
   calls-now i j v w e f key = same-truth (nat_eq v.call w.call) (same_call (now i) (now j))
-      (λ q. same-parts-call (now i) (now j) (same-names calls' (length (vs ++ x ∷ [])) one-call-now (call_parts (now i)) (call_parts (now j)) v.call w.call
-      (called-now i v e) (called-now j w f) q))
-      (λ q. same-numbers calls' (call_parts (now i)) (call_parts (now j)) v.call w.call (called-now i v e) (called-now j w f)
-      (same-call-parts (now i) (now j) (same_true (response_key (now i)) (response_key (now j)) (sym (keys-now i j v w e f) ∙ key)) q))
+      (λ q. same-parts-call v.key w.key (now i) (now j) (same-names calls' (length (vs ++ x ∷ [])) one-call-now (call_parts v.key (now i))
+      (call_parts w.key (now j)) v.call w.call (called-now i v e) (called-now j w f) q))
+      (λ q. same-numbers calls' (call_parts v.key (now i)) (call_parts w.key (now j)) v.call w.call (called-now i v e) (called-now j w f)
+      (same-call-parts v.key w.key (now i) (now j) (same-number v.key w.key key) q))
 
   -- ## What numbers say
 

@@ -1,5 +1,5 @@
--- Calls as lists of parts: a response key, the field's name, and its arguments by what they mean. Only private clauses cite what
--- stands here.
+-- Calls as lists of parts: the number of a response key, the field's name, and its arguments by what they mean. Only private
+-- clauses cite what stands here.
 use Rattle.std.specs.Prelude.{ℕ, List, [], ◌∷◌, ◌++◌, Option, map, Vec}
 use Rattle.std.specs.Borrow.{Bor}
 use Rattle.std.specs.BTreeMap.{BTreeMap, get_by, insert_entry}
@@ -11,12 +11,13 @@ use Rattle.std.specs.declared.alloc.Global.{Global}
 use Rattle.graphql_spec.specs.Arguments.{written_meaning}
 use Rattle.graphql_spec.specs.Constants.{Constant, Constants, Members, constant, enumerated, list, member, no_constants, no_members, null, object}
 use Rattle.graphql_spec.specs.Constants.{scalar, variable}
-use Rattle.graphql_spec.specs.Documents.{Head, response_key, written}
+use Rattle.graphql_spec.specs.Documents.{Head, written}
 use Rattle.graphql_spec.specs.Shown.{Name, Shown, boolean, int, text}
 use Rattle.juniper_field_graph.specs.declared.calls.Part.{Part as CodePart}
 use Rattle.juniper_field_graph.specs.declared.calls.Part.TheVariants as code
 
 pub data Part : Type 0 where
+  a_key : ℕ → Part
   a_name : Name → Part
   a_null : Part
   a_scalar : Shown → Part
@@ -48,9 +49,9 @@ unfoldable mutual
   member_parts no_members = the_end ∷ []
   member_parts (member k u ms) = a_name k ∷ (value_parts u ++ member_parts ms)
 
--- those of a field
-unfoldable pub call_parts : Head → List Part
-call_parts h = a_name (response_key h) ∷ a_name h.name.item ∷ member_parts (written_meaning (written h.arguments))
+-- those of a field whose response key has this number
+unfoldable pub call_parts : ℕ → Head → List Part
+call_parts k h = a_key k ∷ a_name h.name.item ∷ member_parts (written_meaning (written h.arguments))
 
 -- ## Members, each by its name with its parts
 
@@ -70,6 +71,7 @@ put_in_order k ps ms = insert_entry (slice_cmp nat_cmp) ms k ps
 -- ## The code's parts
 
 unfoldable pub view_part : CodePart → Part
+view_part (code.Key k) = a_key k
 view_part (code.Name n) = a_name n.now
 view_part code.Null = a_null
 view_part (code.Int i) = a_scalar (int i)
@@ -91,14 +93,15 @@ view_members ms = map (λ m. (m.0.now, view_parts m.1.items)) ms
 
 -- parts are in the order of their kinds; those of one kind in the order of what they hold
 unfoldable pub rank : Part → ℕ
-rank (a_name n) = 0
-rank a_null = 1
-rank (a_scalar s) = 2
-rank (an_enum e) = 3
-rank (a_variable x) = 4
-rank a_list = 5
-rank an_object = 6
-rank the_end = 7
+rank (a_key k) = 0
+rank (a_name n) = 1
+rank a_null = 2
+rank (a_scalar s) = 3
+rank (an_enum e) = 4
+rank (a_variable x) = 5
+rank a_list = 6
+rank an_object = 7
+rank the_end = 8
 
 unfoldable pub compare_shown : Shown → Shown → Ordering
 compare_shown (int i) (int j) = int_cmp i j
@@ -110,6 +113,7 @@ compare_shown (boolean b) (boolean c) = bool_cmp b c
 compare_shown (boolean b) _ = Greater
 
 unfoldable pub compare_held : Part → Part → Ordering
+compare_held (a_key k) (a_key l) = nat_cmp k l
 compare_held (a_name n) (a_name m) = slice_cmp nat_cmp n m
 compare_held (a_scalar s) (a_scalar t) = compare_shown s t
 compare_held (an_enum e) (an_enum f) = slice_cmp nat_cmp e f

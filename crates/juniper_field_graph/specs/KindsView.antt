@@ -70,7 +70,7 @@ pub record AreKept (s : Schema) (vs : List FieldAt) (ts : List TypeRef) (hs : Li
   pub headed : length hs ≡ length vs
   pub types : (i : ℕ) (v : FieldAt) → slice_get vs i ≡ Some v → slice_get ts i ≡ Some (declared_type (field_of s v.parent (heads i).name.item))
   pub named : (i : ℕ) (v : FieldAt) → slice_get vs i ≡ Some v → names (response_key (heads i)) ≡ Some v.key
-  pub called : (i : ℕ) (v : FieldAt) → slice_get vs i ≡ Some v → calls (call_parts (heads i)) ≡ Some v.call
+  pub called : (i : ℕ) (v : FieldAt) → slice_get vs i ≡ Some v → calls (call_parts v.key (heads i)) ≡ Some v.call
   pub one_name : AreOneEach names (length vs)
   pub one_call : AreOneEach calls (length vs)
   pub keyed : (k r : ℕ) → In r (shapes k) → (v : FieldAt) × (slice_get vs r ≡ Some v) × (v.key ≡ k)

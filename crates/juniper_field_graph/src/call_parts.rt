@@ -19,16 +19,17 @@ use std::collections::BTreeMap;
 /// The parts of the members of an object, or of arguments, in the order of their names.
 type MemberParts<'d> = BTreeMap<&'d str, Vec<Part<'d>>>;
 
-/// The parts of a field's call: its response key, its name, and its arguments in the order of their names, whatever order they are
-/// written in; so are the fields of objects. Of several of one name the first counts. An error where memory is refused.
+/// The parts of a field's call: the number of its response key, its name, and its arguments in the order of their names, whatever
+/// order they are written in; so are the fields of objects. Of several of one name the first counts. An error where memory is refused.
 pub(crate) fn parts_of_call<'d, S: ScalarValue>(
     alloc: Global,
+    key: usize,
     field: &'d Spanning<Field<'_, S>, Span>,
 ) -> Result<Vec<Part<'d>>, AllocError>
-    ensures { IfOk result (λ parts. view_parts parts.items ≡ call_parts (view_field S.shown field.now)) }
+    ensures { IfOk result (λ parts. view_parts parts.items ≡ call_parts key (view_field S.shown field.now)) }
 {
     let mut parts = Vec::new(alloc);
-    parts.push(Part::Name(Field::response_key(field)))?;
+    parts.push(Part::Key(key))?;
     parts.push(Part::Name(field.item.name.item))?;
     let arguments = Arguments::written(&field.item.arguments);
     let by_name = arguments_by_name(alloc, arguments)?;

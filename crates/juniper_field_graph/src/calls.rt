@@ -11,7 +11,9 @@ use std::collections::BTreeMap;
 /// an end.
 #[derive(Clone, Copy, PartialEq, Eq, PartialOrd, Ord)]
 pub(crate) enum Part<'d> {
-    /// A response key, a field's name, or that of an argument or of an object's field.
+    /// The number of a response key.
+    Key(usize),
+    /// A field's name, or that of an argument or of an object's field.
     Name(&'d str),
     /// Null (2.9.5).
     Null,

@@ -85,7 +85,7 @@ impl<'d, 'a, S: ScalarValue> FieldGraph<'d, 'a, S> {
     {
         let number = self.vertices.len();
         let key = number_of_key(&mut self.keys, Field::response_key(field), number)?;
-        let parts = parts_of_call(alloc, field)?;
+        let parts = parts_of_call(alloc, key, field)?;
         let call = number_of_call(&mut self.calls, parts, number)?;
         let mut shapes = take_group(alloc, &mut self.shapes, key);
         let shape = shape_among(schema, &self.vertices, &self.fields, &shapes, declared_type);

@@ -11,8 +11,8 @@ pub returns : goal.returns
 returns g c =
     let shown = g.S.ScalarValue.shown in
     let fs = view_named (λ n. n.now) shown c.written-arguments.result.now in
-    call-put (view_field shown c.args.field.now) fs c.new-parts.result.items c.push.new.self.items c.push-2.new.self.items
-    (view_parts c.put_members.new.parts.items) c.response_key.result c.args.field.now.item.name.item c.new-parts.ensures.items c.response_key.ensures refl
+    call-put c.args.key (view_field shown c.args.field.now) fs c.new-parts.result.items c.push.new.self.items c.push-2.new.self.items
+    (view_parts c.put_members.new.parts.items) c.args.field.now.item.name.item c.new-parts.ensures.items refl
     c.in_ok-push.ensures.items c.in_ok-push-2.ensures.items
     (named-arguments shown c.written-arguments.result.now ∙ ap as_fields c.written-arguments.ensures)
     (c.in_ok-put_members.ensures ∙ ap (λ ps. view_parts c.push-2.new.self.items ++ ps)
