@@ -33,8 +33,8 @@ type SetLists<'d> = BTreeMap<&'d str, Vec<usize>>;
 
 /// For each definition of a document with these fragments, whether two fields in one of its selection sets cannot be merged
 /// (5.3.2), where the rules on names find nothing. Each field of the document is looked at once, and no more where those of one
-/// response key are alike all over the document; else once more where it is written and once for its fragment, however often
-/// that is spread, and each pair of fields a few times for each set. An error where memory is refused.
+/// response key are alike all over the document; else once more, however often its fragment is spread, and with others where what
+/// they stand in is put together. An error where memory is refused.
 pub fn cannot_merge<'d, 'a, S: ScalarValue>(
     alloc: Global,
     schema: &'d SchemaType<S>,
