@@ -1,5 +1,6 @@
 pub mod Lookups
 pub mod Fitting
+pub mod FewFields
 pub mod BuiltIns
 pub mod Executables
 pub mod TypeLevels

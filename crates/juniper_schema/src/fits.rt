@@ -1,8 +1,9 @@
 //! Which input values fit a type (sections 3.5 to 3.12 and 5.6.1 of the Specification).
 
-ghost use Rattle.std.specs.Prelude.{◌≡◌, ◌&&◌, map, option_map, string_bytes};
+ghost use Rattle.std.specs.Prelude.{◌≡◌, ◌&&◌, Bool, Some, false, map, option_map, string_bytes};
 ghost use Rattle.graphql_spec.specs.Fields.{declaration_in, type_named};
 ghost use Rattle.graphql_spec.specs.Fits as fit;
+ghost use Rattle.graphql_spec.specs.Schema.{Schema};
 ghost use Rattle.juniper_meta.specs.MetaView.{shape_of, view_argument};
 ghost use Rattle.juniper_schema.specs.Fitting.{declared_fields, declared_of, each_fits, fits_some, is_supplied, keys_differ, list_fits, object_by, takes_one};
 ghost use Rattle.juniper_schema.specs.Fitting.{object_fits_type};
@@ -96,7 +97,8 @@ impl<S: ScalarValue> SchemaType<S> {
     {
         match self.declared_fields(type_name) {
             Some(declared) => {
-                all_written(fields, declared)
+                are_few(fields, declared)
+                    && all_written(fields, declared)
                     && keys_differ(fields)
                     && self.each_fits(fields, type_name, given)
             }
@@ -221,6 +223,19 @@ fn input_object<S: ScalarValue>(meta: &MetaType<S>) -> Option<&[Argument<S>]>
         MetaType::Union(_) => None,
         MetaType::Placeholder(_) => None,
     }
+}
+
+/// Whether fields are no more than those that are declared. More of them do not fit: one is not declared, or stands twice. So it takes no longer
+/// than the declaration is.
+#[tactic(auto, using(crate::proofs::FewFields::object_by_few))]
+fn are_few<S: ScalarValue>(fields: &[InputField<S>], declared: &[Argument<S>]) -> bool
+    ensures { result ≡ false → (s : Schema) (given : Bool) →
+        object_by s given (view_fields S.shown fields.now) (Some (map (view_argument S.shown) declared.now)) ≡ false }
+{
+    if declared.len() < fields.len() {
+        return false;
+    }
+    true
 }
 
 /// Whether no two fields have one name (5.6.3).
