@@ -22,6 +22,7 @@ use Rattle.graphql_spec.specs.Outcomes.{Request, Service, Response, responds, re
 use Rattle.graphql_spec.specs.Outcomes.{IsReadAsValid, HasMutation, Steps, mutation_in, world_in}
 use Rattle.graphql_spec.proofs.Deciding.{known-outcome, steps-decide}
 use Rattle.juniper.specs.Answering.{AreCoercible, AreRefused, IsInvalid, IsUnchosen, Responds, StandsFor, outcome_of}
+use Rattle.juniper.specs.Budgets.{IsRun, Runs}
 use Rattle.juniper.specs.Promised.{IsFullOutcome, IsFullOutcomeOf}
 use Rattle.juniper_execute.specs.Stepping.{IsLeftOf}
 use Rattle.juniper_execute.specs.Walkings.{TellsQuery, TellsRun}
@@ -82,7 +83,7 @@ module _ {C N : Type 0} (S : Service C N) (s : Schema) (d : Document) (o : Opera
       let run = runs d o (coerced_variables (variables_of o) given) in
       (ap (λ z. of_kind s z run) k ∙ ap (λ (x : Option Name). cond (is_some x) run (refused spec.no_mutation_type)) none, refl)
 
-  mutation-runs : o.kind ≡ mutation → (T : Name) → s.mutation ≡ Some T → outcome_of s d o given ≡ runs d o (coerced_variables (variables_of o) given)
+  pub mutation-runs : o.kind ≡ mutation → (T : Name) → s.mutation ≡ Some T → outcome_of s d o given ≡ runs d o (coerced_variables (variables_of o) given)
   unfolding of_kind
   mutation-runs k T is =
       let run = runs d o (coerced_variables (variables_of o) given) in
@@ -113,7 +114,7 @@ module _ {C N : Type 0} (S : Service C N) (s : Schema) (d : Document) (o : Opera
         IsOutcomeOf S whole (outcome_of s d o given) c outcome.out_of_memory after
     mutation-left left = inr (d, o, vars, mutation-runs k T is ∙ ap (runs d o) (sym e), k, (m, T, has, left))
 
-  query-runs : o.kind ≡ query → outcome_of s d o given ≡ runs d o (coerced_variables (variables_of o) given)
+  pub query-runs : o.kind ≡ query → outcome_of s d o given ≡ runs d o (coerced_variables (variables_of o) given)
   unfolding of_kind
   query-runs k = ap (λ z. of_kind s z (runs d o (coerced_variables (variables_of o) given))) k
 
@@ -195,6 +196,10 @@ module _ {C N : Type 0} (S : Service C N) (q : Request) (c : C) where
           (at-execute a x after i.0, i.1),
           firsts-become S c q (outcome_of S.schema d o q.variables) ((steps-decide S).kind q d o v choice a.fitting a.constant) x i.2,
         )
+
+        -- an operation that runs becomes of the request
+        pub run-becomes : AreCoercible S.schema o q.variables → IsRun (outcome_of S.schema d o q.variables) → Runs S q
+        run-becomes a r = (r.0, r.1, r.2, subst (Becomes S q) r.3 ((steps-decide S).kind q d o v choice a.fitting a.constant))
 
 -- an error's response under another reading
 pub responds-so : (P Q : Response → Type 0) → ((r : Response) → P r → Q r) → (e : RequestError) → Responds P e → Responds Q e

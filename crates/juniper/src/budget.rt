@@ -1,6 +1,6 @@
 //! Requests within a budget of fields (this project's own): a request of few bytes may have a large answer.
 
-ghost use Rattle.std.specs.Prelude.{◌≡◌, Some};
+ghost use Rattle.std.specs.Prelude.{◌≡◌, ◌≢◌, Some};
 ghost use Rattle.juniper.specs.Budgets.{error_of, of_stop};
 ghost use Rattle.juniper.specs.declared.budget.Within.TheVariants as within;
 ghost use Rattle.juniper.specs.declared.error.GraphQLError.TheVariants as gives;
@@ -38,6 +38,7 @@ impl Error for Within {}
 impl Within {
     /// The error of a request that has no budget.
     pub(crate) fn into_error(self) -> GraphQLError
+        requires { self ≢ within.Spent }
         ensures { result ≡ error_of self }
     {
         match self {

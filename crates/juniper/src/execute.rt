@@ -13,9 +13,9 @@ ghost use Rattle.juniper_intro.specs.RootView.{is_disabled, schema_of};
 ghost use Rattle.juniper_execute.specs.ServedView as serving;
 ghost use Rattle.juniper_execute.specs.Validity.{IsValid};
 ghost use Rattle.juniper_execute.specs.Walkings.{IsBounded};
-ghost use Rattle.juniper_walk.specs.Budget.{fields_in};
+ghost use Rattle.juniper_walk.specs.Budget.{fields_in, most_fields};
 ghost use Rattle.juniper.specs.Answering.{AnswersAs, AreCoercible, outcome_in};
-ghost use Rattle.juniper.specs.Budgets.{AnswersWithin};
+ghost use Rattle.juniper.specs.Budgets.{AnswersWithin, IsRun, SpendsOnly};
 ghost use Rattle.juniper.specs.Promised.{IsFullOutcomeOf};
 ghost use Rattle.juniper.specs.RootView.{service_of};
 ghost use Rattle.juniper.specs.Services.{rooted_steps};
@@ -77,14 +77,14 @@ pub fn execute_validated_query<
         root_node,
         variables,
         context,
-        usize::MAX,
+        None,
     ) {
         Err(within) => Err(within.into_error()),
         Ok(answered) => Ok(answered),
     }
 }
 
-/// Executes an operation of a valid document, walked in one of the ways, where at most so many fields are entered (6.1).
+/// Executes an operation of a valid document, walked in one of the ways, where at most so many fields are entered, if a budget is given (6.1).
 pub(crate) fn execute_walked<
     'd,
     'a,
@@ -100,7 +100,7 @@ pub(crate) fn execute_walked<
     root_node: &RootNode<Q, M, Sub, S>,
     variables: &Variables<S>,
     context: &mut Q::Context,
-    fields: usize,
+    fields: Option<usize>,
 ) -> Result<(Value<S>, Vec<ExecutionError<S>>), Within>
     requires valid { rule_errors (view_schema S.shown (schema_of root_node.now)) (is_disabled root_node.now) (view_document S.shown document.now) ≡ [] }
     requires member { In (documents.operation (view_operation S.shown operation.now)) (view_document S.shown document.now) }
@@ -108,7 +108,9 @@ pub(crate) fn execute_walked<
         (view_variables S.shown variables.now) }
     ensures answers { AnswersWithin S.shown (λ r. IsWalkedOutcome (service_of Q.concrete Q.answer Q.root M.step M.torn S.shown root_node.now) walking
         (outcome_in S.shown (view_schema S.shown (schema_of root_node.now)) document.now operation.now variables.now) context.old r context.new) result }
-    ensures counted { IfOk result (λ p. IsBounded walking (fields_in (view_value S.shown p.0)) fields) }
+    ensures counted { IfOk result (λ p. IsBounded walking (fields_in (view_value S.shown p.0)) (most_fields fields)) }
+    ensures spent { SpendsOnly fields
+        (IsRun (outcome_in S.shown (view_schema S.shown (schema_of root_node.now)) document.now operation.now variables.now)) result }
 {
     root_replies(root_node);
     let resolver = QueryResolver {
@@ -144,7 +146,7 @@ fn execute_root<
     schema: &SchemaType<S>,
     variables: &Variables<S>,
     context: &mut Q::Context,
-    fields: usize,
+    fields: Option<usize>,
 ) -> Result<(Value<S>, Vec<ExecutionError<S>>), Within>
     requires executable { IsTrue (is_executable (view_schema S.shown schema.now)) }
     requires valid { IsValid (view_schema S.shown schema.now) (view_document S.shown document.now) }
@@ -153,7 +155,8 @@ fn execute_root<
     ensures answers { WalksResolved Q.concrete Q.answer Q.root S.shown resolver.now.query.now resolver.now.info.now
         (rooted_steps M.step M.torn steps.now.mutation.now steps.now.info.now) (view_schema S.shown schema.now) walking
         document.now operation.now variables.now context.old result context.new }
-    ensures counted { IfOk result (λ p. IsBounded walking (fields_in (view_value S.shown p.0)) fields) }
+    ensures counted { IfOk result (λ p. IsBounded walking (fields_in (view_value S.shown p.0)) (most_fields fields)) }
+    ensures spent { SpendsOnly fields (IsRun (outcome_in S.shown (view_schema S.shown schema.now) document.now operation.now variables.now)) result }
 {
     execute_resolved(
         alloc, walking, document, operation, resolver, steps, schema, variables, context, fields,
@@ -177,7 +180,7 @@ fn execute_resolved<
     schema: &SchemaType<S>,
     variables: &Variables<S>,
     context: &mut Q::Context,
-    fields: usize,
+    fields: Option<usize>,
 ) -> Result<(Value<S>, Vec<ExecutionError<S>>), Within>
     requires executable { IsTrue (is_executable (view_schema S.shown schema.now)) }
     requires valid { IsValid (view_schema S.shown schema.now) (view_document S.shown document.now) }
@@ -185,7 +188,8 @@ fn execute_resolved<
     requires coercible { AreCoercible (view_schema S.shown schema.now) (view_operation S.shown operation.now) (view_variables S.shown variables.now) }
     ensures answers { WalksResolved Q.concrete Q.answer Q.root S.shown resolver.now.query.now resolver.now.info.now (M.steps steps.now)
         (view_schema S.shown schema.now) walking document.now operation.now variables.now context.old result context.new }
-    ensures counted { IfOk result (λ p. IsBounded walking (fields_in (view_value S.shown p.0)) fields) }
+    ensures counted { IfOk result (λ p. IsBounded walking (fields_in (view_value S.shown p.0)) (most_fields fields)) }
+    ensures spent { SpendsOnly fields (IsRun (outcome_in S.shown (view_schema S.shown schema.now) document.now operation.now variables.now)) result }
 {
     let undeclared = undeclared_type(alloc);
     let served = Served {
@@ -216,14 +220,15 @@ fn execute_operation<
     root: &R::Node,
     variables: &Variables<S>,
     context: &mut R::Context,
-    fields: usize,
+    fields: Option<usize>,
 ) -> Result<(Value<S>, Vec<ExecutionError<S>>), Within>
     requires valid { IsValid (serving.schema_of S.shown served.now) (view_document S.shown document.now) }
     requires member { In (documents.operation (view_operation S.shown operation.now)) (view_document S.shown document.now) }
     requires coercible { AreCoercible (serving.schema_of S.shown served.now) (view_operation S.shown operation.now) (view_variables S.shown variables.now) }
     ensures answers { WalksOperation S.shown (R.meaning served.now.resolver.now) (M.steps steps.now) root.now (serving.schema_of S.shown served.now)
         served.now.walking document.now operation.now variables.now context.old result context.new }
-    ensures counted { IfOk result (λ p. IsBounded served.now.walking (fields_in (view_value S.shown p.0)) fields) }
+    ensures counted { IfOk result (λ p. IsBounded served.now.walking (fields_in (view_value S.shown p.0)) (most_fields fields)) }
+    ensures spent { SpendsOnly fields (IsRun (outcome_in S.shown (serving.schema_of S.shown served.now) document.now operation.now variables.now)) result }
 {
     match operation.item.operation_type {
         OperationType::Subscription => Err(Within::Refused(GraphQLError::IsSubscription)),

@@ -6,14 +6,16 @@ ghost use Rattle.graphql_spec.specs.Schema.{FieldDeclaration};
 ghost use Rattle.juniper_meta.specs.MetaView.{Meta};
 ghost use Rattle.juniper_types.specs.ExecutorView.{IsAskedFor};
 ghost use Rattle.juniper.specs.AskedFields.{IsOfField, asked_arguments, asked_name};
-ghost use Rattle.juniper.specs.Ends.{RequestsEnd, TextsAreRead};
+ghost use Rattle.juniper.specs.Ends.{AllEnd, RequestsEnd, TextsAreRead};
 ghost use Rattle.juniper.specs.Headline.{Headline};
 ghost use Rattle.juniper.specs.Promised.{IsFullOutcome};
 ghost use Rattle.juniper.specs.RequestErrors.{view_request_error};
+ghost use Rattle.juniper.specs.RootView.{service_of};
 
 use crate::error::GraphQLError;
+use juniper_intro::RootNode;
 use juniper_language::ScalarValue;
-use juniper_types::Executor;
+use juniper_types::{Executor, GraphQLMutationValue, GraphQLType, GraphQLValue};
 
 /// What [`crate::execute_sync`] promises, part by part: a refusal is that of the first step that fails; the data is that of the
 /// Specification's execution; the errors are sorted, each belongs to a failure, at its exact place and at the first of its field's
@@ -28,6 +30,16 @@ pub fn headline<C, N>()
 pub fn requests_end<C, N>()
     ensures texts { TextsAreRead }
     ensures outcomes { (S : Service C N) → RequestsEnd S }
+{}
+
+/// Each request to a root has an outcome that is all that [`crate::execute_sync`] promises (section 6.1).
+pub fn requests_to_a_root_end<
+    Q: GraphQLValue<S>,
+    M: GraphQLMutationValue<S, Context = Q::Context, Node = Q::Node>,
+    Sub: GraphQLType<S>,
+    S: ScalarValue,
+>(root: &RootNode<Q, M, Sub, S>)
+    ensures { AllEnd (service_of Q.concrete Q.answer Q.root M.step M.torn S.shown root.now) }
 {}
 
 /// `==` says that both are of one kind, and that what is inside is equal: an error of the parser with its place, errors of

@@ -34,6 +34,12 @@ impl Bounds {
     };
 }
 
+const _: () = prove!(Bounds::DEFAULT.bytes == 32_768);
+
+const _: () = prove!(Bounds::DEFAULT.fields == 10_000);
+
+const _: () = prove!(Bounds::DEFAULT.levels == 64);
+
 /// Why a text is not prepared.
 #[derive(Debug, Drop)]
 pub enum Objection {

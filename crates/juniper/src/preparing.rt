@@ -6,10 +6,10 @@ ghost use Rattle.graphql_spec.specs.Schema.{Schema};
 ghost use Rattle.juniper_syntax.specs.DocumentView.{view_document};
 ghost use Rattle.juniper_syntax.specs.ValueView.{view_value};
 ghost use Rattle.juniper_schema.specs.SchemaView.{view_schema};
-ghost use Rattle.juniper_walk.specs.Budget.{fields_in};
+ghost use Rattle.juniper_walk.specs.Budget.{fields_in, most_fields};
 ghost use Rattle.juniper_intro.specs.RootView.{is_disabled, schema_of};
 ghost use Rattle.juniper.specs.Answering.{AnswersAs, request_of};
-ghost use Rattle.juniper.specs.Budgets.{AnswersWithin};
+ghost use Rattle.juniper.specs.Budgets.{AnswersWithin, Runs, SpendsOnly};
 ghost use Rattle.juniper.specs.Objections.{IsWithin, Objects};
 ghost use Rattle.juniper.specs.PreparedView.{IsOfText, IsPreparedFrom, document_of, root_of, source_of};
 ghost use Rattle.juniper.specs.Promised.{IsFullOutcome};
@@ -149,20 +149,13 @@ pub fn execute_prepared<
         (λ r. IsFullOutcome (service_of Q.concrete Q.answer Q.root M.step M.torn S.shown (root_of prepared.now))
         (request_of S.shown (source_of prepared.now) operation_name.entry variables.now) context.old r context.new) result }
 {
-    match execute_prepared_within(
-        alloc,
-        prepared,
-        operation_name,
-        variables,
-        context,
-        usize::MAX,
-    ) {
+    match execute_prepared_within(alloc, prepared, operation_name, variables, context, None) {
         Err(within) => Err(within.into_error()),
         Ok(answered) => Ok(answered),
     }
 }
 
-/// Executes an operation of a prepared document as [`execute_prepared`] does, where at most so many fields are entered: answers what
+/// Executes an operation of a prepared document as [`execute_prepared`] does, within this budget of fields, if one is given: answers what
 /// [`crate::request::execute_within`] answers to its text on its root, and leaves the context as that does.
 pub fn execute_prepared_within<
     Q: GraphQLValue<S>,
@@ -175,12 +168,15 @@ pub fn execute_prepared_within<
     operation_name: Option<&str>,
     variables: &Variables<S>,
     context: &mut Q::Context,
-    fields: usize,
+    fields: Option<usize>,
 ) -> Result<(Value<S>, Vec<ExecutionError<S>>), Within>
     ensures answers { IsOfText S.shown prepared.now → AnswersWithin S.shown
         (λ r. IsFullOutcome (service_of Q.concrete Q.answer Q.root M.step M.torn S.shown (root_of prepared.now))
         (request_of S.shown (source_of prepared.now) operation_name.entry variables.now) context.old r context.new) result }
-    ensures counted { IfOk result (λ p. fields_in (view_value S.shown p.0) ≤ fields) }
+    ensures counted { IfOk result (λ p. fields_in (view_value S.shown p.0) ≤ most_fields fields) }
+    ensures spent { IsOfText S.shown prepared.now → SpendsOnly fields
+        (Runs (service_of Q.concrete Q.answer Q.root M.step M.torn S.shown (root_of prepared.now))
+        (request_of S.shown (source_of prepared.now) operation_name.entry variables.now)) result }
 {
     match execute_chosen(
         alloc,

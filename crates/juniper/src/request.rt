@@ -9,10 +9,10 @@ ghost use Rattle.juniper_intro.specs.RootView.{is_disabled, schema_of};
 ghost use Rattle.juniper_syntax.specs.DocumentView.{view_document, view_operation};
 ghost use Rattle.juniper_syntax.specs.InputView.{view_variables};
 ghost use Rattle.juniper_syntax.specs.ValueView.{view_value};
-ghost use Rattle.juniper_walk.specs.Budget.{fields_in};
+ghost use Rattle.juniper_walk.specs.Budget.{fields_in, most_fields};
 ghost use Rattle.juniper_schema.specs.SchemaView.{view_schema};
 ghost use Rattle.juniper.specs.Answering.{AnswersAs, IsInvalid, IsUnchosen, PassesCoercible, StandsFor, request_of};
-ghost use Rattle.juniper.specs.Budgets.{AnswersWithin};
+ghost use Rattle.juniper.specs.Budgets.{AnswersWithin, Runs, SpendsOnly};
 ghost use Rattle.juniper.specs.Promised.{IsFullOutcome};
 ghost use Rattle.juniper.specs.RequestErrors.{view_request_error};
 ghost use Rattle.juniper.specs.RootView.{service_of};
@@ -144,19 +144,20 @@ pub fn execute_sync<
         root_node,
         variables,
         context,
-        usize::MAX,
+        None,
     ) {
         Err(within) => Err(within.into_error()),
         Ok(answered) => Ok(answered),
     }
 }
 
-/// Executes a request as [`execute_sync`] does, where at most so many fields are entered: each object that is made, and each whose fields are
-/// begun, has as many as response keys are selected of it, whatever they answer. Introspection counts as all else, and so do objects that
-/// a null takes away.
+/// Executes a request as [`execute_sync`] does, where at most so many fields are entered, if a budget is given: each object that is made, and
+/// each whose fields are begun, has as many as response keys are selected of it, whatever they answer. Introspection counts as all else, and
+/// so do objects that a null takes away.
 ///
-/// [`Within::Refused`] has the error that [`execute_sync`] answers; [`Within::Spent`] stands where more fields were to be entered. That may be
-/// found late: it leaves the context as want of memory does. Data has no more fields than that, at all depths together.
+/// [`Within::Refused`] has the error that [`execute_sync`] answers; [`Within::Spent`] stands where an operation runs and more fields were to be
+/// entered than a budget that is given. That may be found late: it leaves the context as want of memory does. Data has no more fields than
+/// that, at all depths together.
 pub fn execute_within<
     Q: GraphQLValue<S>,
     M: GraphQLMutationValue<S, Context = Q::Context, Node = Q::Node>,
@@ -169,12 +170,14 @@ pub fn execute_within<
     root_node: &RootNode<Q, M, Sub, S>,
     variables: &Variables<S>,
     context: &mut Q::Context,
-    fields: usize,
+    fields: Option<usize>,
 ) -> Result<(Value<S>, Vec<ExecutionError<S>>), Within>
     ensures answers { AnswersWithin S.shown
         (λ r. IsFullOutcome (service_of Q.concrete Q.answer Q.root M.step M.torn S.shown root_node.now)
         (request_of S.shown document_source.now operation_name.entry variables.now) context.old r context.new) result }
-    ensures counted { IfOk result (λ p. fields_in (view_value S.shown p.0) ≤ fields) }
+    ensures counted { IfOk result (λ p. fields_in (view_value S.shown p.0) ≤ most_fields fields) }
+    ensures spent { SpendsOnly fields (Runs (service_of Q.concrete Q.answer Q.root M.step M.torn S.shown root_node.now)
+        (request_of S.shown document_source.now operation_name.entry variables.now)) result }
 {
     let document = match read(alloc, document_source) {
         Err(error) => return Err(Within::Refused(error)),
@@ -203,8 +206,8 @@ pub fn execute_within<
     }
 }
 
-/// Chooses the operation of a valid document, tests the values of its variables and executes it, where at most so many fields are entered
-/// (6.1). Of every text that is read as the document it answers what a request of that text is answered.
+/// Chooses the operation of a valid document, tests the values of its variables and executes it, where at most so many fields are entered,
+/// if a budget is given (6.1). Of every text that is read as the document it answers what a request of that text is answered.
 pub(crate) fn execute_chosen<
     Q: GraphQLValue<S>,
     M: GraphQLMutationValue<S, Context = Q::Context, Node = Q::Node>,
@@ -217,13 +220,16 @@ pub(crate) fn execute_chosen<
     root_node: &RootNode<Q, M, Sub, S>,
     variables: &Variables<S>,
     context: &mut Q::Context,
-    fields: usize,
+    fields: Option<usize>,
 ) -> Result<(Value<S>, Vec<ExecutionError<S>>), Within>
     requires { rule_errors (view_schema S.shown (schema_of root_node.now)) (is_disabled root_node.now) (view_document S.shown document.now) ≡ [] }
     ensures answers { (t : Text) → Reads t (Some (view_document S.shown document.now)) → AnswersWithin S.shown
         (λ r. IsFullOutcome (service_of Q.concrete Q.answer Q.root M.step M.torn S.shown root_node.now)
         (request_of S.shown t operation_name.entry variables.now) context.old r context.new) result }
-    ensures counted { IfOk result (λ p. fields_in (view_value S.shown p.0) ≤ fields) }
+    ensures counted { IfOk result (λ p. fields_in (view_value S.shown p.0) ≤ most_fields fields) }
+    ensures spent { (t : Text) → Reads t (Some (view_document S.shown document.now)) → SpendsOnly fields
+        (Runs (service_of Q.concrete Q.answer Q.root M.step M.torn S.shown root_node.now)
+        (request_of S.shown t operation_name.entry variables.now)) result }
 {
     let operation = match get_operation(document, operation_name) {
         Err(error) => return Err(Within::Refused(error)),

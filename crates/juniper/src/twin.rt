@@ -57,7 +57,7 @@ pub fn execute_by_join<
         root_node,
         variables,
         context,
-        usize::MAX,
+        None,
     ) {
         Err(within) => Err(within.into_error()),
         Ok(answered) => Ok(answered),

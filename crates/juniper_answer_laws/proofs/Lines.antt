@@ -84,14 +84,14 @@ module _ (c after : DemoContext) (a : Answer) (s : Schema) (demo : IsDemoSchema 
   IsAnswered = (((a.status ≡ 0) × (string_bytes a.line ≡ the_line)) ⊎ ShowsRefusal error.out_of_memory a) × (after ≡ c)
 
   abbrev Exact : Response → Type 0
-  Exact r = IsExactOutcome (demo_service s) (asking no_values) c r after
+  Exact r = IsFullOutcome (demo_service s) (asking no_values) c r after
 
   none_refused : (r : Refusal) → Exact (refuses r) → IsAnswered
-  none_refused r exact = absurd (outcomes-are-the-line s demo no_values c after (refuses r) exact).0
+  none_refused r exact = absurd (outcomes-are-the-line s demo no_values c after (refuses r) exact.0).0
 
   -- no refusal is shown
   shown : (e : RequestError) → Responds Exact e → ShowsRefusal e a → IsAnswered
-  shown error.out_of_memory exact shows = (inr shows, (outcomes-are-the-line s demo no_values c after out_of_memory exact).1)
+  shown error.out_of_memory exact shows = (inr shows, (outcomes-are-the-line s demo no_values c after out_of_memory exact.0).1)
   shown (error.not_parsed e) (r, is, exact) shows = none_refused r exact
   shown (error.not_valid es) (r, is, exact) shows = none_refused r exact
   shown error.no_operation (r, is, exact) shows = none_refused r exact
@@ -104,5 +104,5 @@ module _ (c after : DemoContext) (a : Answer) (s : Schema) (demo : IsDemoSchema 
 
 pub word-is-answered : WordIsAnsweredByTheLine
 word-is-answered c after a (s, demo, inl (v, es, exact, shows)) =
-    let told = outcomes-are-the-line s demo no_values c after (responds v es) exact in (inl (shows.0, shows.1 ∙ told.0), told.1)
+    let told = outcomes-are-the-line s demo no_values c after (responds v es) exact.0 in (inl (shows.0, shows.1 ∙ told.0), told.1)
 word-is-answered c after a (s, demo, inr (e, responds_so, shows)) = shown c after a s demo e responds_so shows

@@ -2,14 +2,13 @@
 use Rattle.std.proofs.Common.{◌≡◌, Bool, false, Option, Some, map, Vec, Global, Result, Ok, Err, inl, inr, subst}
 use Rattle.std.specs.Prelude.{MatchResult}
 use Rattle.graphql_spec.specs.Shown.{Text, Name}
-use Rattle.graphql_spec.specs.ExactAnswers.{IsExactOutcome}
 use Rattle.graphql_spec.specs.Inputs.{Variables}
 use Rattle.graphql_spec.specs.Schema.{Schema}
 use Rattle.graphql_spec.specs.Introspection.{RootedNode, rooted_service}
 use Rattle.graphql_spec.specs.Outcomes as outcome
-use Rattle.graphql_spec.specs.Outcomes.{Becomes, Request, Response, Service, Steps, refuses, responds}
+use Rattle.graphql_spec.specs.Outcomes.{Request, Response, Service, Steps, refuses, responds}
 use Rattle.juniper.specs.Answering.{AnswersAs, Responds}
-use Rattle.juniper.specs.Promised.{IsFullOutcome, ListsFirsts}
+use Rattle.juniper.specs.Promised.{IsFullOutcome}
 use Rattle.juniper.specs.RequestErrors.{RequestError, view_request_error, not_parsed, not_valid, no_operation, multiple_operations, unknown_operation}
 use Rattle.juniper.specs.RequestErrors.{is_subscription, not_subscription, no_mutation_type, variable_not_constant, out_of_memory}
 use Rattle.juniper.specs.declared.error.GraphQLError.{GraphQLError}
@@ -37,32 +36,9 @@ Outcome = Result Data GraphQLError
 abbrev pub service_from : DemoNode → Option (Steps DemoContext DemoNode) → Bool → Schema → Service DemoContext (RootedNode DemoNode)
 service_from m x b s = rooted_service (record { schema = s; introspection_disabled = b; concrete = λ c. concrete_type; answer = reply; root = m; mutation = x })
 
--- how the outcome of a request comes about
+-- how the outcome of a request comes about: it is all that is promised
 abbrev pub Comes : DemoNode → Option (Steps DemoContext DemoNode) → Bool → Schema → Request → DemoContext → DemoContext → Outcome → Type 0
-Comes m x b s q c after o = AnswersAs default_shown (λ r. IsExactOutcome (service_from m x b s) q c r after) o
-
--- all that is promised of it
-abbrev pub ComesFull : DemoNode → Option (Steps DemoContext DemoNode) → Bool → Schema → Request → DemoContext → DemoContext → Outcome → Type 0
-ComesFull m x b s q c after o = AnswersAs default_shown (λ r. IsFullOutcome (service_from m x b s) q c r after) o
-
-less-responds : (P R : Response → Type 0) (e : RequestError) → Responds (λ r. P r × R r) e → Responds P e
-less-responds P R out_of_memory p = p.0
-less-responds P R (not_parsed e) (r, is, p) = (r, is, p.0)
-less-responds P R (not_valid es) (r, is, p) = (r, is, p.0)
-less-responds P R no_operation (r, is, p) = (r, is, p.0)
-less-responds P R multiple_operations (r, is, p) = (r, is, p.0)
-less-responds P R unknown_operation (r, is, p) = (r, is, p.0)
-less-responds P R is_subscription (r, is, p) = (r, is, p.0)
-less-responds P R not_subscription (r, is, p) = (r, is, p.0)
-less-responds P R no_mutation_type (r, is, p) = (r, is, p.0)
-less-responds P R (variable_not_constant n) (r, is, p) = (r, is, p.0)
-
--- an exact outcome is part of it
-comes-exact : (m : DemoNode) (x : Option (Steps DemoContext DemoNode)) (b : Bool) (s : Schema) (q : Request) (c after : DemoContext) (o : Outcome) →
-    ComesFull m x b s q c after o → Comes m x b s q c after o
-comes-exact m x b s q c after (Ok p) a = a.0
-comes-exact m x b s q c after (Err e) a = less-responds (λ r. IsExactOutcome (service_from m x b s) q c r after)
-    (λ r. ListsFirsts (service_from m x b s) (Becomes (service_from m x b s) q) c r) (view_request_error e) a
+Comes m x b s q c after o = AnswersAs default_shown (λ r. IsFullOutcome (service_from m x b s) q c r after) o
 
 -- what is shown of it
 abbrev pub IsShown : Outcome → Answer → Type 0
@@ -92,10 +68,10 @@ module _ (t : Text) (c after : DemoContext) where
 
   pub request_answered : (n l : Option Name) (vars : Variables) (m : DemoNode) (x : Option (Steps DemoContext DemoNode)) (b : Bool) (s : Schema) (o : Outcome)
       (a : Answer) → l ≡ n → m ≡ Query
-      → x ≡ Some demo_steps → b ≡ false → IsDemoSchema s → ComesFull m x b s (asked l vars) c after o → IsShown o a →
+      → x ≡ Some demo_steps → b ≡ false → IsDemoSchema s → Comes m x b s (asked l vars) c after o → IsShown o a →
       IsAnswerWith t n vars c a after
   request_answered n l vars m x b s o a is_name is_root steps enabled same comes shows =
-      shown n vars s same o a (of_demo n l vars m x b s o is_name is_root steps enabled (comes-exact m x b s (asked l vars) c after o comes)) shows
+      shown n vars s same o a (of_demo n l vars m x b s o is_name is_root steps enabled comes) shows
 
   responded : (P : Response → Type 0) (e : RequestError) → Responds P e → (r : Response) × P r
   responded P out_of_memory p = (outcome.out_of_memory, p)
@@ -114,11 +90,11 @@ module _ (t : Text) (c after : DemoContext) where
       → MayLeave t n vars c after
   left n vars s same (Ok p) comes = inr (s, same, (responds (view_value default_shown p.0) (map (view_listed default_shown) p.1.items), comes))
   left n vars s same (Err e) comes =
-      inr (s, same, responded (λ r. IsExactOutcome (service_from Query (Some demo_steps) false s) (asked n vars) c r after) (view_request_error e) comes)
+      inr (s, same, responded (λ r. IsFullOutcome (service_from Query (Some demo_steps) false s) (asked n vars) c r after) (view_request_error e) comes)
 
   -- and where it cannot be shown, the context is that after an outcome
   pub request_left : (n l : Option Name) (vars : Variables) (m : DemoNode) (x : Option (Steps DemoContext DemoNode)) (b : Bool) (s : Schema) (o : Outcome) →
       l ≡ n → m ≡ Query
-      → x ≡ Some demo_steps → b ≡ false → IsDemoSchema s → ComesFull m x b s (asked l vars) c after o → MayLeave t n vars c after
+      → x ≡ Some demo_steps → b ≡ false → IsDemoSchema s → Comes m x b s (asked l vars) c after o → MayLeave t n vars c after
   request_left n l vars m x b s o is_name is_root steps enabled same comes =
-      left n vars s same o (of_demo n l vars m x b s o is_name is_root steps enabled (comes-exact m x b s (asked l vars) c after o comes))
+      left n vars s same o (of_demo n l vars m x b s o is_name is_root steps enabled comes)

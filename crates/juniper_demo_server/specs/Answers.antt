@@ -4,11 +4,11 @@ use Rattle.graphql_spec.specs.Shown.{Text, Name}
 use Rattle.graphql_spec.specs.Values.{Value}
 use Rattle.graphql_spec.specs.Inputs.{Variables}
 use Rattle.graphql_spec.specs.Errors.{Listed}
-use Rattle.graphql_spec.specs.ExactAnswers.{IsExactOutcome}
 use Rattle.graphql_spec.specs.Schema.{Schema}
 use Rattle.graphql_spec.specs.Introspection.{RootedNode, rooted_service}
 use Rattle.graphql_spec.specs.Outcomes.{Request, Response, Service, Steps, responds}
 use Rattle.juniper.specs.Answering.{Responds}
+use Rattle.juniper.specs.Promised.{IsFullOutcome}
 use Rattle.juniper.specs.RequestErrors.{RequestError, request_error_text}
 use Rattle.juniper_json.specs.AnswerText.{answer_text}
 use Rattle.juniper_json.specs.Given.{variables_by}
@@ -74,8 +74,8 @@ demo_service s = rooted_service (record {
 -- a request on a schema, in a context: what its execution gives, or why it is refused (6.1)
 abbrev pub IsAnswerOn : Schema → Request → DemoContext → Answer → DemoContext → Type 0
 IsAnswerOn s q c a after =
-    ((v : Value) × (es : List Listed) × IsExactOutcome (demo_service s) q c (responds v es) after × ShowsData v es a)
-    ⊎ ((e : RequestError) × Responds (λ r. IsExactOutcome (demo_service s) q c r after) e × ShowsRefusal e a)
+    ((v : Value) × (es : List Listed) × IsFullOutcome (demo_service s) q c (responds v es) after × ShowsData v es a)
+    ⊎ ((e : RequestError) × Responds (λ r. IsFullOutcome (demo_service s) q c r after) e × ShowsRefusal e a)
 
 -- the same on a schema with the demo's types, each once and in whatever order
 abbrev pub IsAnswerWith : Text → Option Name → Variables → DemoContext → Answer → DemoContext → Type 0
@@ -84,7 +84,7 @@ IsAnswerWith t n vars c a after = (s : Schema) × IsDemoSchema s × IsAnswerOn s
 -- a context that the request may leave where memory is wanting: the one before, or that after an outcome of the request (6.1)
 abbrev pub MayLeave : Text → Option Name → Variables → DemoContext → DemoContext → Type 0
 MayLeave t n vars c after = (after ≡ c) ⊎ ((s : Schema) × IsDemoSchema s
-    × ((r : Response) × IsExactOutcome (demo_service s) (record { text = t; operation = n; variables = vars }) c r after))
+    × ((r : Response) × IsFullOutcome (demo_service s) (record { text = t; operation = n; variables = vars }) c r after))
 
 -- with the values of variables, if there are any
 abbrev pub MayLeaveGiven : Text → Option Name → Result Variables VariablesError → DemoContext → DemoContext → Type 0

@@ -1,5 +1,5 @@
 -- A request that may not write leaves the context as it was.
-use Rattle.std.proofs.Common.{◌≡◌, ◌≢◌, ℕ, Bool, false, List, codes, refl, ap, subst, ◌∙◌, inl, inr}
+use Rattle.std.proofs.Common.{◌≡◌, ◌≢◌, ℕ, Bool, false, List, Option, codes, refl, ap, subst, ◌∙◌, inl, inr}
 use Rattle.std.proofs.lemmas.Bool.{cases_Bool}
 use Rattle.graphql_spec.specs.Documents.{Document, Operation, query, mutation, subscription}
 use Rattle.graphql_spec.specs.Errors.{Listed}
@@ -50,11 +50,11 @@ module _ {C N : Type 0} (S : Service C N) (b : Bounds) (a : Asked) (most : ℕ) 
   outcome-leaves may out_of_memory after (inl same) = same
   outcome-leaves may out_of_memory after (inr (e, o, v, becomes, kind, left)) = absurd (no-mutation may e o v becomes kind)
 
-  pub reads-leave : (fields : ℕ) (outcome : Outcome) (line : Text) (after : C) → Replies S b a most false c fields outcome line after → after ≡ c
+  pub reads-leave : (fields : Option ℕ) (outcome : Outcome) (line : Text) (after : C) → Replies S b a most false c fields outcome line after → after ≡ c
   reads-leave fields Executed line after (may, (value, es, full, is, few)) = outcome-leaves may (responds value es) after full.0.0
-  reads-leave fields Refused line after (inl (e, r, is, full, told)) = full.0.0.1
+  reads-leave fields Refused line after (inl (bounded, (e, r, is, full, told))) = full.0.0.1
   reads-leave fields Refused line after (inr (inl (same, why))) = same
-  reads-leave fields Refused line after (inr (inr (may, full, is))) = outcome-leaves may out_of_memory after full.0.0
+  reads-leave fields Refused line after (inr (inr (may, given, ran, full, is))) = outcome-leaves may out_of_memory after full.0.0
   reads-leave fields Writes line after (same, reads, is, told) = same
   reads-leave fields OutOfMemory line after (inl same) = same
   reads-leave fields OutOfMemory line after (inr (may, (r, full))) = outcome-leaves may r after full.0.0

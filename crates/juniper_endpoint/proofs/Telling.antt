@@ -1,6 +1,6 @@
 -- What is told of a request, over plain variables.
 use Rattle.std.proofs.Common.{◌≡◌, ◌≤◌, ℕ, Bool, List, [], map, Option, Some, None, Result, Ok, Err, IfOk, Vec, Global, string_bytes, refl, sym, ap, subst}
-use Rattle.std.proofs.Common.{◌∙◌, inl, inr}
+use Rattle.std.proofs.Common.{◌∙◌, inl, inr, length}
 use Rattle.graphql_spec.specs.Documents.{Document}
 use Rattle.graphql_spec.specs.Inputs.{Variables}
 use Rattle.graphql_spec.specs.Outcomes as outcome
@@ -8,9 +8,9 @@ use Rattle.graphql_spec.specs.Outcomes.{Request, Service, Response, refuses, res
 use Rattle.graphql_spec.specs.Requests.{Refusal, refused}
 use Rattle.graphql_spec.specs.Shown.{Name, Text}
 use Rattle.graphql_spec.proofs.Deciding.{steps-decide}
-use Rattle.juniper.specs.Answering.{Responds, StandsFor}
-use Rattle.juniper.specs.Budgets.{AnswersWithin, RefusesWithin}
-use Rattle.juniper.specs.Objections.{IsRefusal, Objects}
+use Rattle.juniper.specs.Answering.{Responds, StandsFor, refusal_of}
+use Rattle.juniper.specs.Budgets.{AnswersWithin, IsSpentOnly, RefusesWithin, Runs, SpendsOnly}
+use Rattle.juniper.specs.Objections.{IsRefusal, IsWithin, Objects}
 use Rattle.juniper.specs.Promised.{IsFullOutcome}
 use Rattle.juniper.specs.RequestErrors.{RequestError, view_request_error, not_parsed, not_valid, no_operation, multiple_operations, unknown_operation}
 use Rattle.juniper.specs.RequestErrors.{is_subscription, not_subscription, no_mutation_type, variable_not_constant, out_of_memory}
@@ -31,7 +31,7 @@ use Rattle.juniper_json.specs.RefusalText.{explained_text, refusals_text}
 use Rattle.juniper_schema.specs.SchemaView.{view_schema}
 use Rattle.juniper_syntax.specs.RuleView.{view_rule_error}
 use Rattle.juniper_request.specs.Requests.{Asked}
-use Rattle.juniper_walk.specs.Budget.{fields_in}
+use Rattle.juniper_walk.specs.Budget.{fields_in, most_fields}
 use Rattle.juniper_syntax.specs.Scalars.{default_shown}
 use Rattle.juniper_syntax.specs.ValueView.{view_value}
 use Rattle.juniper_syntax.specs.declared.scalar.DefaultScalarValue.{DefaultScalarValue}
@@ -40,7 +40,7 @@ use Rattle.juniper_endpoint.proofs.Explaining.{objected-line, taken-line}
 use Rattle.juniper_endpoint.specs.Explained.{TellsRefusal}
 use Rattle.juniper_endpoint.specs.Lines.{IsTold, bare_line, outcome_of, outcome_text, refused_outcome, writes_text}
 use Rattle.juniper_endpoint.specs.Looks.{AreMisfits, ExplainsFor, IsAnswerTold, IsObjected, IsSeen, IsStopTold}
-use Rattle.juniper_endpoint.specs.Replied.{IsTaken, MayRun, Replies, given_among, refused_among, request_asked}
+use Rattle.juniper_endpoint.specs.Replied.{IsTaken, KeepsBounds, MayRun, Replies, given_among, refused_among, request_asked}
 use Rattle.juniper_endpoint.specs.declared.explained.Explainer.{Explainer}
 use Rattle.juniper_endpoint.specs.declared.look.Finding.{Finding}
 use Rattle.juniper_endpoint.specs.declared.look.Finding.TheVariants as look
@@ -89,7 +89,7 @@ told-of S q asked x r reply explains same t =
     (subst (λ u. IsAnswerTold S.schema u x.most_bytes q r reply) explains.1
     (subst (λ s. IsAnswerTold s x.is_introspection_disabled x.most_bytes q r reply) explains.0 t))
 
-module _ {C N : Type 0} (S : Service C N) (b : Bounds) (a : Asked) (most : ℕ) (w : Bool) (c : C) (fields : ℕ) where
+module _ {C N : Type 0} (S : Service C N) (b : Bounds) (a : Asked) (most : ℕ) (w : Bool) (c : C) (fields : Option ℕ) where
   -- that memory is refused may be told
   abbrev Left : C → Type 0
   Left after = Replies S b a most w c fields OutOfMemory [] after
@@ -98,19 +98,42 @@ module _ {C N : Type 0} (S : Service C N) (b : Bounds) (a : Asked) (most : ℕ) 
   abbrev TellsError : RequestError → Text → Type 0
   TellsError e line = TellsRefusal S.schema S.introspection_disabled most (request_asked a) e line
 
+  -- a text that is within the bounds passes none
+  within-keeps : (d : Document) → IsWithin b a.query d → KeepsBounds S b a
+  within-keeps d within = (within.0.0, λ e reads. subst (IsWithin b a.query) (sym (within.0.1.1 e reads.0)) within)
+
+  refusal-keeps : length a.query ≤ b.bytes → (r : Refusal) → IsRefusal b a.query S.schema S.introspection_disabled r → KeepsBounds S b a
+  refusal-keeps low r (inl (is, unread)) = (low, λ d reads. absurd (unread d reads.0))
+  refusal-keeps low r (inr (d, within, found)) = within-keeps d within
+
+  -- nor does one that is refused
+  objection-keeps : length a.query ≤ b.bytes → (e : RequestError) → StandsFor (IsRefusal b a.query S.schema S.introspection_disabled) e → (r : Refusal) →
+      refusal_of e ≡ Some r → KeepsBounds S b a
+  objection-keeps low out_of_memory u r none = absurd cc
+  objection-keeps low (not_parsed e) (q, x, p) r is = refusal-keeps low q p
+  objection-keeps low (not_valid es) (q, x, p) r is = refusal-keeps low q p
+  objection-keeps low no_operation (q, x, p) r is = refusal-keeps low q p
+  objection-keeps low multiple_operations (q, x, p) r is = refusal-keeps low q p
+  objection-keeps low unknown_operation (q, x, p) r is = refusal-keeps low q p
+  objection-keeps low is_subscription (q, x, p) r is = refusal-keeps low q p
+  objection-keeps low not_subscription (q, x, p) r is = refusal-keeps low q p
+  objection-keeps low no_mutation_type (q, x, p) r is = refusal-keeps low q p
+  objection-keeps low (variable_not_constant n) (q, x, p) r is = refusal-keeps low q p
+
   -- an error of the executor
-  error-told : (after : C) → Left after → (e : RequestError) → Responds (λ r. IsFullOutcome S (request_asked a) c r after) e → (line : Text) →
-      TellsError e line → Replies S b a most w c fields (refused_outcome e) line after
-  error-told after left out_of_memory p line tells = left
-  error-told after left (not_parsed e) (r, x, p) line tells = inl (not_parsed e, r, x, p, tells)
-  error-told after left (not_valid es) (r, x, p) line tells = inl (not_valid es, r, x, p, tells)
-  error-told after left no_operation (r, x, p) line tells = inl (no_operation, r, x, p, tells)
-  error-told after left multiple_operations (r, x, p) line tells = inl (multiple_operations, r, x, p, tells)
-  error-told after left unknown_operation (r, x, p) line tells = inl (unknown_operation, r, x, p, tells)
-  error-told after left is_subscription (r, x, p) line tells = inl (is_subscription, r, x, p, tells)
-  error-told after left not_subscription (r, x, p) line tells = inl (not_subscription, r, x, p, tells)
-  error-told after left no_mutation_type (r, x, p) line tells = inl (no_mutation_type, r, x, p, tells)
-  error-told after left (variable_not_constant n) (r, x, p) line tells = inl (variable_not_constant n, r, x, p, tells)
+  error-told : (after : C) → Left after → (e : RequestError) → ((r : Refusal) → refusal_of e ≡ Some r → KeepsBounds S b a) →
+      Responds (λ r. IsFullOutcome S (request_asked a) c r after) e → (line : Text) → TellsError e line →
+      Replies S b a most w c fields (refused_outcome e) line after
+  error-told after left out_of_memory keeps p line tells = left
+  error-told after left (not_parsed e) keeps (r, x, p) line tells = inl (keeps r x, (not_parsed e, r, x, p, tells))
+  error-told after left (not_valid es) keeps (r, x, p) line tells = inl (keeps r x, (not_valid es, r, x, p, tells))
+  error-told after left no_operation keeps (r, x, p) line tells = inl (keeps r x, (no_operation, r, x, p, tells))
+  error-told after left multiple_operations keeps (r, x, p) line tells = inl (keeps r x, (multiple_operations, r, x, p, tells))
+  error-told after left unknown_operation keeps (r, x, p) line tells = inl (keeps r x, (unknown_operation, r, x, p, tells))
+  error-told after left is_subscription keeps (r, x, p) line tells = inl (keeps r x, (is_subscription, r, x, p, tells))
+  error-told after left not_subscription keeps (r, x, p) line tells = inl (keeps r x, (not_subscription, r, x, p, tells))
+  error-told after left no_mutation_type keeps (r, x, p) line tells = inl (keeps r x, (no_mutation_type, r, x, p, tells))
+  error-told after left (variable_not_constant n) keeps (r, x, p) line tells = inl (keeps r x, (variable_not_constant n, r, x, p, tells))
 
   -- a reply that says so, or that memory is refused
   told : (after : C) → Left after → (o : Outcome) (line : Text) (reply : Reply) → IsTold o line reply →
@@ -134,20 +157,22 @@ module _ {C N : Type 0} (S : Service C N) (b : Bounds) (a : Asked) (most : ℕ) 
   left-by : MayRun S b a w → (after : C) (r : Answered) → AnswersWithin default_shown (λ x. IsFullOutcome S (request_asked a) c x after) r → Left after
   left-by may after r full = inr (may, some-response (λ x. IsFullOutcome S (request_asked a) c x after) r full)
 
-  stop-told : MayRun S b a w → (after : C) (s : Within) → RefusesWithin (λ x. IsFullOutcome S (request_asked a) c x after) s → Left after → (reply : Reply) →
+  stop-told : MayRun S b a w → (after : C) (s : Within) → RefusesWithin (λ x. IsFullOutcome S (request_asked a) c x after) s →
+      IsSpentOnly fields (Runs S (request_asked a)) s → Left after → (reply : Reply) →
       IsStopTold S.schema S.introspection_disabled most (request_asked a) s reply → Replies S b a most w c fields reply.outcome (string_bytes reply.line) after
-  stop-told may after (within.Refused e) full left reply (inl (es, are, t)) = told after left (refused_outcome (view_request_error e)) _ reply t
-      (λ l is. error-told after left (view_request_error e) full l (misfit-line may (view_request_error e) es are l is))
-  stop-told may after (within.Refused e) full left reply (inr is) = told after left OutOfMemory [] reply (inr is) (λ l same. left)
-  stop-told may after within.Spent full left reply t = told after left Refused _ reply t (λ l is. inr (inr (may, full, is)))
+  stop-told may after (within.Refused e) full only left reply (inl (es, are, t)) = told after left (refused_outcome (view_request_error e)) _ reply t
+      (λ l is. error-told after left (view_request_error e) (λ r x. within-keeps may.0 may.1.0) full l
+      (misfit-line may (view_request_error e) es are l is))
+  stop-told may after (within.Refused e) full only left reply (inr is) = told after left OutOfMemory [] reply (inr is) (λ l same. left)
+  stop-told may after within.Spent full only left reply t = told after left Refused _ reply t (λ l is. inr (inr (may, only.0, only.1, full, is)))
 
   pub answered-told : MayRun S b a w → (after : C) (r : Answered) → AnswersWithin default_shown (λ x. IsFullOutcome S (request_asked a) c x after) r →
-      IfOk r (λ p. fields_in (view_value default_shown p.0) ≤ fields) → (reply : Reply) →
+      IfOk r (λ p. fields_in (view_value default_shown p.0) ≤ most_fields fields) → SpendsOnly fields (Runs S (request_asked a)) r → (reply : Reply) →
       IsAnswerTold S.schema S.introspection_disabled most (request_asked a) r reply →
       Replies S b a most w c fields reply.outcome (string_bytes reply.line) after
-  answered-told may after (Ok p) full few reply t = told after (left-by may after (Ok p) full) (outcome_of (Ok p)) (outcome_text (Ok p)) reply t
+  answered-told may after (Ok p) full few only reply t = told after (left-by may after (Ok p) full) (outcome_of (Ok p)) (outcome_text (Ok p)) reply t
       (λ l is. (may, (view_value default_shown p.0, map (view_listed default_shown) p.1.items, full, is, few)))
-  answered-told may after (Err s) full few reply t = stop-told may after s full (left-by may after (Err s) full) reply t
+  answered-told may after (Err s) full few only reply t = stop-told may after s full only (left-by may after (Err s) full) reply t
 
   -- ## A text that is objected to
 
@@ -175,7 +200,7 @@ module _ {C N : Type 0} (S : Service C N) (b : Bounds) (a : Asked) (most : ℕ) 
   objection-told objection.TooManyFields o reply t = told c (inl refl) Refused _ reply t (λ l is. inr (inl (refl, inl (objection.TooManyFields, tt, o, is))))
   objection-told objection.TooDeep o reply t = told c (inl refl) Refused _ reply t (λ l is. inr (inl (refl, inl (objection.TooDeep, tt, o, is))))
   objection-told (objection.Refused e) o reply (inl (es, explained, t)) = told c (inl refl) _ _ reply t (λ l is.
-      error-told c (inl refl) (view_request_error e) (refusal-full (view_request_error e) o.1) l
+      error-told c (inl refl) (view_request_error e) (objection-keeps o.0 (view_request_error e) o.1) (refusal-full (view_request_error e) o.1) l
       (objected-line S.schema S.introspection_disabled most (request_asked a) b (view_request_error e) o.1 es explained l is))
   objection-told (objection.Refused e) o reply (inr is) = memory-told c refl reply is
 

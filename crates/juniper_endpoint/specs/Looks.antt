@@ -110,6 +110,6 @@ abbrev pub ExplainsFor : {C N : Type 0} → Service C N → Explainer → Type 0
 ExplainsFor S e = (view_schema default_shown e.schema.now ≡ S.schema) × (e.is_introspection_disabled ≡ S.introspection_disabled)
 
 -- what is replied to what is asked of a prepared document, whatever the bounds within which it was taken
-abbrev pub RepliesPrepared : {C N : Type 0} → Service C N → Explainer → Asked → Document → Bool → ℕ → C → Reply → C → Type 0
+abbrev pub RepliesPrepared : {C N : Type 0} → Service C N → Explainer → Asked → Document → Bool → Option ℕ → C → Reply → C → Type 0
 RepliesPrepared S e a d may_write fields c reply after = (b : Bounds) → ExplainsFor S e → IsTaken S b a d →
     Replies S b a e.most_bytes may_write c fields reply.outcome (string_bytes reply.line) after

@@ -1,18 +1,18 @@
 -- What is replied to a request over a root, within bounds (6.1, 7.1; "GraphQL over HTTP", status codes).
-use Rattle.std.specs.Prelude.{◌≡◌, ◌≢◌, ◌⊎◌, ◌≤◌, ℕ, Bool, false, List, [], map, filter, Option, Some, None}
+use Rattle.std.specs.Prelude.{◌≡◌, ◌≢◌, ◌⊎◌, ◌≤◌, ℕ, Bool, false, List, [], length, map, filter, Option, Some, None}
 use Rattle.std.specs.List.{list_any}
 use Rattle.std.specs.Str.{bytes_eq}
 use Rattle.graphql_spec.specs.Documents.{Document, Operation, VariableDefinition, mutation, variables_of}
 use Rattle.graphql_spec.specs.Errors.{Listed}
 use Rattle.graphql_spec.specs.Inputs.{Variables}
-use Rattle.graphql_spec.specs.Outcomes.{Request, Service, Response, out_of_memory, refuses, responds}
+use Rattle.graphql_spec.specs.Outcomes.{Reads, Request, Service, Response, out_of_memory, refuses, responds}
 use Rattle.graphql_spec.specs.Requests.{Refusal, choose, chosen, no_fitting_value}
 use Rattle.graphql_spec.specs.Rules.{RuleError}
 use Rattle.graphql_spec.specs.Shown.{Name, Text}
 use Rattle.graphql_spec.specs.Values.{Value}
 use Rattle.juniper.specs.Answering.{refusal_of}
-use Rattle.juniper.specs.Budgets.{within_text}
-use Rattle.juniper.specs.Objections.{IsAccepted, Objects, objection_text}
+use Rattle.juniper.specs.Budgets.{Runs, within_text}
+use Rattle.juniper.specs.Objections.{IsAccepted, IsWithin, Objects, objection_text}
 use Rattle.juniper.specs.Promised.{IsFullOutcome}
 use Rattle.juniper.specs.RequestErrors.{RequestError, not_valid}
 use Rattle.juniper.specs.declared.budget.Within.TheVariants.{Spent}
@@ -27,7 +27,7 @@ use Rattle.juniper_json.specs.Refusals.{refusals_of}
 use Rattle.juniper_json.specs.RefusalText.{refusals_text}
 use Rattle.juniper_json.specs.declared.read.VariablesError.{VariablesError}
 use Rattle.juniper_request.specs.Requests.{Asked}
-use Rattle.juniper_walk.specs.Budget.{fields_in}
+use Rattle.juniper_walk.specs.Budget.{fields_in, most_fields}
 use Rattle.serde_json.specs.Data.{Members}
 use Rattle.juniper_endpoint.specs.Explained.{TellsRefusal}
 use Rattle.juniper_endpoint.specs.Lines.{bare_line, writes_text}
@@ -87,6 +87,10 @@ module _ {C N : Type 0} (S : Service C N) (b : Bounds) (a : Asked) where
   abbrev pub MayRun : Bool → Type 0
   MayRun may_write = (d : Document) × IsTaken d × ((o : Operation) → choose d a.operation_name ≡ chosen o → IsFree (refused_among a.variables) may_write o)
 
+  -- the text is not too long, and what it is read as passes no bound
+  abbrev pub KeepsBounds : Type 0
+  KeepsBounds = (length a.query ≤ b.bytes) × ((d : Document) → Reads a.query (Some d) → IsWithin b a.query d)
+
   -- a bound is passed, which the line names
   abbrev pub IsPastBounds : Text → Type 0
   IsPastBounds line = (e : Objection) × IsOwn e × Objects b a.query S.schema S.introspection_disabled e × (line ≡ bare_line (objection_text e))
@@ -102,23 +106,26 @@ module _ {C N : Type 0} (S : Service C N) (b : Bounds) (a : Asked) where
 
   -- of texts with more bytes than `most` nothing is explained
   module _ (most : ℕ) (may_write : Bool) (c : C) where
-    -- the executor refuses the request by its first step that fails, and the line tells its errors and what explains them (6.1, 7.1)
+    -- the executor refuses the request, whose text passes no bound, by its first step that fails, and the line tells its errors and what
+    -- explains them (6.1, 7.1)
     abbrev pub IsRefused : Text → C → Type 0
-    IsRefused line after = (e : RequestError) × (r : Refusal) × (refusal_of e ≡ Some r)
-        × IsFullOutcome S (request_asked a) c (refuses r) after × TellsRefusal S.schema S.introspection_disabled most (request_asked a) e line
+    IsRefused line after = KeepsBounds × ((e : RequestError) × (r : Refusal) × (refusal_of e ≡ Some r)
+        × IsFullOutcome S (request_asked a) c (refuses r) after × TellsRefusal S.schema S.introspection_disabled most (request_asked a) e line)
 
-    -- more fields were to be entered than may be, and the line says so; the context is as want of memory leaves it
-    abbrev pub IsSpent : Text → C → Type 0
-    IsSpent line after = MayRun may_write × IsFullOutcome S (request_asked a) c out_of_memory after × (line ≡ bare_line (within_text Spent))
+    -- an operation runs, more fields were to be entered than a budget that is given, and the line says so; the context is as want of memory
+    -- leaves it
+    abbrev pub IsSpent : Option ℕ → Text → C → Type 0
+    IsSpent fields line after = MayRun may_write × (fields ≢ None) × Runs S (request_asked a) × IsFullOutcome S (request_asked a) c out_of_memory after
+        × (line ≡ bare_line (within_text Spent))
 
-    -- What is replied where at most so many fields are entered, and the context after. Where it is executed, the line is the text of the
-    -- response that the Specification's execution has (7.1), with no more fields. Else the context is as it was, but where the budget is
-    -- spent, and but for want of memory, which may stand in place of each and leave what it leaves.
-    abbrev pub Replies : ℕ → Outcome → Text → C → Type 0
+    -- What is replied where at most so many fields are entered, if a budget is given, and the context after. Where it is executed, the line is
+    -- the text of the response that the Specification's execution has (7.1), with no more fields. Else the context is as it was, but where the
+    -- budget is spent, and but for want of memory, which may stand in place of each and leave what it leaves.
+    abbrev pub Replies : Option ℕ → Outcome → Text → C → Type 0
     Replies fields Executed line after =
         MayRun may_write
         × ((value : Value) × (es : List Listed) × IsFullOutcome S (request_asked a) c (responds value es) after × (line ≡ answer_text value es)
-        × (fields_in value ≤ fields))
-    Replies fields Refused line after = IsRefused line after ⊎ (((after ≡ c) × (IsPastBounds line ⊎ IsUnfitting line)) ⊎ IsSpent line after)
+        × (fields_in value ≤ most_fields fields))
+    Replies fields Refused line after = IsRefused line after ⊎ (((after ≡ c) × (IsPastBounds line ⊎ IsUnfitting line)) ⊎ IsSpent fields line after)
     Replies fields Writes line after = (after ≡ c) × (may_write ≡ false) × IsMutation × (line ≡ bare_line writes_text)
     Replies fields OutOfMemory line after = (after ≡ c) ⊎ (MayRun may_write × ((r : Response) × IsFullOutcome S (request_asked a) c r after))

@@ -35,8 +35,8 @@ pub struct RootEndpoint<
     pub bounds: Bounds,
     /// The most fields that a request enters, as [`juniper::execute_within`] counts them: lists multiply those that it selects. A request
     /// that enters more is refused, with the message `The answer has too many fields`; that may be found late, and leaves the context as
-    /// want of memory does.
-    pub entered_fields: usize,
+    /// want of memory does. Where no budget is given, no request is refused for it.
+    pub entered_fields: Option<usize>,
     /// The most bytes of a text that is explained where it is no valid document, or where the values that are given with it do not fit: what
     /// explains it may grow with the square of its length. Nothing is explained where introspection is disabled, since explanations name what
     /// the schema has.

@@ -1,6 +1,6 @@
 //! Laws of replies. Each function does nothing; its contract is the law.
 
-ghost use Rattle.std.specs.Prelude.{◌≡◌, ◌≢◌, Bool, ℕ, List, [], codes, false};
+ghost use Rattle.std.specs.Prelude.{◌≡◌, ◌≢◌, Bool, ℕ, List, Option, [], codes, false};
 ghost use Rattle.graphql_spec.specs.Documents.{Document};
 ghost use Rattle.graphql_spec.specs.Outcomes as outcomes;
 ghost use Rattle.graphql_spec.specs.Schema.{Schema};
@@ -23,7 +23,7 @@ use juniper_http::Endpoint;
 
 /// A request that may only read leaves the context as it was.
 pub fn reading_leaves<C, N>()
-    ensures { (S : outcomes.Service C N) (b : Bounds) (a : Asked) (most : ℕ) (c : C) (fields : ℕ) (outcome : Outcome) (line : Text) (after : C) →
+    ensures { (S : outcomes.Service C N) (b : Bounds) (a : Asked) (most : ℕ) (c : C) (fields : Option ℕ) (outcome : Outcome) (line : Text) (after : C) →
         Replies S b a most false c fields outcome line after → after ≡ c }
 {}
 

@@ -20,7 +20,7 @@ use juniper_json::GivenVariables;
 use juniper_request::GraphQLRequest;
 use std::alloc::Global;
 
-/// Replies to a request whose document is prepared, with the values of its variables; at most so many fields are entered.
+/// Replies to a request whose document is prepared, with the values of its variables; at most so many fields are entered, if a budget is given.
 pub fn reply_prepared<
     Q: GraphQLValue<DefaultScalarValue>,
     M: GraphQLMutationValue<DefaultScalarValue, Context = Q::Context, Node = Q::Node>,
@@ -32,7 +32,7 @@ pub fn reply_prepared<
     request: &GraphQLRequest<'_>,
     given: &GivenVariables,
     may_write: bool,
-    entered_fields: usize,
+    entered_fields: Option<usize>,
     context: &mut Q::Context,
 ) -> Reply
     requires text { source_of prepared.now ≡ request.now.query.now }

@@ -1,5 +1,5 @@
 -- What nodes answer to a field, one of them or many at once (6.4.2); only private clauses cite this.
-use Rattle.std.specs.Prelude.{◌≡◌, map, Ok, Err, Result, Vec}
+use Rattle.std.specs.Prelude.{◌≡◌, ◌<◌, length, map, Ok, Err, Result, Vec}
 use Rattle.std.specs.declared.alloc.AllocError.{AllocError}
 use Rattle.std.specs.declared.alloc.Global.{Global}
 use Rattle.graphql_spec.specs.Resolvers.{Reply}
@@ -12,6 +12,11 @@ use Rattle.juniper_execute.specs.declared.node_resolver.Nodes.{Nodes}
 use Rattle.juniper_execute.specs.declared.node_resolver.Nodes.TheVariants as nodes
 use Rattle.juniper_execute.specs.declared.node_resolver.Replies.{Replies}
 use Rattle.juniper_execute.specs.declared.node_resolver.Replies.TheVariants as replies
+
+-- a node is asked at least
+abbrev pub AreSome : {N : Type 0} → Nodes N → Type 0
+AreSome (nodes.One n) = Unit {0}
+AreSome (nodes.Many ns) = 0 < length ns.now.items
 
 -- the one node gave its reply, or each of the many its own, in their order; or memory was refused
 abbrev pub AreReplied : {N S : Type 0} → (S → Shown) → (N → Reply N) → Nodes N → Result (Replies N S) (ResolveError S) → Type 0

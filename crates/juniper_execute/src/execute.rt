@@ -6,7 +6,7 @@ ghost use Rattle.graphql_spec.specs.Laws.{In};
 ghost use Rattle.juniper_syntax.specs.DocumentView.{view_document, view_operation};
 ghost use Rattle.juniper_syntax.specs.InputView.{view_variables};
 ghost use Rattle.juniper_syntax.specs.ValueView.{view_value};
-ghost use Rattle.juniper_walk.specs.Budget.{fields_in};
+ghost use Rattle.juniper_walk.specs.Budget.{SpendsGiven, fields_in, most_fields};
 ghost use Rattle.juniper_walk.specs.Plans.{IsBare};
 ghost use Rattle.juniper_execute.specs.ServedView.{mutation_root, schema_of, served_world};
 ghost use Rattle.juniper_execute.specs.Validity.{IsValid};
@@ -24,7 +24,7 @@ use juniper_values::ExecutionError;
 use juniper_walk::{Plan, Stop, root_path, sort_errors};
 use std::alloc::{AllocError, Global};
 
-/// Executes a query of a valid document (ExecuteQuery, 6.2.1), where at most so many fields are entered.
+/// Executes a query of a valid document (ExecuteQuery, 6.2.1), where at most so many fields are entered, if a budget is given.
 pub fn execute_query<'d, 'a, R: NodeResolver<S>, S: ScalarValue>(
     alloc: Global,
     document: &'d Document<'a, S>,
@@ -33,7 +33,7 @@ pub fn execute_query<'d, 'a, R: NodeResolver<S>, S: ScalarValue>(
     root: &R::Node,
     variables: &Variables<S>,
     context: &R::Context,
-    fields: usize,
+    fields: Option<usize>,
 ) -> Result<(Value<S>, Vec<ExecutionError<S>>), Stop>
     requires valid { IsValid (schema_of S.shown served.now) (view_document S.shown document.now) }
     requires member { In (documents.operation (view_operation S.shown operation.now)) (view_document S.shown document.now) }
@@ -41,7 +41,8 @@ pub fn execute_query<'d, 'a, R: NodeResolver<S>, S: ScalarValue>(
     ensures walked { QueryWalked S.shown served.now.walking
         (served_world R.meaning S.shown served.now (view_variables S.shown variables.now) context.now) (schema_of S.shown served.now).query root.now
         (selected_by S.shown document.now operation.now variables.now) result }
-    ensures counted { IfOk result (λ p. IsBounded served.now.walking (fields_in (view_value S.shown p.0)) fields) }
+    ensures counted { IfOk result (λ p. IsBounded served.now.walking (fields_in (view_value S.shown p.0)) (most_fields fields)) }
+    ensures spent { SpendsGiven fields result }
 {
     let Ok(fragments) = fragments_of(alloc, document.as_slice()) else {
         return Err(Stop::Memory);
@@ -68,7 +69,7 @@ pub fn execute_query<'d, 'a, R: NodeResolver<S>, S: ScalarValue>(
 }
 
 /// Executes a mutation of a valid document on the mutation type, by these steps (ExecuteMutation, 6.2.2), where at most so many
-/// fields are entered.
+/// fields are entered, if a budget is given.
 pub fn execute_mutation<
     'd,
     'a,
@@ -84,7 +85,7 @@ pub fn execute_mutation<
     concrete: &str,
     variables: &Variables<S>,
     context: &mut R::Context,
-    fields: usize,
+    fields: Option<usize>,
 ) -> Result<(Value<S>, Vec<ExecutionError<S>>), Stop>
     requires valid { IsValid (schema_of S.shown served.now) (view_document S.shown document.now) }
     requires member { In (documents.operation (view_operation S.shown operation.now)) (view_document S.shown document.now) }
@@ -93,13 +94,14 @@ pub fn execute_mutation<
     ensures walked { MutationWalked S.shown served.now.walking
         (mutation_root R.meaning S.shown served.now (M.steps steps.now) (view_variables S.shown variables.now)) concrete.now
         (selected_by S.shown document.now operation.now variables.now) context.old result context.new }
-    ensures counted { IfOk result (λ p. IsBounded served.now.walking (fields_in (view_value S.shown p.0)) fields) }
+    ensures counted { IfOk result (λ p. IsBounded served.now.walking (fields_in (view_value S.shown p.0)) (most_fields fields)) }
+    ensures spent { SpendsGiven fields result }
 {
     let mut plan = Plan::new(alloc, fields);
     match mutate(
         alloc, &mut plan, document, operation, served, steps, concrete, variables, context,
     ) {
-        Err(_) => Err(plan.stop()),
+        Err(_) => Err(plan.stop(fields)),
         Ok(answered) => Ok(answered),
     }
 }

@@ -6,7 +6,7 @@ ghost use Rattle.juniper_values.specs.ResolvedView.{Answers};
 ghost use Rattle.juniper_types.specs.ExecutorView.{IsAskedFor, context_of};
 ghost use Rattle.juniper_values.specs.ArgumentView.{view_arguments};
 ghost use Rattle.juniper_execute.specs.Stepping.{MayLeave};
-ghost use Rattle.juniper_execute.specs.Replied.{AreAllReplies, AreReplied, IsOnlyReply};
+ghost use Rattle.juniper_execute.specs.Replied.{AreAllReplies, AreReplied, AreSome, IsOnlyReply};
 
 use juniper_syntax::ScalarValue;
 use juniper_types::{Executor, Resolved};
@@ -37,7 +37,7 @@ pub trait NodeTypes<S: ScalarValue> {
 pub enum Nodes<'n, N> {
     /// One node.
     One(&'n N),
-    /// Nodes of one object type, which are asked at once. (A `Vec`, since the borrow checker's part of a proof covers no slice of references to
+    /// Nodes of one object type, one at least, which are asked at once. (A `Vec`, since the borrow checker's part of a proof covers no slice of references to
     /// what holds references.)
     Many(&'n Vec<&'n N>),
 }
@@ -65,7 +65,8 @@ pub trait NodeResolver<S: ScalarValue>: NodeTypes<S> {
         arguments: &Arguments<'_, S>,
         executor: &Executor<Self::Context, S>,
     ) -> Result<Replies<Self::Node, S>, ResolveError<S>>
-        requires { IsAskedFor S.shown executor.now field_name.now (view_arguments S.shown arguments.now) }
+        requires asked { IsAskedFor S.shown executor.now field_name.now (view_arguments S.shown arguments.now) }
+        requires some { AreSome nodes.now }
         ensures { AreReplied S.shown (λ m. (Self.meaning self.now).answer (context_of executor.now) m field_name.now (view_arguments S.shown arguments.now))
             nodes.now result };
 }

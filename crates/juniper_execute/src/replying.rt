@@ -10,7 +10,7 @@ ghost use Rattle.juniper_syntax.specs.InputView.{view_variables};
 ghost use Rattle.juniper_values.specs.ArgumentView.{view_arguments};
 ghost use Rattle.juniper_walk.specs.FieldWords.{head_of};
 ghost use Rattle.juniper_execute.specs.Questions.{IsFieldAsked, meant_arguments};
-ghost use Rattle.juniper_execute.specs.Replied.{AreReplied};
+ghost use Rattle.juniper_execute.specs.Replied.{AreReplied, AreSome};
 ghost use Rattle.juniper_execute.specs.Serving.{service_reply, service_world};
 
 use crate::coerce::coerce_arguments;
@@ -34,7 +34,8 @@ impl<'c, 's, R: NodeResolver<S>, S: ScalarValue> Service<'c, 's, R, S> {
         site: &Site<S>,
         first: &Spanning<Written<S>, Span>,
     ) -> Result<Replies<R::Node, S>, ResolveError<S>>
-        requires { IsFieldAsked S.shown self.now.schema.now self.now.variables.now concrete.now question.now site.now first.now }
+        requires asked { IsFieldAsked S.shown self.now.schema.now self.now.variables.now concrete.now question.now site.now first.now }
+        requires some { AreSome nodes.now }
         ensures { AreReplied S.shown (λ m. reply_to (service_world R.meaning S.shown self.now) concrete.now m (head_of S.shown first.now)) nodes.now result }
     {
         if first.item.name.item == "__typename" {
@@ -54,7 +55,8 @@ impl<'c, 's, R: NodeResolver<S>, S: ScalarValue> Service<'c, 's, R, S> {
         site: &Site<S>,
         first: &Spanning<Written<S>, Span>,
     ) -> Result<Replies<R::Node, S>, ResolveError<S>>
-        requires { IsFieldAsked S.shown self.now.schema.now self.now.variables.now concrete.now question.now site.now first.now }
+        requires asked { IsFieldAsked S.shown self.now.schema.now self.now.variables.now concrete.now question.now site.now first.now }
+        requires some { AreSome nodes.now }
         ensures { AreReplied S.shown (service_reply R.meaning S.shown self.now concrete.now (head_of S.shown first.now)) nodes.now result }
     {
         match &question.arguments {
@@ -81,6 +83,7 @@ impl<'c, 's, R: NodeResolver<S>, S: ScalarValue> Service<'c, 's, R, S> {
         first: &Spanning<Written<S>, Span>,
     ) -> Result<Replies<R::Node, S>, ResolveError<S>>
         requires asked { IsFieldAsked S.shown self.now.schema.now self.now.variables.now concrete.now question.now site.now first.now }
+        requires some { AreSome nodes.now }
         requires arguments { view_arguments S.shown arguments.now ≡ meant_arguments (view_schema S.shown self.now.schema.now)
             (view_variables S.shown self.now.variables.now) concrete.now (head_of S.shown first.now) }
         ensures { AreReplied S.shown (service_reply R.meaning S.shown self.now concrete.now (head_of S.shown first.now)) nodes.now result }

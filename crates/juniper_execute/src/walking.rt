@@ -14,7 +14,7 @@ ghost use Rattle.juniper_walk.specs.Plans.{IsStanding, IsStep, group_at, group_c
 ghost use Rattle.juniper_syntax.specs.DocumentView.{view_selections};
 ghost use Rattle.juniper_syntax.specs.TypeView.{view_type};
 ghost use Rattle.juniper_syntax.specs.ValueView.{view_value};
-ghost use Rattle.juniper_walk.specs.Budget.{fields_in};
+ghost use Rattle.juniper_walk.specs.Budget.{SpendsGiven, fields_in, most_fields};
 ghost use Rattle.juniper_walk.specs.Completing.{CompletesAsked, IsTold};
 ghost use Rattle.juniper_walk.specs.Walking.{IsReadyWalk, SelectionsAgree};
 ghost use Rattle.juniper_execute.specs.Walkings.{IsAnswerWalked, IsBounded, Lists, TellsQuery, collector_of, starts_by};
@@ -42,7 +42,7 @@ pub enum Walking {
 
 impl Walking {
     /// The data of selections on a root node as an object of this type, and the errors in their order; the operation starts at this
-    /// place, and at most so many fields are entered (6.2.1). The walk that joins counts none.
+    /// place, and at most so many fields are entered, where a budget is given (6.2.1). The walk that joins counts none.
     fn answer<'d, 'a, S: ScalarValue, R: Resolver<S>>(
         self,
         walk: &Walk<'_, 'd, 'a, S, R>,
@@ -50,7 +50,7 @@ impl Walking {
         root: &R::Node,
         start: SourcePosition,
         selections: &'d [Selection<'a, S>],
-        fields: usize,
+        fields: Option<usize>,
     ) -> Result<Walked<S>, Stop>
         requires ready { IsReadyWalk S.shown R.possible R.values (R.world walk.now.collector.possible) walk.now }
         requires agree { SelectionsAgree (R.world walk.now.collector.possible) concrete.now
@@ -60,7 +60,8 @@ impl Walking {
         ensures lists { IfOk result (λ r. Lists self (responds (view_value S.shown r.value) (map (view_listed S.shown) r.errors.items))) }
         ensures firsts { IfOk result (λ r. TellsQuery self (R.world walk.now.collector.possible) concrete.now root.now
             (expansion S.shown walk.now.collector (view_selections S.shown selections.now)) (map (view_listed S.shown) r.errors.items)) }
-        ensures counted { IfOk result (λ r. IsBounded self (fields_in (view_value S.shown r.value)) fields) }
+        ensures counted { IfOk result (λ r. IsBounded self (fields_in (view_value S.shown r.value)) (most_fields fields)) }
+        ensures spent { SpendsGiven fields result }
     {
         match self {
             Walking::Grouped => {
@@ -109,8 +110,8 @@ impl Walking {
 }
 
 impl<'c, 's, R: NodeResolver<S>, S: ScalarValue> Service<'c, 's, R, S> {
-    /// The data of selections on a node as an object of this type, and the errors in their order, walked so, where at most so many fields
-    /// are entered (6.2.1).
+    /// The data of selections on a node as an object of this type, and the errors in their order, walked so within this budget of fields, if
+    /// one is given (6.2.1).
     pub(crate) fn answer<'d, 'a>(
         self,
         alloc: Global,
@@ -120,7 +121,7 @@ impl<'c, 's, R: NodeResolver<S>, S: ScalarValue> Service<'c, 's, R, S> {
         root: &R::Node,
         start: SourcePosition,
         selections: &'d [Selection<'a, S>],
-        fields: usize,
+        fields: Option<usize>,
     ) -> Result<Walked<S>, Stop>
         requires ready { IsReady S.shown (collector_of fragments self.variables self) }
         requires agree { SelectionsAgree (service_world R.meaning S.shown self) concrete.now (service_selected S.shown self fragments selections.now) }
@@ -129,7 +130,8 @@ impl<'c, 's, R: NodeResolver<S>, S: ScalarValue> Service<'c, 's, R, S> {
         ensures lists { IfOk result (λ r. Lists walking (responds (view_value S.shown r.value) (map (view_listed S.shown) r.errors.items))) }
         ensures firsts { IfOk result (λ r. TellsQuery walking (service_world R.meaning S.shown self.entry) concrete.now root.now
             (service_selected S.shown self.entry fragments.entry selections.now) (map (view_listed S.shown) r.errors.items)) }
-        ensures counted { IfOk result (λ r. IsBounded walking (fields_in (view_value S.shown r.value)) fields) }
+        ensures counted { IfOk result (λ r. IsBounded walking (fields_in (view_value S.shown r.value)) (most_fields fields)) }
+        ensures spent { SpendsGiven fields result }
     {
         let walk = Walk {
             alloc,
@@ -139,8 +141,10 @@ impl<'c, 's, R: NodeResolver<S>, S: ScalarValue> Service<'c, 's, R, S> {
                 possible: self,
             },
         };
-        let walked = walking.answer(&walk, concrete, root, start, selections, fields)?;
-        Ok(walked)
+        match walking.answer(&walk, concrete, root, start, selections, fields) {
+            Ok(walked) => Ok(walked),
+            Err(stop) => Err(stop),
+        }
     }
 
     /// The groups that selections hold for an object type, put into a plan and taken off its fields (6.3.2).

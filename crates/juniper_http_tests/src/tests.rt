@@ -125,7 +125,7 @@ fn answer_on(rt: &HostRuntime, root: &DemoRoot, received: &[u8]) -> Result<Strin
         root,
         context: DemoContext::new(),
         bounds: BOUNDS,
-        entered_fields: 8,
+        entered_fields: Some(8),
         explained_bytes: 100,
     };
     let limits = Limits {

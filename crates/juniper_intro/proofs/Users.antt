@@ -1,7 +1,7 @@
 -- Users' nodes among the root's.
-use Rattle.std.proofs.Common.{◌≡◌, ℕ, false, cond, ◌++◌, List, [], ◌∷◌, Option, Some, None, map, refl, sym, ap, subst, rules}
+use Rattle.std.proofs.Common.{◌≡◌, ◌<◌, ℕ, false, cond, ◌++◌, List, [], ◌∷◌, Option, Some, None, length, map, refl, sym, ap, subst, arith, rules}
 use Rattle.std.specs.Prelude.{Result, option_map, unwrap_or}
-use Rattle.std.proofs.lemmas.List.{append-nil, append_assoc}
+use Rattle.std.proofs.lemmas.List.{append-nil, append_assoc, length-map}
 use Rattle.graphql_spec.specs.Constants.{Members}
 use Rattle.graphql_spec.specs.Introspection.{answer_at}
 use Rattle.graphql_spec.specs.Resolvers.{Reply, answered}
@@ -29,6 +29,13 @@ users-are [] ns e = ap (λ o. map of_user (unwrap_or o [])) e
 users-are (node.User n ∷ rs) ns e = headed n rs (users_in rs) ns (users-are rs) e
 users-are (node.Root ∷ rs) ns e = search rules
 users-are (node.Introspected h ∷ rs) ns e = search rules
+
+-- so there are as many
+pub users-some : {N : Type 0} (rs : List (RootedNode N)) (ns : List N) → users_in rs ≡ Some ns → 0 < length rs → 0 < length ns
+users-some rs ns e some =
+    let same = ap length (users-are rs ns e) in
+    let counted = length-map ns of_user in
+    omega (arith, same, counted, some)
 
 -- ## Answers among the root's nodes
 

@@ -1,6 +1,6 @@
 //! The root as a resolver: introspection, and all else by the query's resolver (section 4 of the Specification).
 
-ghost use Rattle.std.specs.Prelude.{◌≡◌, IfOk, map, option_map};
+ghost use Rattle.std.specs.Prelude.{◌≡◌, ◌<◌, IfOk, length, map, option_map};
 ghost use Rattle.graphql_spec.specs.Rules.{is_introspection};
 ghost use Rattle.graphql_spec.specs.SeenNodes.{map_reply};
 ghost use Rattle.juniper_intro.specs.HandleView.{of_handle, of_user, users_in, view_handle};
@@ -222,7 +222,7 @@ impl<Q: GraphQLValue<S>, M: GraphQLType<S>, Sub: GraphQLType<S>, S: ScalarValue>
         rooted_answer(alloc, answered)
     }
 
-    /// What users' nodes answer to a field that is not of introspection: the query's resolver is asked once for all of them.
+    /// What users' nodes, one at least, answer to a field that is not of introspection: the query's resolver is asked once for all of them.
     fn resolve_all_users(
         &self,
         alloc: Global,
@@ -232,7 +232,8 @@ impl<Q: GraphQLValue<S>, M: GraphQLType<S>, Sub: GraphQLType<S>, S: ScalarValue>
         arguments: &Arguments<'_, S>,
         executor: &Executor<Q::Context, S>,
     ) -> Result<Vec<Result<Resolved<RootedNode<Q::Node>, S>, ResolveError<S>>>, AllocError>
-        requires { IsAskedFor S.shown executor.now field_name.now (view_arguments S.shown arguments.now) }
+        requires asked { IsAskedFor S.shown executor.now field_name.now (view_arguments S.shown arguments.now) }
+        requires some { 0 < length users.now }
         ensures { IfOk result (λ made. AllAnswer S.shown (λ n. map_reply of_user (Q.answer self.now.query info.now (context_of executor.now) n field_name.now
             (view_arguments S.shown arguments.now))) (map (λ n. n.now) users.now) made.items) }
     {

@@ -49,7 +49,15 @@ fn least_budget(alloc: Global, root: &ScriptRoot, text: &str) -> Result<String, 
     let mut steps = 0;
     for fields in 0..MOST {
         let mut context = Notes::new(alloc, String::new(alloc));
-        match execute_within(alloc, text, None, root, &variables, &mut context, fields) {
+        match execute_within(
+            alloc,
+            text,
+            None,
+            root,
+            &variables,
+            &mut context,
+            Some(fields),
+        ) {
             Ok(_) => return format!(in alloc; "{fields}, {steps} steps"),
             Err(Within::Spent) => steps = context.steps,
             Err(Within::Refused(refusal)) => return refusal.to_string(alloc),

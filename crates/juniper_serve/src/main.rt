@@ -41,6 +41,16 @@ const MAX_ENTERED: usize = 100_000;
 /// Of a longer text nothing is explained.
 const MAX_EXPLAINED: usize = 4 * 1024;
 
+const _: () = prove!(MAX_BODY == 262_144);
+
+const _: () = prove!(MAX_READ == 1_048_576);
+
+const _: () = prove!(MAX_BATCH == 50);
+
+const _: () = prove!(MAX_ENTERED == 100_000);
+
+const _: () = prove!(MAX_EXPLAINED == 4_096);
+
 /// Answers the requests of one connection.
 fn serve_http<E: Endpoint + Drop>(rt: &HostRuntime, endpoint: E) -> io::Result<()> {
     let alloc = rt.alloc();
@@ -84,7 +94,7 @@ fn serve(rt: &HostRuntime, mode: Mode, root: &DemoRoot) -> io::Result<()> {
         root,
         context: DemoContext::new(),
         bounds: Bounds::DEFAULT,
-        entered_fields: MAX_ENTERED,
+        entered_fields: Some(MAX_ENTERED),
         explained_bytes: MAX_EXPLAINED,
     };
     match mode {

@@ -1,6 +1,6 @@
 //! Resolvers.
 
-ghost use Rattle.std.specs.Prelude.{◌≡◌, IfOk, map, option_map};
+ghost use Rattle.std.specs.Prelude.{◌≡◌, ◌<◌, IfOk, length, map, option_map};
 ghost use Rattle.graphql_spec.specs.Shown.{Name};
 ghost use Rattle.graphql_spec.specs.Constants.{Members};
 ghost use Rattle.graphql_spec.specs.Resolvers.{Reply};
@@ -72,7 +72,8 @@ pub trait GraphQLValue<S: ScalarValue>: GraphQLType<S> {
 
     /// The answers to a field of nodes of one object type, one for each, in their order: each is what
     /// [`GraphQLValue::resolve_field`] may answer for its node, which is what the default asks. What many nodes need can be
-    /// loaded once here. The executor is that of the field, its path that to one of the nodes. An error where memory is refused.
+    /// loaded once here. There is one node at least. The executor is that of the field, its path that to the field of the first
+    /// node. An error where memory is refused.
     fn resolve_fields(
         &self,
         alloc: Global,
@@ -82,7 +83,8 @@ pub trait GraphQLValue<S: ScalarValue>: GraphQLType<S> {
         arguments: &Arguments<'_, S>,
         executor: &Executor<Self::Context, S>,
     ) -> Result<Vec<Result<Resolved<Self::Node, S>, ResolveError<S>>>, AllocError>
-        requires { IsAskedFor S.shown executor.now field_name.now (view_arguments S.shown arguments.now) }
+        requires asked { IsAskedFor S.shown executor.now field_name.now (view_arguments S.shown arguments.now) }
+        requires some { 0 < length nodes.now }
         ensures { IfOk result (λ made. AllAnswer S.shown
             (λ node. answer self.now info.now (context_of executor.now) node field_name.now (view_arguments S.shown arguments.now))
             (map (λ n. n.now) nodes.now) made.items) }

@@ -26,7 +26,7 @@ use Rattle.juniper_conversions.specs.declared.field_error.ResolveError.{ResolveE
 use Rattle.juniper_values.specs.ResolvedView.{AllAnswer, Answers}
 use Rattle.juniper_values.specs.declared.resolved.Resolved.{Resolved}
 use Rattle.juniper_walk.specs.Leaves.{IsTaken}
-use Rattle.juniper_walk.specs.Lists.{picked}
+use Rattle.juniper_walk.specs.Lists.{first_in, picked}
 use Rattle.juniper_walk.specs.PlanWalks.{AreObjectsWalked, IsPrepared, IsWalking}
 use Rattle.juniper_walk.specs.Rows.{awaited, AreIn, ArePending, AreRows, IsFilledIn, IsNext, IsOpen, IsPutIn, IsRow, listed_of, values_of}
 use Rattle.juniper_walk.specs.declared.preparing.Taken.{Taken}
@@ -101,12 +101,55 @@ module _ {N S : Type 0} (xs : List (CodeSpot N)) (rows : List (Row S)) (i : ℕ)
     unfolding picked
     node-skipped made all risen so_far = ap (λ l. map (λ (m : Bor N). m.now) made ++ map (λ (y : Spot N). y.what) l) (sym (standing-at false risen)) ∙ so_far
 
+    pub first-found : is_some r.object ≡ true → first_in (standing i) ≡ Some (view_spot (λ n. n) x)
+    unfolding picked first_in
+    first-found stands = ap first_in (standing-at true stands)
+
+    pub first-skipped : is_some r.object ≡ false → first_in (standing i) ≡ first_in (standing (i + 1))
+    unfolding picked
+    first-skipped risen = ap first_in (standing-at false risen)
+
+  pub first-none : length xs ≤ i → length rows ≡ length xs → first_in (standing i) ≡ None
+  unfolding picked first_in
+  first-none past counted =
+      ap (λ l. first_in (picked (map (λ u. is_some u.object) l) (view_nodes (drop i xs)))) (drop_all i rows (omega (arith, past, counted)))
+
   pub nodes-whole : (made : List (Bor N)) (all : List N) → length xs ≤ i → length rows ≡ length xs →
       map (λ m. m.now) made ++ map (λ y. y.what) (standing i) ≡ all → map (λ m. m.now) made ≡ all
   unfolding picked
   nodes-whole made all past counted so_far =
       let none : standing i ≡ [] = ap (λ l. picked (map (λ u. is_some u.object) l) (view_nodes (drop i xs))) (drop_all i rows (omega (arith, past, counted))) in
       sym (append-nil (map (λ (m : Bor N). m.now) made)) ∙ (ap (λ l. map (λ (m : Bor N). m.now) made ++ map (λ (y : Spot N). y.what) l) (sym none) ∙ so_far)
+
+-- where the first of them is asked, one is asked at least
+pub some-asked : {N : Type 0} (l : List (Spot N)) (s : Spot N) (ms : List (Bor N)) → first_in l ≡ Some s → map (λ m. m.now) ms ≡ map (λ y. y.what) l →
+    0 < length ms
+unfolding first_in
+some-asked [] s ms is all = absurd cc
+some-asked (x ∷ l) s [] is all = absurd cc
+some-asked (x ∷ l) s (m ∷ ms) is all = omega arith
+
+all-risen : {N : Type 0} (b : Bool) (bs : List Bool) (y : Spot N) (ys : List (Spot N)) → first_in (picked (b ∷ bs) (y ∷ ys)) ≡ None →
+    (b ≡ false) × (first_in (picked bs ys) ≡ None)
+unfolding picked first_in
+all-risen true bs y ys none = absurd cc
+all-risen false bs y ys none = (refl, none)
+
+-- where every null has risen, no answer waits
+pub none-waits : {N S : Type 0} (W : World N) (s : Forest) (T : Name) (shown : S → Shown) (ks : List Name) (k : Name) (os : List Occurrence) (i : ℕ)
+    (ys : List (Spot N)) (rows : List (Row S)) → first_in (picked (map (λ u. is_some u.object) rows) ys) ≡ None → AreRows W s T shown ks ys rows →
+    (hs : List (Opened N S)) → hs ≡ [] → (ns : List (Spot N)) → ns ≡ [] → ArePending W s T shown ks k os i ys rows hs ns
+none-waits {N = N} {S = S} W s T shown ks k os i ys rows none begun hs unopened ns unmet =
+    subst (λ l. ArePending W s T shown ks k os i ys rows l ns) (sym unopened) (waits i ys rows none begun)
+  where
+    waits : (j : ℕ) (zs : List (Spot N)) (rs : List (Row S)) → first_in (picked (map (λ u. is_some u.object) rs) zs) ≡ None → AreRows W s T shown ks zs rs →
+        ArePending W s T shown ks k os j zs rs [] ns
+    waits j [] [] e a = unmet
+    waits j [] (r ∷ rs) e a = absurd a
+    waits j (z ∷ zs) [] e a = absurd a
+    waits j (z ∷ zs) (r ∷ rs) e a =
+        let risen = all-risen (is_some r.object) (map (λ u. is_some u.object) rs) z zs e in
+        (row-stays W s T shown ks (ks ++ k ∷ []) z r (none-of r.object risen.0) a.0, waits (suc j) zs rs risen.1 a.1)
 
 -- ## One row after the other
 

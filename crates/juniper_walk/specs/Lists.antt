@@ -1,5 +1,5 @@
 -- What is asked of the nodes of a list for the occurrences of a response key (6.4.2).
-use Rattle.std.specs.Prelude.{◌≡◌, Bool, true, false, List, [], ◌∷◌, Result, string_bytes}
+use Rattle.std.specs.Prelude.{◌≡◌, Bool, true, false, List, [], ◌∷◌, Option, Some, None, Result, string_bytes}
 use Rattle.graphql_spec.specs.Resolvers.{Reply}
 use Rattle.graphql_spec.specs.Shown.{Shown}
 use Rattle.graphql_spec.specs.Types.{TypeRef}
@@ -15,6 +15,11 @@ picked [] xs = []
 picked (b ∷ bs) [] = []
 picked (true ∷ bs) (x ∷ xs) = x ∷ picked bs xs
 picked (false ∷ bs) (x ∷ xs) = picked bs xs
+
+-- the first of them, if there is one
+unfoldable pub first_in : {A : Type 0} → List A → Option A
+first_in [] = None
+first_in (x ∷ xs) = Some x
 
 module _ {N S : Type 0} (shown : S → Shown) (t : TypeRef) (reply : N → Reply N) where
   -- what was asked of a node

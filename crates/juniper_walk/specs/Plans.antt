@@ -1,5 +1,5 @@
 -- What a plan stands for: the response keys of an object, each with its occurrences (6.3.2).
-use Rattle.std.specs.Prelude.{◌≡◌, ℕ, ◌+◌, ◌≤◌, ◌<◌, suc, Bool, List, [], ◌∷◌, ◌++◌, length, map, drop, set, slice_range, string_bytes}
+use Rattle.std.specs.Prelude.{◌≡◌, ℕ, ◌+◌, ◌≤◌, ◌<◌, suc, Bool, true, false, List, [], ◌∷◌, ◌++◌, length, map, drop, set, slice_range, string_bytes}
 use Rattle.graphql_spec.specs.Shown.{Shown, Name}
 use Rattle.graphql_spec.specs.Documents.{Head}
 use Rattle.graphql_spec.specs.Selections.{Forest, end, chain, Occurrence, all_below, keys, occurrences, with_key}
@@ -85,6 +85,7 @@ module _ {S Q : Type 0} where
     pub questions : p.questions.items ≡ []
     pub below : p.below.items ≡ []
     pub left : p.left ≡ fields
+    pub unspent : p.is_spent ≡ false
 
   -- what stands is only added to, and no more fields may be entered than before
   pub record IsGrown (p q : Plan S Q) : Type 0 where
@@ -212,6 +213,11 @@ module _ {S Q : Type 0} where
     pub questions : q.questions.items ≡ p.questions.items
     pub below : all_made q ≡ all_made p
     pub left : q.left + n ≡ p.left
+
+  -- more were to be taken off than there are
+  pub record IsPast (n : ℕ) (p q : Plan S Q) : Type 0 where
+    pub fewer : p.left < n
+    pub same : q ≡ record p { is_spent = true }
 
   -- a group was added, and what its first field asks
   pub record IsFirstAsked (shown : S → Shown) (asks : Head → Q → Type 0) (k : Name) (o : CodeOccurrence S) (os : List (CodeOccurrence S)) (p q : Plan S Q) :

@@ -39,9 +39,13 @@ abbrev pub AreIn : {N S : Type 0} → ℕ → List (Opened N S) → Type 0
 AreIn n [] = Unit {0}
 AreIn n (o ∷ os) = (o.row < n) × AreIn n os
 
--- the nodes whose objects stand
+-- the nodes whose objects stand, each at its place
+abbrev pub spots_standing : {N S : Type 0} → List (Row S) → List (Spot N) → List (Spot N)
+spots_standing rows spots = picked (map (λ r. is_some r.object) rows) spots
+
+-- the nodes alone
 abbrev pub nodes_standing : {N S : Type 0} → List (Row S) → List (Spot N) → List N
-nodes_standing rows spots = map (λ x. x.what) (picked (map (λ r. is_some r.object) rows) spots)
+nodes_standing rows spots = map (λ x. x.what) (spots_standing rows spots)
 
 module _ {S : Type 0} (shown : S → Shown) where
   -- the objects that were walked, and what was listed in each

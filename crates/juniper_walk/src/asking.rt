@@ -1,6 +1,6 @@
 //! What a request gives to its walk.
 
-ghost use Rattle.std.specs.Prelude.{◌≡◌, IfOk, map, string_bytes};
+ghost use Rattle.std.specs.Prelude.{◌≡◌, ◌<◌, IfOk, length, map, string_bytes};
 ghost use Rattle.graphql_spec.specs.Execution.{reply_of, type_of};
 ghost use Rattle.juniper_syntax.specs.TypeView.{view_type};
 ghost use Rattle.juniper_lookahead.specs.Expansion.{IsAcyclic};
@@ -101,8 +101,9 @@ pub trait Resolver<S: ScalarValue>: Completer<S> + Conditions {
     /// For how many nodes of an object type a field is asked at once, at most; where it is one or zero, each node is asked for itself.
     fn nodes_at_once(&self, concrete: &str) -> usize;
 
-    /// What the first occurrence of a field answers of each of these nodes, in order, as [`Resolver::resolve_field_value`] would; the path is that of one of
-    /// them. An error where memory is refused. (A `Vec`, since the borrow checker's part of a proof covers no slice of references to what holds references.)
+    /// What the first occurrence of a field answers of each of these nodes, in order, as [`Resolver::resolve_field_value`] would. There is
+    /// one node at least, and the path is that of the first. An error where memory is refused. (A `Vec`, since the borrow checker's part of a
+    /// proof covers no slice of references to what holds references.)
     fn ask_all<'t, 'd, 'a>(
         &'t self,
         alloc: Global,
@@ -117,6 +118,7 @@ pub trait Resolver<S: ScalarValue>: Completer<S> + Conditions {
         requires path { IsPathOf (view_fields S.shown (values self.now) site.now.fragments.now site.now.occurrences.now) (path_place site.now.path.now) }
         requires whole { IsWholeGroup S.shown (Self.possible self.now) (values self.now) site.now.fragments.now concrete.now site.now.enclosing.now
             site.now.occurrences.now }
+        requires some { 0 < length nodes.now.items }
         ensures declared { IfOk result (λ asked. view_type (λ n. string_bytes n) asked.declared.now
             ≡ type_of (Self.world self.now) concrete.now (view_fields S.shown (values self.now) site.now.fragments.now site.now.occurrences.now)) }
         ensures answers { IfOk result (λ asked. AllAnswer S.shown (λ m. reply_of (Self.world self.now) concrete.now m

@@ -1,10 +1,11 @@
 //! The plan of a request: the response keys of its objects, and the fields of each (CollectFields, section 6.3.2 of the
 //! Specification).
 
-ghost use Rattle.std.specs.Prelude.{◌≡◌, ◌<◌, ◌≤◌, ◌+◌, ◌-◌, ◌*◌, ◌∷◌, IfOk, OnOk, [], drop, length, slice_range};
+ghost use Rattle.std.specs.Prelude.{◌≡◌, ◌<◌, ◌≤◌, ◌+◌, ◌-◌, ◌*◌, ◌∷◌, IfNone, IfOk, IfSome, MatchResult, OnOk, [], drop, length, slice_range};
 ghost use Rattle.graphql_spec.specs.Values.{no_entries};
 ghost use Rattle.juniper_syntax.specs.ValueView.{view_object};
-ghost use Rattle.juniper_walk.specs.Plans.{IsBare, IsCharged, IsEnded, IsKept, IsOneAdded, IsWithin, fields_at, group_count, key_at, made_at};
+ghost use Rattle.juniper_walk.specs.Budget.{most_fields, stop_of};
+ghost use Rattle.juniper_walk.specs.Plans.{IsBare, IsCharged, IsEnded, IsKept, IsOneAdded, IsPast, IsWithin, fields_at, group_count, key_at, made_at};
 ghost use Rattle.juniper_walk.specs.PlanLists.{named_in};
 
 use crate::Stop;
@@ -78,9 +79,9 @@ pub struct Plan<'d, 'a, S, Q> {
 }
 
 impl<'d, 'a, S: ScalarValue, Q: Drop> Plan<'d, 'a, S, Q> {
-    /// A plan without groups, by which so many fields may be entered.
-    pub fn new(alloc: Global, fields: usize) -> Plan<'d, 'a, S, Q>
-        ensures { IsBare fields result }
+    /// A plan without groups, by which so many fields may be entered, or without a budget any number.
+    pub fn new(alloc: Global, fields: Option<usize>) -> Plan<'d, 'a, S, Q>
+        ensures { IsBare (most_fields fields) result }
     {
         Plan {
             groups: Vec::new(alloc),
@@ -88,18 +89,18 @@ impl<'d, 'a, S: ScalarValue, Q: Drop> Plan<'d, 'a, S, Q> {
             questions: Vec::new(alloc),
             below: Vec::new(alloc),
             keys: Vec::new(alloc),
-            left: fields,
+            left: fields.unwrap_or(usize::MAX),
             is_spent: false,
         }
     }
 
-    /// A plan without groups, by which so many fields may be entered, with room for so many of one field each. An error where memory is refused.
+    /// The same with room for so many groups of one field each. An error where memory is refused.
     pub fn with_capacity(
         alloc: Global,
         capacity: usize,
-        fields: usize,
+        fields: Option<usize>,
     ) -> Result<Plan<'d, 'a, S, Q>, AllocError>
-        ensures { IfOk result (λ plan. IsBare fields plan) }
+        ensures { IfOk result (λ plan. IsBare (most_fields fields) plan) }
     {
         Ok(Plan {
             groups: Vec::with_capacity(alloc, capacity)?,
@@ -107,32 +108,56 @@ impl<'d, 'a, S: ScalarValue, Q: Drop> Plan<'d, 'a, S, Q> {
             questions: Vec::with_capacity(alloc, capacity)?,
             below: Vec::with_capacity(alloc, capacity)?,
             keys: Vec::new(alloc),
-            left: fields,
+            left: fields.unwrap_or(usize::MAX),
             is_spent: false,
         })
     }
 
-    /// Why a walk over the plan was not ended.
-    pub fn stop(&self) -> Stop {
-        if self.is_spent {
+    /// Why a walk over the plan, which had this budget, was not ended.
+    pub fn stop(&self, fields: Option<usize>) -> Stop
+        ensures { result ≡ stop_of fields self.now.is_spent }
+    {
+        if fields.is_some() && self.is_spent {
             Stop::Spent
         } else {
             Stop::Memory
         }
     }
 
+    // What is left behind the fields of so many objects, which have these groups; none where fewer are left.
+    fn left_after(&self, objects: usize, groups: GroupRange) -> Option<usize>
+        ensures some { IfSome result (λ left. left + objects * (groups.end.0 - groups.first.0) ≡ self.now.left) }
+        ensures none { IfNone result (self.now.left < objects * (groups.end.0 - groups.first.0)) }
+    {
+        let left = self.left;
+        match objects.checked_mul(groups.count()) {
+            Some(fields) => {
+                if fields <= left {
+                    Some(left - fields)
+                } else {
+                    None
+                }
+            }
+            None => None,
+        }
+    }
+
     /// Takes the fields of so many objects, which have these groups, off those that may still be entered; an error where fewer are left.
     pub(crate) fn charge(&mut self, objects: usize, groups: GroupRange) -> Result<(), AllocError>
-        ensures { OnOk result (IsCharged (objects * (groups.end.0 - groups.first.0)) self.old self.new) }
+        ensures { MatchResult result
+            (λ _. IsCharged (objects * (groups.end.0 - groups.first.0)) self.old self.new)
+            (λ _. IsPast (objects * (groups.end.0 - groups.first.0)) self.old self.new) }
     {
-        if let Some(fields) = objects.checked_mul(groups.count()) {
-            if fields <= self.left {
-                self.left -= fields;
-                return Ok(());
+        match self.left_after(objects, groups) {
+            Some(left) => {
+                self.left = left;
+                Ok(())
+            }
+            None => {
+                self.is_spent = true;
+                Err(AllocError)
             }
         }
-        self.is_spent = true;
-        Err(AllocError)
     }
 
     /// The fields of a group, in order.

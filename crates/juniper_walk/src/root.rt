@@ -6,7 +6,7 @@ ghost use Rattle.juniper_syntax.specs.DocumentView.{view_selections};
 ghost use Rattle.juniper_syntax.specs.ValueView.{view_value};
 ghost use Rattle.juniper_conversions.specs.ErrorView.{view_listed};
 ghost use Rattle.juniper_lookahead.specs.Collected.{expansion};
-ghost use Rattle.juniper_walk.specs.Budget.{fields_in};
+ghost use Rattle.juniper_walk.specs.Budget.{SpendsGiven, fields_in, most_fields};
 ghost use Rattle.juniper_walk.specs.Plans.{IsBare};
 ghost use Rattle.juniper_walk.specs.PlanWalks.{IsFirstsAnswer};
 ghost use Rattle.juniper_walk.specs.Walking.{IsReadyWalk};
@@ -23,14 +23,15 @@ use std::alloc::AllocError;
 const ROOM: usize = 16;
 
 /// The data of selections on a root node as an object of this type, and the errors in their order: each at its exact place, no two at one,
-/// each failure listed for the first of its field's occurrences. The operation starts at this place. At most so many fields are entered.
+/// each failure listed for the first of its field's occurrences. The operation starts at this place. At most so many fields are entered, or
+/// without a budget any number: then it is never spent.
 pub fn answer<'d, 'a, S: ScalarValue, R: Resolver<S>>(
     walk: &Walk<'_, 'd, 'a, S, R>,
     concrete: &str,
     root: &R::Node,
     start: SourcePosition,
     selections: &'d [Selection<'a, S>],
-    fields: usize,
+    fields: Option<usize>,
 ) -> Result<Walked<S>, Stop>
     requires ready { IsReadyWalk S.shown R.possible R.values (R.world walk.now.collector.possible) walk.now }
     ensures exact { IfOk result (λ r. IsExactAnswerFor (R.world walk.now.collector.possible) concrete.now root.now
@@ -39,18 +40,19 @@ pub fn answer<'d, 'a, S: ScalarValue, R: Resolver<S>>(
     ensures firsts { IfOk result (λ r. IsFirstsAnswer (R.world walk.now.collector.possible) concrete.now root.now
         (expansion S.shown walk.now.collector (view_selections S.shown selections.now))
         (view_value S.shown r.value) (map (view_listed S.shown) r.errors.items)) }
-    ensures counted { IfOk result (λ r. fields_in (view_value S.shown r.value) ≤ fields) }
+    ensures counted { IfOk result (λ r. fields_in (view_value S.shown r.value) ≤ most_fields fields) }
+    ensures spent { SpendsGiven fields result }
 {
     let Ok(mut plan) = Plan::with_capacity(walk.alloc, ROOM, fields) else {
         return Err(Stop::Memory);
     };
     match answer_by(walk, &mut plan, concrete, root, start, selections, fields) {
         Ok(walked) => Ok(walked),
-        Err(_) => Err(plan.stop()),
+        Err(_) => Err(plan.stop(fields)),
     }
 }
 
-/// The same over a plan without groups, by which so many fields may be entered.
+/// The same over a plan without groups, of this budget.
 fn answer_by<'d, 'a, S: ScalarValue, R: Resolver<S>>(
     walk: &Walk<'_, 'd, 'a, S, R>,
     plan: &mut Plan<'d, 'a, S, R::Question>,
@@ -58,17 +60,17 @@ fn answer_by<'d, 'a, S: ScalarValue, R: Resolver<S>>(
     root: &R::Node,
     start: SourcePosition,
     selections: &'d [Selection<'a, S>],
-    fields: usize,
+    fields: Option<usize>,
 ) -> Result<Walked<S>, AllocError>
     requires ready { IsReadyWalk S.shown R.possible R.values (R.world walk.now.collector.possible) walk.now }
-    requires bare { IsBare fields plan.old }
+    requires bare { IsBare (most_fields fields) plan.old }
     ensures exact { IfOk result (λ r. IsExactAnswerFor (R.world walk.now.collector.possible) concrete.now root.now
         (expansion S.shown walk.now.collector (view_selections S.shown selections.now))
         (view_value S.shown r.value) (map (view_listed S.shown) r.errors.items)) }
     ensures firsts { IfOk result (λ r. IsFirstsAnswer (R.world walk.now.collector.possible) concrete.now root.now
         (expansion S.shown walk.now.collector (view_selections S.shown selections.now))
         (view_value S.shown r.value) (map (view_listed S.shown) r.errors.items)) }
-    ensures counted { IfOk result (λ r. fields_in (view_value S.shown r.value) ≤ fields) }
+    ensures counted { IfOk result (λ r. fields_in (view_value S.shown r.value) ≤ most_fields fields) }
 {
     let enclosing = [Enclosing { selections }];
     let groups = enter_root(walk.alloc, &walk.collector, plan, concrete, &enclosing)?;

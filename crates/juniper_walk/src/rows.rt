@@ -1,17 +1,18 @@
 //! The objects of nodes of one object type, walked side by side: a group is asked of all of them, then what is below it is walked for all of
 //! them at once (sections 6.3 and 6.4 of the Specification).
 
-ghost use Rattle.std.specs.Prelude.{◌≡◌, ◌<◌, ◌≤◌, ◌+◌, ◌++◌, suc, IfOk, OnOk, Some, is_some, length, map, string_bytes};
+ghost use Rattle.std.specs.Prelude.{◌≡◌, ◌<◌, ◌≤◌, ◌+◌, ◌++◌, [], suc, IfOk, OnOk, Some, is_some, length, map, option_map, string_bytes};
 ghost use Rattle.std.specs.Vec.Iter.{into_iter_items};
 ghost use Rattle.graphql_spec.specs.ExactAnswers.{whole};
 ghost use Rattle.graphql_spec.specs.Execution.{reply_of, type_of};
 ghost use Rattle.graphql_spec.specs.Selections.{occurrences};
-ghost use Rattle.juniper_assemble.specs.SpotView.{view_nodes};
+ghost use Rattle.juniper_assemble.specs.SpotView.{view_nodes, view_spot};
 ghost use Rattle.juniper_values.specs.ResolvedView.{AllAnswer};
 ghost use Rattle.juniper_walk.specs.Plans.{IsAskedAt, IsStanding, all_expanded, group_at, group_count, key_at};
 ghost use Rattle.juniper_walk.specs.PlanWalks.{IsGroupOf};
-ghost use Rattle.juniper_walk.specs.Rows.{AreFresh, AreIn, AsksColumn, FillsRows, IsFilledIn, IsLeafPut, IsPutIn, listed_of, nodes_standing, row_fields, so_far};
-ghost use Rattle.juniper_walk.specs.Rows.{values_of};
+ghost use Rattle.juniper_walk.specs.Lists.{first_in};
+ghost use Rattle.juniper_walk.specs.Rows.{AreFresh, AreIn, AsksColumn, FillsRows, IsFilledIn, IsLeafPut, IsPutIn, listed_of, nodes_standing, row_fields};
+ghost use Rattle.juniper_walk.specs.Rows.{so_far, spots_standing, values_of};
 ghost use Rattle.juniper_walk.specs.Budget.{fields_in, fields_in_all};
 ghost use Rattle.juniper_conversions.specs.ErrorView.{view_listed};
 ghost use Rattle.juniper_syntax.specs.TypeView.{view_type};
@@ -116,6 +117,23 @@ fn put_in_row<S: ScalarValue>(
     }
 }
 
+/// The first of the nodes whose objects stand, at its place, if there is one.
+fn first_standing<'n, 'a, N, S>(
+    spots: &'n [Spot<'a, N>],
+    rows: &[Row<S>],
+) -> Option<&'n Spot<'a, N>>
+    requires { length rows.now ≡ length spots.now }
+    ensures { option_map (λ x. view_spot (λ n. n) x.now) result ≡ first_in (spots_standing rows.now (view_nodes spots.now)) }
+{
+    for number in 0..spots.len() {
+        if rows[number].object.is_some() {
+            let spot = &spots[number];
+            return Some(spot);
+        }
+    }
+    None
+}
+
 /// The nodes whose objects stand.
 fn standing_nodes<'n, 'a, N, S>(
     alloc: Global,
@@ -135,7 +153,7 @@ fn standing_nodes<'n, 'a, N, S>(
     Ok(nodes)
 }
 
-/// What a group answers of each node whose object stands, in their order.
+/// What a group answers of each node whose object stands, in their order. The path is that of the first of them.
 fn ask_rows<'p, 'd, 'a, S: ScalarValue, R: Resolver<S>>(
     walk: &'p Walk<'_, 'd, 'a, S, R>,
     plan: &'p Plan<'d, 'a, S, R::Question>,
@@ -143,6 +161,7 @@ fn ask_rows<'p, 'd, 'a, S: ScalarValue, R: Resolver<S>>(
     spots: &[Spot<'a, R::Node>],
     enclosing: &[Enclosing<'d, 'a, S>],
     group: GroupNo,
+    first: &Spot<'a, R::Node>,
     rows: &[Row<S>],
 ) -> Result<AskedAll<'p, R::Node, S>, AllocError>
     requires ready { IsReadyWalk S.shown R.possible R.values (R.world walk.now.collector.possible) walk.now }
@@ -152,8 +171,8 @@ fn ask_rows<'p, 'd, 'a, S: ScalarValue, R: Resolver<S>>(
         (all_expanded S.shown walk.now.collector enclosing.now)) (group_at S.shown walk.now plan.now group.0) }
     requires asked { IsAskedAt (R.asks walk.now.collector.possible) concrete.now plan.now group.0
         (group_at S.shown walk.now plan.now group.0) }
-    requires some { 0 < length spots.now }
     requires counted { length rows.now ≡ length spots.now }
+    requires first { first_in (spots_standing rows.now (view_nodes spots.now)) ≡ Some (view_spot (λ n. n) first.now) }
     ensures declared { IfOk result (λ told. view_type (λ n. string_bytes n) told.declared.now ≡ type_of (R.world walk.now.collector.possible) concrete.now
         (group_at S.shown walk.now plan.now group.0)) }
     ensures answers { IfOk result (λ told. AllAnswer S.shown
@@ -163,9 +182,8 @@ fn ask_rows<'p, 'd, 'a, S: ScalarValue, R: Resolver<S>>(
     let alloc = walk.alloc;
     let nodes = standing_nodes(alloc, spots, rows)?;
     let fields = plan.fields(group);
-    let first = fields[0].field;
-    let one = &spots[0];
-    let here = step_below(&one.path, first)?;
+    let written = fields[0].field;
+    let here = step_below(&first.path, written)?;
     let site = Site {
         fragments: walk.collector.fragments.by_name(),
         path: &here,
@@ -178,7 +196,8 @@ fn ask_rows<'p, 'd, 'a, S: ScalarValue, R: Resolver<S>>(
     Ok(told)
 }
 
-/// Asks a group of each node whose object stands: a scalar that fits goes into the object, any other answer waits for its nodes.
+/// Asks a group of each node whose object stands: a scalar that fits goes into the object, any other answer waits for its nodes. Where none
+/// stands, nothing is asked.
 pub(crate) fn ask_column<'d, 'a, S: ScalarValue, R: Resolver<S>>(
     walk: &Walk<'_, 'd, 'a, S, R>,
     plan: &Plan<'d, 'a, S, R::Question>,
@@ -195,7 +214,6 @@ pub(crate) fn ask_column<'d, 'a, S: ScalarValue, R: Resolver<S>>(
         (all_expanded S.shown walk.now.collector enclosing.now)) (group_at S.shown walk.now plan.now group.0) }
     requires asked { IsAskedAt (R.asks walk.now.collector.possible) concrete.now plan.now group.0
         (group_at S.shown walk.now plan.now group.0) }
-    requires some { 0 < length spots.now }
     requires counted { length rows.old.items ≡ length spots.now }
     ensures counted { IfOk result (λ c. length rows.new.items ≡ length spots.now) }
     ensures within { IfOk result (λ c. AreIn (length spots.now) c.opened.items) }
@@ -203,11 +221,54 @@ pub(crate) fn ask_column<'d, 'a, S: ScalarValue, R: Resolver<S>>(
         (key_at plan.now group.0) (group_at S.shown walk.now plan.now group.0) (view_nodes spots.now) rows.old.items rows.new.items result }
     ensures fields { IfOk result (λ c. row_fields S.shown rows.new.items + length c.opened.items ≤ row_fields S.shown rows.old.items + length spots.now) }
 {
-    let mut column = Column {
-        opened: Vec::new(walk.alloc),
-        nodes: Vec::new(walk.alloc),
-    };
-    let all = ask_rows(walk, plan, concrete, spots, enclosing, group, rows)?;
+    match first_standing(spots, rows) {
+        None => Ok(no_answers(walk.alloc)),
+        Some(first) => {
+            let column = ask_standing(walk, plan, concrete, spots, enclosing, group, first, rows)?;
+            Ok(column)
+        }
+    }
+}
+
+/// No answers.
+fn no_answers<'a, N, S>(alloc: Global) -> Column<'a, N, S>
+    ensures opened { result.opened.items ≡ [] }
+    ensures nodes { result.nodes.items ≡ [] }
+{
+    Column {
+        opened: Vec::new(alloc),
+        nodes: Vec::new(alloc),
+    }
+}
+
+/// The same where an object stands; this is the first of their nodes.
+fn ask_standing<'d, 'a, S: ScalarValue, R: Resolver<S>>(
+    walk: &Walk<'_, 'd, 'a, S, R>,
+    plan: &Plan<'d, 'a, S, R::Question>,
+    concrete: &str,
+    spots: &[Spot<'a, R::Node>],
+    enclosing: &[Enclosing<'d, 'a, S>],
+    group: GroupNo,
+    first: &Spot<'a, R::Node>,
+    rows: &mut Vec<Row<S>>,
+) -> Result<Column<'a, R::Node, S>, AllocError>
+    requires ready { IsReadyWalk S.shown R.possible R.values (R.world walk.now.collector.possible) walk.now }
+    requires standing { IsStanding S.shown walk.now.collector (R.asks walk.now.collector.possible) (R.possible walk.now.collector.possible) plan.now }
+    requires bound { group.0 < group_count plan.now }
+    requires whole { IsGroupOf (key_at plan.now group.0) (occurrences (R.possible walk.now.collector.possible) concrete.now
+        (all_expanded S.shown walk.now.collector enclosing.now)) (group_at S.shown walk.now plan.now group.0) }
+    requires asked { IsAskedAt (R.asks walk.now.collector.possible) concrete.now plan.now group.0
+        (group_at S.shown walk.now plan.now group.0) }
+    requires counted { length rows.old.items ≡ length spots.now }
+    requires first { first_in (spots_standing rows.old.items (view_nodes spots.now)) ≡ Some (view_spot (λ n. n) first.now) }
+    ensures counted { IfOk result (λ c. length rows.new.items ≡ length spots.now) }
+    ensures within { IfOk result (λ c. AreIn (length spots.now) c.opened.items) }
+    ensures pending { AsksColumn (R.world walk.now.collector.possible) (all_expanded S.shown walk.now.collector enclosing.now) concrete.now S.shown
+        (key_at plan.now group.0) (group_at S.shown walk.now plan.now group.0) (view_nodes spots.now) rows.old.items rows.new.items result }
+    ensures fields { IfOk result (λ c. row_fields S.shown rows.new.items + length c.opened.items ≤ row_fields S.shown rows.old.items + length spots.now) }
+{
+    let mut column = no_answers(walk.alloc);
+    let all = ask_rows(walk, plan, concrete, spots, enclosing, group, first, rows)?;
     let declared = all.declared;
     let mut told = all.answers.into_iter();
     for number in 0..spots.len() {

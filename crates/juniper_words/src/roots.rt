@@ -1,7 +1,7 @@
 //! Resolvers of the root types, which need not tell their types, and juniper's traits of them under the names of these types
 //! (sections 3.3, 6.2.2 and 6.4.2 of the Specification).
 
-ghost use Rattle.std.specs.Prelude.{◌≡◌, Bool, IfOk, Some, [], map};
+ghost use Rattle.std.specs.Prelude.{◌≡◌, ◌<◌, Bool, IfOk, Some, [], length, map};
 ghost use Rattle.graphql_spec.specs.Constants.{Members};
 ghost use Rattle.graphql_spec.specs.Resolvers.{Reply};
 ghost use Rattle.graphql_spec.specs.Shown.{Name};
@@ -63,7 +63,7 @@ pub trait QueryType<S: ScalarValue> {
         1
     }
 
-    /// The answers to a field of nodes of one object type, one for each, in their order, as those of
+    /// The answers to a field of nodes of one object type, of which there is one at least, in their order, as those of
     /// [`GraphQLValue::resolve_fields`] are. By default they are those of [`QueryType::resolve_each`].
     fn resolve_fields(
         alloc: Global,
@@ -72,7 +72,8 @@ pub trait QueryType<S: ScalarValue> {
         arguments: &Arguments<'_, S>,
         executor: &Executor<Self::Context, S>,
     ) -> Result<Vec<Answer<Self::Node, S>>, AllocError>
-        requires { IsAskedFor S.shown executor.now field_name.now (view_arguments S.shown arguments.now) }
+        requires asked { IsAskedFor S.shown executor.now field_name.now (view_arguments S.shown arguments.now) }
+        requires some { 0 < length nodes.now }
         ensures { IfOk result (λ made. AllAnswer S.shown
             (λ node. answer (context_of executor.now) node field_name.now (view_arguments S.shown arguments.now))
             (map (λ n. n.now) nodes.now) made.items) }

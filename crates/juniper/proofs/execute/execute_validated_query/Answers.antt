@@ -5,7 +5,7 @@ use Rattle.juniper.specs.Answering.{outcome_in}
 use Rattle.juniper.specs.Promised.{IsFullOutcomeOf}
 use Rattle.juniper.specs.RootView.{service_of}
 use Rattle.juniper.specs.WalkedOutcomes.{IsWalkedOutcome}
-use Rattle.juniper.proofs.Bounded.{walked-full, without-budget}
+use Rattle.juniper.proofs.Bounded.{unspent, walked-full, without-budget}
 use Rattle.juniper.proofs.execute.execute_validated_query.Goals as goal
 
 pub returns-in-Err : goal.returns-in-Err
@@ -22,3 +22,6 @@ returns-in-Err g c =
 
 pub returns-in-Ok : goal.returns-in-Ok
 returns-in-Ok g c = c.in-Ok.ensures.answers
+
+pub into_error-requires : goal.into_error-requires
+into_error-requires g c = unspent _ c.in-Err.within c.in-Err.ensures.spent

@@ -6,6 +6,7 @@ use Rattle.juniper_schema.specs.SchemaView.{view_schema}
 use Rattle.juniper_syntax.specs.DocumentView.{view_document, view_operation}
 use Rattle.juniper_syntax.specs.InputView.{view_variables}
 use Rattle.juniper.specs.Answering.{outcome_of}
+use Rattle.juniper.specs.Budgets.{IsRun, SpendsOnly}
 use Rattle.juniper.proofs.Bounded.{within-answers}
 use Rattle.juniper.proofs.RootOutcomes.{outcome-moved}
 use Rattle.juniper.proofs.execute.execute_walked.Goals as goal
@@ -36,3 +37,12 @@ returns-clause-answers g c =
     (ap (view_schema shown) c.schema-schema.ensures) c.query_info.ensures c.mutation.ensures c.mutation_info.ensures refl
     (λ x. outcome_of x d o given) c.args.context.now r c.execute_root.new.context p)
     shown c.execute_root.result (c.execute_root.ensures.answers (is_disabled root))
+
+pub returns-clause-spent : goal.returns-clause-spent
+returns-clause-spent g c =
+    let shown = g.S.ScalarValue.shown in
+    let d = view_document shown c.args.document.now in
+    let o = view_operation shown c.args.operation.now in
+    let given = view_variables shown c.args.variables.now in
+    subst (λ s. SpendsOnly c.args.fields (IsRun (outcome_of s d o given)) c.execute_root.result) (ap (view_schema shown) c.schema-schema.ensures)
+    c.execute_root.ensures.spent

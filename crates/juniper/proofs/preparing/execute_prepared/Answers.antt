@@ -2,7 +2,8 @@ use Rattle.juniper.specs.Answering.{request_of}
 use Rattle.juniper.specs.Promised.{IsFullOutcome}
 use Rattle.juniper.specs.PreparedView.{root_of, source_of}
 use Rattle.juniper.specs.RootView.{service_of}
-use Rattle.juniper.proofs.Bounded.{without-budget}
+use Rattle.std.proofs.lemmas.Grind.{not_there}
+use Rattle.juniper.proofs.Bounded.{unspent, without-budget}
 use Rattle.juniper.proofs.preparing.execute_prepared.Goals as goal
 
 pub returns-in-Err : goal.returns-in-Err
@@ -18,3 +19,6 @@ returns-in-Err g c = λ read.
 
 pub returns-in-Ok : goal.returns-in-Ok
 returns-in-Ok g c = λ read. c.in-Ok.ensures.answers read
+
+pub into_error-requires : goal.into_error-requires
+into_error-requires g c = λ spent. not_there c.args.prepared.now.reads (λ read. unspent _ c.in-Err.within (c.in-Err.ensures.spent read) spent)

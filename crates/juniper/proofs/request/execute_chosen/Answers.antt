@@ -15,8 +15,9 @@ use Rattle.juniper.specs.RequestErrors.{view_request_error}
 use Rattle.juniper.specs.RootView.{service_of}
 use Rattle.juniper.specs.WalkedOutcomes.{IsWalkedOutcome}
 use Rattle.juniper_execute.specs.declared.walking.Walking.TheVariants.{Grouped}
-use Rattle.juniper.proofs.Bounded.{walked-full, within-refuses}
-use Rattle.juniper.proofs.Composing.{at-choose, at-coerce, full-execute, refused-full}
+use Rattle.juniper.specs.Budgets.{IsRun, Runs}
+use Rattle.juniper.proofs.Bounded.{spent-so, walked-full, within-refuses}
+use Rattle.juniper.proofs.Composing.{at-choose, at-coerce, full-execute, refused-full, run-becomes}
 use Rattle.juniper.proofs.request.execute_chosen.Goals as goal
 
 pub returns-in-Err-clause-answers : goal.returns-in-Err-clause-answers
@@ -100,3 +101,29 @@ returns-in-Ok-execute_walked-clause-answers g c = λ text read.
     let answered = c.in-Ok-execute_walked.answered in
     full-execute S q c.args.context.now d read valid o c.in-Ok.ensures fits (responds (view_value shown answered.0) (map (view_listed shown) answered.1.items))
     c.execute_walked.new.context c.in-Ok-execute_walked.ensures.answers
+
+pub returns-in-Err-clause-spent : goal.returns-in-Err-clause-spent
+returns-in-Err-clause-spent g c = λ text read. tt
+
+pub returns-in-Err-check_variables-clause-spent : goal.returns-in-Err-check_variables-clause-spent
+returns-in-Err-check_variables-clause-spent g c = λ text read. tt
+
+pub returns-in-Ok-execute_walked-clause-spent : goal.returns-in-Ok-execute_walked-clause-spent
+returns-in-Ok-execute_walked-clause-spent g c = λ text read. tt
+
+pub returns-in-Err-execute_walked-clause-spent : goal.returns-in-Err-execute_walked-clause-spent
+unfolding rooted_service
+returns-in-Err-execute_walked-clause-spent g c = λ text read.
+    let shown = g.S.ScalarValue.shown in
+    let root = c.args.root_node.now in
+    let s = view_schema shown (schema_of root) in
+    let S = service_of g.Q.GraphQLValue.concrete g.Q.GraphQLValue.answer g.Q.GraphQLValue.root g.M.GraphQLMutationValue.step g.M.GraphQLMutationValue.torn shown
+    root in
+    let q = request_of shown text c.args.operation_name c.args.variables.now in
+    let d = view_document shown c.args.document.now in
+    let valid : IsReadAsValid S q d = (read, c.requires) in
+    let o = view_operation shown c.in-Ok.operation.now in
+    let fits : AreCoercible s o q.variables =
+    subst (λ x. AreCoercible x o q.variables) (ap (view_schema shown) c.schema.ensures) c.in-Ok-check_variables.ensures in
+    spent-so (IsRun (outcome_of s d o q.variables)) (Runs S q)
+    (run-becomes S q c.args.context.now d read valid o c.in-Ok.ensures fits) c.args.fields c.in-Err-execute_walked.within c.in-Err-execute_walked.ensures.spent

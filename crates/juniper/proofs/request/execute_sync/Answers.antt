@@ -1,7 +1,7 @@
 use Rattle.juniper.specs.Answering.{request_of}
 use Rattle.juniper.specs.Promised.{IsFullOutcome}
 use Rattle.juniper.specs.RootView.{service_of}
-use Rattle.juniper.proofs.Bounded.{without-budget}
+use Rattle.juniper.proofs.Bounded.{unspent, without-budget}
 use Rattle.juniper.proofs.request.execute_sync.Goals as goal
 
 pub returns-in-Err : goal.returns-in-Err
@@ -15,3 +15,6 @@ returns-in-Err g c =
 
 pub returns-in-Ok : goal.returns-in-Ok
 returns-in-Ok g c = c.in-Ok.ensures.answers
+
+pub into_error-requires : goal.into_error-requires
+into_error-requires g c = unspent _ c.in-Err.within c.in-Err.ensures.spent

@@ -61,3 +61,6 @@ returns-in-Err-execute_chosen-clause-answers g c = c.in-Err-execute_chosen.ensur
 
 pub returns-clause-answers : goal.returns-clause-answers
 returns-clause-answers g c = c.in-Ok-execute_chosen.ensures.answers c.args.document_source.now c.in-Ok.ensures
+
+pub returns-in-Err-execute_chosen-clause-spent : goal.returns-in-Err-execute_chosen-clause-spent
+returns-in-Err-execute_chosen-clause-spent g c = c.in-Err-execute_chosen.ensures.spent c.args.document_source.now c.in-Ok.ensures

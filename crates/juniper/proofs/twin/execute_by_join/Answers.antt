@@ -8,7 +8,7 @@ use Rattle.juniper.specs.Answering.{outcome_of}
 use Rattle.juniper.specs.RootView.{service_of}
 use Rattle.juniper.specs.WalkedOutcomes.{IsWalkedOutcome}
 use Rattle.juniper_execute.specs.declared.walking.Walking.TheVariants.{Joined}
-use Rattle.juniper.proofs.Bounded.{without-budget}
+use Rattle.juniper.proofs.Bounded.{unspent, without-budget}
 use Rattle.juniper.proofs.twin.execute_by_join.Goals as goal
 
 pub returns-in-Err : goal.returns-in-Err
@@ -25,3 +25,6 @@ returns-in-Err g c =
 
 pub returns-in-Ok : goal.returns-in-Ok
 returns-in-Ok g c = c.in-Ok.ensures.answers.0
+
+pub into_error-requires : goal.into_error-requires
+into_error-requires g c = unspent _ c.in-Err.within c.in-Err.ensures.spent

@@ -1,7 +1,7 @@
 use Rattle.std.proofs.Common.{Some, map, refl, sym, ap, subst, ◌∙◌}
 use Rattle.graphql_spec.specs.Outcomes.{Reads}
 use Rattle.juniper.specs.Answering.{request_of}
-use Rattle.juniper.specs.Budgets.{AnswersWithin}
+use Rattle.juniper.specs.Budgets.{AnswersWithin, Runs, SpendsOnly}
 use Rattle.juniper.specs.PreparedView.{document_of, root_of, source_of}
 use Rattle.juniper.specs.Promised.{IsFullOutcome}
 use Rattle.juniper.specs.RootView.{service_of}
@@ -55,8 +55,11 @@ returns-in-Ok-Passes g c = λ b explains taken.
     let full = subst (λ q. AnswersWithin default_shown (λ x. IsFullOutcome S q before x after) answered)
     (request-same a (source_of c.args.prepared.now) (view_variables default_shown c.args.given.now.values) c.requires.text c.requires.given.0)
     (c.execute_prepared_within-answered.ensures.answers (subst (λ t. Reads t (Some d)) (sym c.requires.text) taken.0.0.1)) in
+    let spent = subst (λ q. SpendsOnly c.args.entered_fields (Runs S q) answered)
+    (request-same a (source_of c.args.prepared.now) (view_variables default_shown c.args.given.now.values) c.requires.text c.requires.given.0)
+    (c.execute_prepared_within-answered.ensures.spent (subst (λ t. Reads t (Some d)) (sym c.requires.text) taken.0.0.1)) in
     let told = told-of S (request_of default_shown c.args.request.now.query.now c.args.request.now.operation_name c.args.given.now.values) (request_asked a)
     c.args.explainer.now answered c.executed_reply.result explains
     (request-same a a.query (view_variables default_shown c.args.given.now.values) refl c.requires.given.0) c.executed_reply.ensures in
     answered-told S b a most c.args.may_write before c.args.entered_fields (seen-free S b a most c.args.may_write before c.args.entered_fields d taken seen)
-    after answered full c.execute_prepared_within-answered.ensures.counted c.executed_reply.result told
+    after answered full c.execute_prepared_within-answered.ensures.counted spent c.executed_reply.result told

@@ -1,4 +1,5 @@
 use Rattle.std.proofs.Common.{map, refl, ap, ◌∙◌}
+use Rattle.std.proofs.lemmas.Result.{err_from_is_err_and}
 use Rattle.graphql_spec.specs.Documents.{fragments}
 use Rattle.graphql_spec.specs.Directives.{passes}
 use Rattle.graphql_spec.specs.Fragments.{expand}
@@ -56,3 +57,8 @@ returns-clause-walked g c =
       c.in_ok-walked.ensures.lists,
       tells-move root.walking W _ _ _ _ _ _ _ c.query_name.ensures refl same c.in_ok-walked.ensures.firsts,
     )
+
+pub returns-in_err-walked-clause-spent : goal.returns-in_err-walked-clause-spent
+returns-in_err-walked-clause-spent g c =
+    let p = err_from_is_err_and c.from_residual.result c.from_residual.ensures.1 in
+    rw (p.1, p.2) c.in_err-walked.ensures.spent

@@ -1,11 +1,12 @@
 use Rattle.std.proofs.Common.{arith}
+use Rattle.juniper_walk.specs.Budget.{most_fields}
 use Rattle.juniper_walk.proofs.Sorted.{bare-stands, one-enclosing, walk-is-exact, walk-is-of-firsts}
 use Rattle.juniper_walk.proofs.root.answer_by.Goals as goal
 
 pub enter_root-requires-clause-standing : goal.enter_root-requires-clause-standing
 enter_root-requires-clause-standing g c =
     bare-stands g.S.ScalarValue.shown c.args.walk.now.collector (g.R.Resolver.asks c.args.walk.now.collector.possible)
-    (g.R.Conditions.possible c.args.walk.now.collector.possible) c.args.fields c.args.plan.now
+    (g.R.Conditions.possible c.args.walk.now.collector.possible) (most_fields c.args.fields) c.args.plan.now
     c.requires.bare
 
 pub execute_selection_set-requires-clause-standing : goal.execute_selection_set-requires-clause-standing

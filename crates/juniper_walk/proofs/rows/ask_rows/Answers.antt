@@ -3,7 +3,7 @@ use Rattle.graphql_spec.specs.Documents.{response_key}
 use Rattle.graphql_spec.specs.Errors.{key}
 use Rattle.graphql_spec.specs.Execution.{reply_of, type_of}
 use Rattle.graphql_spec.specs.Selections.{occurrences}
-use Rattle.juniper_assemble.specs.SpotView.{view_nodes}
+use Rattle.juniper_assemble.specs.SpotView.{view_nodes, view_spot}
 use Rattle.juniper_lookahead.specs.Collected.{view_all}
 use Rattle.juniper_conversions.specs.PathView.{path_place}
 use Rattle.juniper_lookahead.specs.Sites.{view_fields}
@@ -11,6 +11,8 @@ use Rattle.juniper_walk.specs.Lists.{picked}
 use Rattle.juniper_values.specs.ResolvedView.{AllAnswer}
 use Rattle.juniper_walk.specs.Plans.{all_expanded, key_at}
 use Rattle.juniper_walk.specs.PlanWalks.{IsGroupOf}
+use Rattle.juniper_walk.specs.Rows.{spots_standing}
+use Rattle.juniper_walk.proofs.Columns.{some-asked}
 use Rattle.juniper_walk.proofs.Whole.{asked-here, first-field, same-fields, whole-at}
 use Rattle.juniper_walk.proofs.rows.ask_rows.Goals as goal
 
@@ -35,7 +37,7 @@ ask_all-requires-clause-path g c =
     let head = (first-field shown collector c.fields-fields.result.now c.index-fields-0.result k all group).0 in
     let fields = ap (λ vars. view_fields shown vars c.by_name.result.now c.fields-fields.result.now) c.requires.ready.variables
     ∙ sym (same-fields shown collector c.by_name.result.now c.by_name.ensures.alike c.fields-fields.result.now) in
-    let place = path_place c.index-spots-0.result.path.value in
+    let place = path_place c.args.first.now.path.value in
     record {
       first = group.first;
       others = group.others;
@@ -43,6 +45,11 @@ ask_all-requires-clause-path g c =
       above = place;
       is = c.in_ok-here.ensures ∙ ap (λ h. place ++ key (response_key h) ∷ []) (sym head);
     }
+
+pub ask_all-requires-clause-some : goal.ask_all-requires-clause-some
+ask_all-requires-clause-some g c =
+    some-asked (spots_standing c.args.rows.now (view_nodes c.args.spots.now)) (view_spot (λ n. n) c.args.first.now) c.in_ok-nodes.nodes.items
+    c.requires.first c.in_ok-nodes.ensures
 
 pub ask_all-requires-clause-whole : goal.ask_all-requires-clause-whole
 ask_all-requires-clause-whole g c =

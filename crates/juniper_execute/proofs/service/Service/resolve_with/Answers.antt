@@ -12,9 +12,9 @@ at_field-executor-requires-clause-acyclic g c = c.requires.asked.acyclic
 pub at_field-executor-requires-clause-some : goal.at_field-executor-requires-clause-some
 at_field-executor-requires-clause-some g c = first-bound c.args.site.now.occurrences.now c.args.first.now c.requires.asked.first
 
-pub resolve-requires : goal.resolve-requires
+pub resolve-requires-clause-asked : goal.resolve-requires-clause-asked
 unfolding occurrence_at
-resolve-requires g c =
+resolve-requires-clause-asked g c =
     let shown = g.S.ScalarValue.shown in
     let made = c.at_field-executor.ensures in
     let asked = c.requires.asked in

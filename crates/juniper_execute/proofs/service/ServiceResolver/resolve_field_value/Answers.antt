@@ -14,8 +14,8 @@ use Rattle.juniper_execute.proofs.service.ServiceResolver.resolve_field_value.Go
 pub first_of-written-requires : goal.first_of-written-requires
 first_of-written-requires g c = whole-bound g.S.ScalarValue.shown _ _ _ _ _ c.args.site.now.occurrences.now c.requires.whole
 
-pub reply-replied-requires : goal.reply-replied-requires
-reply-replied-requires g c =
+pub reply-replied-requires-clause-asked : goal.reply-replied-requires-clause-asked
+reply-replied-requires-clause-asked g c =
     let shown = g.S.ScalarValue.shown in
     let d = c.args.self.now in
     let site = c.args.site.now in

@@ -1,7 +1,7 @@
 use Rattle.std.proofs.Common.{map}
 use Rattle.juniper_conversions.specs.ErrorView.{view_listed}
 use Rattle.juniper_syntax.specs.ValueView.{view_value}
-use Rattle.juniper_walk.specs.Budget.{fields_in}
+use Rattle.juniper_walk.specs.Budget.{fields_in, most_fields}
 use Rattle.juniper_execute.proofs.Bounds.{bounded-grouped}
 use Rattle.juniper_execute.proofs.ToldFirsts.{answer-tells}
 use Rattle.juniper_execute.proofs.walking.Walking.answer.Goals as goal
@@ -14,4 +14,5 @@ returns-in-Grouped-clause-firsts g c =
 
 pub returns-in-Grouped-clause-counted : goal.returns-in-Grouped-clause-counted
 returns-in-Grouped-clause-counted g c =
-    bounded-grouped _ c.in-Grouped.is (λ w. fields_in (view_value g.S.ScalarValue.shown w.value)) c.args.fields c.answer.result c.answer.ensures.counted
+    bounded-grouped _ c.in-Grouped.is (λ w. fields_in (view_value g.S.ScalarValue.shown w.value)) (most_fields c.args.fields)
+    c.answer.result c.answer.ensures.counted

@@ -1,4 +1,5 @@
-use Rattle.std.proofs.Common.{ap, map, subst, sym, ◌∙◌}
+use Rattle.std.proofs.Common.{ap, arith, length, map, subst, sym, ◌∙◌}
+use Rattle.std.proofs.lemmas.List.{length-map}
 use Rattle.std.specs.Prelude.{option_map}
 use Rattle.graphql_spec.specs.SeenNodes.{map_reply}
 use Rattle.juniper_schema.specs.SchemaView.{view_schema}
@@ -6,7 +7,7 @@ use Rattle.juniper_types.proofs.Batches.{answers-more, answers-whole}
 use Rattle.juniper_values.specs.ResolvedView.{AllAnswer}
 use Rattle.juniper_types.specs.ExecutorView.{context_of}
 use Rattle.juniper_values.specs.ArgumentView.{view_arguments}
-use Rattle.juniper_intro.proofs.Users.{users-answer}
+use Rattle.juniper_intro.proofs.Users.{users-answer, users-some}
 use Rattle.juniper_intro.specs.HandleView.{of_user}
 use Rattle.juniper_intro.specs.Introspectors.{names_of, number_of, schema_of}
 use Rattle.juniper_intro.proofs.resolver.RootNodeGraphQLValue.resolve_fields.Goals as goal
@@ -16,6 +17,17 @@ loop-node-preserved g c =
     let l = c.loop-node in
     answers-more g.S.ScalarValue.shown _ (λ n. n.now) c.args.nodes.now l.node-index c.node-item.result l.made.items c.push.new.self.items _
     c.loop-node-test.true c.node-item.is c.in_ok-push.ensures.items c.resolve_field-answer.ensures l.invariant
+
+pub resolve_all_users-requires-clause-some : goal.resolve_all_users-requires-clause-some
+resolve_all_users-requires-clause-some g c =
+    let nodes = c.args.nodes.now in
+    let users = c.in-Some.users.items in
+    let found = sym c.in_ok-users.ensures ∙ ap (option_map (λ users. map (λ n. n.now) users.items)) c.in-Some.is in
+    let asked = length-map nodes (λ n. n.now) in
+    let some = users-some (map (λ n. n.now) nodes) (map (λ n. n.now) users) found (omega (arith, asked, c.requires.some)) in
+    let counted = length-map users (λ n. n.now) in
+    let same = ap length c.deref.ensures.value in
+    omega (arith, some, counted, same)
 
 pub returns : goal.returns
 returns g c =

@@ -9,7 +9,7 @@ use Rattle.std.specs.Vec.Iter.{into_iter_items}
 use Rattle.juniper_walk.specs.Lists.{picked}
 use Rattle.juniper_values.specs.ResolvedView.{AllAnswer}
 use Rattle.juniper_walk.specs.Rows.{AreIn, ArePending, AreRows, IsNext, row_fields}
-use Rattle.juniper_walk.proofs.rows.ask_column.Given as goal
+use Rattle.juniper_walk.proofs.rows.ask_standing.Given as goal
 
 -- the rows so far have their answers, or they wait
 abbrev pub invariant-loop-number : goal.invariant-loop-number
