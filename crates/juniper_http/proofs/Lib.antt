@@ -1,3 +1,4 @@
+mod Conversing
 mod Fields
 mod InTurn
 mod Pairs

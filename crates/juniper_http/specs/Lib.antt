@@ -1,5 +1,6 @@
 pub mod Accept
 pub mod Batches
+pub mod Connections
 pub mod ContentTypes
 pub mod Decisions
 pub mod Media

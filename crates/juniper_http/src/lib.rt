@@ -5,6 +5,7 @@
 
 mod accept;
 mod batch;
+mod connection;
 mod content_type;
 mod decision;
 mod endpoint;
@@ -19,6 +20,7 @@ mod respond;
 mod service;
 
 pub use accept::{Range, add_ranges, choose, has_range, wants_page, weight_of};
+pub use connection::serve_connection;
 pub use decision::{Body, Facts, Step, Verb, decide};
 pub use endpoint::{Endpoint, Reply};
 pub use media::MediaType;

@@ -9,11 +9,11 @@ mod lines;
 mod logged;
 mod mode;
 
-use http_server::{Config, Connection};
+use http_server::Config;
 use juniper::Bounds;
 use juniper_demo_server::{DemoContext, DemoRoot, demo_root};
 use juniper_endpoint::RootEndpoint;
-use juniper_http::{Endpoint, GraphQLService, Limits};
+use juniper_http::{Endpoint, GraphQLService, Limits, serve_connection};
 use juniper_sdl::as_sdl;
 use lines::response_to;
 use logged::Logged;
@@ -70,10 +70,10 @@ fn serve_http<E: Endpoint + Drop>(rt: &HostRuntime, endpoint: E) -> io::Result<(
         max_pending: 0,
         ..Config::default()
     };
-    let mut connection = Connection::new(alloc, RandomState::new(rt)?, config);
+    let keys = RandomState::new(rt)?;
     let mut reader = rt.reader();
     let mut writer = io::writer(rt);
-    http_server::serve(&mut connection, &mut logged, &mut reader, &mut writer)
+    serve_connection(alloc, keys, config, &mut logged, &mut reader, &mut writer)
 }
 
 /// Answers the request in each line.
