@@ -3,13 +3,13 @@
 use crate::kinds::unknown;
 use crate::table::Row;
 use juniper::{Variables, Within, execute_sync, execute_within};
-use juniper_test_root::{Notes, Request, ScriptRoot, compared, printed, read_root};
+use juniper_test_root::{Notes, Request, ScriptRoot, answered, read_root};
 use std::alloc::{AllocError, Global};
 
 /// What is told of a request: what it is answered, and with `rows: budget` or `rows: without introspection` what stands there.
 pub fn told(alloc: Global, row: &Row) -> Result<String, AllocError> {
     if row.told.is_empty() {
-        return answered(alloc, row);
+        return answered(alloc, &request_of(row));
     }
     let Ok(root) = read_root(alloc, row.schema, row.answers) else {
         return String::from_str(alloc, "unread");
@@ -21,10 +21,9 @@ pub fn told(alloc: Global, row: &Row) -> Result<String, AllocError> {
     }
 }
 
-/// What a request is answered, as `juniper_test_root` prints it; behind it ` twin: ` and in what the executor's twin answers otherwise, where
-/// it does.
-fn answered(alloc: Global, row: &Row) -> Result<String, AllocError> {
-    let request = Request {
+/// The request of a row.
+fn request_of(row: &Row) -> Request {
+    Request {
         schema: row.schema,
         answers: row.answers,
         document: row.case,
@@ -32,12 +31,7 @@ fn answered(alloc: Global, row: &Row) -> Result<String, AllocError> {
         variables: row.variables,
         sights: row.sights,
         twin_sights: row.twin_sights,
-    };
-    let mut line = printed(alloc, &request)?;
-    if let Some(what) = compared(alloc, &request)? {
-        write!(line, " twin: {what}")?;
     }
-    Ok(line)
 }
 
 /// A budget that no row needs.

@@ -1,16 +1,18 @@
-//! The executor beside its twin, which resolves each occurrence of a field alone and joins the values: whether both answer alike.
+//! The executor's steps, one by one, with its walk or with that of its twin, which resolves each occurrence of a field alone and joins the
+//! values; and in what two outcomes differ.
 
-use crate::answering::{Ready, operation_name, read_request, refusal_line};
-use crate::request::Request;
-use crate::script::Notes;
-use crate::sights::saw_as_told;
+ghost use Rattle.std.specs.Prelude.{◌≡◌, IfOk, []};
+ghost use Rattle.graphql_spec.specs.Rules.{rule_errors};
+ghost use Rattle.juniper_schema.specs.SchemaView.{view_schema};
+ghost use Rattle.juniper_syntax.specs.DocumentView.{view_document};
+
+use crate::refusals::refusal_line;
 use juniper::twin::execute_by_join;
 use juniper::{
-    ExecutionError, GraphQLError, GraphQLMutationValue, GraphQLType, GraphQLValue, RootNode,
-    ScalarValue, Value, Variables, check_variables, execute_sync, execute_validated_query,
+    Document, ExecutionError, GraphQLError, GraphQLMutationValue, GraphQLType, GraphQLValue,
+    RootNode, ScalarValue, SchemaType, Value, Variables, check_variables, execute_validated_query,
     get_operation, parse_document_source, validate,
 };
-use juniper_schema_text::Scalar;
 use std::alloc::{AllocError, Global};
 
 /// What a request is answered.
@@ -40,47 +42,78 @@ pub fn execute_by_steps<
     variables: &Variables<S>,
     context: &mut Q::Context,
 ) -> Outcome<S> {
-    let document = match parse_document_source(alloc, document_source) {
-        Ok(document) => document,
-        Err(error) => return Err(GraphQLError::from(error)),
-    };
-    let schema = root_node.schema();
-    let errors = validate(
-        alloc,
-        &document,
-        schema,
-        root_node.is_introspection_disabled(),
-    )?;
-    if !errors.is_empty() {
-        return Err(GraphQLError::from(errors));
-    }
-    let operation = get_operation(&document, operation_name)?;
-    check_variables(alloc, operation, variables, schema)?;
-    match walk {
-        Walk::Planned => {
-            execute_validated_query(alloc, &document, operation, root_node, variables, context)
-        }
-        Walk::Joined => {
-            execute_by_join(alloc, &document, operation, root_node, variables, context)
-        }
+    match parse_document_source(alloc, document_source) {
+        Ok(document) => execute_document(
+            alloc,
+            walk,
+            &document,
+            operation_name,
+            root_node,
+            variables,
+            context,
+        ),
+        Err(error) => Err(GraphQLError::from(error)),
     }
 }
 
-/// In what the answers of both walks differ; `None` where they do not: of two refusals in what they print, otherwise in data or errors. Each
-/// error of one has to have in the other an error of the same path and field error.
+/// What is answered to a document, by the steps behind its parsing.
+fn execute_document<
+    Q: GraphQLValue<S>,
+    M: GraphQLMutationValue<S, Context = Q::Context, Node = Q::Node>,
+    Sub: GraphQLType<S>,
+    S: ScalarValue,
+>(
+    alloc: Global,
+    walk: Walk,
+    document: &Document<'_, S>,
+    operation_name: Option<&str>,
+    root_node: &RootNode<Q, M, Sub, S>,
+    variables: &Variables<S>,
+    context: &mut Q::Context,
+) -> Outcome<S> {
+    let schema = root_node.schema();
+    check_document(
+        alloc,
+        document,
+        schema,
+        root_node.is_introspection_disabled(),
+    )?;
+    let operation = get_operation(document, operation_name)?;
+    check_variables(alloc, operation, variables, schema)?;
+    match walk {
+        Walk::Planned => {
+            execute_validated_query(alloc, document, operation, root_node, variables, context)
+        }
+        Walk::Joined => execute_by_join(alloc, document, operation, root_node, variables, context),
+    }
+}
+
+/// Whether all rules of validation hold.
+fn check_document<S: ScalarValue>(
+    alloc: Global,
+    document: &Document<'_, S>,
+    schema: &SchemaType<S>,
+    is_introspection_disabled: bool,
+) -> Result<(), GraphQLError>
+    ensures { IfOk result (λ _. rule_errors (view_schema S.shown schema.now) is_introspection_disabled (view_document S.shown document.now) ≡ []) }
+{
+    let errors = validate(alloc, document, schema, is_introspection_disabled)?;
+    if errors.is_empty() {
+        Ok(())
+    } else {
+        Err(GraphQLError::from(errors))
+    }
+}
+
+/// In what two outcomes differ; `None` where they do not: of two refusals in what they print, otherwise in data or errors. Each error of one
+/// has to have in the other an error of the same path and field error.
 pub fn difference<S: ScalarValue>(
     alloc: Global,
     planned: &Outcome<S>,
     joined: &Outcome<S>,
 ) -> Result<Option<&'static str>, AllocError> {
     match (planned, joined) {
-        (Err(one), Err(other)) => {
-            if refusal_line(alloc, one)? == refusal_line(alloc, other)? {
-                Ok(None)
-            } else {
-                Ok(Some("refusal"))
-            }
-        }
+        (Err(one), Err(other)) => refusal_difference(alloc, one, other),
         (Ok(one), Ok(other)) => {
             if one.0 != other.0 {
                 Ok(Some("data"))
@@ -92,6 +125,19 @@ pub fn difference<S: ScalarValue>(
         }
         (Ok(_), Err(_)) => Ok(Some("refusal")),
         (Err(_), Ok(_)) => Ok(Some("refusal")),
+    }
+}
+
+/// `refusal` where two refusals are printed otherwise.
+fn refusal_difference(
+    alloc: Global,
+    one: &GraphQLError,
+    other: &GraphQLError,
+) -> Result<Option<&'static str>, AllocError> {
+    if refusal_line(alloc, one)? == refusal_line(alloc, other)? {
+        Ok(None)
+    } else {
+        Ok(Some("refusal"))
     }
 }
 
@@ -113,62 +159,4 @@ fn is_among<S: ScalarValue>(error: &ExecutionError<S>, others: &[ExecutionError<
         }
     }
     false
-}
-
-/// In what both walks answer a request to a scripted root otherwise, in their answers, in the steps that were taken, or in what resolvers are
-/// shown, or `execute_validated_query` and `execute_sync`; `None` where they do not differ. An error where memory is refused.
-pub fn compared(alloc: Global, request: &Request) -> Result<Option<&'static str>, AllocError> {
-    let Ok(Ready { root, variables }) = read_request(alloc, request) else {
-        return Ok(None);
-    };
-    let name = operation_name(request);
-    let text = request.document;
-    let mut context = Notes::new(alloc, String::new(alloc));
-    let planned = execute_sync(alloc, text, name, &root, &variables, &mut context);
-    let sights = String::from_str(alloc, request.joined_sights())?;
-    let mut other = Notes::new(alloc, sights);
-    let joined = execute_by_steps(
-        alloc,
-        Walk::Joined,
-        text,
-        name,
-        &root,
-        &variables,
-        &mut other,
-    );
-    if context.steps != other.steps {
-        return Ok(Some("steps"));
-    }
-    if !saw_as_told(&other) {
-        return Ok(Some("sights"));
-    }
-    if !is_validated_alike(alloc, request, &planned, context.steps)? {
-        return Ok(Some("steps of requests"));
-    }
-    difference(alloc, &planned, &joined)
-}
-
-/// Whether `execute_validated_query` answers a request to a scripted root so, with so many steps of a mutation.
-fn is_validated_alike(
-    alloc: Global,
-    request: &Request,
-    planned: &Outcome<Scalar>,
-    steps: u8,
-) -> Result<bool, AllocError> {
-    let Ok(Ready { root, variables }) = read_request(alloc, request) else {
-        return Ok(false);
-    };
-    let name = operation_name(request);
-    let text = request.document;
-    let mut context = Notes::new(alloc, String::new(alloc));
-    let stepped = execute_by_steps(
-        alloc,
-        Walk::Planned,
-        text,
-        name,
-        &root,
-        &variables,
-        &mut context,
-    );
-    Ok(context.steps == steps && difference(alloc, planned, &stepped)?.is_none())
 }

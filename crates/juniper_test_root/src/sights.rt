@@ -41,16 +41,26 @@ pub(crate) fn record<C, S: ScalarValue>(
         return Ok(());
     }
     match notes.seen.try_borrow_mut() {
-        Ok(mut seen) => {
-            let call = count_lines(seen.as_str(), key);
-            let form = line_of(notes.sights.as_str(), key, call);
-            seen.push_str(key)?;
-            seen.push_str(": ")?;
-            show(alloc, executor, form, &mut seen)?;
-            seen.push('\n')
-        }
+        Ok(mut seen) => push_call(alloc, notes, executor, &mut seen),
         Err(_) => Ok(()),
     }
+}
+
+/// Adds a line for what an executor shows at a field.
+fn push_call<C, S: ScalarValue>(
+    alloc: Global,
+    notes: &Notes,
+    executor: &Executor<C, S>,
+    seen: &mut String,
+) -> Result<(), AllocError> {
+    let selection = executor.look_ahead();
+    let key = selection.field_name();
+    let call = count_lines(seen.as_str(), key);
+    let form = line_of(notes.sights.as_str(), key, call);
+    seen.push_str(key)?;
+    seen.push_str(": ")?;
+    show(alloc, executor, form, seen)?;
+    seen.push('\n')
 }
 
 /// Notes for how many nodes a field is asked at once, where that is told of its response key. An error where memory is refused.
@@ -85,18 +95,22 @@ pub(crate) fn saw_as_told(notes: &Notes) -> bool {
 
 /// Adds what resolvers were shown, with `; ` between calls, or `nothing`.
 pub(crate) fn push_seen(notes: &Notes, out: &mut String) -> Result<(), AllocError> {
-    let mut is_first = true;
-    if let Ok(seen) = notes.seen.try_borrow() {
-        for line in seen.lines() {
-            if !is_first {
-                out.push_str("; ")?;
-            }
-            out.push_str(line)?;
-            is_first = false;
-        }
+    match notes.seen.try_borrow() {
+        Ok(seen) => push_calls(seen.as_str(), out),
+        Err(_) => out.push_str("nothing"),
     }
-    if is_first {
-        out.push_str("nothing")?;
+}
+
+/// Adds lines, with `; ` between them, or `nothing`.
+fn push_calls(seen: &str, out: &mut String) -> Result<(), AllocError> {
+    if seen.is_empty() {
+        return out.push_str("nothing");
+    }
+    let mut mark = "";
+    for line in seen.lines() {
+        out.push_str(mark)?;
+        out.push_str(line)?;
+        mark = "; ";
     }
     Ok(())
 }
@@ -290,16 +304,19 @@ fn push_place<C, S: ScalarValue>(
     let (line, column) = (start.line().wrapping_add(1), start.column().wrapping_add(1));
     write!(out, " at {line}:{column} in ")?;
     let error = executor.new_error(alloc, error_of_message(String::new(alloc)))?;
-    let mut is_first = true;
-    for segment in error.path() {
-        if !is_first {
-            out.push('.')?;
-        }
+    push_path(error.path(), out)
+}
+
+/// Adds a path, with a full stop between its segments.
+fn push_path(path: &[PathSegment], out: &mut String) -> Result<(), AllocError> {
+    let mut mark = "";
+    for segment in path {
+        out.push_str(mark)?;
         match segment {
             PathSegment::Key(key) => out.push_str(key.as_str())?,
             PathSegment::Index(position) => write!(out, "{position}")?,
         }
-        is_first = false;
+        mark = ".";
     }
     Ok(())
 }
