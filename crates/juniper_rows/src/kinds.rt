@@ -2,8 +2,8 @@
 
 use crate::table::Row;
 use crate::{
-    caches, conversions, demo, documents, explanations, json, literals, look_ahead, registry,
-    requests, rules, schemas, values,
+    caches, conversions, demo, documents, explanations, json, literals, look_ahead, over_http,
+    registry, requests, rules, schemas, tables, values,
 };
 use std::alloc::{AllocError, Global};
 use std::hash::RandomState;
@@ -37,6 +37,10 @@ pub enum Kind {
     Caches,
     /// JSON of requests.
     Json,
+    /// Bytes of HTTP, and what is answered to them.
+    Http,
+    /// Files of rows themselves.
+    Tables,
 }
 
 /// The kind of this name, if there is one.
@@ -55,6 +59,8 @@ pub fn kind_of(name: &str) -> Option<Kind> {
         "demo" => Some(Kind::Demo),
         "caches" => Some(Kind::Caches),
         "json" => Some(Kind::Json),
+        "http" => Some(Kind::Http),
+        "tables" => Some(Kind::Tables),
         _ => None,
     }
 }
@@ -71,13 +77,13 @@ pub fn found(
     }
     let mut found = Vec::with_capacity(alloc, rows.len())?;
     for row in rows {
-        found.push(found_of(alloc, kind, row)?)?;
+        found.push(found_of(alloc, keys, kind, row)?)?;
     }
     Ok(found)
 }
 
 /// What is told of the case of a row that stands alone.
-fn found_of(alloc: Global, kind: Kind, row: &Row) -> Result<String, AllocError> {
+fn found_of(alloc: Global, keys: RandomState, kind: Kind, row: &Row) -> Result<String, AllocError> {
     match kind {
         Kind::Documents => documents::told(alloc, row),
         Kind::Literals => literals::told(alloc, row),
@@ -92,6 +98,8 @@ fn found_of(alloc: Global, kind: Kind, row: &Row) -> Result<String, AllocError> 
         Kind::Demo => demo::told(alloc, row),
         Kind::Caches => unknown(alloc),
         Kind::Json => json::told(alloc, row),
+        Kind::Http => over_http::told(alloc, keys, row),
+        Kind::Tables => tables::told(alloc, row),
     }
 }
 

@@ -18,6 +18,7 @@ mod kinds;
 mod literals;
 mod look_ahead;
 mod marks;
+mod over_http;
 mod parsed;
 mod pieces;
 mod registry;
@@ -26,6 +27,7 @@ mod rules;
 mod samples;
 mod schemas;
 mod table;
+mod tables;
 mod tally;
 mod values;
 
@@ -36,6 +38,9 @@ use std::process::ExitCode;
 use std::rt::Files;
 use std::{env, fs};
 use tally::Tally;
+
+/// What is told where no file is named.
+const USAGE: &str = "usage: juniper_rows FILE.., as in: rt try -- data/*";
 
 /// What the program prints, and the status with which it ends.
 #[derive(Drop)]
@@ -52,7 +57,7 @@ fn answer<R: Files + AllocGlobal>(
 ) -> Result<Printed, AllocError> {
     let alloc = rt.alloc();
     if files.is_empty() {
-        let text = String::from_str(alloc, "usage: juniper_rows FILE..")?;
+        let text = String::from_str(alloc, USAGE)?;
         return Ok(Printed { status: 2, text });
     }
     let mut tally = Tally::new(alloc, keys);

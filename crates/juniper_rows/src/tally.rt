@@ -1,8 +1,9 @@
 //! How many rows were tried, and which of them differ.
 
-use crate::kinds::{found, kind_of};
+use crate::kinds::found;
 use crate::marks::unmarked;
-use crate::table::{Row, Table, read_table};
+use crate::table::{Row, Table};
+use crate::tables::read_known;
 use std::alloc::{AllocError, Global};
 use std::hash::RandomState;
 
@@ -30,14 +31,12 @@ impl Tally {
 
     /// Tries the rows of a file of this name; one that cannot be read counts as a fault.
     pub fn try_file(&mut self, name: &str, text: &'static str) -> Result<(), AllocError> {
-        match read_table(self.alloc, text) {
-            Ok(table) => match kind_of(table.kind) {
-                Some(kind) => {
-                    let answers = found(self.alloc, self.keys, kind, table.rows.as_slice())?;
-                    self.try_rows(name, &table, answers.as_slice())
-                }
-                None => self.add_unread(name, 1),
-            },
+        match read_known(self.alloc, text) {
+            Ok(known) => {
+                let table = &known.table;
+                let answers = found(self.alloc, self.keys, known.kind, table.rows.as_slice())?;
+                self.try_rows(name, table, answers.as_slice())
+            }
             Err(number) => self.add_unread(name, number),
         }
     }

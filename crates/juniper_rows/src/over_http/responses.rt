@@ -1,0 +1,39 @@
+//! Responses of HTTP/1.1 in a text, as rows tell them.
+
+use juniper_http::PAGE;
+use std::alloc::{AllocError, Global};
+
+/// Of each response its status, its media type and its body, with ` | ` between each two.
+pub fn responses_in(alloc: Global, sent: &str) -> Result<String, AllocError> {
+    let mut shown = String::new(alloc);
+    let mut bar = "";
+    for response in sent.split("HTTP/1.").skip(1) {
+        shown.push_str(bar)?;
+        put_response(response, &mut shown)?;
+        bar = " | ";
+    }
+    Ok(shown)
+}
+
+/// Writes the status of a response, its media type and its body.
+fn put_response(response: &str, shown: &mut String) -> Result<(), AllocError> {
+    let (head, body) = response.split_once("\r\n\r\n").unwrap_or((response, ""));
+    shown.push_str(head.get(2..5).unwrap_or(""))?;
+    for field in head.split("\r\n") {
+        if let Some(media) = field.strip_prefix("content-type: ") {
+            write!(shown, " {media}")?;
+        }
+    }
+    put_body(body, shown)
+}
+
+/// Writes a body, where there is one; `page` is the page for people.
+fn put_body(body: &str, shown: &mut String) -> Result<(), AllocError> {
+    if body.is_empty() {
+        Ok(())
+    } else if body == PAGE {
+        shown.push_str(" page")
+    } else {
+        write!(shown, " {body}")
+    }
+}
