@@ -60,13 +60,19 @@ module _ {C N S : Type 0} (service : Service C N) (b : Bounds) (shown : S → Sh
       IsAdmitted b service.schema service.introspection_disabled q.text → ((d : Document) × Reads q.text (Some d)) →
       AnswersAs shown (λ r. IsFullOutcome service q c r after) (Ok p) → IsAnswer service b shown q c (Ok p) after
   admitted-told after p short admitted (d, read) answered =
-      let fits = admitted d read in ((d, (((short, read), fits.0, fits.1), fits.2)), answered)
+      let fits = admitted.1 d read in ((d, (((short, read), fits.0, fits.1), fits.2)), answered)
 
 -- a document that is accepted admits its text
 pub accepted-admits : (b : Bounds) (t : Text) (s : Schema) (disabled : Bool) (d : Document) → IsAccepted b t s disabled d → IsAdmitted b s disabled t
-accepted-admits b t s disabled d a = λ e read.
-    subst (λ x. (has_more_fields b.fields x ≡ false) × (has_more_levels b.levels x ≡ false) × (rule_errors s disabled x ≡ []))
-    (sym (a.0.0.1.1 e read.0)) (a.0.1, a.0.2, a.1)
+accepted-admits b t s disabled d a = (
+  λ unread. unread d a.0.0.1.0,
+  λ e read. subst (λ x. (has_more_fields b.fields x ≡ false) × (has_more_levels b.levels x ≡ false) × (rule_errors s disabled x ≡ []))
+      (sym (a.0.0.1.1 e read.0)) (a.0.1, a.0.2, a.1),
+)
+
+-- what is told of a document that is read from one text for one root is told of another, where both are the same
+pub told-of : {R : Type 0} (A G : R → Text → Type 0) (r s : R) (t u : Text) → s ≡ r → u ≡ t → G r t → (G s u → A s u) → A r t
+told-of A G r s t u e f g h = subst (λ x. A x t) e (subst (λ x. A s x) f (h (subst (λ x. G s x) (sym f) (subst (λ x. G x t) (sym e) g))))
 
 -- what is told of one root and bounds is told of the same by other names
 pub moved : {R : Type 0} (A : R → Bounds → Type 0) (r s : R) (b d : Bounds) → s ≡ r → d ≡ b → A s d → A r b

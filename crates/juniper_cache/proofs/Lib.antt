@@ -1,4 +1,3 @@
 pub mod Answering
 pub mod Executing
-pub mod Keeping
 pub mod Using

@@ -1,5 +1,5 @@
 -- Texts that are kept, the most recently used first (6.1).
-use Rattle.std.specs.Prelude.{◌≡◌, ◌⊎◌, ◌-◌, ℕ, Bool, false, List, [], ◌∷◌, Some, String, Contains, Result, Ok, Err, cond, map, string_bytes, take}
+use Rattle.std.specs.Prelude.{◌≡◌, ◌⊎◌, ◌-◌, ⊥, ℕ, Bool, false, List, [], ◌∷◌, Some, None, String, Contains, Result, Ok, Err, cond, map, string_bytes, take}
 use Rattle.std.specs.List.{list_any}
 use Rattle.std.specs.Str.{bytes_eq}
 use Rattle.std.specs.declared.alloc.Global.{Global}
@@ -15,10 +15,10 @@ use Rattle.juniper.specs.declared.prepared.Objection.TheVariants.{Refused, TooDe
 
 -- ## What is kept
 
--- the document that a text is read as has no more fields and levels than the bounds, and is valid (5)
+-- a text is read, and its document has no more fields and levels than the bounds, and is valid (5)
 abbrev pub IsAdmitted : Bounds → Schema → Bool → Text → Type 0
-IsAdmitted b s disabled t = (d : Document) → Reads t (Some d) →
-    (has_more_fields b.fields d ≡ false) × (has_more_levels b.levels d ≡ false) × (rule_errors s disabled d ≡ [])
+IsAdmitted b s disabled t = (Reads t None → ⊥) × ((d : Document) → Reads t (Some d) →
+    (has_more_fields b.fields d ≡ false) × (has_more_levels b.levels d ≡ false) × (rule_errors s disabled d ≡ []))
 
 -- so it is of the text of each entry
 abbrev pub AreAdmitted : {V : Type 0} → Bounds → Schema → Bool → List (String Global × V) → Type 0
@@ -44,10 +44,10 @@ unfoldable pub once_used : ℕ → Text → List Text → List Text
 once_used most t ts = t ∷ cond (has_kept ts t) (taken_out t ts) (take (most - 1) ts)
 
 -- Those that are left once a request is answered: of a text that was executed it is used; of one that passes a bound they are as they were;
--- and of one that is refused one of these.
-abbrev pub AreLeft : {A : Type 0} → ℕ → Text → List Text → Result A Objection → List Text → Type 0
-AreLeft most t ts (Ok x) after = after ≡ once_used most t ts
-AreLeft most t ts (Err (Refused e)) after = (after ≡ ts) ⊎ (after ≡ once_used most t ts)
-AreLeft most t ts (Err TooLong) after = after ≡ ts
-AreLeft most t ts (Err TooManyFields) after = after ≡ ts
-AreLeft most t ts (Err TooDeep) after = after ≡ ts
+-- and of one that is refused they are as they were, or it is used, and is one that may be kept.
+abbrev pub AreLeft : {A : Type 0} → Type 0 → ℕ → Text → List Text → Result A Objection → List Text → Type 0
+AreLeft admits most t ts (Ok x) after = after ≡ once_used most t ts
+AreLeft admits most t ts (Err (Refused e)) after = (after ≡ ts) ⊎ ((after ≡ once_used most t ts) × admits)
+AreLeft admits most t ts (Err TooLong) after = after ≡ ts
+AreLeft admits most t ts (Err TooManyFields) after = after ≡ ts
+AreLeft admits most t ts (Err TooDeep) after = after ≡ ts

@@ -13,8 +13,8 @@ ghost use Rattle.juniper_intro.specs.RootView.{is_disabled, schema_of};
 ghost use Rattle.juniper_schema.specs.SchemaView.{view_schema};
 ghost use Rattle.juniper_syntax.specs.DocumentView.{view_document};
 ghost use Rattle.juniper_cache.specs.Answers.{IsAnswer};
-ghost use Rattle.juniper_cache.specs.Texts.{AreLeft, IsAdmitted, has_kept, once_used};
-ghost use Rattle.juniper_cache.specs.TextsView.{bounds_within, most_texts, served_root, texts_in};
+ghost use Rattle.juniper_cache.specs.Texts.{AreLeft, has_kept, once_used};
+ghost use Rattle.juniper_cache.specs.TextsView.{Admits, bounds_within, most_texts, served_root, texts_in};
 
 use crate::text_cache::TextCache;
 use juniper::{
@@ -73,7 +73,7 @@ impl<'r, Q: GraphQLValue<S>, M: GraphQLType<S>, Sub: GraphQLType<S>, S: ScalarVa
 
     /// Keeps a text, as the one that is used last. An error where memory is refused, and the same texts are kept.
     fn keep(&mut self, alloc: Global, text: &str) -> Result<(), AllocError>
-        requires { IsAdmitted (bounds_within self.old) (view_schema S.shown (schema_of (served_root self.old))) (is_disabled (served_root self.old)) text.now }
+        requires { Admits S.shown self.old text.now }
         ensures root { served_root self.new ≡ served_root self.old }
         ensures bounds { bounds_within self.new ≡ bounds_within self.old }
         ensures most { most_texts self.new ≡ most_texts self.old }
@@ -107,7 +107,7 @@ impl<
         ensures root { served_root self.new ≡ served_root self.old }
         ensures bounds { bounds_within self.new ≡ bounds_within self.old }
         ensures most { most_texts self.new ≡ most_texts self.old }
-        ensures texts { AreLeft (most_texts self.old) text.now (texts_in self.old) result (texts_in self.new) }
+        ensures texts { AreLeft (Admits S.shown self.old text.now) (most_texts self.old) text.now (texts_in self.old) result (texts_in self.new) }
         ensures answer { IsAnswer (service_of Q.concrete Q.answer Q.root M.step M.torn S.shown (served_root self.old)) (bounds_within self.old) S.shown
             (request_of S.shown text.now operation_name.entry variables.now) context.old result context.new }
     {
@@ -135,7 +135,7 @@ impl<
         ensures root { served_root self.new ≡ served_root self.old }
         ensures bounds { bounds_within self.new ≡ bounds_within self.old }
         ensures most { most_texts self.new ≡ most_texts self.old }
-        ensures texts { AreLeft (most_texts self.old) text.now (texts_in self.old) result (texts_in self.new) }
+        ensures texts { AreLeft (Admits S.shown self.old text.now) (most_texts self.old) text.now (texts_in self.old) result (texts_in self.new) }
         ensures answer { IsAnswer (service_of Q.concrete Q.answer Q.root M.step M.torn S.shown (served_root self.old)) (bounds_within self.old) S.shown
             (request_of S.shown text.now operation_name.entry variables.now) context.old result context.new }
     {
@@ -162,7 +162,7 @@ impl<
         variables: &Variables<S>,
         context: &mut Q::Context,
     ) -> Result<(Value<S>, Vec<ExecutionError<S>>), GraphQLError>
-        requires { IsAdmitted (bounds_within self.now) (view_schema S.shown (schema_of (served_root self.now))) (is_disabled (served_root self.now)) text.now }
+        requires { Admits S.shown self.now text.now }
         ensures read { IfOk result (λ _. (d : documents.Document) × Reads text.now (Some d)) }
         ensures answer { AnswersAs S.shown
             (λ r. IsFullOutcome (service_of Q.concrete Q.answer Q.root M.step M.torn S.shown (served_root self.now))

@@ -1,14 +1,13 @@
-//! A cache of documents and one of texts, over the demo: what is done with each, one step after the other.
+//! A cache of texts over the demo: what is done with it, one step after the other.
 
 use crate::asked::{Asked, asked_in};
 use crate::kinds::unknown;
 use crate::pieces::yes_or_no;
 use crate::table::Row;
-use bumpalo::Bump;
 use juniper::{
     Bounds, DefaultScalarValue, ExecutionError, Objection, Value, Variables, execute_sync,
 };
-use juniper_cache::{DocumentCache, TextCache};
+use juniper_cache::TextCache;
 use juniper_demo_server::{DemoContext, DemoRoot, made_root};
 use juniper_json::response_line;
 use juniper_test_root::variables_of;
@@ -32,52 +31,12 @@ type Answered = Result<
     Objection,
 >;
 
-/// What comes of the steps of a file, of `documents` or of `texts`.
+/// What comes of the steps of a file, with a cache of at most two texts.
 pub fn found(alloc: Global, keys: RandomState, rows: &[Row]) -> Result<Vec<String>, AllocError> {
     let root = made_root(alloc)?;
-    match rows.first() {
-        Some(row) if row.told == "documents" => steps_with_documents(alloc, &root, rows),
-        _ => steps_with_texts(alloc, &root, keys, rows),
-    }
-}
-
-/// What comes of steps with a cache of at most three documents.
-fn steps_with_documents(
-    alloc: Global,
-    root: &DemoRoot,
-    rows: &[Row],
-) -> Result<Vec<String>, AllocError> {
-    let arena = Bump::new(alloc);
-    let mut cache = DocumentCache::new(alloc, root, &arena, BOUNDS, 3);
+    let mut cache = TextCache::new(alloc, &root, BOUNDS, NonZeroUsize::new(2).unwrap(), keys)?;
     let mut context = DemoContext::new();
-    let mut executor = Executor::new(alloc, root);
-    let mut found = Vec::with_capacity(alloc, rows.len())?;
-    for row in rows {
-        found.push(match row.case.split_once(' ') {
-            Some(("keep", text)) => keeping(alloc, cache.keep(alloc, text))?,
-            Some(("ask", case)) => {
-                let asked = asked_in(case);
-                let given = given_for(alloc, asked)?;
-                let (text, name) = (asked.text, asked.operation_name);
-                let answered = cache.answer(alloc, text, name, &given, &mut context);
-                executor.compared(asked, &given, answered)?
-            }
-            _ => unknown(alloc)?,
-        })?;
-    }
-    Ok(found)
-}
-
-/// What comes of steps with a cache of at most two texts.
-fn steps_with_texts(
-    alloc: Global,
-    root: &DemoRoot,
-    keys: RandomState,
-    rows: &[Row],
-) -> Result<Vec<String>, AllocError> {
-    let mut cache = TextCache::new(alloc, root, BOUNDS, NonZeroUsize::new(2).unwrap(), keys)?;
-    let mut context = DemoContext::new();
-    let mut executor = Executor::new(alloc, root);
+    let mut executor = Executor::new(alloc, &root);
     let mut found = Vec::with_capacity(alloc, rows.len())?;
     for row in rows {
         found.push(match row.case.split_once(' ') {
@@ -100,15 +59,6 @@ fn given_for(alloc: Global, asked: Asked<'_>) -> Result<Variables<DefaultScalarV
     match variables_of(alloc, asked.variables) {
         Some(given) => Ok(given),
         None => Ok(Variables::new(alloc)),
-    }
-}
-
-/// What is said of a text that is to be kept.
-fn keeping(alloc: Global, kept: Result<bool, Objection>) -> Result<String, AllocError> {
-    match kept {
-        Ok(true) => String::from_str(alloc, "kept"),
-        Ok(false) => String::from_str(alloc, "no room"),
-        Err(objection) => objection.to_string(alloc),
     }
 }
 

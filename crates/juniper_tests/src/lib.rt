@@ -3,7 +3,6 @@
 #![tactic(auto)]
 
 #[cfg(test)]
-mod arena;
 #[cfg(test)]
 mod by_hand;
 #[cfg(test)]

@@ -1,4 +1,4 @@
-use Rattle.std.proofs.Common.{Ok, Err, Some, refl, inl}
+use Rattle.std.proofs.Common.{Ok, Err, Some, refl, inl, inr}
 use Rattle.graphql_spec.specs.Introspection.{rooted_service}
 use Rattle.graphql_spec.specs.Outcomes.{Reads}
 use Rattle.juniper.specs.Answering.{AnswersAs, request_of}
@@ -7,8 +7,7 @@ use Rattle.juniper.specs.Promised.{IsFullOutcome}
 use Rattle.juniper.specs.RootView.{service_of}
 use Rattle.juniper_intro.specs.RootView.{is_disabled, schema_of}
 use Rattle.juniper_schema.specs.SchemaView.{view_schema}
-use Rattle.juniper_cache.proofs.Answering.{accepted-admits, objection-told}
-use Rattle.juniper_cache.proofs.Keeping.{told-of}
+use Rattle.juniper_cache.proofs.Answering.{accepted-admits, objection-told, told-of}
 use Rattle.juniper_cache.proofs.text_cache.TextCache.answer_anew.Goals as goal
 
 pub returns-in-Err-clause-answer : goal.returns-in-Err-clause-answer
@@ -30,6 +29,16 @@ keep-requires g c =
 
 pub returns-in-Err-keep-clause-answer : goal.returns-in-Err-keep-clause-answer
 returns-in-Err-keep-clause-answer g c = ((inl refl, tt), tt)
+
+pub returns-in-Err-execute_prepared-clause-texts : goal.returns-in-Err-execute_prepared-clause-texts
+returns-in-Err-execute_prepared-clause-texts g c =
+    let shown = g.S.ScalarValue.shown in
+    let self = c.args.self.now in
+    inr (
+      c.in-Ok-keep.ensures.ok,
+      accepted-admits self.bounds c.args.text.now (view_schema shown (schema_of self.root.now)) (is_disabled self.root.now)
+          (document_of shown c.in-Ok.prepared) c.in-Ok.ensures.2,
+    )
 
 pub returns-in-Err-execute_prepared-clause-answer : goal.returns-in-Err-execute_prepared-clause-answer
 returns-in-Err-execute_prepared-clause-answer g c =

@@ -7,7 +7,7 @@ pub returns-in-Err-clause-answer : goal.returns-in-Err-clause-answer
 returns-in-Err-clause-answer g c = ((inl refl, tt), tt)
 
 pub execute_valid-requires : goal.execute_valid-requires
-execute_valid-requires g c = (c.requires (view_document g.S.ScalarValue.shown c.in-Ok.document) c.in-Ok.ensures).2
+execute_valid-requires g c = (c.requires.1 (view_document g.S.ScalarValue.shown c.in-Ok.document) c.in-Ok.ensures).2
 
 pub returns-clause-read : goal.returns-clause-read
 returns-clause-read g c = known-ok c.execute_valid.result (view_document g.S.ScalarValue.shown c.in-Ok.document, c.in-Ok.ensures)
