@@ -11,7 +11,7 @@ ghost use Rattle.juniper_values.specs.ArgumentView.{members_of, view_arguments};
 ghost use Rattle.juniper_walk.specs.FieldWords.{head_of};
 ghost use Rattle.juniper_execute.specs.Questions.{put_absent};
 
-use crate::small::are_small;
+use crate::small::fit_in;
 use indexmap::IndexMap;
 use juniper_meta::meta::Argument;
 use juniper_syntax::ast::Arguments as WrittenArguments;
@@ -66,17 +66,22 @@ fn declared_arguments<'s, S: ScalarValue>(
     }
 }
 
-/// The same, where they are small: of large ones who keeps them for many fields would keep as many copies.
+/// The same, where they are small or there is so much room: of large ones who keeps them for many fields would keep as many copies.
 pub(crate) fn kept_arguments<'s, S: ScalarValue>(
     alloc: Global,
     declared: &'s [Argument<S>],
     field: &Spanning<Field<S>, Span>,
     variables: &Variables<S>,
+    room: usize,
 ) -> Result<Option<Arguments<'s, S>>, AllocError>
     ensures { IfOk result (λ found. IfSome found (λ made. view_arguments S.shown made ≡ coerced_arguments (map (view_meta_argument S.shown) declared.now)
         (view_variables S.shown variables.now) (written (head_of S.shown field.now).arguments))) }
 {
-    if !are_small(WrittenArguments::written(&field.item.arguments), variables) {
+    if !fit_in(
+        WrittenArguments::written(&field.item.arguments),
+        variables,
+        room,
+    ) {
         return Ok(None);
     }
     let made = declared_arguments(alloc, declared, field, variables)?;

@@ -27,7 +27,7 @@ pub(crate) struct Question<'s, S> {
     pub(crate) declared: &'s Type<String>,
     /// The same as resolvers are shown it.
     pub(crate) shown: TypeType<'s, S>,
-    /// The arguments, defaults filled in; none where they are large, or one is written that is not declared, which no valid document has.
+    /// The arguments, defaults filled in; none where there is no room for them, or one is written that is not declared, which no valid document has.
     pub(crate) arguments: Option<Arguments<'s, S>>,
 }
 

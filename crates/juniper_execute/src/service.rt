@@ -73,12 +73,13 @@ impl<'c, 's, R: NodeResolver<S>, S: ScalarValue> Resolver<S> for Service<'c, 's,
         alloc: Global,
         concrete: &str,
         field: &Spanning<Written<S>, Span>,
+        room: usize,
     ) -> Result<Question<'s, S>, AllocError> {
         let schema = self.schema;
         let declaration = schema.field_of(concrete, field.item.name.item);
         let declared = declared_type(declaration, self.undeclared);
         let of_field = arguments_of(declaration);
-        let arguments = kept_arguments(alloc, of_field, field, self.variables)?;
+        let arguments = kept_arguments(alloc, of_field, field, self.variables, room)?;
         let shown = shown_type(alloc, schema, self.query_type, declared)?;
         Ok(Question {
             declaration,

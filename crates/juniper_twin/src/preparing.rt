@@ -55,7 +55,7 @@ pub(crate) fn execute_field<'d, 'a, S: ScalarValue, R: Resolver<S>>(
         occurrences: &occurrences,
     };
     let resolver = &walk.collector.possible;
-    let question = resolver.question(alloc, concrete, field)?;
+    let question = resolver.question(alloc, concrete, field, 0)?;
     let Asked { declared, answer } = resolver.resolve_field_value(
         alloc, &question, concrete, node, &site,
     );

@@ -64,12 +64,13 @@ pub trait Resolver<S: ScalarValue>: Completer<S> + Conditions {
     ghost values: { Self → VariableMap S };
 
     /// What is asked for a field of the nodes of an object type, by the schema and the values of variables alone; an error where memory is
-    /// refused.
+    /// refused. It may hold so many bytes of what is written for all of its nodes; nothing rests on that.
     fn question(
         &self,
         alloc: Global,
         concrete: &str,
         field: &Spanning<Field<S>, Span>,
+        room: usize,
     ) -> Result<Self::Question, AllocError>
         ensures { IfOk result (λ q. asks self.now concrete.now (head_of S.shown field.now) q) };
 

@@ -72,7 +72,9 @@ fn add_members<'d, 'a, S: ScalarValue, R: Resolver<S>>(
         return Ok(());
     }
     let first = fields[0].field;
-    let question = collector.possible.question(alloc, concrete, first)?;
+    let question = collector
+        .possible
+        .question(alloc, concrete, first, plan.room())?;
     plan.add_group(alloc, key, fields, question)?;
     Ok(())
 }
@@ -173,7 +175,9 @@ fn add_each<'d, 'a, S: ScalarValue, R: Resolver<S>>(
 {
     for occurrence in fields {
         let field = occurrence.field;
-        let question = collector.possible.question(alloc, concrete, field)?;
+        let question = collector
+            .possible
+            .question(alloc, concrete, field, plan.room())?;
         plan.add_field(alloc, Field::response_key(field), field, question)?;
     }
     Ok(())

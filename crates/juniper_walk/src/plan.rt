@@ -13,6 +13,9 @@ use juniper_lookahead::{Collected, Occurrence};
 use juniper_syntax::{Field, Object, ScalarValue, SharedKeys, Span, Spanning};
 use std::alloc::{AllocError, Global};
 
+/// So many bytes of written arguments a plan keeps for the first of its groups.
+const ROOM: usize = 65_536;
+
 /// The number of a group in a plan, counted from 0.
 #[derive(Clone, Copy)]
 pub struct GroupNo(pub usize);
@@ -111,6 +114,12 @@ impl<'d, 'a, S: ScalarValue, Q: Drop> Plan<'d, 'a, S, Q> {
             left: fields.unwrap_or(usize::MAX),
             is_spent: false,
         })
+    }
+
+    /// How many bytes of written arguments one more group may keep for all of its nodes: the more groups there are, the fewer, so that all
+    /// together keep few. Nothing rests on it.
+    pub(crate) fn room(&self) -> usize {
+        ROOM.checked_div(self.groups.len()).unwrap_or(ROOM)
     }
 
     /// Why a walk over the plan, which had this budget, was not ended.
