@@ -1,6 +1,8 @@
 -- What the library's resolvers reply, and what its mutations leave (6.2.2, 6.4.2).
-use Rattle.std.specs.Prelude.{ℕ, ℤ, pos, negsuc, Bool, true, codes, eqb, cond, [], ◌∷◌, ◌++◌, List, length, take, Option, Some, None, option_map}
+use Rattle.std.specs.Prelude.{ℕ, ℤ, pos, negsuc, Bool, true, ◌&&◌, codes, eqb, cond, [], ◌∷◌, ◌++◌, List, length, take, Option, Some, None, option_map}
 use Rattle.std.specs.Prelude.{unwrap_or, Result, Ok, string_bytes}
+use Rattle.std.specs.Cmp.Lexicographic.{pointwise}
+use Rattle.std.specs.Ordering.{int_eq}
 use Rattle.juniper.specs.Server.{Constant, Error, Members, Name, Reply, Text, answered, bytes_eq, decimal, find, given, input_field, input_field_or, int_reply}
 use Rattle.juniper.specs.Server.{named_among, nat_eq, node, nodes_reply, nodes_where, nothing, object_or_null, position, read_enum, read_id, read_int}
 use Rattle.juniper.specs.Server.{read_option, read_text, slice_get, starts_with, text_reply, then_read, with_read, with_step}
@@ -123,6 +125,14 @@ abbrev pub step : Catalogue → Name → Members → Catalogue × Reply Node
 step c field arguments =
     cond (bytes_eq field (codes "addBook")) (with_step c (given read_new_book (find (codes "new") arguments)) (add_book c)) (c, answered nothing)
 
--- where memory is wanting no book was added
-abbrev pub torn : Catalogue → Catalogue → Bool
-torn c after = nat_eq (length after.books) (length c.books)
+-- two entries that hold the same, and two books
+abbrev pub is_same_entry : Named → Named → Bool
+is_same_entry a b = bytes_eq a.id b.id && bytes_eq a.name b.name
+
+abbrev pub is_same_book : Book → Book → Bool
+is_same_book a b = is_same_entry a.titled b.titled && (bytes_eq (genre_name a.genre) (genre_name b.genre) && nat_eq a.author b.author)
+
+-- where memory is wanting no table has changed
+unfoldable pub torn : Catalogue → Catalogue → Bool
+torn c after = (pointwise is_same_book after.books c.books && pointwise is_same_entry after.films c.films)
+    && (pointwise is_same_entry after.authors c.authors && pointwise int_eq after.copies c.copies)

@@ -296,6 +296,7 @@ impl<S: ScalarValue> MutationType<S> for Mutation {
 }
 
 /// A book behind the others. Its number is made of its place, and its author is the first one.
+#[tactic(auto, using(crate::proofs::Torn::nothing_torn))]
 fn add_book<S: ScalarValue>(alloc: Global, library: &mut Library, new: NewBook) -> Answer<Node, S>
     ensures answer { Answers S.shown result (reply.add_book library.old (reply.seen new)).1 }
     ensures context { Leaves (reply.add_book library.old (reply.seen new)).0 (reply.torn library.old) result library.new }

@@ -1,7 +1,8 @@
 -- What the tracker's resolvers reply, and what its mutations leave (6.2.2, 6.4.2).
-use Rattle.std.specs.Prelude.{ℕ, ℤ, pos, negsuc, Bool, true, ◌&&◌, ◌==◌, ◌-◌, codes, cond, eqb, nat_le, nat_lt, List, [], ◌∷◌, ◌++◌, length, map, set, take}
+use Rattle.std.specs.Prelude.{ℕ, ℤ, pos, negsuc, Bool, true, false, ◌&&◌, ◌==◌, ◌-◌, codes, cond, eqb, nat_le, nat_lt, List, [], ◌∷◌, ◌++◌, length, map, set, take}
 use Rattle.std.specs.Prelude.{Option, Some, None, option_map, unwrap_or, Result, Ok, string_bytes}
 use Rattle.std.specs.Char.{is_ascii_hexdigit}
+use Rattle.std.specs.Cmp.Lexicographic.{pointwise}
 use Rattle.std.specs.List.{list_all, list_any}
 use Rattle.std.specs.Option.{option_or}
 use Rattle.juniper.specs.Server.{Constant, Error, Members, Name, Reply, Text, answered, argument, boolean_reply, bytes_eq, count_reply, decimal, enumerate_from}
@@ -161,6 +162,19 @@ step t field arguments =
     (λ id. with_step t (given (read_enum (named_among state_name states)) (find (codes "state") arguments)) (set_state t id)))
     (t, unanswered_reply))
 
--- where memory is wanting no issue was added
-abbrev pub torn : Tables → Tables → Bool
-torn t after = nat_eq (length after.issues) (length t.issues)
+-- two texts, if there are any, that are the same; two users, and two issues, that hold the same
+abbrev pub is_same_text : Option Text → Option Text → Bool
+is_same_text None None = true
+is_same_text (Some a) (Some b) = bytes_eq a b
+is_same_text a b = false
+
+abbrev pub is_same_user : User → User → Bool
+is_same_user a b = bytes_eq a.id b.id && (bytes_eq a.login b.login && is_same_text a.email b.email)
+
+abbrev pub is_same_issue : Issue → Issue → Bool
+is_same_issue a b = (bytes_eq a.id b.id && bytes_eq a.title b.title)
+    && ((bytes_eq (state_name a.state) (state_name b.state) && bytes_eq a.color b.color) && nat_eq a.author b.author)
+
+-- where memory is wanting no table has changed
+unfoldable pub torn : Tables → Tables → Bool
+torn t after = pointwise is_same_user after.users t.users && pointwise is_same_issue after.issues t.issues

@@ -395,6 +395,7 @@ impl<S: ScalarValue> MutationType<S> for Mutation {
 
 impl Tracker {
     /// An issue behind the others, whose number is made of its place.
+    #[tactic(auto, using(crate::proofs::Torn::nothing_torn))]
     fn create_issue<S: ScalarValue>(&mut self, alloc: Global, new: NewIssue) -> Answer<Node, S>
         ensures answer { Answers S.shown result (reply.create_issue self.old (reply.seen_issue new)).1 }
         ensures context { Leaves (reply.create_issue self.old (reply.seen_issue new)).0 (reply.torn self.old) result self.new }
@@ -419,6 +420,7 @@ impl Tracker {
     }
 
     /// The issue in this state.
+    #[tactic(auto, using(crate::proofs::Torn::nothing_torn))]
     fn set_state<S: ScalarValue>(&mut self, alloc: Global, id: ID, state: State) -> Answer<Node, S>
         ensures answer { Answers S.shown result (reply.set_state self.old (id_text id) state).1 }
         ensures context { Leaves (reply.set_state self.old (id_text id) state).0 (reply.torn self.old) result self.new }
