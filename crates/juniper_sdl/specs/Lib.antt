@@ -1,1 +1,4 @@
 pub mod Definitions
+pub mod Faults
+pub mod Grammar
+pub mod Messages

@@ -2,8 +2,13 @@
 #![tactic(auto)]
 
 mod definitions;
+mod fault;
+mod faults;
 mod members;
+mod names;
 mod parts;
 mod sdl;
 
+pub use fault::{Flaw, SdlError, SdlFault};
+pub use faults::sdl_fault;
 pub use sdl::as_sdl;

@@ -1,21 +1,42 @@
 //! Whole schemas.
 
-ghost use Rattle.std.specs.Prelude.{◌≡◌, ◌++◌, IfOk, option_map, string_bytes};
+ghost use Rattle.std.specs.Prelude.{◌≡◌, ◌++◌, IfOk, MatchResult, None, option_map, string_bytes};
 ghost use Rattle.std.specs.List.{flat_map};
 ghost use Rattle.juniper_meta.specs.MetaView.{view_meta};
 ghost use Rattle.juniper_schema.specs.MadeTypes.{view_made};
 ghost use Rattle.juniper_schema.specs.SchemaView.{view_schema};
 ghost use Rattle.juniper_sdl.specs.Definitions.{is_left_out, made_text, meta_text, mutation_text, root_text, schema_text};
+ghost use Rattle.juniper_sdl.specs.Faults.{Tells, sdl_fault};
+ghost use Rattle.juniper_sdl.specs.Grammar.{SpellsSchema};
 
 use crate::definitions::named_text;
+use crate::fault::SdlError;
+use crate::faults::sdl_fault;
 use juniper_meta::MetaType;
 use juniper_schema::{SchemaType, TypeType, is_reserved};
 use juniper_syntax::ScalarValue;
 use std::alloc::{AllocError, Global};
 
 /// The schema as a text of the language for type systems: the root types, and then each type with its description, in byte order of
-/// their names (3, 3.3.1, 3.4). Built-in scalars and what introspection declares are left out. An error where memory is refused.
-pub fn as_sdl<S: ScalarValue>(alloc: Global, schema: &SchemaType<S>) -> Result<String, AllocError>
+/// their names (3, 3.3.1, 3.4). Built-in scalars and what introspection declares are left out. An error where the schema has no text
+/// of the grammar, which tells the first type that is at fault ([`sdl_fault`]), or where memory is refused.
+pub fn as_sdl<'s, S: ScalarValue>(
+    alloc: Global,
+    schema: &'s SchemaType<S>,
+) -> Result<String, SdlError<'s>>
+    ensures text { IfOk result (λ text. string_bytes text ≡ schema_text (view_schema S.shown schema.now)) }
+    ensures spelled { IfOk result (λ text. SpellsSchema (string_bytes text) (view_schema S.shown schema.now)) }
+    ensures fault { MatchResult result (λ _. sdl_fault (view_schema S.shown schema.now) ≡ None)
+        (λ error. Tells (sdl_fault (view_schema S.shown schema.now)) error) }
+{
+    match sdl_fault(alloc, schema)? {
+        Some(fault) => Err(SdlError::Fault(fault)),
+        None => Ok(schema_text(alloc, schema)?),
+    }
+}
+
+/// The text of the schema, whether or not it is one of the grammar.
+fn schema_text<S: ScalarValue>(alloc: Global, schema: &SchemaType<S>) -> Result<String, AllocError>
     ensures { IfOk result (λ text. string_bytes text ≡ schema_text (view_schema S.shown schema.now)) }
 {
     let mut text = root_text(alloc, schema)?;
@@ -84,7 +105,7 @@ fn meta_text<S: ScalarValue>(alloc: Global, meta: &MetaType<S>) -> Result<String
 }
 
 /// Whether every schema has what is declared at the name.
-fn is_left_out(name: &str) -> bool
+pub fn is_left_out(name: &str) -> bool
     ensures { result ≡ is_left_out name.now }
 {
     is_reserved(name) || matches!(name, "Int" | "Float" | "String" | "Boolean" | "ID")

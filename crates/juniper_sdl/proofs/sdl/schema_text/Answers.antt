@@ -5,7 +5,7 @@ use Rattle.juniper_schema.specs.MadeTypes.{view_made}
 use Rattle.juniper_schema.specs.SchemaView.{meta_of, view_schema}
 use Rattle.juniper_sdl.proofs.Lists.{all_texts}
 use Rattle.juniper_sdl.specs.Definitions.{made_text, meta_text}
-use Rattle.juniper_sdl.proofs.sdl.as_sdl.Goals as goal
+use Rattle.juniper_sdl.proofs.sdl.schema_text.Goals as goal
 
 pub returns : goal.returns
 returns g c =
