@@ -2,10 +2,10 @@
 
 use crate::asked::{asked_in, unread};
 use crate::kinds::unknown;
+use crate::schemas::sdl_text;
 use crate::table::Row;
 use juniper::{Bounds, IntrospectionFormat, execute_prepared, execute_sync, introspect, prepare};
 use juniper_demo_server::{DemoContext, answer, made_root, show};
-use juniper_sdl::as_sdl;
 use juniper_test_root::{Walk, difference, execute_by_steps, variables_of};
 use std::alloc::{AllocError, Global};
 
@@ -22,7 +22,7 @@ pub fn told(alloc: Global, row: &Row) -> Result<String, AllocError> {
         "words" => answered(alloc, row.case),
         "alike" => likeness(alloc, row.case),
         "prepared" => prepared_answers(alloc, row.case),
-        "sdl" => as_sdl(alloc, made_root(alloc)?.schema()),
+        "sdl" => sdl_text(alloc, made_root(alloc)?.schema()),
         "fields" => field_type(alloc, row.case),
         "introspection" => told_of_itself(alloc, row.case),
         _ => unknown(alloc),

@@ -7,6 +7,7 @@ mod whole;
 
 use crate::table::Row;
 use std::alloc::{AllocError, Global};
+pub use whole::sdl_text;
 
 /// What is told of a schema that is the case, of a case over the schema of its row, or of a case that needs no schema.
 pub fn told(alloc: Global, row: &Row) -> Result<String, AllocError> {

@@ -85,7 +85,6 @@ follow_types es = follow_each (λ e. meta_text (meta_of e)) es (λ e. follow_if 
 
 types : (es : List Entry) → first_fault (map (λ e. concrete (meta_of e)) es) ≡ None →
     Reads (Each IsListedType (written_types es)) (flat_map (λ e. meta_text (meta_of e)) es)
-unfolding first_fault
 types [] none = always nothing
 types (e ∷ es) none =
     let parts = no_fault (named_fault (own_name e) e.shape) (first_fault (map (λ x. concrete (meta_of x)) es)) none in

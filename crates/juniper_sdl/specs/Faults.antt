@@ -131,7 +131,7 @@ made_fault (made.list size t) = None
 made_fault (made.non_null t) = None
 
 -- the first fault of types
-unfoldable pub first_fault : List Made → Option Fault
+abbrev pub first_fault : List Made → Option Fault
 first_fault [] = None
 first_fault (t ∷ ts) = option_or (made_fault t) (first_fault ts)
 

@@ -1,4 +1,5 @@
 pub mod Definitions
 pub mod Faults
 pub mod Grammar
+pub mod Laws
 pub mod Messages

@@ -1,8 +1,9 @@
 //! Which schemas have a text of the language for type systems, and why others have none (section 3 of the Specification).
 
-ghost use Rattle.std.specs.Prelude.{◌≡◌, IfOk, map, option_map};
+ghost use Rattle.std.specs.Prelude.{◌≡◌, ◌&&◌, IfOk, map, option_map};
 ghost use Rattle.std.specs.List.{list_all, list_any};
-ghost use Rattle.juniper_meta.specs.MetaView.{view_argument, view_enum_value, view_field, view_meta};
+ghost use Rattle.graphql_spec.specs.Tokens as tokens;
+ghost use Rattle.juniper_meta.specs.MetaView.{view_argument, view_enum_value, view_field, view_meta, view_names};
 ghost use Rattle.juniper_syntax.specs.InputView.{view_input};
 ghost use Rattle.juniper_schema.specs.MadeTypes.{view_made};
 ghost use Rattle.juniper_schema.specs.SchemaView.{view_schema};
@@ -21,7 +22,6 @@ use std::alloc::{AllocError, Global};
 /// Why the schema has no text of the language for type systems: the first fault, of the names of its root types, and then of the types
 /// that it lists, in byte order of their names. `None` exactly where [`as_sdl`](crate::as_sdl) writes it. An error where memory is
 /// refused.
-#[tactic(auto, using(juniper_schema::proofs::Searched::map_or), unfolding(crate::specs::Faults::sdl_fault))]
 pub fn sdl_fault<'s, S: ScalarValue>(
     alloc: Global,
     schema: &'s SchemaType<S>,
@@ -107,7 +107,7 @@ fn type_fault<'s, S: ScalarValue>(name: &'s str, meta: &MetaType<S>) -> Option<S
             flaw: Flaw::NoParts,
             type_name: name,
         })
-    } else if is_name(name) && names_are_written(meta) {
+    } else if is_written(name, meta) {
         None
     } else {
         Some(SdlFault {
@@ -117,28 +117,57 @@ fn type_fault<'s, S: ScalarValue>(name: &'s str, meta: &MetaType<S>) -> Option<S
     }
 }
 
+/// Whether the name of a declaration and the names of what it lists are Names.
+fn is_written<S: ScalarValue>(name: &str, meta: &MetaType<S>) -> bool
+    ensures { result ≡ (tokens.is_name name.now && spec.names_are_written (view_meta S.shown meta.now).shape) }
+{
+    is_name(name) && names_are_written(meta)
+}
+
 /// Whether a declaration lists a part, where its kind asks for one (3.6 to 3.10).
-#[tactic(auto, using(crate::proofs::Lists::some_seen), unfolding(juniper_meta::specs::MetaView::view_meta, crate::specs::Faults::has_parts))]
+#[tactic(auto, unfolding(juniper_meta::specs::MetaView::view_meta, crate::specs::Faults::has_parts))]
 fn has_parts<S: ScalarValue>(meta: &MetaType<S>) -> bool
     ensures { result ≡ spec.has_parts (view_meta S.shown meta.now).shape }
 {
     match meta {
         MetaType::Scalar(_) => true,
-        MetaType::Enum(declared) => is_some_list(declared.values.as_slice()),
+        MetaType::Enum(declared) => lists_value(declared.values.as_slice()),
         MetaType::Object(object) => lists_field(object.fields.as_slice()),
         MetaType::Interface(interface) => lists_field(interface.fields.as_slice()),
-        MetaType::Union(union) => is_some_list(union.of_type_names.as_slice()),
-        MetaType::InputObject(input) => is_some_list(input.input_fields.as_slice()),
+        MetaType::Union(union) => lists_member(union.of_type_names.as_slice()),
+        MetaType::InputObject(input) => lists_input(input.input_fields.as_slice()),
         MetaType::List(_) | MetaType::Nullable(_) | MetaType::Placeholder(_) => false,
     }
 }
 
-/// Whether there is an item.
+/// Whether there is a value (3.9).
 #[tactic(auto, unfolding(crate::specs::Faults::is_some_list))]
-fn is_some_list<T>(items: &[T]) -> bool
-    ensures { result ≡ spec.is_some_list items.now }
+fn lists_value(values: &[EnumValue]) -> bool
+    ensures { result ≡ spec.is_some_list (map view_enum_value values.now) }
 {
-    match items {
+    match values {
+        [] => false,
+        [_, ..] => true,
+    }
+}
+
+/// Whether there is a member (3.8).
+#[tactic(auto, unfolding(crate::specs::Faults::is_some_list))]
+fn lists_member(names: &[String]) -> bool
+    ensures { result ≡ spec.is_some_list (view_names names.now) }
+{
+    match names {
+        [] => false,
+        [_, ..] => true,
+    }
+}
+
+/// Whether there is a field of an input object (3.10).
+#[tactic(auto, unfolding(crate::specs::Faults::is_some_list))]
+fn lists_input<S: ScalarValue>(declared: &[Argument<S>]) -> bool
+    ensures { result ≡ spec.is_some_list (map (view_argument S.shown) declared.now) }
+{
+    match declared {
         [] => false,
         [_, ..] => true,
     }
@@ -200,15 +229,22 @@ fn fields_are_written<S: ScalarValue>(fields: &[Field<S>]) -> bool
     true
 }
 
-/// Whether the names of a field and of its arguments are Names, if it is listed.
-#[tactic(auto, unfolding(crate::specs::Faults::listed_is_written, crate::specs::Faults::field_is_written))]
+/// The same of one field.
+#[tactic(auto, unfolding(crate::specs::Faults::listed_is_written))]
 fn listed_is_written<S: ScalarValue>(field: &Field<S>) -> bool
     ensures { result ≡ spec.listed_is_written (view_field S.shown field.now) }
 {
-    !is_listed(field)
-        || (is_name(field.name.as_str())
-            && is_name(field.field_type.innermost_name())
-            && inputs_are_written(field.declared_arguments()))
+    !is_listed(field) || field_is_written(field)
+}
+
+/// Whether the names of a field and of its arguments are Names.
+#[tactic(auto, unfolding(crate::specs::Faults::field_is_written))]
+fn field_is_written<S: ScalarValue>(field: &Field<S>) -> bool
+    ensures { result ≡ spec.field_is_written (view_field S.shown field.now) }
+{
+    is_name(field.name.as_str())
+        && is_name(field.field_type.innermost_name())
+        && inputs_are_written(field.declared_arguments())
 }
 
 /// Whether the names of arguments or input fields are Names, and their default values constants.

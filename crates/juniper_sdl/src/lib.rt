@@ -4,6 +4,7 @@
 mod definitions;
 mod fault;
 mod faults;
+pub mod laws;
 mod members;
 mod names;
 mod parts;

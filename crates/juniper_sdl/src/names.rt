@@ -9,10 +9,7 @@ ghost use Rattle.juniper_meta.specs.MetaView.{view_names};
 ghost use Rattle.juniper_syntax.specs.InputView.{view_fields, view_input, view_items};
 ghost use Rattle.juniper_sdl.specs.Faults.{are_constants, have_constants, is_constant};
 
-use juniper_syntax::{InputValue, ScalarValue, Span, Spanning};
-
-/// A field of an object: its name and its value, each with its place.
-type InputField<S> = (Spanning<String, Span>, Spanning<InputValue<S>, Span>);
+use juniper_syntax::{InputField, InputValue, ScalarValue, Span, Spanning};
 
 /// Whether the text is a Name (2.1.9).
 #[tactic(auto, unfolding(graphql_spec::specs::Tokens::is_name))]
@@ -65,7 +62,7 @@ pub fn are_names(names: &[String]) -> bool
 pub fn is_enum_name(name: &str) -> bool
     ensures { result ≡ is_enum_name name.now }
 {
-    is_name(name) && !matches!(name, "true" | "false" | "null")
+    is_name(name) && !(name == "true" || name == "false" || name == "null")
 }
 
 /// Whether the value is a constant that can be written: no variable stands in it, and its names are such (2.9).
@@ -113,11 +110,19 @@ fn have_constants<S: ScalarValue>(fields: &[InputField<S>]) -> bool
     true
 }
 
-/// Each scalar can be written, since its Ints are of 32 bits (2.9.1).
-#[tactic(auto, unfolding(crate::specs::Faults::is_constant))]
+/// Whether a scalar can be written, which each can (2.9.1 to 2.9.4).
 fn can_be_written<S: ScalarValue>(scalar: &S) -> bool
     ensures { result ≡ is_constant (inputs.scalar (S.shown scalar.now)) }
 {
-    let _number = scalar.try_to_int();
+    match scalar.try_to_int() {
+        Some(number) => fits(number),
+        None => true,
+    }
+}
+
+/// Whether a number is of 32 bits, which each of these is (3.5.1).
+fn fits(_number: i32) -> bool
+    ensures { result ≡ tokens.fits_int _number }
+{
     true
 }

@@ -29,9 +29,13 @@ pub fn as_sdl<'s, S: ScalarValue>(
     ensures fault { MatchResult result (λ _. sdl_fault (view_schema S.shown schema.now) ≡ None)
         (λ error. Tells (sdl_fault (view_schema S.shown schema.now)) error) }
 {
-    match sdl_fault(alloc, schema)? {
+    let found = sdl_fault(alloc, schema)?;
+    match found {
         Some(fault) => Err(SdlError::Fault(fault)),
-        None => Ok(schema_text(alloc, schema)?),
+        None => {
+            let text = schema_text(alloc, schema)?;
+            Ok(text)
+        }
     }
 }
 

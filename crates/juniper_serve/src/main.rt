@@ -88,8 +88,22 @@ fn serve_lines<E: Endpoint>(rt: &HostRuntime, endpoint: &mut E) -> io::Result<()
     Ok(())
 }
 
-/// Serves a root in a mode.
-fn serve(rt: &HostRuntime, mode: Mode, root: &DemoRoot) -> io::Result<()> {
+/// Prints the schema; a status tells that it has no text.
+fn print_schema(rt: &HostRuntime, root: &DemoRoot) -> io::Result<ExitCode> {
+    match as_sdl(rt.alloc(), root.schema()) {
+        Ok(text) => {
+            print!(rt; "{text}")?;
+            Ok(ExitCode::from(0))
+        }
+        Err(error) => {
+            eprintln!(rt; "{error}")?;
+            Ok(ExitCode::from(1))
+        }
+    }
+}
+
+/// Serves a root in a mode; a status tells that its schema cannot be printed.
+fn serve(rt: &HostRuntime, mode: Mode, root: &DemoRoot) -> io::Result<ExitCode> {
     let mut endpoint = RootEndpoint {
         root,
         context: DemoContext::new(),
@@ -98,13 +112,11 @@ fn serve(rt: &HostRuntime, mode: Mode, root: &DemoRoot) -> io::Result<()> {
         explained_bytes: MAX_EXPLAINED,
     };
     match mode {
-        Mode::Http => serve_http(rt, endpoint),
-        Mode::Lines => serve_lines(rt, &mut endpoint),
-        Mode::Sdl => {
-            let text = as_sdl(rt.alloc(), root.schema())?;
-            print!(rt; "{text}")
-        }
+        Mode::Http => serve_http(rt, endpoint)?,
+        Mode::Lines => serve_lines(rt, &mut endpoint)?,
+        Mode::Sdl => return print_schema(rt, root),
     }
+    Ok(ExitCode::from(0))
 }
 
 /// Serves in the mode of the words; a status tells that there is none.
@@ -123,10 +135,7 @@ fn run(rt: &HostRuntime) -> io::Result<ExitCode> {
         return Ok(ExitCode::from(2));
     };
     match demo_root(alloc) {
-        Ok(root) => {
-            serve(rt, mode, &root)?;
-            Ok(ExitCode::from(0))
-        }
+        Ok(root) => serve(rt, mode, &root),
         Err(error) => {
             eprintln!(rt; "{error}")?;
             Ok(ExitCode::from(1))

@@ -22,8 +22,16 @@ pub fn told(alloc: Global, told: &str, text: &str) -> Result<String, AllocError>
         "roots" => roots(alloc, &schema),
         "types" => types(alloc, &schema),
         "directives" => directives(alloc, &schema),
-        "sdl" => as_sdl(alloc, &schema),
+        "sdl" => sdl_text(alloc, &schema),
         _ => unknown(alloc),
+    }
+}
+
+/// The text of a schema, or why it has none.
+pub fn sdl_text(alloc: Global, schema: &SchemaType<Scalar>) -> Result<String, AllocError> {
+    match as_sdl(alloc, schema) {
+        Ok(text) => Ok(text),
+        Err(error) => error.to_string(alloc),
     }
 }
 
@@ -79,5 +87,5 @@ pub fn described(alloc: Global, description: &str) -> Result<String, AllocError>
     let mut types: HashMap<String, MetaType<Scalar>> = HashMap::new(alloc);
     drop(types.insert(String::from_str(alloc, "Date")?, meta.into_meta())?);
     let query = String::from_str(alloc, "Query")?;
-    as_sdl(alloc, &SchemaType::new(alloc, types, query, None)?)
+    sdl_text(alloc, &SchemaType::new(alloc, types, query, None)?)
 }
