@@ -2,6 +2,7 @@
 use Rattle.std.proofs.Common.{◌≡◌, ℕ, Bool, true, false, not, List, [], ◌∷◌, Option, Some, None, pos, codes, refl, ap, sym, ◌∙◌}
 use Rattle.std.proofs.lemmas.Bool.{false≢true}
 use Rattle.graphql_spec.specs.Display.{written_byte}
+use Rattle.graphql_spec.specs.Executable.{is_reserved}
 use Rattle.graphql_spec.specs.Inputs.{enumerated, item, list, no_items, object, input_field, no_fields, scalar, variable}
 use Rattle.graphql_spec.specs.Schema.{Deprecation, EnumValue, FieldDeclaration, InputDeclaration, current, deprecated}
 use Rattle.graphql_spec.specs.Schema.{enum_type, input_object_type, object_type, plain_field, plain_input, scalar_type, union_type}
@@ -30,46 +31,46 @@ value_named : Name → EnumValue
 value_named n = record { name = n; description = None; deprecation = current }
 
 -- `type A {}`
-no_fields : named_fault (codes "A") (object_type [] []) ≡ no_parts (codes "A")
-unfolding named_fault type_fault has_parts no_parts
-no_fields = refl
+fieldless : named_fault (codes "A") (object_type [] []) ≡ no_parts (codes "A")
+unfolding named_fault is_reserved type_fault has_parts no_parts
+fieldless = refl
 
 -- `type A {}`, since `__typename` is not listed
 typename_alone : named_fault (codes "A") (object_type (plain_field (codes "__typename") [] (named true (codes "String")) ∷ []) []) ≡ no_parts (codes "A")
-unfolding named_fault type_fault has_parts is_listed plain_field no_parts
+unfolding named_fault is_reserved type_fault has_parts is_listed plain_field no_parts
 typename_alone = refl
 
 -- `enum A {}`, `union A =`, `input A {}`
 no_values : named_fault (codes "A") (enum_type []) ≡ no_parts (codes "A")
-unfolding named_fault type_fault has_parts is_some_list no_parts
+unfolding named_fault is_reserved type_fault has_parts is_some_list no_parts
 no_values = refl
 
 no_members : named_fault (codes "A") (union_type []) ≡ no_parts (codes "A")
-unfolding named_fault type_fault has_parts is_some_list no_parts
+unfolding named_fault is_reserved type_fault has_parts is_some_list no_parts
 no_members = refl
 
 no_input_fields : named_fault (codes "A") (input_object_type []) ≡ no_parts (codes "A")
-unfolding named_fault type_fault has_parts is_some_list no_parts
+unfolding named_fault is_reserved type_fault has_parts is_some_list no_parts
 no_input_fields = refl
 
 -- `__A` is left out, whatever it declares
 left_out : named_fault (codes "__A") (enum_type []) ≡ None
-unfolding named_fault
+unfolding named_fault is_reserved
 left_out = refl
 
 -- `type A { b: C }`
 one_field : named_fault (codes "A") (object_type (plain_field (codes "b") [] (named false (codes "C")) ∷ []) []) ≡ None
-unfolding named_fault type_fault has_parts is_listed names_are_written listed_is_written field_is_written is_name starts_name continues_name innermost plain_field
+unfolding named_fault is_reserved type_fault has_parts is_listed names_are_written listed_is_written field_is_written is_name starts_name continues_name innermost plain_field
 one_field = refl
 
 -- `type A { b-d: C }`
 no_field_name : named_fault (codes "A") (object_type (plain_field (codes "b-d") [] (named false (codes "C")) ∷ []) []) ≡ no_name (codes "A")
-unfolding named_fault type_fault has_parts is_listed names_are_written listed_is_written field_is_written is_name starts_name continues_name plain_field no_name
+unfolding named_fault is_reserved type_fault has_parts is_listed names_are_written listed_is_written field_is_written is_name starts_name continues_name plain_field no_name
 no_field_name = refl
 
 -- `enum A { true }`
 true_value : named_fault (codes "A") (enum_type (value_named (codes "true") ∷ [])) ≡ no_name (codes "A")
-unfolding named_fault type_fault has_parts is_some_list names_are_written value_is_written value_named is_enum_name is_name starts_name continues_name no_name
+unfolding named_fault is_reserved type_fault has_parts is_some_list names_are_written value_is_written value_named is_enum_name is_name starts_name continues_name no_name
 true_value = refl
 
 -- `[{x: RED}]` is a constant, `[{x: $y}]` and `[{2: RED}]` are none

@@ -1,5 +1,5 @@
 -- The text of a schema without fault is of the grammar.
-use Rattle.std.proofs.Common.{◌≡◌, ℕ, Bool, true, false, not, ◌&&◌, List, [], ◌∷◌, ◌++◌, map, Option, Some, None, cond, codes, refl, ap, sym, ◌∙◌, inl, inr}
+use Rattle.std.proofs.Common.{◌≡◌, ℕ, Bool, true, false, not, ◌&&◌, List, [], ◌∷◌, ◌++◌, map, Option, Some, None, cond, codes, refl, ap, sym, ◌∙◌, inl, inr, subst}
 use Rattle.std.proofs.lemmas.Bool.{and_parts, cases_Bool}
 use Rattle.std.proofs.lemmas.Option.{none-some}
 use Rattle.std.specs.List.{filter, flat_map}
@@ -101,3 +101,7 @@ schema_is_spelled s none =
     let listed = no_fault (option_or (name_fault s.query) (mutation_fault s.mutation)) (first_fault (map (λ e. concrete (meta_of e)) (type_list s))) none in
     let names = no_fault (name_fault s.query) (mutation_fault s.mutation) listed.0 in
     whole (both (roots s names.0 names.1) (types (type_list s) listed.1) (follow_types (type_list s)))
+
+-- the same of what is such a text
+pub spelled_text : (s : Schema) (text : List ℕ) → text ≡ schema_text s → None ≡ sdl_fault s → SpellsSchema text s
+spelled_text s text same none = subst (λ t. SpellsSchema t s) (sym same) (schema_is_spelled s (sym none))

@@ -1,4 +1,5 @@
--- The grammar of type systems (3), as far as schemas need it: which tokens stand for each part of a schema.
+-- The grammar of type systems (3), as far as schemas need it: which tokens stand for each part of a schema. The grammar also has types that list no
+-- part, without braces or `=`; they are left out, since 3.6 to 3.10 ask for one part at least.
 use Rattle.std.specs.Prelude.{◌≡◌, ℕ, Bool, true, false, codes, map, List, [], ◌∷◌, not, Option, Some, None, unwrap_or, ℤ}
 use Rattle.std.specs.List.{filter}
 use Rattle.graphql_spec.specs.Grammar.{IsEnumName, null_word, boolean_word}
