@@ -19,7 +19,7 @@ use Rattle.juniper_http.specs.Responses.{Header}
 use Rattle.juniper_http.specs.Served.{Follows, Serves, closing}
 use Rattle.juniper_http.specs.declared.endpoint.Reply.{Reply}
 use Rattle.juniper_http.specs.declared.plan.Plan.{Plan}
-use Rattle.juniper_http.specs.declared.plan.Plan.TheVariants.{Page, Refuse, Ask, Post}
+use Rattle.juniper_http.specs.declared.plan.Plan.TheVariants.{Page, Methods, Refuse, Ask, Post}
 use Rattle.juniper_http.specs.declared.service.GraphQLService.{GraphQLService}
 use Rattle.juniper_http.specs.declared.outcome.Outcome.{Outcome}
 use Rattle.juniper_http.specs.declared.outcome.Outcome.TheVariants.{Executed, Refused, Writes, OutOfMemory}
@@ -66,6 +66,7 @@ module _ {S : Type 0} (replies : S → Asked → Bool → Reply → S → Type 0
   follows-leave : (before : List Header) (method body : List ℕ) (p : Plan) (s : S) (r : HttpResponse) (t : S) → method ≢ codes "POST" →
       IsPlanFor method body p → Follows replies before p s r t → t ≡ s
   follows-leave before method body Page s r t other is (same, page) = same
+  follows-leave before method body Methods s r t other is (same, told) = same
   follows-leave before method body (Refuse why) s r t other is (same, told) = same
   follows-leave before method body (Ask media parts may_write) s r t other is (reply, replied, says) = elim (cases_Bool may_write) [
     | inl w ↦ absurd (other (is w))

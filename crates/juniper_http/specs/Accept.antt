@@ -1,5 +1,5 @@
 -- Which media type an answer has (RFC 9110, section 12.5.1).
-use Rattle.std.specs.Prelude.{ℕ, ◌+◌, ◌-◌, ◌*◌, ◌==◌, ◌&&◌, Bool, List, [], ◌∷◌, length, slice_index, nat_lt, if◌then◌else◌, Option, Some, None}
+use Rattle.std.specs.Prelude.{ℕ, ◌+◌, ◌-◌, ◌*◌, ◌==◌, ◌&&◌, Bool, List, [], ◌∷◌, length, slice_index, nat_le, nat_lt, if◌then◌else◌, Option, Some, None}
 use Rattle.std.specs.Prelude.{option_map, option_and_then, codes}
 use Rattle.std.specs.Char.{is_ascii_digit}
 use Rattle.std.specs.List.{after_first, before_first, filter_map, flat_map, list_all, position_or_len, slice_split}
@@ -29,16 +29,20 @@ cut_at c text =
 abbrev pub digit_at : ℕ → List ℕ → ℕ
 digit_at i digits = if nat_lt i (length digits) then slice_index digits i - 48 else 0
 
--- the thousandths of a 1, or of a 0 and up to three digits behind its dot; others say 0
+-- the thousandths of a 0 with these digits behind its dot, or of a 1 with zeros; others say 0
 abbrev pub weighed : List ℕ → List ℕ → ℕ
 weighed whole decimals =
-    if bytes_eq whole (codes "1") then 1000
-    else (if bytes_eq whole (codes "0") then 100 * digit_at 0 decimals + 10 * digit_at 1 decimals + digit_at 2 decimals else 0)
+    if bytes_eq whole (codes "0") then 100 * digit_at 0 decimals + 10 * digit_at 1 decimals + digit_at 2 decimals
+    else (if (bytes_eq whole (codes "1") && list_all (λ b. b == 48) decimals) then 1000 else 0)
 
--- The thousandths of a weight (section 12.4.2). More digits than three are passed over, and what is no weight weighs nothing.
+-- at most three digits
+abbrev pub are_decimals : List ℕ → Bool
+are_decimals digits = nat_le (length digits) 3 && list_all is_ascii_digit digits
+
+-- The thousandths of a weight: of a number from 0 to 1 with at most three digits behind its dot (section 12.4.2). What is no weight weighs nothing.
 abbrev pub thousandths : List ℕ → ℕ
 thousandths t =
-    if list_all is_ascii_digit (after_first (λ b. b == 46) t) then weighed (before_first (λ b. b == 46) t) (after_first (λ b. b == 46) t) else 0
+    if are_decimals (after_first (λ b. b == 46) t) then weighed (before_first (λ b. b == 46) t) (after_first (λ b. b == 46) t) else 0
 
 abbrev pub weight_named : List ℕ × List ℕ → Option ℕ
 weight_named (name, value) = if str_eq_ignore_ascii_case (trim name) (codes "q") then Some (thousandths (trim value)) else None

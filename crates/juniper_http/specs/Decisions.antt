@@ -5,7 +5,7 @@ use Rattle.juniper_http.specs.declared.decision.Body.{Body}
 use Rattle.juniper_http.specs.declared.decision.Body.TheVariants as body
 use Rattle.juniper_http.specs.declared.decision.Facts.{Facts}
 use Rattle.juniper_http.specs.declared.decision.Step.{Step}
-use Rattle.juniper_http.specs.declared.decision.Step.TheVariants.{ShowPage, Refuse, ReadQuery, ReadJson, ReadDocument}
+use Rattle.juniper_http.specs.declared.decision.Step.TheVariants.{ShowPage, TellMethods, Refuse, ReadQuery, ReadJson, ReadDocument}
 use Rattle.juniper_http.specs.declared.decision.Verb.{Verb}
 use Rattle.juniper_http.specs.declared.decision.Verb.TheVariants as verb
 use Rattle.juniper_http.specs.declared.media.MediaType.{MediaType}
@@ -15,7 +15,9 @@ use Rattle.juniper_http.specs.declared.refusal.Refusal.TheVariants as why
 
 -- what a method asks for
 abbrev pub verb_of : List ℕ → Verb
-verb_of m = if (bytes_eq m (codes "GET") || bytes_eq m (codes "HEAD")) then verb.Reads else (if bytes_eq m (codes "POST") then verb.Posts else verb.Other)
+verb_of m =
+    if (bytes_eq m (codes "GET") || bytes_eq m (codes "HEAD")) then verb.Reads
+    else (if bytes_eq m (codes "POST") then verb.Posts else (if bytes_eq m (codes "OPTIONS") then verb.AsksMethods else verb.Other))
 
 -- the paths at which something is served
 abbrev pub is_known : List ℕ → Bool
@@ -29,6 +31,7 @@ media_of f = if f.has_accept then f.media else Some GraphqlResponse
 abbrev pub body_step : Body → MediaType → Step
 body_step body.Json media = ReadJson media
 body_step body.Document media = ReadDocument media
+body_step body.Coded media = Refuse why.Coding
 body_step body.Other media = Refuse why.MediaType
 
 abbrev pub read_step : Bool → Option MediaType → Step
@@ -41,6 +44,7 @@ post_step fits b (Some media) = if fits then body_step b media else Refuse why.T
 
 abbrev pub verb_step : Verb → Facts → Step
 verb_step verb.Other f = Refuse why.Method
+verb_step verb.AsksMethods f = TellMethods
 verb_step verb.Reads f = if (not f.has_query && (f.has_accept && f.wants_page)) then ShowPage else read_step f.has_query (media_of f)
 verb_step verb.Posts f = post_step f.fits f.body (media_of f)
 
@@ -51,6 +55,7 @@ step_of f = if f.is_known_path then verb_step f.verb f else Refuse why.NotFound
 -- A body is read for a POST alone, and so is what may write.
 abbrev pub PostsToWrite : Verb → Step → Type 0
 PostsToWrite v ShowPage = Unit {0}
+PostsToWrite v TellMethods = Unit {0}
 PostsToWrite v (Refuse w) = Unit {0}
 PostsToWrite v (ReadQuery media) = Unit {0}
 PostsToWrite v (ReadJson media) = v ≡ verb.Posts

@@ -83,6 +83,12 @@ abbrev pub AreMembers : RequestError → Option (List ℕ) → Result (Option Me
 AreMembers e None r = r ≡ Ok None
 AreMembers e (Some text) r = AreMembersOf e (read text) r
 
+-- The name of the operation; an empty one is none.
+abbrev pub name_given : Option (List ℕ) → Option (List ℕ)
+name_given None = None
+name_given (Some []) = None
+name_given (Some (b ∷ bs)) = Some (b ∷ bs)
+
 abbrev pub asked_with : List ℕ → Option (List ℕ) → Option Members → Result (Option Members) Refusal → Result Asked Refusal
 asked_with query name variables (Err why) = Err why
 asked_with query name variables (Ok extensions) =
@@ -92,7 +98,7 @@ abbrev pub IsAskedWith : List ℕ → Given → Result (Option Members) Refusal 
 IsAskedWith query g (Err why) r = r ≡ Err why
 IsAskedWith query g (Ok variables) r =
     (extensions : Result (Option Members) Refusal) × AreMembers Extensions g.extensions extensions
-    × (r ≡ asked_with query g.operation_name variables extensions)
+    × (r ≡ asked_with query (name_given g.operation_name) variables extensions)
 
 abbrev pub IsAskedFor : Option (List ℕ) → Given → Result Asked Refusal → Type 0
 IsAskedFor None g r = r ≡ Err (NotARequest Query)

@@ -3,7 +3,7 @@ use Rattle.std.specs.Prelude.{◌≡◌, ℕ, ◌==◌, nat_le, nat_lt, if◌the
 use Rattle.std.specs.Prelude.{Result, Ok, Err, codes, IsTrue, IsUtf8}
 use Rattle.http.specs.declared.request.Request.{Request}
 use Rattle.http.specs.Request.{head_of, body_of}
-use Rattle.http_header.specs.HeaderMap.{get, get_all}
+use Rattle.http_header.specs.HeaderMap.{get_all}
 use Rattle.http_uri.specs.Uri.{uri_path, uri_query}
 use Rattle.serde_json.specs.Data.{Data}
 use Rattle.serde_json.specs.Read.{read}
@@ -12,24 +12,25 @@ use Rattle.juniper_request.specs.declared.error.NotJson.{NotJson as Fault}
 use Rattle.juniper_request.specs.declared.error.RequestError.TheVariants.{Query}
 use Rattle.juniper_request.specs.declared.read.GraphQLBatchRequest.{GraphQLBatchRequest}
 use Rattle.juniper_http.specs.Accept.{Ranged, choice, prefers_page, ranges_of}
-use Rattle.juniper_http.specs.ContentTypes.{IsFieldType}
+use Rattle.juniper_http.specs.ContentTypes.{IsBodyType}
 use Rattle.juniper_http.specs.Decisions.{is_known, step_of, verb_of}
 use Rattle.juniper_http.specs.Parameters.{given_in, IsAskedBy}
 use Rattle.juniper_http.specs.Parts.{asked_by, asked_of}
 use Rattle.juniper_http.specs.declared.decision.Facts.{Facts}
 use Rattle.juniper_http.specs.declared.decision.Step.{Step}
 use Rattle.juniper_http.specs.declared.decision.Step.TheVariants as step
-use Rattle.juniper_http.specs.declared.decision.Step.TheVariants.{ShowPage, ReadQuery, ReadJson, ReadDocument}
+use Rattle.juniper_http.specs.declared.decision.Step.TheVariants.{ShowPage, TellMethods, ReadQuery, ReadJson, ReadDocument}
 use Rattle.juniper_http.specs.declared.media.MediaType.{MediaType}
 use Rattle.juniper_http.specs.declared.plan.Limits.{Limits}
 use Rattle.juniper_http.specs.declared.plan.Plan.{Plan}
-use Rattle.juniper_http.specs.declared.plan.Plan.TheVariants.{Page, Refuse, Ask, Post}
+use Rattle.juniper_http.specs.declared.plan.Plan.TheVariants.{Page, Methods, Refuse, Ask, Post}
 use Rattle.juniper_http.specs.declared.refusal.Refusal.{Refusal}
 use Rattle.juniper_http.specs.declared.refusal.Refusal.TheVariants.{EmptyBatch, LongBatch, MediaType as OtherType, NotARequest, NotJson}
 
 -- What may be planned for a request of this method and this body: only a POST may write, and its JSON is that of the body.
 abbrev pub IsPlanFor : List ℕ → List ℕ → Plan → Type 0
 IsPlanFor method body Page = Unit {0}
+IsPlanFor method body Methods = Unit {0}
 IsPlanFor method body (Refuse why) = Unit {0}
 IsPlanFor method body (Ask media given may_write) = IsTrue may_write → method ≡ codes "POST"
 IsPlanFor method body (Post media requests) = (method ≡ codes "POST") × ((d : Data) × (read body ≡ Some d) × (view_body requests ≡ body_in d))
@@ -52,6 +53,7 @@ IsBodyPlan limits media requests p = p ≡ body_plan limits media requests (batc
 -- the plan puts this request as this media type, and it may write or not
 abbrev pub Asks : MediaType → Asked → Bool → Plan → Type 0
 Asks media asked writes Page = ⊥
+Asks media asked writes Methods = ⊥
 Asks media asked writes (Refuse why) = ⊥
 Asks media asked writes (Ask m parts may_write) = (m ≡ media) × (asked_by parts ≡ asked) × (may_write ≡ writes)
 Asks media asked writes (Post m requests) = ⊥
@@ -90,12 +92,13 @@ pub record AreFacts (limits : Limits) (r : Request (List ℕ)) (f : Facts) : Typ
   pub accept : f.has_accept ≡ nat_lt 0 (length (taken_by r))
   pub media : f.media ≡ choice (taken_by r)
   pub page : f.wants_page ≡ prefers_page (taken_by r)
-  pub body : IsFieldType (get (head_of r).headers (codes "content-type")) f.body
+  pub body : IsBodyType (get_all (head_of r).headers (codes "content-encoding")) (get_all (head_of r).headers (codes "content-type")) f.body
   pub fits : f.fits ≡ nat_le (length (body_of r)) limits.max_body_len
 
 -- what is planned for what is to be done
 abbrev pub IsStepPlan : Limits → Request (List ℕ) → Step → Plan → Type 0
 IsStepPlan limits r ShowPage p = p ≡ Page
+IsStepPlan limits r TellMethods p = p ≡ Methods
 IsStepPlan limits r (step.Refuse why) p = p ≡ Refuse why
 IsStepPlan limits r (ReadQuery media) p = IsQueryPlan media (uri_query (head_of r).uri) p
 IsStepPlan limits r (ReadJson media) p = IsJsonPlan limits media (body_of r) p

@@ -2,7 +2,8 @@
 use Rattle.std.specs.Prelude.{ℕ, List, ◌++◌, codes}
 use Rattle.juniper_request.specs.Requests.{message, place_text}
 use Rattle.juniper_http.specs.declared.refusal.Refusal.{Refusal}
-use Rattle.juniper_http.specs.declared.refusal.Refusal.TheVariants.{NotFound, Method, NotAcceptable, MediaType, TooLarge, NotJson, NotARequest, EmptyBatch, LongBatch}
+use Rattle.juniper_http.specs.declared.refusal.Refusal.TheVariants.{NotFound, Method, NotAcceptable, MediaType, Coding, TooLarge, NotJson, NotARequest}
+use Rattle.juniper_http.specs.declared.refusal.Refusal.TheVariants.{EmptyBatch, LongBatch}
 
 -- the status of a refusal
 abbrev pub refusal_status : Refusal → ℕ
@@ -10,6 +11,7 @@ refusal_status NotFound = 404
 refusal_status Method = 405
 refusal_status NotAcceptable = 406
 refusal_status MediaType = 415
+refusal_status Coding = 415
 refusal_status TooLarge = 413
 refusal_status LongBatch = 413
 refusal_status (NotJson fault) = 400
@@ -19,9 +21,10 @@ refusal_status EmptyBatch = 400
 -- what is told of it
 abbrev pub refusal_message : Refusal → List ℕ
 refusal_message NotFound = codes "not found"
-refusal_message Method = codes "only GET, HEAD and POST are supported"
+refusal_message Method = codes "only GET, HEAD, POST and OPTIONS are supported"
 refusal_message NotAcceptable = codes "accept application/graphql-response+json or application/json"
 refusal_message MediaType = codes "the body must be JSON in UTF-8"
+refusal_message Coding = codes "the body must have no content-encoding"
 refusal_message TooLarge = codes "the body is too large"
 refusal_message (NotJson fault) = place_text fault
 refusal_message (NotARequest e) = message e

@@ -11,7 +11,8 @@ use Rattle.juniper_http.specs.declared.outcome.Outcome.{Outcome}
 use Rattle.juniper_http.specs.declared.outcome.Outcome.TheVariants.{Executed, Refused, Writes, OutOfMemory}
 use Rattle.juniper_http.specs.declared.page.TheConstants.{PAGE}
 use Rattle.juniper_http.specs.declared.refusal.Refusal.{Refusal}
-use Rattle.juniper_http.specs.declared.refusal.Refusal.TheVariants.{NotFound, Method, NotAcceptable, MediaType as OtherType, TooLarge, NotJson, NotARequest, EmptyBatch, LongBatch}
+use Rattle.juniper_http.specs.declared.refusal.Refusal.TheVariants.{NotFound, Method, NotAcceptable, MediaType as OtherType, Coding, TooLarge, NotJson}
+use Rattle.juniper_http.specs.declared.refusal.Refusal.TheVariants.{NotARequest, EmptyBatch, LongBatch}
 
 -- the name and the value of a field
 abbrev pub Header : Type 0
@@ -20,9 +21,16 @@ Header = List ℕ × List ℕ
 abbrev pub content_type : List ℕ → Header
 content_type value = (codes "content-type", value)
 
--- the methods that a 405 tells of (RFC 9110, section 15.5.6)
+-- the methods that are answered (RFC 9110, section 10.2.1), of which a 405 and an answer to OPTIONS tell (sections 15.5.6 and 9.3.7)
 abbrev pub allow : List ℕ → Header
 allow methods = (codes "allow", methods)
+
+abbrev pub all_methods : List ℕ
+all_methods = codes "GET, HEAD, POST, OPTIONS"
+
+-- the codings of bodies that are taken, of which a 415 tells: none (section 15.5.16)
+abbrev pub no_coding : Header
+no_coding = (codes "accept-encoding", codes "identity")
 
 -- the fields of an answer
 abbrev pub reply_fields : Outcome → MediaType → List Header
@@ -39,9 +47,10 @@ Says before media outcome line r =
 -- the fields of a refusal
 abbrev pub refusal_fields : Refusal → List Header
 refusal_fields NotFound = content_type (media_text Json) ∷ []
-refusal_fields Method = content_type (media_text Json) ∷ allow (codes "GET, HEAD, POST") ∷ []
+refusal_fields Method = content_type (media_text Json) ∷ allow all_methods ∷ []
 refusal_fields NotAcceptable = content_type (media_text Json) ∷ []
 refusal_fields OtherType = content_type (media_text Json) ∷ []
+refusal_fields Coding = content_type (media_text Json) ∷ no_coding ∷ []
 refusal_fields TooLarge = content_type (media_text Json) ∷ []
 refusal_fields LongBatch = content_type (media_text Json) ∷ []
 refusal_fields (NotJson fault) = content_type (media_text Json) ∷ []
@@ -51,6 +60,10 @@ refusal_fields EmptyBatch = content_type (media_text Json) ∷ []
 -- the response says why a request is refused
 abbrev pub IsRefusal : List Header → Refusal → Response → Type 0
 IsRefusal before why r = IsResponse (refusal_status why) (before ++ refusal_fields why) (refusal_text why) r
+
+-- the response tells which methods are answered, and has no body
+abbrev pub TellsMethods : List Header → Response → Type 0
+TellsMethods before r = IsResponse 204 (before ++ allow all_methods ∷ []) [] r
 
 -- The page may run its own script and ask its own server, and load nothing.
 abbrev pub page_fields : List Header

@@ -7,11 +7,11 @@ use Rattle.juniper_request.specs.declared.error.RequestError.{RequestError}
 use Rattle.juniper_http.specs.Batches.{IsBatchReply}
 use Rattle.juniper_http.specs.Parts.{asked_by}
 use Rattle.juniper_http.specs.Plans.{IsPlan}
-use Rattle.juniper_http.specs.Responses.{Header, IsPage, IsRefusal, Says}
+use Rattle.juniper_http.specs.Responses.{Header, IsPage, IsRefusal, Says, TellsMethods}
 use Rattle.juniper_http.specs.declared.endpoint.Reply.{Reply}
 use Rattle.juniper_http.specs.declared.media.MediaType.{MediaType}
 use Rattle.juniper_http.specs.declared.plan.Plan.{Plan}
-use Rattle.juniper_http.specs.declared.plan.Plan.TheVariants.{Page, Refuse, Ask, Post}
+use Rattle.juniper_http.specs.declared.plan.Plan.TheVariants.{Page, Methods, Refuse, Ask, Post}
 use Rattle.juniper_http.specs.declared.refusal.Refusal.TheVariants.{NotARequest}
 use Rattle.juniper_http.specs.declared.service.GraphQLService.{GraphQLService}
 
@@ -40,6 +40,7 @@ module _ {S : Type 0} where
   -- what is done for a plan, between two states of the endpoint
   abbrev pub Follows : (S → Asked → Bool → Reply → S → Type 0) → List Header → Plan → S → Response → S → Type 0
   Follows replies before Page s r t = (t ≡ s) × IsPage before r
+  Follows replies before Methods s r t = (t ≡ s) × TellsMethods before r
   Follows replies before (Refuse why) s r t = (t ≡ s) × IsRefusal before why r
   Follows replies before (Ask media parts may_write) s r t = Puts replies before media (asked_by parts) may_write s r t
   Follows replies before (Post media requests) s r t = PutsBody replies before media (view_body requests) s r t

@@ -1,8 +1,8 @@
-//! What a `content-type` says of a body (RFC 9110, section 8.3).
+//! What `content-type` and `content-encoding` say of a body (RFC 9110, sections 8.3 and 8.4).
 
 ghost use Rattle.std.specs.Prelude.{◌≡◌, ◌==◌, ◌<◌, IfOk};
 ghost use Rattle.std.specs.List.{after_first, before_first, list_all, slice_split};
-ghost use Rattle.juniper_http.specs.ContentTypes.{content_type_of, is_fine, is_utf8, lower_type, type_named};
+ghost use Rattle.juniper_http.specs.ContentTypes.{content_type_of, is_fine, is_identity, is_utf8, lower_type, type_named};
 
 use crate::decision::Body;
 use std::alloc::{AllocError, Global};
@@ -62,6 +62,24 @@ fn is_utf8(value: &str) -> bool
     ensures { result ≡ is_utf8 value.now }
 {
     value == "utf-8" || value == "\"utf-8\""
+}
+
+/// Whether each coding of a list leaves a body as it is.
+pub fn are_identity(codings: &str) -> bool
+    ensures { result ≡ list_all is_identity (slice_split (λ b. b == 44) codings.now) }
+{
+    match codings.split_once(',') {
+        Some((first, rest)) => is_identity(first) && are_identity(rest),
+        None => is_identity(codings),
+    }
+}
+
+/// Whether a coding leaves a body as it is: `identity` does, and nothing does.
+fn is_identity(coding: &str) -> bool
+    ensures { result ≡ is_identity coding.now }
+{
+    let name = coding.trim();
+    name.is_empty() || name.eq_ignore_ascii_case("identity")
 }
 
 /// The texts before and behind the first such character; all and nothing where there is none.

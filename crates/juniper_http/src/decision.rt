@@ -14,17 +14,21 @@ pub enum Verb {
     Reads,
     /// `POST`.
     Posts,
+    /// `OPTIONS`: which methods are answered.
+    AsksMethods,
     /// Any other.
     Other,
 }
 
-/// What the media type of a body says of it.
+/// What the fields of a request say of its body.
 #[derive(Clone, Copy, Debug, PartialEq, Eq, Drop)]
 pub enum Body {
     /// JSON in UTF-8.
     Json,
     /// The text of a document, in UTF-8.
     Document,
+    /// It has a coding, such as gzip.
+    Coded,
     /// Anything else, or nothing.
     Other,
 }
@@ -55,6 +59,8 @@ pub struct Facts {
 pub enum Step {
     /// The page is shown.
     ShowPage,
+    /// The methods that are answered are told.
+    TellMethods,
     /// The request is refused.
     Refuse(Refusal),
     /// The query of the target is read; what it asks may not write.
@@ -79,6 +85,7 @@ pub fn decide(facts: &Facts) -> Step
     };
     match facts.verb {
         Verb::Other => Step::Refuse(Refusal::Method),
+        Verb::AsksMethods => Step::TellMethods,
         Verb::Reads if !facts.has_query && facts.has_accept && facts.wants_page => Step::ShowPage,
         Verb::Reads => match media {
             None => Step::Refuse(Refusal::NotAcceptable),
@@ -91,6 +98,7 @@ pub fn decide(facts: &Facts) -> Step
             Some(media) => match facts.body {
                 Body::Json => Step::ReadJson(media),
                 Body::Document => Step::ReadDocument(media),
+                Body::Coded => Step::Refuse(Refusal::Coding),
                 Body::Other => Step::Refuse(Refusal::MediaType),
             },
         },

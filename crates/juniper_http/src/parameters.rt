@@ -4,7 +4,7 @@ ghost use Rattle.std.specs.Prelude.{◌≡◌, IfOk, option_map, string_bytes};
 ghost use Rattle.std.specs.Result.{result_map_both};
 ghost use Rattle.serde_json.specs.View.{members_view, view};
 ghost use Rattle.juniper_request.specs.Requests.{maybe_members_in};
-ghost use Rattle.juniper_http.specs.Parameters.{AreMembers, IsAskedBy, given_in, members_or, view_parameters, with_value};
+ghost use Rattle.juniper_http.specs.Parameters.{AreMembers, IsAskedBy, given_in, members_or, name_given, view_parameters, with_value};
 ghost use Rattle.juniper_http.specs.Parts.{asked_by};
 
 use crate::parts::RequestParts;
@@ -18,7 +18,7 @@ use std::alloc::{AllocError, Global};
 pub struct Parameters {
     /// The text of a document.
     pub query: Option<String>,
-    /// The name of the operation.
+    /// The name of the operation; an empty one is none.
     pub operation_name: Option<String>,
     /// JSON, an object.
     pub variables: Option<String>,
@@ -93,11 +93,21 @@ pub fn parts_in(
     match members_in(alloc, extensions, RequestError::Extensions)? {
         Ok(extensions) => Ok(Ok(RequestParts {
             query,
-            operation_name,
+            operation_name: name_given(operation_name),
             variables,
             extensions,
         })),
         Err(refusal) => Ok(Err(refusal)),
+    }
+}
+
+/// The name of the operation; an empty one is none.
+fn name_given(given: Option<String>) -> Option<String>
+    ensures { option_map string_bytes result ≡ name_given (option_map string_bytes given) }
+{
+    match given {
+        Some(name) if !name.is_empty() => Some(name),
+        _ => None,
     }
 }
 

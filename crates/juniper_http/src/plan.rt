@@ -3,15 +3,15 @@
 ghost use Rattle.std.specs.Prelude.{◌≡◌, ◌++◌, IfOk, Some, codes, map};
 ghost use Rattle.http.specs.Request.{body_of, head_of};
 ghost use Rattle.juniper_request.specs.Requests.{view_body};
-ghost use Rattle.http_header.specs.HeaderMap.{get};
+ghost use Rattle.http_header.specs.HeaderMap.{get_all};
 ghost use Rattle.juniper_http.specs.Accept.{field_ranges, view_range};
-ghost use Rattle.juniper_http.specs.ContentTypes.{IsFieldType};
+ghost use Rattle.juniper_http.specs.ContentTypes.{IsBodyType, IsFieldType, IsLineType, are_plain, is_plain_line};
 ghost use Rattle.juniper_http.specs.Decisions.{is_known, verb_of};
 ghost use Rattle.juniper_http.specs.declared.decision.Verb.TheVariants as verbs;
 ghost use Rattle.juniper_http.specs.Plans.{AreFacts, IsBodyPlan, IsDocumentPlan, IsJsonPlan, IsPlan, IsPlanFor, IsQueryPlan, batch_len, taken_by};
 
 use crate::accept::{Range, add_ranges, choose, has_range, wants_page};
-use crate::content_type::body_type;
+use crate::content_type::{are_identity, body_type};
 use crate::decision::{Body, Facts, Step, Verb, decide};
 use crate::media::MediaType;
 use crate::parameters::{parameters_in, parts_in};
@@ -36,6 +36,8 @@ pub struct Limits {
 pub enum Plan {
     /// The page is shown.
     Page,
+    /// The methods that are answered are told.
+    Methods,
     /// The request is refused.
     Refuse(Refusal),
     /// One request, which may write where it came by `POST`.
@@ -51,6 +53,7 @@ pub fn plan_of(alloc: Global, request: &Request<Bytes>, limits: &Limits) -> Resu
     let facts = facts_of(alloc, request, limits)?;
     match decide(&facts) {
         Step::ShowPage => Ok(Plan::Page),
+        Step::TellMethods => Ok(Plan::Methods),
         Step::Refuse(refusal) => Ok(Plan::Refuse(refusal)),
         Step::ReadQuery(media) => match request.uri().query() {
             Some(query) => read_query(alloc, query, media),
@@ -73,7 +76,7 @@ fn facts_of(alloc: Global, request: &Request<Bytes>, limits: &Limits) -> Result<
         has_accept: has_range(ranges.as_slice()),
         media: choose(ranges.as_slice()),
         wants_page: wants_page(ranges.as_slice()),
-        body: type_of(alloc, request)?,
+        body: body_in(alloc, request)?,
         fits: request.body().len() <= limits.max_body_len,
     })
 }
@@ -86,6 +89,7 @@ fn verb(method: &str) -> Verb
     match method {
         "GET" | "HEAD" => Verb::Reads,
         "POST" => Verb::Posts,
+        "OPTIONS" => Verb::AsksMethods,
         _ => Verb::Other,
     }
 }
@@ -121,19 +125,57 @@ fn add_value<'a>(
     }
 }
 
+/// What a request's fields say of its body.
+fn body_in(alloc: Global, request: &Request<Bytes>) -> Result<Body, AllocError>
+    ensures { IfOk result (IsBodyType (get_all (head_of request.now).headers (codes "content-encoding"))
+        (get_all (head_of request.now).headers (codes "content-type"))) }
+{
+    if has_no_coding(request) {
+        type_of(alloc, request)
+    } else {
+        Ok(Body::Coded)
+    }
+}
+
+/// Whether each line of a request's `content-encoding` leaves its body as it is.
+fn has_no_coding(request: &Request<Bytes>) -> bool
+    ensures { result ≡ are_plain (get_all (head_of request.now).headers (codes "content-encoding")) }
+{
+    for value in request.headers().get_all(header::CONTENT_ENCODING) {
+        if !is_plain_line(value) {
+            return false;
+        }
+    }
+    true
+}
+
+/// Whether a line of `content-encoding` leaves a body as it is.
+fn is_plain_line(value: &HeaderValue) -> bool
+    ensures { result ≡ is_plain_line value.now }
+{
+    match value.to_str() {
+        Ok(text) => are_identity(text),
+        Err(_) => false,
+    }
+}
+
 /// What a request's `content-type` says of its body.
 fn type_of(alloc: Global, request: &Request<Bytes>) -> Result<Body, AllocError>
-    ensures { IfOk result (IsFieldType (get (head_of request.now).headers (codes "content-type"))) }
+    ensures { IfOk result (IsFieldType (get_all (head_of request.now).headers (codes "content-type"))) }
 {
-    match request.headers().get(header::CONTENT_TYPE) {
-        Some(value) => value_type(alloc, value),
+    let mut lines = request.headers().get_all(header::CONTENT_TYPE).iter();
+    match lines.next() {
+        Some(value) => match lines.next() {
+            Some(_) => Ok(Body::Other),
+            None => value_type(alloc, value),
+        },
         None => Ok(Body::Other),
     }
 }
 
-/// The same of the field's value.
+/// The same of a line of the field.
 fn value_type(alloc: Global, value: &HeaderValue) -> Result<Body, AllocError>
-    ensures { IfOk result (IsFieldType (Some value.now)) }
+    ensures { IfOk result (IsLineType value.now) }
 {
     match value.to_str() {
         Ok(text) => body_type(alloc, text),

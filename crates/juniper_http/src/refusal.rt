@@ -11,12 +11,14 @@ use std::alloc::{AllocError, Global};
 pub enum Refusal {
     /// No such path.
     NotFound,
-    /// Only `GET`, `HEAD` and `POST` are answered.
+    /// Only `GET`, `HEAD`, `POST` and `OPTIONS` are answered.
     Method,
     /// `Accept` takes none of the media types.
     NotAcceptable,
-    /// The body has another media type, or another coding of characters, than JSON or a document in UTF-8.
+    /// The body has another media type, or another coding of characters, than JSON or a document in UTF-8; or it has several types.
     MediaType,
+    /// The body has a coding, such as gzip.
+    Coding,
     /// The body is larger than the limit.
     TooLarge,
     /// The body, or a parameter of a `GET` that should be, is no JSON.
@@ -38,7 +40,7 @@ impl Refusal {
             Refusal::NotFound => 404,
             Refusal::Method => 405,
             Refusal::NotAcceptable => 406,
-            Refusal::MediaType => 415,
+            Refusal::MediaType | Refusal::Coding => 415,
             Refusal::TooLarge | Refusal::LongBatch => 413,
             Refusal::NotJson(_) | Refusal::NotARequest(_) | Refusal::EmptyBatch => 400,
         }
@@ -50,10 +52,11 @@ impl Refusal {
     {
         let text = match self {
             Refusal::NotFound => "not found",
-            Refusal::Method => "only GET, HEAD and POST are supported",
+            Refusal::Method => "only GET, HEAD, POST and OPTIONS are supported",
             Refusal::NotAcceptable =>
                 "accept application/graphql-response+json or application/json",
             Refusal::MediaType => "the body must be JSON in UTF-8",
+            Refusal::Coding => "the body must have no content-encoding",
             Refusal::TooLarge => "the body is too large",
             Refusal::NotJson(fault) => return fault.to_string(alloc),
             Refusal::NotARequest(error) => error.message(),

@@ -3,7 +3,7 @@
 ghost use Rattle.std.specs.Prelude.{◌≡◌, [], ◌++◌, OnOk, string_bytes};
 ghost use Rattle.http.specs.StatusCode.{IsStatusCode};
 ghost use Rattle.http_server.specs.Response.{IsResponse, fields_of};
-ghost use Rattle.juniper_http.specs.Responses.{IsPage, IsRefusal, Says, page_fields, refusal_fields, reply_fields};
+ghost use Rattle.juniper_http.specs.Responses.{IsPage, IsRefusal, Says, TellsMethods, page_fields, refusal_fields, reply_fields};
 ghost use Rattle.juniper_http.specs.Outcomes.{reply_text, status_of as status_spec};
 
 use crate::endpoint::Reply;
@@ -15,6 +15,9 @@ use bytes::{BufMut, Bytes};
 use http::{HeaderValue, StatusCode, header};
 use http_server::Response;
 use std::alloc::{AllocError, Global};
+
+/// The methods that are answered.
+const ALL_METHODS: &str = "GET, HEAD, POST, OPTIONS";
 
 /// What the page may do: run its own script, and ask its own server.
 const PAGE_POLICY: &str =
@@ -70,10 +73,23 @@ fn label_refusal(response: &mut Response, refusal: Refusal) -> Result<(), AllocE
     response.add_header(header::CONTENT_TYPE, MediaType::Json.content_type())?;
     match refusal {
         Refusal::Method => {
-            response.add_header(header::ALLOW, HeaderValue::from_static("GET, HEAD, POST"))
+            response.add_header(header::ALLOW, HeaderValue::from_static(ALL_METHODS))
         }
+        Refusal::Coding => response.add_header(
+            header::ACCEPT_ENCODING,
+            HeaderValue::from_static("identity"),
+        ),
         _ => Ok(()),
     }
+}
+
+/// Fills a response with the methods that are answered.
+pub fn tell_methods(response: &mut Response) -> Result<(), AllocError>
+    requires { response.old.body.items ≡ [] }
+    ensures { OnOk result (TellsMethods (fields_of response.old) response.new) }
+{
+    response.status = StatusCode::NO_CONTENT;
+    response.add_header(header::ALLOW, HeaderValue::from_static(ALL_METHODS))
 }
 
 /// Fills a response with the page.

@@ -11,7 +11,7 @@ use crate::endpoint::Endpoint;
 use crate::media::MediaType;
 use crate::plan::{Limits, Plan, plan_of};
 use crate::refusal::Refusal;
-use crate::respond::{answer_or_fail, refuse, show_page};
+use crate::respond::{answer_or_fail, refuse, show_page, tell_methods};
 use bytes::Bytes;
 use http::{HeaderValue, Request, header};
 use http_server::{Response, Service};
@@ -55,6 +55,7 @@ impl<E: Endpoint> GraphQLService<E> {
     {
         match plan_of(self.alloc, request, &self.limits)? {
             Plan::Page => show_page(response),
+            Plan::Methods => tell_methods(response),
             Plan::Refuse(refusal) => refuse(self.alloc, response, refusal),
             Plan::Ask(media, parts, may_write) => {
                 self.put(media, &parts.request(), may_write, response);

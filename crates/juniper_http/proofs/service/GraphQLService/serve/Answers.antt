@@ -8,6 +8,12 @@ returns-in-Page-clause-ok g c =
     (λ page. (c.args.self.now.endpoint, refl, (c.in_ok-plan_of.field-0, c.in_ok-plan_of.ensures, rw c.in-Page.is (refl, page))))
     c.show_page.ensures
 
+pub returns-in-Methods-clause-ok : goal.returns-in-Methods-clause-ok
+returns-in-Methods-clause-ok g c =
+    on_ok c.tell_methods.result
+    (λ told. (c.args.self.now.endpoint, refl, (c.in_ok-plan_of.field-0, c.in_ok-plan_of.ensures, rw c.in-Methods.is (refl, told))))
+    c.tell_methods.ensures
+
 pub returns-in-Refuse-clause-ok : goal.returns-in-Refuse-clause-ok
 returns-in-Refuse-clause-ok g c =
     on_ok c.refuse.result
