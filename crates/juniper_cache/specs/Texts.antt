@@ -1,5 +1,5 @@
 -- Texts that are kept, the most recently used first (6.1).
-use Rattle.std.specs.Prelude.{◌≡◌, ◌⊎◌, ◌-◌, ⊥, ℕ, Bool, false, List, [], ◌∷◌, Some, None, String, Contains, Result, Ok, Err, cond, map, string_bytes, take}
+use Rattle.std.specs.Prelude.{◌≡◌, ◌⊎◌, ◌-◌, ℕ, Bool, false, List, [], ◌∷◌, Some, None, String, Contains, Result, Ok, Err, cond, map, string_bytes, take}
 use Rattle.std.specs.List.{list_any}
 use Rattle.std.specs.Str.{bytes_eq}
 use Rattle.std.specs.declared.alloc.Global.{Global}
