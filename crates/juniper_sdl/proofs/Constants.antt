@@ -1,6 +1,6 @@
 -- Which input values are constants. In a loop over items or fields what is left decides.
 use Rattle.std.proofs.Common.{◌≡◌, ℕ, ◌+◌, ◌<◌, ◌≤◌, ℤ, pos, negsuc, true, false, List, [], length, get_or, drop, string_bytes, Some, None}
-use Rattle.std.proofs.Common.{refl, sym, ap, ◌∙◌, SFits, w32, arith}
+use Rattle.std.proofs.Common.{refl, sym, ap, SFits, w32, arith}
 use Rattle.std.proofs.lemmas.List.{drop_all}
 use Rattle.std.proofs.lemmas.Bool.{le-leb}
 use Rattle.std.proofs.lemmas.Option.{none-some, same_Some}

@@ -1,11 +1,12 @@
 -- What the grammar derives has no fault.
-use Rattle.std.proofs.Common.{◌≡◌, ◌≢◌, ℕ, ℤ, Bool, true, false, not, ◌&&◌, ◌||◌, List, [], ◌∷◌, Option, Some, None, cond, codes, map, refl, ap, sym, ◌∙◌, inl, inr, subst}
+use Rattle.std.proofs.Common.{◌≡◌, ◌≢◌, ℕ, ℤ, Bool, true, false, ◌&&◌, List, [], ◌∷◌, Option, Some, None, cond, codes, map, refl, ap, sym, ◌∙◌}
+use Rattle.std.proofs.Common.{inl, inr, subst}
 use Rattle.std.proofs.lemmas.Bool.{and_from, and_parts, cases_Bool}
 use Rattle.std.proofs.lemmas.Option.{none-some, same_Some}
-use Rattle.std.specs.List.{filter, list_all, list_any}
+use Rattle.std.specs.List.{list_all, list_any}
 use Rattle.std.specs.Option.{option_or}
 use Rattle.std.specs.Str.{bytes_eq}
-use Rattle.graphql_spec.specs.Grammar.{IsEnumName, boolean_word, false_word, null_word, true_word}
+use Rattle.graphql_spec.specs.Grammar.{boolean_word, false_word, null_word, true_word}
 use Rattle.graphql_spec.specs.Inputs.{Input, null, scalar, enumerated, variable, list, object, InputItems, no_items, item, InputFields, no_fields, input_field}
 use Rattle.graphql_spec.specs.Positions.{Spot, beginning}
 use Rattle.graphql_spec.specs.Schema.{Deprecation, Entry, EnumValue, FieldDeclaration, InputDeclaration, Schema, Shape, current, deprecated}
@@ -21,12 +22,13 @@ use Rattle.graphql_spec.proofs.Lists.{same_true}
 use Rattle.juniper_schema.specs.MadeTypes.{concrete}
 use Rattle.juniper_schema.specs.SchemaView.{meta_of}
 use Rattle.juniper_sdl.specs.Definitions.{is_left_out}
-use Rattle.juniper_sdl.specs.Faults.{are_constants, default_is_constant, field_is_written, first_fault, has_parts, have_constants, input_is_written, is_constant}
+use Rattle.juniper_sdl.specs.Faults.{are_constants, default_is_constant, field_is_written, first_fault, has_parts, have_constants, input_is_written}
+use Rattle.juniper_sdl.specs.Faults.{is_constant}
 use Rattle.juniper_sdl.specs.Faults.{is_listed, is_some_list, listed_is_written, mutation_fault, name_fault, named_fault, names_are_written, sdl_fault}
 use Rattle.juniper_sdl.specs.Faults.{type_fault, value_is_written}
 use Rattle.juniper_sdl.specs.Grammar.{AreFields, AreItems, Arguments, Bang, Block, Deprecated, Each, EnumWord, Implements, IsConstant, IsDefault, IsDefinition}
-use Rattle.juniper_sdl.specs.Grammar.{IsDirective, IsDocument, IsField, IsInput, IsInt, IsListedType, IsRoot, IsSchemaDefinition, IsString, IsType}
-use Rattle.juniper_sdl.specs.Grammar.{IsTypeDefinition, IsValue, Mark, Nothing, OneOrMore, Opt, Part, Separated, SpecifiedBy, SpellsSchema, Word, listed_fields}
+use Rattle.juniper_sdl.specs.Grammar.{IsDirective, IsField, IsInput, IsInt, IsListedType, IsRoot, IsSchemaDefinition, IsString, IsType}
+use Rattle.juniper_sdl.specs.Grammar.{IsValue, Mark, Nothing, OneOrMore, Opt, Part, Separated, SpecifiedBy, SpellsSchema, Word, listed_fields}
 use Rattle.juniper_sdl.specs.Grammar.{own_name, written_types, ◌then◌}
 use Rattle.juniper_sdl.proofs.Reading.{lexemes}
 
@@ -120,7 +122,8 @@ separated : (m : ℕ) (ns : List Name) → Tells (Separated m ns) (SomeAll is_na
 unfolding is_some_list
 separated m [] = record { by = λ s t part sound. absurd part }
 separated m (n ∷ ns) =
-    more (both (word n) (each (λ k. Mark m then Word k) is_name ns (λ k. past (mark m) (word k)))) (λ f. (refl, and_from (is_name n) (list_all is_name ns) f.0 f.1))
+    more (both (word n) (each (λ k. Mark m then Word k) is_name ns (λ k. past (mark m) (word k))))
+    (λ f. (refl, and_from (is_name n) (list_all is_name ns) f.0 f.1))
 
 -- ## Values and types
 
@@ -258,7 +261,8 @@ any_listed (f ∷ fs) is = elim (cases_Bool (is_listed f)) [
 abbrev IsFaultless : Name → Shape → Type 0
 IsFaultless n x = (is_name n ≡ true) × (has_parts x ≡ true) × (names_are_written x ≡ true)
 
-headed : (w : Text) (n : Name) (x : Shape) {P : Part} → Tells P ((has_parts x ≡ true) × (names_are_written x ≡ true)) → Tells (Word w then Word n then P) (IsFaultless n x)
+headed : (w : Text) (n : Name) (x : Shape) {P : Part} → Tells P ((has_parts x ≡ true) × (names_are_written x ≡ true)) →
+    Tells (Word w then Word n then P) (IsFaultless n x)
 headed w n x tells = past (word w) (more (both (word n) tells) (λ f. (f.0, f.1.0, f.1.1)))
 
 composite : (fs : List FieldDeclaration) (is : List Name) → Tells (Implements is then Block IsField (listed_fields fs))

@@ -9,14 +9,16 @@ use Rattle.graphql_spec.specs.Grammar.{IsEnumName, boolean_word, false_word, nul
 use Rattle.graphql_spec.specs.Inputs.{Input, null, scalar, enumerated, variable, list, object, InputItems, no_items, item, InputFields, no_fields, input_field}
 use Rattle.graphql_spec.specs.Shown.{Name, Text, int, text, boolean}
 use Rattle.graphql_spec.specs.Tokens as token
-use Rattle.graphql_spec.specs.Tokens.{IsToken, continues_int, continues_name, ends_before, fits_int, is_blank, is_mark, is_name, is_nil, is_quote, mark_text, starts_name}
+use Rattle.graphql_spec.specs.Tokens.{IsToken, continues_int, continues_name, ends_before, fits_int, is_blank, is_mark, is_name, is_nil, is_quote, mark_text}
+use Rattle.graphql_spec.specs.Tokens.{starts_name}
 use Rattle.graphql_spec.specs.Types.{TypeRef, named, list_of, innermost, type_text, with_mark}
 use Rattle.graphql_spec.specs.WellFormed.{is_enum_name}
 use Rattle.graphql_spec.proofs.DisplayedWords.{int_read, int_written, string_read}
 use Rattle.graphql_spec.proofs.Lists.{same_refl}
 use Rattle.juniper_sdl.specs.Faults.{are_constants, have_constants, is_constant}
 use Rattle.juniper_sdl.specs.Grammar.{AreFields, AreItems, EnumWord, IsConstant, IsInt, IsString, IsType, Mark, Part, Word, ◌then◌}
-use Rattle.juniper_sdl.proofs.Reading.{Follows, IsStop, Reads, Stops, always, as_part, before, blank, both, follows, follows_nothing, mark, nothing, one_token, stops, word}
+use Rattle.juniper_sdl.proofs.Reading.{Follows, Reads, Stops, always, as_part, before, blank, both, follows, follows_nothing, mark, nothing}
+use Rattle.juniper_sdl.proofs.Reading.{one_token, stops, word}
 
 -- ## Texts and words
 

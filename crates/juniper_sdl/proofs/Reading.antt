@@ -1,12 +1,13 @@
 -- Texts that are tokens of a part, before whatever ends a word.
-use Rattle.std.proofs.Common.{◌≡◌, ℕ, Bool, true, false, not, ◌&&◌, ◌||◌, List, [], ◌∷◌, ◌++◌, Option, Some, None, map, refl, ap, sym, ◌∙◌, subst}
+use Rattle.std.proofs.Common.{◌≡◌, ℕ, Bool, true, false, not, ◌&&◌, ◌||◌, List, [], ◌∷◌, ◌++◌, Some, None, map, refl, ap, sym, ◌∙◌, subst}
 use Rattle.std.proofs.lemmas.Bool.{and_parts, false≢true}
 use Rattle.std.proofs.lemmas.List.{append_assoc, append-nil}
 use Rattle.std.specs.List.{flat_map, list_all}
-use Rattle.graphql_spec.specs.Positions.{Span, Spot, beginning, past_byte, walk}
+use Rattle.graphql_spec.specs.Positions.{Spot, beginning, past_byte, walk}
 use Rattle.graphql_spec.specs.Tokens as token
-use Rattle.graphql_spec.specs.Tokens.{Lexeme, Token, IsToken, IsText, continues_name, continues_int, ends_before, is_blank, is_ignored, is_name, is_quote, between}
-use Rattle.graphql_spec.specs.Tokens.{ignore_byte, is_mark, mark_text, starts_name}
+use Rattle.graphql_spec.specs.Tokens.{Lexeme, Token, IsToken, IsText, continues_name, continues_int, ends_before, is_blank, is_ignored, is_name, is_quote}
+use Rattle.graphql_spec.specs.Tokens.{between}
+use Rattle.graphql_spec.specs.Tokens.{ignore_byte, is_mark, mark_text}
 use Rattle.juniper_sdl.specs.Grammar.{Part, ◌then◌, Nothing, Mark, Word, Each, Spells}
 
 -- ## Texts, word by word

@@ -1,21 +1,20 @@
 -- Worked rows: which types have a fault, and which tokens stand for a declaration, by hand from the Specification.
-use Rattle.std.proofs.Common.{◌≡◌, ℕ, Bool, true, false, not, List, [], ◌∷◌, Option, Some, None, pos, codes, refl, ap, sym, ◌∙◌}
+use Rattle.std.proofs.Common.{◌≡◌, Bool, true, false, List, [], ◌∷◌, Option, Some, None, pos, codes, refl, ap, ◌∙◌}
 use Rattle.std.proofs.lemmas.Bool.{false≢true}
-use Rattle.graphql_spec.specs.Display.{written_byte}
 use Rattle.graphql_spec.specs.Executable.{is_reserved}
 use Rattle.graphql_spec.specs.Inputs.{enumerated, item, list, no_items, object, input_field, no_fields, scalar, variable}
-use Rattle.graphql_spec.specs.Schema.{Deprecation, EnumValue, FieldDeclaration, InputDeclaration, current, deprecated}
-use Rattle.graphql_spec.specs.Schema.{enum_type, input_object_type, object_type, plain_field, plain_input, scalar_type, union_type}
+use Rattle.graphql_spec.specs.Schema.{EnumValue, FieldDeclaration, InputDeclaration, current, deprecated}
+use Rattle.graphql_spec.specs.Schema.{enum_type, input_object_type, object_type, plain_field, union_type}
 use Rattle.graphql_spec.specs.Shown.{Name, int}
 use Rattle.graphql_spec.specs.Tokens as token
-use Rattle.graphql_spec.specs.Tokens.{Lexeme, Mode, before, continues_name, decode_from, decoded_int, decoded_string, digits_value, fits_int, int_value}
+use Rattle.graphql_spec.specs.Tokens.{Lexeme, before, continues_name, decode_from, decoded_int, decoded_string, digits_value, fits_int, int_value}
 use Rattle.graphql_spec.specs.Tokens.{is_digits, is_int, is_name, is_source_byte, read_byte, starts_name}
 use Rattle.graphql_spec.specs.Types.{innermost, list_of, named}
 use Rattle.graphql_spec.specs.Unplaced.{nowhere}
 use Rattle.graphql_spec.specs.WellFormed.{is_enum_name}
-use Rattle.juniper_sdl.specs.Faults.{Fault, are_constants, default_is_constant, field_is_written, has_parts, have_constants, input_is_written, is_constant}
-use Rattle.juniper_sdl.specs.Faults.{is_listed, is_some_list, listed_is_written, name_fault, named_fault, names_are_written, type_fault, value_is_written}
-use Rattle.juniper_sdl.specs.Grammar.{IsField, IsRoot, IsSchemaDefinition, IsTypeDefinition}
+use Rattle.juniper_sdl.specs.Faults.{Fault, field_is_written, has_parts, is_constant}
+use Rattle.juniper_sdl.specs.Faults.{is_listed, is_some_list, listed_is_written, named_fault, names_are_written, type_fault, value_is_written}
+use Rattle.juniper_sdl.specs.Grammar.{IsField, IsRoot, IsSchemaDefinition}
 use Rattle.juniper_sdl.specs.declared.fault.Flaw.TheVariants.{NoName, NoParts}
 
 -- ## Faults
@@ -58,19 +57,23 @@ left_out : named_fault (codes "__A") (enum_type []) ≡ None
 unfolding named_fault is_reserved
 left_out = refl
 
+-- a field of the type `C`
+a_field : Name → FieldDeclaration
+a_field n = record { name = n; description = None; arguments = []; of_type = named false (codes "C"); deprecation = current }
+
 -- `type A { b: C }`
-one_field : named_fault (codes "A") (object_type (plain_field (codes "b") [] (named false (codes "C")) ∷ []) []) ≡ None
-unfolding named_fault is_reserved type_fault has_parts is_listed names_are_written listed_is_written field_is_written is_name starts_name continues_name innermost plain_field
+one_field : type_fault (codes "A") (object_type (a_field (codes "b") ∷ []) []) ≡ None
+unfolding type_fault has_parts is_reserved is_listed names_are_written listed_is_written field_is_written is_name starts_name continues_name innermost a_field
 one_field = refl
 
 -- `type A { b-d: C }`
-no_field_name : named_fault (codes "A") (object_type (plain_field (codes "b-d") [] (named false (codes "C")) ∷ []) []) ≡ no_name (codes "A")
-unfolding named_fault is_reserved type_fault has_parts is_listed names_are_written listed_is_written field_is_written is_name starts_name continues_name plain_field no_name
+no_field_name : type_fault (codes "A") (object_type (a_field (codes "b-d") ∷ []) []) ≡ no_name (codes "A")
+unfolding type_fault has_parts is_reserved is_listed names_are_written listed_is_written field_is_written is_name starts_name continues_name a_field no_name
 no_field_name = refl
 
 -- `enum A { true }`
-true_value : named_fault (codes "A") (enum_type (value_named (codes "true") ∷ [])) ≡ no_name (codes "A")
-unfolding named_fault is_reserved type_fault has_parts is_some_list names_are_written value_is_written value_named is_enum_name is_name starts_name continues_name no_name
+true_value : type_fault (codes "A") (enum_type (value_named (codes "true") ∷ [])) ≡ no_name (codes "A")
+unfolding type_fault has_parts is_some_list names_are_written value_is_written value_named is_enum_name is_name starts_name continues_name no_name
 true_value = refl
 
 -- `[{x: RED}]` is a constant, `[{x: $y}]` and `[{2: RED}]` are none

@@ -1,7 +1,8 @@
 -- The texts of declarations and definitions are of the grammar.
-use Rattle.std.proofs.Common.{◌≡◌, ℕ, Bool, true, false, not, ◌&&◌, ◌||◌, List, [], ◌∷◌, ◌++◌, Option, Some, None, cond, codes, refl, ap, sym, ◌∙◌, inl, inr, subst}
+use Rattle.std.proofs.Common.{◌≡◌, ℕ, Bool, true, false, not, ◌&&◌, ◌||◌, List, [], ◌∷◌, ◌++◌, Option, Some, None, codes, refl, ap, sym, ◌∙◌, inl, inr}
+use Rattle.std.proofs.Common.{subst}
 use Rattle.std.proofs.lemmas.Bool.{and_parts, cases_Bool, false≢true}
-use Rattle.std.specs.List.{filter, flat_map, join_by, list_all, list_any}
+use Rattle.std.specs.List.{flat_map, join_by, list_all, list_any}
 use Rattle.graphql_spec.specs.Display.{quoted}
 use Rattle.graphql_spec.specs.Executable.{is_reserved}
 use Rattle.graphql_spec.specs.Inputs.{Input}
@@ -10,16 +11,18 @@ use Rattle.graphql_spec.specs.Schema.{scalar_type, enum_type, object_type, inter
 use Rattle.graphql_spec.specs.Schema.{placeholder}
 use Rattle.graphql_spec.specs.Shown.{Name, Text}
 use Rattle.graphql_spec.specs.Tokens.{continues_int, continues_name, is_blank, is_mark, is_name, is_quote, mark_text, starts_name}
-use Rattle.graphql_spec.specs.Types.{innermost, type_text}
-use Rattle.graphql_spec.specs.WellFormed.{is_enum_name}
-use Rattle.juniper_sdl.specs.Definitions.{argument_text, arguments_text, block_text, default_text, definition_text, deprecation_text, description_text, field_text}
+use Rattle.graphql_spec.specs.Types.{innermost}
+use Rattle.juniper_sdl.specs.Definitions.{argument_text, arguments_text, block_text, default_text, definition_text, deprecation_text, description_text}
+use Rattle.juniper_sdl.specs.Definitions.{field_text}
 use Rattle.juniper_sdl.specs.Definitions.{implements_text, input_field_text, input_text, listed_field, member_text, specified_text, value_text}
 use Rattle.juniper_sdl.specs.Faults.{default_is_constant, field_is_written, has_parts, input_is_written, is_listed, is_some_list, listed_is_written}
 use Rattle.juniper_sdl.specs.Faults.{names_are_written, value_is_written}
 use Rattle.juniper_sdl.specs.Grammar.{listed_fields}
-use Rattle.juniper_sdl.specs.Grammar.{Arguments, Bang, Block, Deprecated, Each, EnumWord, Implements, IsDefault, IsDefinition, IsDirective, IsField, IsInput, IsString}
+use Rattle.juniper_sdl.specs.Grammar.{Arguments, Block, Deprecated, Each, Implements, IsDefault, IsDefinition, IsDirective, IsField, IsInput}
+use Rattle.juniper_sdl.specs.Grammar.{IsString}
 use Rattle.juniper_sdl.specs.Grammar.{IsType, IsTypeDefinition, IsValue, Mark, Nothing, OneOrMore, Opt, Part, Separated, SpecifiedBy, Word, ◌then◌}
-use Rattle.juniper_sdl.proofs.Reading.{Follows, IsStop, Reads, always, as_part, before, blank, both, each, follow_both, follow_each, follows, follows_nothing, mark}
+use Rattle.juniper_sdl.proofs.Reading.{Follows, IsStop, Reads, always, as_part, before, blank, both, each, follow_both, follow_each, follows, follows_nothing}
+use Rattle.juniper_sdl.proofs.Reading.{mark}
 use Rattle.juniper_sdl.proofs.Reading.{nothing, stops, then_blanks, word}
 use Rattle.juniper_sdl.proofs.ReadValues.{constant_reads, enum_reads, string_reads, type_reads}
 

@@ -1,8 +1,9 @@
 -- The text of a schema without fault is of the grammar.
-use Rattle.std.proofs.Common.{◌≡◌, ℕ, Bool, true, false, not, ◌&&◌, List, [], ◌∷◌, ◌++◌, map, Option, Some, None, cond, codes, refl, ap, sym, ◌∙◌, inl, inr, subst}
+use Rattle.std.proofs.Common.{◌≡◌, ℕ, Bool, true, false, ◌&&◌, List, [], ◌∷◌, ◌++◌, map, Option, Some, None, cond, codes, refl, ap, sym, ◌∙◌, inl, inr}
+use Rattle.std.proofs.Common.{subst}
 use Rattle.std.proofs.lemmas.Bool.{and_parts, cases_Bool}
 use Rattle.std.proofs.lemmas.Option.{none-some}
-use Rattle.std.specs.List.{filter, flat_map}
+use Rattle.std.specs.List.{flat_map}
 use Rattle.std.specs.Option.{option_or}
 use Rattle.graphql_spec.specs.Schema.{Entry, Schema, Shape}
 use Rattle.graphql_spec.specs.Shown.{Name}
@@ -11,11 +12,13 @@ use Rattle.graphql_spec.specs.TypeList.{type_list}
 use Rattle.juniper_schema.specs.MadeTypes.{concrete}
 use Rattle.juniper_schema.specs.SchemaView.{meta_of}
 use Rattle.juniper_sdl.specs.Definitions.{is_left_out, meta_text, mutation_text, root_text, schema_text}
-use Rattle.juniper_sdl.specs.Faults.{Fault, first_fault, has_parts, made_fault, mutation_fault, name_fault, named_fault, names_are_written, sdl_fault, type_fault}
-use Rattle.juniper_sdl.specs.Grammar.{Each, IsDocument, IsListedType, IsRoot, IsSchemaDefinition, Mark, Opt, Part, SpellsSchema, Word, own_name, written_types}
+use Rattle.juniper_sdl.specs.Faults.{Fault, first_fault, has_parts, mutation_fault, name_fault, named_fault, names_are_written, sdl_fault}
+use Rattle.juniper_sdl.specs.Faults.{type_fault}
+use Rattle.juniper_sdl.specs.Grammar.{Each, IsListedType, IsRoot, IsSchemaDefinition, Mark, Opt, Part, SpellsSchema, own_name, written_types}
 use Rattle.juniper_sdl.specs.Grammar.{◌then◌}
-use Rattle.juniper_sdl.proofs.Reading.{Follows, Reads, always, as_part, before, both, follow_each, follows, follows_nothing, mark, nothing, then_blanks, whole, word}
-use Rattle.juniper_sdl.proofs.Spelled.{behind_colon, behind_nothing, below, brace_stops, colon_stops, in_line, line_stops, space_stops, spaced, type_definition}
+use Rattle.juniper_sdl.proofs.Reading.{Follows, Reads, always, as_part, before, both, follow_each, follows, follows_nothing, mark, nothing, then_blanks}
+use Rattle.juniper_sdl.proofs.Reading.{whole, word}
+use Rattle.juniper_sdl.proofs.Spelled.{behind_colon, behind_nothing, below, colon_stops, in_line, line_stops, space_stops, spaced, type_definition}
 
 -- ## What has no fault
 
@@ -71,8 +74,8 @@ query n named reads =
 roots : (s : Schema) → name_fault s.query ≡ None → mutation_fault s.mutation ≡ None → Reads (IsSchemaDefinition s.query s.mutation) (root_text s)
 unfolding is_mark mark_text is_name starts_name continues_name
 roots s q m =
-    both (word (codes "schema") refl) (spaced (before (mark 123 refl refl) (below (spaced (spaced (query s.query (name_is s.query q) (mutation s.mutation m)))))))
-    (follows 32 space_stops)
+    let named = query s.query (name_is s.query q) (mutation s.mutation m) in
+    both (word (codes "schema") refl) (spaced (before (mark 123 refl refl) (below (spaced (spaced named))))) (follows 32 space_stops)
 
 -- ## Types
 

@@ -7,4 +7,5 @@ use Rattle.juniper_sdl.proofs.faults.fields_are_written.Given as goal
 -- what is left decides
 abbrev pub invariant-loop-field : goal.invariant-loop-field
 invariant-loop-field g l =
-    let seen = view_field g.S.ScalarValue.shown in list_all listed_is_written (map seen (drop l.field-index l.fields)) ≡ list_all listed_is_written (map seen l.fields)
+    let seen = view_field g.S.ScalarValue.shown in
+    list_all listed_is_written (map seen (drop l.field-index l.fields)) ≡ list_all listed_is_written (map seen l.fields)

@@ -7,4 +7,5 @@ use Rattle.juniper_sdl.proofs.faults.inputs_are_written.Given as goal
 -- what is left decides
 abbrev pub invariant-loop-argument : goal.invariant-loop-argument
 invariant-loop-argument g l =
-    let seen = view_argument g.S.ScalarValue.shown in list_all input_is_written (map seen (drop l.argument-index l.declared)) ≡ list_all input_is_written (map seen l.declared)
+    let seen = view_argument g.S.ScalarValue.shown in
+    list_all input_is_written (map seen (drop l.argument-index l.declared)) ≡ list_all input_is_written (map seen l.declared)

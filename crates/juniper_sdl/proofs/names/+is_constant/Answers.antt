@@ -4,7 +4,7 @@ use Rattle.juniper_syntax.proofs.input.InputValue.TheLaws.{the_size}
 use Rattle.juniper_syntax.specs.declared.input.InputValue.TheShapes.{weighed-InputValue-Object-0-at-4}
 use Rattle.graphql_spec.specs.Tokens.{is_name}
 use Rattle.juniper_syntax.specs.InputView.{view_input, view_items, view_fields}
-use Rattle.juniper_syntax.proofs.Inputs.{view-Null, view-Scalar, view-Enum, view-Variable, view-List, view-Object}
+use Rattle.juniper_syntax.proofs.Inputs.{view-Variable, view-List, view-Object}
 use Rattle.juniper_sdl.specs.Faults.{are_constants, have_constants, is_constant}
 use Rattle.juniper_sdl.proofs.Constants.{items_pass, items_stop, items_done, fields_pass, fields_stop, fields_done, names_stop}
 use Rattle.juniper_sdl.proofs.names.+is_constant.Goals as goal
