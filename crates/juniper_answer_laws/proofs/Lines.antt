@@ -19,7 +19,7 @@ use Rattle.graphql_spec.specs.OutcomeExists.{Answers}
 use Rattle.serde_json.proofs.OnLiterals.{serde_json_on_literals}
 use Rattle.juniper_json.specs.AnswerText.{answer_text, value_data, values_data, entries_data, scalar_data, items_data, step_data, location_data}
 use Rattle.juniper_json.specs.AnswerText.{extensions_data, error_data, errors_data, answer_data}
-use Rattle.juniper_demo_server.specs.Answers.{ShowsRefusal, demo_service, demo_steps, no_values}
+use Rattle.juniper_demo_server.specs.Answers.{IsAnswerWith, ShowsRefusal, demo_service, demo_steps, no_values}
 use Rattle.juniper_demo_server.specs.Demo.{concrete_type, reply}
 use Rattle.juniper_demo_server.specs.DemoSchema.{IsDemoSchema, demo_schema}
 use Rattle.juniper_demo_server.specs.declared.demo.DemoContext.{DemoContext}
@@ -103,6 +103,7 @@ module _ (c after : DemoContext) (a : Answer) (s : Schema) (demo : IsDemoSchema 
   shown (error.variable_not_constant n) (r, is, exact) shows = none_refused r exact
 
 pub word-is-answered : WordIsAnsweredByTheLine
+unfolding IsAnswerWith
 word-is-answered c after a (s, demo, inl (v, es, exact, shows)) =
     let told = outcomes-are-the-line s demo no_values c after (responds v es) exact.0 in (inl (shows.0, shows.1 ∙ told.0), told.1)
 word-is-answered c after a (s, demo, inr (e, responds_so, shows)) = shown c after a s demo e responds_so shows

@@ -18,7 +18,7 @@ use Rattle.juniper_syntax.specs.Scalars.{default_shown}
 use Rattle.juniper_syntax.specs.ValueView.{view_value}
 use Rattle.juniper_syntax.specs.declared.scalar.DefaultScalarValue.{DefaultScalarValue}
 use Rattle.juniper_syntax.specs.declared.value.Value.{Value}
-use Rattle.juniper_demo_server.specs.Answers.{IsAnswerWith, MayLeave, ShowsData, ShowsRefusal, demo_steps}
+use Rattle.juniper_demo_server.specs.Answers.{IsAnswerWith, IsLeftWith, MayLeave, ShowsData, ShowsRefusal, demo_steps}
 use Rattle.juniper_demo_server.specs.Demo.{concrete_type, reply}
 use Rattle.juniper_demo_server.specs.DemoSchema.{IsDemoSchema}
 use Rattle.juniper_demo_server.specs.declared.demo.DemoContext.{DemoContext}
@@ -53,6 +53,7 @@ module _ (t : Text) (c after : DemoContext) where
   shown : (n : Option Name) (vars : Variables) (s : Schema) → IsDemoSchema s → (o : Outcome) (a : Answer) →
       Comes Query (Some demo_steps) false s (asked n vars) c after o
       → IsShown o a → IsAnswerWith t n vars c a after
+  unfolding IsAnswerWith
   shown n vars s same (Ok p) a comes shows = (s, same, inl (_, _, comes, shows))
   shown n vars s same (Err e) a comes shows = (s, same, inr (_, comes, shows))
 
@@ -88,6 +89,7 @@ module _ (t : Text) (c after : DemoContext) where
   left : (n : Option Name) (vars : Variables) (s : Schema) → IsDemoSchema s → (o : Outcome) →
       Comes Query (Some demo_steps) false s (asked n vars) c after o
       → MayLeave t n vars c after
+  unfolding IsLeftWith
   left n vars s same (Ok p) comes = inr (s, same, (responds (view_value default_shown p.0) (map (view_listed default_shown) p.1.items), comes))
   left n vars s same (Err e) comes =
       inr (s, same, responded (λ r. IsFullOutcome (service_from Query (Some demo_steps) false s) (asked n vars) c r after) (view_request_error e) comes)

@@ -78,13 +78,17 @@ IsAnswerOn s q c a after =
     ⊎ ((e : RequestError) × Responds (λ r. IsFullOutcome (demo_service s) q c r after) e × ShowsRefusal e a)
 
 -- the same on a schema with the demo's types, each once and in whatever order
-abbrev pub IsAnswerWith : Text → Option Name → Variables → DemoContext → Answer → DemoContext → Type 0
+unfoldable pub IsAnswerWith : Text → Option Name → Variables → DemoContext → Answer → DemoContext → Type 0
 IsAnswerWith t n vars c a after = (s : Schema) × IsDemoSchema s × IsAnswerOn s (record { text = t; operation = n; variables = vars }) c a after
 
--- a context that the request may leave where memory is wanting: the one before, or that after an outcome of the request (6.1)
+-- the context after an outcome of the request (6.1)
+unfoldable pub IsLeftWith : Text → Option Name → Variables → DemoContext → DemoContext → Type 0
+IsLeftWith t n vars c after = (s : Schema) × IsDemoSchema s
+    × ((r : Response) × IsFullOutcome (demo_service s) (record { text = t; operation = n; variables = vars }) c r after)
+
+-- a context that the request may leave where memory is wanting: the one before, or one after an outcome
 abbrev pub MayLeave : Text → Option Name → Variables → DemoContext → DemoContext → Type 0
-MayLeave t n vars c after = (after ≡ c) ⊎ ((s : Schema) × IsDemoSchema s
-    × ((r : Response) × IsFullOutcome (demo_service s) (record { text = t; operation = n; variables = vars }) c r after))
+MayLeave t n vars c after = (after ≡ c) ⊎ IsLeftWith t n vars c after
 
 -- with the values of variables, if there are any
 abbrev pub MayLeaveGiven : Text → Option Name → Result Variables VariablesError → DemoContext → DemoContext → Type 0
