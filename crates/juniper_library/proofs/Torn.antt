@@ -16,7 +16,7 @@ all_same eq same [] = refl
 all_same eq same (x ∷ xs) = both_true (same x) (all_same eq same xs)
 
 text_same : (t : Text) → bytes_eq t t ≡ true
-text_same t = (bytes_eq-Decides t t (bytes_eq t t) refl).1 refl
+text_same t = (bytes_eq-Decides t t).1 refl
 
 entry_same : (e : Named) → is_same_entry e e ≡ true
 entry_same e = both_true (text_same e.id) (text_same e.name)
