@@ -375,6 +375,7 @@ impl<S: ScalarValue> MutationType<S> for Mutation {
 
     ghost torn = { reply.torn };
 
+    #[tactic(auto, using(crate::proofs::Torn::nothing_torn))]
     fn resolve_root(
         alloc: Global,
         field_name: &str,
