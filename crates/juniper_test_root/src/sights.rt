@@ -106,11 +106,13 @@ fn push_calls(seen: &str, out: &mut String) -> Result<(), AllocError> {
     if seen.is_empty() {
         return out.push_str("nothing");
     }
-    let mut mark = "";
+    let mut is_first = true;
     for line in seen.lines() {
-        out.push_str(mark)?;
+        if !is_first {
+            out.push_str("; ")?;
+        }
+        is_first = false;
         out.push_str(line)?;
-        mark = "; ";
     }
     Ok(())
 }
