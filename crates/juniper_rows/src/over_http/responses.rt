@@ -6,11 +6,13 @@ use std::alloc::{AllocError, Global};
 /// Of each response its status, its media type and its body, with ` | ` between each two.
 pub fn responses_in(alloc: Global, sent: &str) -> Result<String, AllocError> {
     let mut shown = String::new(alloc);
-    let mut bar = "";
+    let mut is_first = true;
     for response in sent.split("HTTP/1.").skip(1) {
-        shown.push_str(bar)?;
+        if !is_first {
+            shown.push_str(" | ")?;
+        }
+        is_first = false;
         put_response(response, &mut shown)?;
-        bar = " | ";
     }
     Ok(shown)
 }
