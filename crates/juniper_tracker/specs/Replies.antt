@@ -1,5 +1,6 @@
 -- What the tracker's resolvers reply, and what its mutations leave (6.2.2, 6.4.2).
-use Rattle.std.specs.Prelude.{ℕ, ℤ, pos, negsuc, Bool, true, false, ◌&&◌, ◌==◌, ◌-◌, codes, cond, eqb, nat_le, nat_lt, List, [], ◌∷◌, ◌++◌, length, map, set, take}
+use Rattle.std.specs.Prelude.{ℕ, ℤ, pos, negsuc, Bool, true, false, ◌&&◌, ◌==◌, ◌-◌, codes, cond, eqb, nat_le, nat_lt, List, [], ◌∷◌, ◌++◌}
+use Rattle.std.specs.Prelude.{length, map, set, take}
 use Rattle.std.specs.Prelude.{Option, Some, None, option_map, unwrap_or, Result, Ok, string_bytes}
 use Rattle.std.specs.Char.{is_ascii_hexdigit}
 use Rattle.std.specs.Cmp.Lexicographic.{pointwise}
