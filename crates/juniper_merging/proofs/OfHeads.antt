@@ -13,7 +13,7 @@ use Rattle.juniper_merging.specs.MergingGraph.{FieldAt, view_vertex}
 use Rattle.juniper_merging.specs.Nodes.{HasHead, SameHead, Selects}
 use Rattle.juniper_merging.specs.Standing.{Both}
 use Rattle.juniper_merging.specs.Tables.{below_in, joined}
-use Rattle.juniper_merging.specs.Uniting.{AreHeads, IsHead, list_or_none, same_heads}
+use Rattle.juniper_merging.specs.Uniting.{AreHeads, IsHead, group_number, list_or_none, same_heads}
 use Rattle.juniper_merging.specs.declared.graph.Vertex.{Vertex}
 use Rattle.juniper_merging.specs.declared.heads.Head.{Head}
 use Rattle.juniper_merging.proofs.Gathered.{joined-more}
@@ -24,6 +24,10 @@ use Rattle.juniper_merging.proofs.Numbers.{itself, same-number}
 use Rattle.juniper_merging.proofs.Places.{both-across, both-first, both-parts, both-second, both-turned}
 use Rattle.juniper_merging.proofs.Tables.{in-first, one-of}
 use Rattle.juniper_merging.proofs.Told.{some-same}
+
+-- the group of a field
+abbrev at_group : FieldAt → ℕ
+at_group v = group_number v.key v.call
 
 never : {A : Type 0} → true ≡ false → A
 never e = cc
@@ -191,7 +195,7 @@ module _ (vs : List FieldAt) (t : List (List ℕ)) where
       pub heads-new : (hd : Head) (more : List Head) (now : ℕ → List ℕ) → hd.field ≡ k → hd.is_many ≡ false → hd.below.items ≡ list_or_none below →
           more ≡ heads ++ hd ∷ [] →
           ((p : ℕ) (he : Head) → slice_get heads p ≡ Some he → (h : FieldAt) → slice_get vs he.field ≡ Some h → SameHead h v → ⊥) →
-          ((n : ℕ) → now n ≡ cond (nat_eq v.key n) (groups v.key ++ length heads ∷ []) (groups n)) → AreHeads vs t (F ++ k ∷ []) more now
+          ((n : ℕ) → now n ≡ cond (nat_eq (at_group v) n) (groups (at_group v) ++ length heads ∷ []) (groups n)) → AreHeads vs t (F ++ k ∷ []) more now
       unfolding joined
       heads-new hd more now field one selects push new regrouped = subst (λ l. AreHeads vs t (F ++ k ∷ []) l now) (sym push) (record {
         each = λ p he e. elim (one-of heads hd he p e) [
@@ -216,8 +220,9 @@ module _ (vs : List FieldAt) (t : List (List ℕ)) where
           ]
         ];
         grouped = λ p he h e eh. elim (one-of heads hd he p e) [
-          | inl g ↦ subst (In p) (sym (regrouped h.key)) (kept p h.key (are.grouped p he h g eh))
-          | inr g ↦ subst (λ n. In n (now h.key)) (sym g.0) (subst (In (length heads)) (sym (regrouped h.key)) (own-group h (own-field he h g.1 eh)))
+          | inl g ↦ subst (In p) (sym (regrouped (at_group h))) (kept p (at_group h) (are.grouped p he h g eh))
+          | inr g ↦ subst (λ n. In n (now (at_group h))) (sym g.0)
+              (subst (In (length heads)) (sym (regrouped (at_group h))) (own-group h (own-field he h g.1 eh)))
         ];
       })
         where
@@ -254,16 +259,16 @@ module _ (vs : List FieldAt) (t : List (List ℕ)) where
                 (selects-more vs F v [] (selects-none vs F v none) k (is-own v (same-itself v)));
           }
 
-          kept : (p n : ℕ) → In p (groups n) → In p (cond (nat_eq v.key n) (groups v.key ++ length heads ∷ []) (groups n))
-          kept p n m = elim (cases_Bool (nat_eq v.key n)) [
-            | inl q ↦ rw q (in_first p (groups v.key) (length heads ∷ []) (subst (λ i. In p (groups i)) (sym (same-number v.key n q)) m))
+          kept : (p n : ℕ) → In p (groups n) → In p (cond (nat_eq (at_group v) n) (groups (at_group v) ++ length heads ∷ []) (groups n))
+          kept p n m = elim (cases_Bool (nat_eq (at_group v) n)) [
+            | inl q ↦ rw q (in_first p (groups (at_group v)) (length heads ∷ []) (subst (λ i. In p (groups i)) (sym (same-number (at_group v) n q)) m))
             | inr q ↦ rw q m
           ]
 
-          own-group : (h : FieldAt) → h ≡ v → In (length heads) (cond (nat_eq v.key h.key) (groups v.key ++ length heads ∷ []) (groups h.key))
+          own-group : (h : FieldAt) → h ≡ v → In (length heads) (cond (nat_eq (at_group v) (at_group h)) (groups (at_group v) ++ length heads ∷ []) (groups (at_group h)))
           own-group h q =
-              let e : nat_eq v.key h.key ≡ true = subst (λ (u : FieldAt). nat_eq v.key u.key ≡ true) (sym q) (itself v.key) in
-              rw e (in_second (length heads) (groups v.key) (length heads ∷ []) (inl refl))
+              let e : nat_eq (at_group v) (at_group h) ≡ true = subst (λ (u : FieldAt). nat_eq (at_group v) (at_group u) ≡ true) (sym q) (itself (at_group v)) in
+              rw e (in_second (length heads) (groups (at_group v)) (length heads ∷ []) (inl refl))
 
       -- a place more of a head
       pub heads-added : (p : ℕ) (hd new : Head) (h : FieldAt) (more : List Head) (now : ℕ → List ℕ) → slice_get heads p ≡ Some hd →
@@ -285,7 +290,7 @@ module _ (vs : List FieldAt) (t : List (List ℕ)) where
         ];
         apart = λ q r he hf e f d a b ea eb. are.apart q r (old q he e).0 (old r hf f).0 (old q he e).1 (old r hf f).1 d a b
             (ap (slice_get vs) (sym (old q he e).2) ∙ ea) (ap (slice_get vs) (sym (old r hf f).2) ∙ eb);
-        grouped = λ q he w e ew. subst (In q) (sym (kept w.key)) (are.grouped q (old q he e).0 w (old q he e).1
+        grouped = λ q he w e ew. subst (In q) (sym (kept (at_group w))) (are.grouped q (old q he e).0 w (old q he e).1
             (ap (slice_get vs) (sym (old q he e).2) ∙ ew));
       })
         where

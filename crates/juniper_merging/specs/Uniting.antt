@@ -1,6 +1,6 @@
 -- How sets are put together: their fields by what they differ in, and the nodes that are made of them (5.3.2). Only private clauses cite what
 -- stands here.
-use Rattle.std.specs.Prelude.{ℕ, Bool, true, false, List, [], ◌∷◌, ◌++◌, Option, Some, None, cond, nat_eq, not, slice_set, ◌&&◌, ◌≡◌}
+use Rattle.std.specs.Prelude.{ℕ, Bool, true, false, List, [], ◌∷◌, ◌++◌, Option, Some, None, cond, nat_eq, not, slice_set, ◌&&◌, ◌≡◌, ◌+◌, ◌*◌, ◌%◌}
 use Rattle.std.specs.List.{slice_get}
 use Rattle.std.specs.Str.{bytes_eq}
 use Rattle.graphql_spec.specs.Laws.{In}
@@ -49,6 +49,10 @@ pub record AreFew (all few : List ℕ) (groups : ℕ → List ℕ) : Type 0 wher
 
 -- ## Heads
 
+-- the number of the group of a field of this response key and call: fields of one head have one number, and others seldom do, which saves time alone
+unfoldable pub group_number : ℕ → ℕ → ℕ
+group_number key call = ((key * 1000003) % 18446744073709551616 + call) % 18446744073709551616
+
 -- a place is added to a head
 abbrev pub IsPlaceAdded : List Head → List Head → ℕ → Option ℕ → Type 0
 IsPlaceAdded old new place below = (head : Head) → slice_get old place ≡ Some head → (more : Head) × (new ≡ slice_set old place more) × (more.field ≡
@@ -90,4 +94,4 @@ module _ (vs : List FieldAt) where
           (p : ℕ) × (hd : Head) × (slice_get heads p ≡ Some hd) × ((h : FieldAt) × (slice_get vs hd.field ≡ Some h) × SameHead h v)
       pub apart : (p q : ℕ) (hd he : Head) → slice_get heads p ≡ Some hd → slice_get heads q ≡ Some he → (p ≡ q → ⊥) → (h k : FieldAt) →
           slice_get vs hd.field ≡ Some h → slice_get vs he.field ≡ Some k → SameHead h k → ⊥
-      pub grouped : (p : ℕ) (hd : Head) (h : FieldAt) → slice_get heads p ≡ Some hd → slice_get vs hd.field ≡ Some h → In p (groups h.key)
+      pub grouped : (p : ℕ) (hd : Head) (h : FieldAt) → slice_get heads p ≡ Some hd → slice_get vs hd.field ≡ Some h → In p (groups (group_number h.key h.call))

@@ -8,7 +8,7 @@ ghost use Rattle.juniper_merging.specs.MergingGraph.{view_vertex};
 ghost use Rattle.juniper_merging.specs.Nodes.{Alike};
 ghost use Rattle.juniper_merging.specs.Questions.{seen};
 ghost use Rattle.juniper_merging.specs.Uniting.{AreFew, AreHeads, IsFound, IsFoundAt, IsPlaceAdded, IsSameAt, fields_or_none, list_or_none};
-ghost use Rattle.juniper_merging.specs.Uniting.{own_fields, own_parts, parts_or_none, same_heads};
+ghost use Rattle.juniper_merging.specs.Uniting.{group_number, own_fields, own_parts, parts_or_none, same_heads};
 ghost use Rattle.juniper_merging.specs.declared.heads.Head.{Head};
 
 use crate::graph::Vertex;
@@ -16,6 +16,9 @@ use crate::groups::{Groups, put_group, take_group};
 use crate::sets::FieldSet;
 use std::alloc::{AllocError, Global};
 use std::collections::HashMap;
+
+/// Response keys stand so far apart among the numbers of groups.
+const SPREAD: usize = 1_000_003;
 
 /// Fields that differ in nothing but what they select.
 #[derive(Drop)]
@@ -117,20 +120,29 @@ fn put_vertex(
         → AreHeads (seen t vertices.now) t before heads.old.items (group_in groups.old)
         → AreHeads (seen t vertices.now) t (before ++ field ∷ []) heads.new.items (group_in groups.new)) }
 {
-    let mut group = take_group(alloc, groups, vertex.key);
+    let number = group_number(vertex.key, vertex.call);
+    let mut group = take_group(alloc, groups, number);
     match find_head(vertices, heads, &group, vertex) {
         Some(place) => {
             add_place(heads, place, vertex)?;
-            put_group(groups, vertex.key, group)?;
+            put_group(groups, number, group)?;
             Ok(())
         }
         None => {
             group.push(heads.len())?;
             heads.push(new_head(alloc, field, vertex)?)?;
-            put_group(groups, vertex.key, group)?;
+            put_group(groups, number, group)?;
             Ok(())
         }
     }
+}
+
+/// The number of the group of a field of this response key and call. Others seldom have it; that saves time alone.
+#[tactic(auto, unfolding(crate::specs::Uniting::group_number))]
+fn group_number(key: usize, call: usize) -> usize
+    ensures { result ≡ group_number key call }
+{
+    key.wrapping_mul(SPREAD).wrapping_add(call)
 }
 
 /// The place of the head of a field, among those of a group.
