@@ -1,5 +1,5 @@
 -- What a resolver is asked for at a field.
-use Rattle.std.proofs.Common.{◌≡◌, ◌<◌, Bool, List, [], ◌∷◌, ◌++◌, IsTrue, length, sym, ap, ◌∙◌, subst, arith}
+use Rattle.std.proofs.Common.{◌≡◌, ◌<◌, Bool, List, [], ◌∷◌, ◌++◌, IsTrue, drop, length, sym, ap, ◌∙◌, subst, arith}
 use Rattle.std.specs.declared.cmp.PartialEq.{Ghosts as Equality}
 use Rattle.std.specs.declared.fmt.Debug.{Ghosts as Shows}
 use Rattle.graphql_spec.specs.Shown.{Shown, Name}
@@ -17,8 +17,10 @@ use Rattle.juniper_syntax.specs.declared.position.Spanning.{Spanning}
 use Rattle.juniper_syntax.specs.InputView.{view_variables}
 use Rattle.juniper_syntax.specs.declared.ast.Field.{Field}
 use Rattle.juniper_syntax.specs.declared.scalar.ScalarValue.{Ghosts as Scalars}
+use Rattle.juniper_lookahead.specs.Collected.{view_all, view_collected}
 use Rattle.juniper_lookahead.specs.Expansion.{FragmentsByName, VariableMap, occurrence_at}
 use Rattle.juniper_lookahead.specs.Sites.{IsFirstOf, IsWholeGroup, view_fields}
+use Rattle.juniper_lookahead.specs.declared.collecting.Collector.{Collector}
 use Rattle.juniper_lookahead.specs.declared.occurrences.Enclosing.{Enclosing}
 use Rattle.juniper_lookahead.specs.declared.occurrences.Occurrence.{Occurrence as CodeOccurrence}
 use Rattle.juniper_schema.specs.SchemaView.{view_schema}
@@ -42,6 +44,14 @@ first-bound (o ∷ os) f first = omega arith
 pub first-same : {S : Type 0} (os : List (CodeOccurrence S)) (f g : Spanning (Field S) Span) → IsFirstOf f os → IsFirstOf g os → f ≡ g
 first-same [] f g first other = absurd first
 first-same (o ∷ os) f g first other = sym first ∙ other
+
+-- the first of some fields, and the others, are all of them
+pub group-whole : {S P : Type 0} (shown : S → Shown) (c : Collector S P) (f : Spanning (Field S) Span) (os others : List (CodeOccurrence S)) →
+    IsFirstOf f os → others ≡ drop 1 os → view_collected shown c f ∷ view_all shown c others ≡ view_all shown c os
+group-whole shown c f [] others first rest = absurd first
+group-whole shown c f (o ∷ os) others first rest =
+    ap (λ x. view_collected shown c x ∷ view_all shown c others) (sym first)
+    ∙ ap (λ xs. view_collected shown c o.field.now ∷ view_all shown c xs) rest
 
 module _ {S : Type 0} (shown : S → Shown) (vars : VariableMap S) (m : FragmentsByName S) where
   -- the path of a group is that of its first

@@ -37,7 +37,6 @@ bare-own fields p bare = record {
   questions = bare.questions;
   below = bare.below;
   left = refl;
-  unspent = bare.unspent;
 }
 
 given-fields : (rises : Bool) (k : Name) (v : Value) (es : Entries) → fields_in_entries (cond rises es (put k v es)) ≤ suc (fields_in v + fields_in_entries es)

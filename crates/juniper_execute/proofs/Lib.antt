@@ -3,7 +3,9 @@ mod Executing
 mod Names
 mod AllReplies
 mod Bounds
+mod Entering
 mod RootGroups
 mod RootPlans
+pub mod SeenEntered
 pub mod ToldFirsts
 mod Undeclared

@@ -1,20 +1,21 @@
 -- One root group of a plan after the other (6.2.2).
-use Rattle.std.proofs.Common.{◌≡◌, ℕ, ◌+◌, ◌-◌, ◌<◌, ◌≤◌, true, false, List, [], ◌∷◌, ◌++◌, length, take, IfOk, Result, Ok, Err, refl, sym, ◌∙◌, inl, inr}
+use Rattle.std.proofs.Common.{◌≡◌, ℕ, Bool, ◌+◌, ◌-◌, ◌<◌, ◌≤◌, true, false, List, [], ◌∷◌, ◌++◌, drop, length, take, IfOk, Result, Ok, Err, refl, sym, ap, ◌∙◌, inl, inr}
 use Rattle.std.proofs.Common.{subst, arith}
 use Rattle.graphql_spec.specs.Shown.{Name, Shown}
 use Rattle.graphql_spec.specs.Errors.{Listed}
 use Rattle.graphql_spec.specs.ExactAnswers.{whole}
 use Rattle.graphql_spec.specs.Fields.{is_possible}
 use Rattle.graphql_spec.specs.Positions.{Position}
-use Rattle.graphql_spec.specs.Mutation.{IsLeft, Mutation}
+use Rattle.graphql_spec.specs.Mutation.{IsLeft, Mutation, root_fields, step_of}
 use Rattle.graphql_spec.specs.MutationLaws.{HasRun}
 use Rattle.graphql_spec.specs.Schema.{Schema}
-use Rattle.graphql_spec.specs.Selections.{Occurrence, keys, occurrences, with_key}
+use Rattle.graphql_spec.specs.Selections.{Forest, Occurrence, keys, occurrences, with_key}
 use Rattle.graphql_spec.specs.Values.{Entries, Value, no_entries, null, object, put}
 use Rattle.graphql_spec.proofs.Running.{may-stop-at, none-ran, one-more-ran}
 use Rattle.juniper_lookahead.specs.Collected.{expansion, view_all}
 use Rattle.juniper_lookahead.specs.declared.collecting.Collector.{Collector}
 use Rattle.juniper_lookahead.specs.declared.occurrences.Enclosing.{Enclosing}
+use Rattle.juniper_walk.specs.Entered.{own_fields}
 use Rattle.juniper_walk.specs.declared.plan.GroupRange.{GroupRange}
 use Rattle.juniper_walk.specs.declared.plan.Plan.{Plan}
 use Rattle.juniper_walk.specs.PlanWalks.{IsGroupOf}
@@ -23,8 +24,10 @@ use Rattle.juniper_walk.proofs.Elsewhere.{standing-elsewhere, stands-elsewhere}
 use Rattle.juniper_walk.proofs.RootRounds.{round-asked, round-bound, round-group, round-next, round-split, rounds-end}
 use Rattle.juniper_walk.proofs.Sorted.{one-enclosing}
 use Rattle.juniper_walk.proofs.Standing.{stands-still}
-use Rattle.std.proofs.lemmas.List.{append-nil}
+use Rattle.std.proofs.lemmas.List.{append-nil, append_assoc, take-append-drop}
 use Rattle.std.specs.Result.{IsErr, MatchResult}
+use Rattle.juniper_execute.proofs.Entering.{cut-front}
+use Rattle.juniper_execute.specs.Entered.{entered_group, entered_groups, entered_run}
 use Rattle.juniper_execute.specs.RootFields.{IsRootPlan, IsRootStep, all_fields, asks_in, collector_in, selected_in}
 use Rattle.juniper_execute.specs.Stepping.{GroupRan, GroupStopped}
 use Rattle.juniper_execute.specs.declared.question.Question.{Question}
@@ -142,6 +145,33 @@ module _ {C N A S : Type 0} (M : Mutation C N) (pick : List Position → List Po
           (subst (λ z. HasRun whole pick M w.concrete.now (done ++ k ∷ split.0) os c null z after) (sym g.lists)
           (subst (λ z. HasRun whole pick M w.concrete.now (done ++ k ∷ split.0) os c null (errors ++ g.more) z) (sym g.context) one))
 
+      -- the groups that are left are this one, and those behind it
+      rest-splits : drop (i - r.first.0) (keys os) ≡ k ∷ drop (i + 1 - r.first.0) (keys os)
+      rest-splits =
+          let longer = round-next shown (collector_in shown w) (asks_in shown w s) (is_possible s) p p w.concrete.now r os at.standing at.stands step i at.low
+          high in
+          let here = cut-front done (drop (i - r.first.0) (keys os)) (k ∷ split.0) (take-append-drop (i - r.first.0) (keys os) ∙ split.1) in
+          let behind = cut-front (done ++ k ∷ []) (drop (i + 1 - r.first.0) (keys os)) split.0
+          (subst (λ l. l ++ drop (i + 1 - r.first.0) (keys os) ≡ keys os) longer (take-append-drop (i + 1 - r.first.0) (keys os))
+          ∙ (split.1 ∙ sym (append_assoc done (k ∷ []) split.0))) in
+          here ∙ ap (λ (l : List Name). k ∷ l) (sym behind)
+
+      -- what they enter
+      pub rest-enters : (after : C) → after ≡ (step_of M w.concrete.now now (with_key k os)).0 →
+          entered_groups M w.concrete.now (drop (i - r.first.0) (keys os)) os now
+          ≡ entered_group M w.concrete.now now (view_all shown (collector_in shown w) (fields_at p i))
+          + entered_groups M w.concrete.now (drop (i + 1 - r.first.0) (keys os)) os after
+      unfolding entered_groups
+      rest-enters after stepped =
+          let T = w.concrete.now in
+          let later = drop (i + 1 - r.first.0) (keys os) in
+          let parts : entered_groups M T (k ∷ later) os now
+          ≡ entered_group M T now (with_key k os) + entered_groups M T later os (step_of M T now (with_key k os)).0 = refl in
+          let whole = ap (λ (l : List Name). entered_groups M T l os now) rest-splits in
+          let group = ap (entered_group M T now) plan-group.whole in
+          let next = ap (entered_groups M T later os) stepped in
+          omega (arith, parts, whole, group, next)
+
       pub plan-stopped : (after : C) → GroupStopped M w.concrete.now (with_key k os) now after → IsLeft M w.concrete.now (keys os) os c after
       plan-stopped after g =
           let stop = may-stop-at M w.concrete.now whole pick done split.0 k os c now es errors at.ran in
@@ -153,6 +183,25 @@ module _ {C N A S : Type 0} (M : Mutation C N) (pick : List Position → List Po
             ]
           ] in
           subst (λ l. IsLeft M w.concrete.now l os c after) (sym split.1) here
+
+-- nothing has run, and the root's fields were taken off
+pub entering-begins : {C N : Type 0} (M : Mutation C N) (T : Name) (s : Forest) (c : C) (os : List Occurrence) → os ≡ root_fields M T s c → (i : ℕ) →
+    (possible : Name → Name → Bool) → possible ≡ (M.world c).possible → (expanded : Forest) → expanded ≡ s → (base left : ℕ) →
+    base ≤ left + own_fields possible T expanded → base + entered_groups M T (drop (i - i) (keys os)) os c ≤ left + entered_run M T s c
+unfolding entered_run
+entering-begins M T s c os is i possible same expanded all base left fits =
+    let none : drop (i - i) (keys os) ≡ keys os = subst (λ (n : ℕ). drop n (keys os) ≡ keys os) {x = 0} {y = i - i} (omega arith) refl in
+    let groups = ap (λ (l : List Name). entered_groups M T l os c) none ∙ ap (λ (l : List Occurrence). entered_groups M T (keys l) l c) is in
+    let own = ap (λ f. own_fields f T expanded) same ∙ ap (own_fields (M.world c).possible T) all in
+    omega (arith, groups, own, fits)
+
+-- the root's fields alone spent it
+pub own-spends : {C N : Type 0} (M : Mutation C N) (T : Name) (s : Forest) (c : C) (possible : Name → Name → Bool) → possible ≡ (M.world c).possible →
+    (expanded : Forest) → expanded ≡ s → (base : ℕ) → base < own_fields possible T expanded → base < entered_run M T s c
+unfolding entered_run
+own-spends M T s c possible same expanded all base less =
+    let own = ap (λ f. own_fields f T expanded) same ∙ ap (own_fields (M.world c).possible T) all in
+    omega (arith, own, less)
 
 -- where nothing has run the context is as it was
 pub left-same : {C N : Type 0} (M : Mutation C N) (T : Name) (ks : List Name) (os : List Occurrence) (c : C) → IsLeft M T ks os c c

@@ -1,3 +1,4 @@
+pub mod Entered
 pub mod Meanings
 pub mod Questions
 pub mod Replied

@@ -6,8 +6,10 @@ ghost use Rattle.graphql_spec.specs.Laws.{In};
 ghost use Rattle.juniper_syntax.specs.DocumentView.{view_document, view_operation};
 ghost use Rattle.juniper_syntax.specs.InputView.{view_variables};
 ghost use Rattle.juniper_syntax.specs.ValueView.{view_value};
-ghost use Rattle.juniper_walk.specs.Budget.{SpendsGiven, fields_in, most_fields};
+ghost use Rattle.juniper_walk.specs.Budget.{fields_in, most_fields};
+ghost use Rattle.juniper_walk.specs.Entered.{EntersAtMost, SpendsGiven, entered};
 ghost use Rattle.juniper_walk.specs.Plans.{IsBare};
+ghost use Rattle.juniper_execute.specs.Entered.{entered_run};
 ghost use Rattle.juniper_execute.specs.ServedView.{mutation_root, schema_of, served_world};
 ghost use Rattle.juniper_execute.specs.Validity.{IsValid};
 ghost use Rattle.juniper_execute.specs.Walkings.{IsBounded, MutationWalked, QueryWalked, selected_by};
@@ -22,7 +24,7 @@ use juniper_lookahead::fragments_of;
 use juniper_syntax::{Document, Operation, ScalarValue, Span, Spanning, Value, Variables};
 use juniper_values::ExecutionError;
 use juniper_walk::{Plan, Stop, root_path, sort_errors};
-use std::alloc::{AllocError, Global};
+use std::alloc::Global;
 
 /// Executes a query of a valid document (ExecuteQuery, 6.2.1), where at most so many fields are entered, if a budget is given.
 pub fn execute_query<'d, 'a, R: NodeResolver<S>, S: ScalarValue>(
@@ -42,7 +44,8 @@ pub fn execute_query<'d, 'a, R: NodeResolver<S>, S: ScalarValue>(
         (served_world R.meaning S.shown served.now (view_variables S.shown variables.now) context.now) (schema_of S.shown served.now).query root.now
         (selected_by S.shown document.now operation.now variables.now) result }
     ensures counted { IfOk result (λ p. IsBounded served.now.walking (fields_in (view_value S.shown p.0)) (most_fields fields)) }
-    ensures spent { SpendsGiven fields result }
+    ensures spent { SpendsGiven fields (entered (served_world R.meaning S.shown served.now (view_variables S.shown variables.now) context.now)
+        (schema_of S.shown served.now).query root.now (selected_by S.shown document.now operation.now variables.now)) result }
 {
     let Ok(fragments) = fragments_of(alloc, document.as_slice()) else {
         return Err(Stop::Memory);
@@ -95,13 +98,14 @@ pub fn execute_mutation<
         (mutation_root R.meaning S.shown served.now (M.steps steps.now) (view_variables S.shown variables.now)) concrete.now
         (selected_by S.shown document.now operation.now variables.now) context.old result context.new }
     ensures counted { IfOk result (λ p. IsBounded served.now.walking (fields_in (view_value S.shown p.0)) (most_fields fields)) }
-    ensures spent { SpendsGiven fields result }
+    ensures spent { SpendsGiven fields (entered_run (mutation_root R.meaning S.shown served.now (M.steps steps.now) (view_variables S.shown variables.now))
+        concrete.now (selected_by S.shown document.now operation.now variables.now) context.old) result }
 {
     let mut plan = Plan::new(alloc, fields);
     match mutate(
         alloc, &mut plan, document, operation, served, steps, concrete, variables, context,
     ) {
-        Err(_) => Err(plan.stop(fields)),
+        Err(stop) => Err(stop.within(fields)),
         Ok(answered) => Ok(answered),
     }
 }
@@ -124,7 +128,7 @@ fn mutate<
     concrete: &str,
     variables: &Variables<S>,
     context: &mut R::Context,
-) -> Result<(Value<S>, Vec<ExecutionError<S>>), AllocError>
+) -> Result<(Value<S>, Vec<ExecutionError<S>>), Stop>
     requires valid { IsValid (schema_of S.shown served.now) (view_document S.shown document.now) }
     requires member { In (documents.operation (view_operation S.shown operation.now)) (view_document S.shown document.now) }
     requires mutation { (view_operation S.shown operation.now).kind ≡ documents.mutation }
@@ -134,6 +138,8 @@ fn mutate<
         (mutation_root R.meaning S.shown served.now (M.steps steps.now) (view_variables S.shown variables.now)) concrete.now
         (selected_by S.shown document.now operation.now variables.now) context.old result context.new }
     ensures counted { IfOk result (λ p. IsBounded served.now.walking (fields_in (view_value S.shown p.0)) plan.old.left) }
+    ensures entered { EntersAtMost plan.old.left plan.new.left (entered_run (mutation_root R.meaning S.shown served.now (M.steps steps.now)
+        (view_variables S.shown variables.now)) concrete.now (selected_by S.shown document.now operation.now variables.now) context.old) result }
 {
     let fragments = fragments_of(alloc, document.as_slice())?;
     let path = root_path(alloc, operation.span.start)?;
@@ -147,7 +153,7 @@ fn mutate<
         path: &path,
     };
     match run_groups(served, &walk, plan, context) {
-        Err(error) => Err(error),
+        Err(stop) => Err(stop),
         Ok(walked) => {
             let mut errors = walked.errors;
             sort_errors(&mut errors)?;

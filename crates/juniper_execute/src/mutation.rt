@@ -2,11 +2,13 @@
 
 ghost use Rattle.std.specs.Prelude.{◌≡◌, ◌<◌, ◌≤◌, ◌+◌, ◌-◌, ◌∷◌, suc, codes, false, length, IfOk, string_bytes};
 ghost use Rattle.std.specs.Str.{bytes_eq};
+ghost use Rattle.graphql_spec.specs.Fields.{is_possible};
 ghost use Rattle.graphql_spec.specs.Laws.{Merges};
 ghost use Rattle.graphql_spec.specs.Mutation.{step_of};
 ghost use Rattle.graphql_spec.specs.Selections.{all_below, occurrences};
 ghost use Rattle.graphql_spec.specs.Types.{innermost};
 ghost use Rattle.juniper_walk.specs.Budget.{fields_in, fields_in_entries};
+ghost use Rattle.juniper_walk.specs.Entered.{CompletesWithin, EntersAtMost, UnlessMemory, own_fields};
 ghost use Rattle.juniper_walk.specs.Plans.{IsBare, all_expanded};
 ghost use Rattle.juniper_walk.specs.PlanWalks.{HasFirst};
 ghost use Rattle.juniper_conversions.specs.PathView.{path_place};
@@ -16,6 +18,7 @@ ghost use Rattle.juniper_syntax.specs.ValueView.{view_object, view_value};
 ghost use Rattle.juniper_values.specs.ArgumentView.{view_arguments};
 ghost use Rattle.juniper_walk.specs.Completing.{CompletesAsked, IsTold};
 ghost use Rattle.juniper_walk.specs.FieldWords.{head_of};
+ghost use Rattle.juniper_execute.specs.Entered.{entered_group, entered_run};
 ghost use Rattle.juniper_execute.specs.Questions.{IsFieldAsked, meant_arguments};
 ghost use Rattle.juniper_execute.specs.RootFields.{IsReadyRoot, IsRootPlan, IsRootStep, collector_in, field_in, root_group, selected_in, values_in};
 ghost use Rattle.juniper_execute.specs.RootFields.{IsRootAsked, IsRootGroup, IsRootMade};
@@ -34,7 +37,7 @@ use juniper_lookahead::Enclosing;
 use juniper_syntax::{Field, Object, ScalarValue, Span, Spanning, Value};
 use juniper_types::{Executor, FieldPath, Resolved, first_of};
 use juniper_values::{Arguments, ExecutionError, ResolveError};
-use juniper_walk::{Asked, GroupNo, GroupRange, Plan, Site, Walked, path_below};
+use juniper_walk::{Asked, GroupNo, GroupRange, Plan, Site, Stop, Walked, path_below};
 use std::alloc::{AllocError, Global};
 use std::rc::Rc;
 
@@ -129,7 +132,7 @@ fn complete<'s, 'd, 'a, R: NodeResolver<S>, M, S: ScalarValue>(
     asked: Asked<'_, R::Node, S>,
     group: GroupNo,
     context: &R::Context,
-) -> Result<Walked<S>, AllocError>
+) -> Result<Walked<S>, Stop>
     requires ready { IsReadyRoot S.shown walk.now }
     requires standing { IsRootPlan S.shown walk.now (schema_of S.shown served.now) plan.old }
     requires bound { group.0 < length plan.old.groups.items }
@@ -138,11 +141,13 @@ fn complete<'s, 'd, 'a, R: NodeResolver<S>, M, S: ScalarValue>(
         (innermost (view_type (λ n. string_bytes n) asked.declared.now))
         (all_below (root_group S.shown walk.now plan.old group.0)) }
     ensures plan { IfOk result (λ _. IsRootStep S.shown walk.now (schema_of S.shown served.now) plan.old plan.new) }
-    ensures told { IfOk result (λ _. IsTold asked.entry.answer) }
+    ensures told { UnlessMemory (IsTold asked.entry.answer) result }
     ensures completed { CompletesAsked S.shown (starts_by served.now.walking)
         (served_world R.meaning S.shown served.now (values_in S.shown walk.now) context.now) (path_place path.now.value)
         (root_group S.shown walk.now plan.old group.0) asked.entry result }
     ensures counted { IfOk result (λ w. IsBounded served.now.walking (fields_in (view_value S.shown w.value) + plan.new.left) plan.old.left) }
+    ensures entered { CompletesWithin S.shown (served_world R.meaning S.shown served.now (values_in S.shown walk.now) context.now)
+        (root_group S.shown walk.now plan.old group.0) asked.entry plan.old.left plan.new.left result }
 {
     let service = Service {
         resolver: served.resolver,
@@ -202,7 +207,7 @@ fn run_group<
     context: &mut R::Context,
     entries: &mut Object<S>,
     errors: &mut Vec<ExecutionError<S>>,
-) -> Result<bool, AllocError>
+) -> Result<bool, Stop>
     requires ready { IsReadyRoot S.shown walk.now }
     requires standing { IsRootPlan S.shown walk.now (schema_of S.shown served.now) plan.old }
     requires agree { RootAgrees R.meaning S.shown served.now M.steps walk.now }
@@ -215,6 +220,8 @@ fn run_group<
         entries.old errors.old.items result entries.new errors.new.items context.new }
     ensures counted { IfOk result (λ _. IsBounded served.now.walking (fields_in_entries (view_object S.shown entries.new) + plan.new.left)
         (suc (fields_in_entries (view_object S.shown entries.old) + plan.old.left))) }
+    ensures entered { EntersAtMost plan.old.left plan.new.left (entered_group (mutation_in R.meaning S.shown served.now M.steps walk.now) walk.now.concrete.now
+        context.old (root_group S.shown walk.now plan.old group.0)) result }
 {
     let fields = plan.fields(group);
     let first = first_of(fields);
@@ -242,7 +249,7 @@ fn run_group<
         entries,
         errors,
     ) {
-        Err(error) => Err(error),
+        Err(_) => Err(Stop::Memory),
         Ok(rises) => Ok(rises),
     }
 }
@@ -254,11 +261,13 @@ fn plan_root<'s, 'd, 'a, R: NodeResolver<S>, M, S: ScalarValue>(
     plan: &mut Plan<'d, 'a, S, Question<'s, S>>,
     enclosing: &[Enclosing<'d, 'a, S>],
     context: &R::Context,
-) -> Result<GroupRange, AllocError>
+) -> Result<GroupRange, Stop>
     requires ready { IsReadyRoot S.shown walk.now }
     requires standing { IsRootPlan S.shown walk.now (schema_of S.shown served.now) plan.old }
     ensures made { IfOk result (λ r. IsRootMade S.shown walk.now (schema_of S.shown served.now) enclosing.now plan.old plan.new r) }
     ensures counted { IfOk result (λ r. plan.new.left + (r.end.0 - r.first.0) ≤ plan.old.left) }
+    ensures entered { EntersAtMost plan.old.left plan.new.left (own_fields (is_possible (schema_of S.shown served.now)) walk.now.concrete.now
+        (all_expanded S.shown (collector_in S.shown walk.now) enclosing.now)) result }
 {
     let service = Service {
         resolver: served.resolver,
@@ -286,12 +295,14 @@ pub(crate) fn run_groups<
     walk: &RootWalk<'_, 'd, 'a, M, S>,
     plan: &mut Plan<'d, 'a, S, Question<'s, S>>,
     context: &mut R::Context,
-) -> Result<Walked<S>, AllocError>
+) -> Result<Walked<S>, Stop>
     requires ready { IsReadyRoot S.shown walk.now }
     requires bare { IsBare plan.old.left plan.old }
     requires agree { RootAgrees R.meaning S.shown served.now M.steps walk.now }
     ensures ran { RunsRoot R.meaning S.shown served.now M.steps walk.now context.old result context.new }
     ensures counted { IfOk result (λ w. IsBounded served.now.walking (fields_in (view_value S.shown w.value)) plan.old.left) }
+    ensures entered { EntersAtMost plan.old.left plan.new.left (entered_run (mutation_in R.meaning S.shown served.now M.steps walk.now) walk.now.concrete.now
+        (selected_in S.shown walk.now) context.old) result }
 {
     let enclosing = [Enclosing {
         selections: walk.selections,

@@ -1,6 +1,7 @@
 //! The two ways to walk what a request selects (sections 6.3 and 6.4 of the Specification).
 
 ghost use Rattle.std.specs.Prelude.{◌≡◌, ◌<◌, ◌≤◌, ◌+◌, ◌-◌, IfOk, drop, length, map, string_bytes};
+ghost use Rattle.graphql_spec.specs.Fields.{is_possible};
 ghost use Rattle.graphql_spec.specs.Laws.{Merges};
 ghost use Rattle.graphql_spec.specs.Outcomes.{responds};
 ghost use Rattle.graphql_spec.specs.Selections.{all_below};
@@ -10,11 +11,13 @@ ghost use Rattle.juniper_conversions.specs.ErrorView.{view_listed};
 ghost use Rattle.juniper_conversions.specs.PathView.{path_place};
 ghost use Rattle.juniper_lookahead.specs.Sites.{IsFirstOf};
 ghost use Rattle.juniper_walk.specs.PlanWalks.{HasFirst};
-ghost use Rattle.juniper_walk.specs.Plans.{IsStanding, IsStep, group_at, group_count};
+ghost use Rattle.juniper_walk.specs.Plans.{IsStanding, IsStep, all_expanded, group_at, group_count};
+ghost use Rattle.juniper_schema.specs.SchemaView.{view_schema};
 ghost use Rattle.juniper_syntax.specs.DocumentView.{view_selections};
 ghost use Rattle.juniper_syntax.specs.TypeView.{view_type};
 ghost use Rattle.juniper_syntax.specs.ValueView.{view_value};
-ghost use Rattle.juniper_walk.specs.Budget.{SpendsGiven, fields_in, most_fields};
+ghost use Rattle.juniper_walk.specs.Budget.{fields_in, most_fields};
+ghost use Rattle.juniper_walk.specs.Entered.{CompletesWithin, EntersAtMost, SpendsGiven, UnlessMemory, entered, own_fields};
 ghost use Rattle.juniper_walk.specs.Completing.{CompletesAsked, IsTold};
 ghost use Rattle.juniper_walk.specs.Walking.{IsReadyWalk, SelectionsAgree};
 ghost use Rattle.juniper_execute.specs.Walkings.{IsAnswerWalked, IsBounded, Lists, TellsQuery, collector_of, starts_by};
@@ -28,7 +31,7 @@ use juniper_syntax::{ScalarValue, Selection, SourcePosition};
 use juniper_twin::Group;
 use juniper_types::{FieldPath, first_of};
 use juniper_walk::{Asked, GroupNo, GroupRange, Plan, Resolver, Stop, Walk, Walked, enter_root};
-use std::alloc::{AllocError, Global};
+use std::alloc::Global;
 use std::rc::Rc;
 
 /// How the occurrences of one response key are walked (6.4.3).
@@ -61,7 +64,8 @@ impl Walking {
         ensures firsts { IfOk result (λ r. TellsQuery self (R.world walk.now.collector.possible) concrete.now root.now
             (expansion S.shown walk.now.collector (view_selections S.shown selections.now)) (map (view_listed S.shown) r.errors.items)) }
         ensures counted { IfOk result (λ r. IsBounded self (fields_in (view_value S.shown r.value)) (most_fields fields)) }
-        ensures spent { SpendsGiven fields result }
+        ensures spent { SpendsGiven fields (entered (R.world walk.now.collector.possible) concrete.now root.now
+            (expansion S.shown walk.now.collector (view_selections S.shown selections.now))) result }
     {
         match self {
             Walking::Grouped => {
@@ -84,7 +88,7 @@ impl Walking {
         path: &Rc<FieldPath<'a>>,
         asked: Asked<'_, R::Node, S>,
         group: GroupNo,
-    ) -> Result<Walked<S>, AllocError>
+    ) -> Result<Walked<S>, Stop>
         requires ready { IsReadyWalk S.shown R.possible R.values (R.world walk.now.collector.possible) walk.now }
         requires standing { IsStanding S.shown walk.now.collector (R.asks walk.now.collector.possible)
             (R.possible walk.now.collector.possible) plan.old }
@@ -94,16 +98,21 @@ impl Walking {
             (all_below (group_at S.shown walk.now plan.old group.0)) }
         ensures plan { IfOk result (λ _. IsStep S.shown walk.now.collector (R.asks walk.now.collector.possible)
             (R.possible walk.now.collector.possible) plan.old plan.new) }
-        ensures told { IfOk result (λ _. IsTold asked.entry.answer) }
+        ensures told { UnlessMemory (IsTold asked.entry.answer) result }
         ensures completed { CompletesAsked S.shown (starts_by self) (R.world walk.now.collector.possible) (path_place path.now.value)
             (group_at S.shown walk.now plan.old group.0) asked.entry result }
         ensures counted { IfOk result (λ w. IsBounded self (fields_in (view_value S.shown w.value) + plan.new.left) plan.old.left) }
+        ensures entered { CompletesWithin S.shown (R.world walk.now.collector.possible) (group_at S.shown walk.now plan.old group.0) asked.entry
+            plan.old.left plan.new.left result }
     {
         match self {
             Walking::Grouped => juniper_walk::complete_value(walk, plan, path, asked, group),
             Walking::Joined => {
                 let group = group_of(plan.fields(group));
-                juniper_twin::complete_value(walk, path, asked, &group)
+                match juniper_twin::complete_value(walk, path, asked, &group) {
+                    Ok(walked) => Ok(walked),
+                    Err(_) => Err(Stop::Memory),
+                }
             }
         }
     }
@@ -131,7 +140,8 @@ impl<'c, 's, R: NodeResolver<S>, S: ScalarValue> Service<'c, 's, R, S> {
         ensures firsts { IfOk result (λ r. TellsQuery walking (service_world R.meaning S.shown self.entry) concrete.now root.now
             (service_selected S.shown self.entry fragments.entry selections.now) (map (view_listed S.shown) r.errors.items)) }
         ensures counted { IfOk result (λ r. IsBounded walking (fields_in (view_value S.shown r.value)) (most_fields fields)) }
-        ensures spent { SpendsGiven fields result }
+        ensures spent { SpendsGiven fields (entered (service_world R.meaning S.shown self.entry) concrete.now root.now
+            (service_selected S.shown self.entry fragments.entry selections.now)) result }
     {
         let walk = Walk {
             alloc,
@@ -155,11 +165,13 @@ impl<'c, 's, R: NodeResolver<S>, S: ScalarValue> Service<'c, 's, R, S> {
         plan: &mut Plan<'d, 'a, S, Question<'s, S>>,
         concrete: &str,
         enclosing: &[Enclosing<'d, 'a, S>],
-    ) -> Result<GroupRange, AllocError>
+    ) -> Result<GroupRange, Stop>
         requires ready { IsReady S.shown (collector_of fragments self.variables self) }
         requires standing { IsServicePlan S.shown self fragments plan.old }
         ensures made { IfOk result (λ r. IsServiceMade S.shown self.entry fragments.entry concrete.now enclosing.now plan.old plan.new r) }
         ensures counted { IfOk result (λ r. plan.new.left + (r.end.0 - r.first.0) ≤ plan.old.left) }
+        ensures entered { EntersAtMost plan.old.left plan.new.left (own_fields (is_possible (view_schema S.shown self.entry.schema.now)) concrete.now
+            (all_expanded S.shown (collector_of fragments.entry self.entry.variables self.entry) enclosing.now)) result }
     {
         let collector = Collector {
             fragments,
@@ -180,7 +192,7 @@ impl<'c, 's, R: NodeResolver<S>, S: ScalarValue> Service<'c, 's, R, S> {
         path: &Rc<FieldPath<'a>>,
         asked: Asked<'_, R::Node, S>,
         group: GroupNo,
-    ) -> Result<Walked<S>, AllocError>
+    ) -> Result<Walked<S>, Stop>
         requires ready { IsReady S.shown (collector_of fragments self.variables self) }
         requires standing { IsServicePlan S.shown self fragments plan.old }
         requires bound { group.0 < group_count plan.old }
@@ -188,10 +200,12 @@ impl<'c, 's, R: NodeResolver<S>, S: ScalarValue> Service<'c, 's, R, S> {
         requires merge { Merges (service_world R.meaning S.shown self) (innermost (view_type (λ n. string_bytes n) asked.declared.now))
             (all_below (service_group S.shown self fragments plan.old group.0)) }
         ensures plan { IfOk result (λ _. IsServiceStep S.shown self.entry fragments.entry plan.old plan.new) }
-        ensures told { IfOk result (λ _. IsTold asked.entry.answer) }
+        ensures told { UnlessMemory (IsTold asked.entry.answer) result }
         ensures completed { CompletesAsked S.shown (starts_by walking) (service_world R.meaning S.shown self.entry) (path_place path.now.value)
             (service_group S.shown self.entry fragments.entry plan.old group.0) asked.entry result }
         ensures counted { IfOk result (λ w. IsBounded walking (fields_in (view_value S.shown w.value) + plan.new.left) plan.old.left) }
+        ensures entered { CompletesWithin S.shown (service_world R.meaning S.shown self.entry) (service_group S.shown self.entry fragments.entry plan.old group.0)
+            asked.entry plan.old.left plan.new.left result }
     {
         let walk = Walk {
             alloc,

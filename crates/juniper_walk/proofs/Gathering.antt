@@ -75,7 +75,7 @@ module _ {S Q : Type 0} (shown : S → Shown) (asks : Head → Q → Type 0) (k 
   none-added empty p = empty-added fields.items (none-in fields b is empty)
     where
       empty-added : (os : List (CodeOccurrence S)) → os ≡ [] → IsGroupAdded shown asks k os p p
-      empty-added [] e = record { groups = refl; occurrences = refl; questions = refl; below = refl; left = omega arith }
+      empty-added [] e = (record { groups = refl; occurrences = refl; questions = refl; below = refl; left = omega arith }, refl)
       empty-added (o ∷ os) e = absurd cc
 
   -- else one, with what the first of them asks
@@ -106,6 +106,7 @@ module _ {S P Q : Type 0} (shown : S → Shown) (c : Collector S P) (asks : Name
     pub asked : AllAsked (asks T) (map (λ k. with_key k (view_all shown c fields)) (keys (view_all shown c (take i fields))))
         (drop (length p.groups.items) q.questions.items)
     pub fields_left : (k : Name) → left k ≡ cond (known k (keys (view_all shown c (take i fields)))) [] (filter (has_key shown c k) fields)
+    pub budget : q.left ≡ p.left
 
   module _ (possible : Name → Name → Bool) (T : Name) (fields : List (CodeOccurrence S)) where
     pub start-adding : (p : Plan S Q) (left : Name → List (CodeOccurrence S)) → IsStanding shown c asks possible p →
@@ -117,6 +118,7 @@ module _ {S P Q : Type 0} (shown : S → Shown) (c : Collector S P) (asks : Name
       groups = ap (view_groups shown c p.occurrences.items) (seam-nil p.groups.items);
       asked = subst (AllAsked (asks T) []) (sym (ap (λ n. drop n p.questions.items) (sym s.asked) ∙ seam-nil p.questions.items)) tt;
       fields_left = λ k. all k;
+      budget = refl;
     }
       where
         seam-nil : {A : Type 0} (xs : List A) → drop (length xs) xs ≡ []
@@ -157,9 +159,9 @@ module _ {S P Q : Type 0} (shown : S → Shown) (c : Collector S P) (asks : Name
           same-name : (a b : Name) → bytes_eq a b ≡ true → a ≡ b
           same-name a b f = same_true a b f
 
-      met-before : known k (keys front) ≡ true → IsNoneAdded q r → IsAdding possible T fields (i + 1) p r further
+      met-before : known k (keys front) ≡ true → IsNoneAdded q r → r.left ≡ q.left → IsAdding possible T fields (i + 1) p r further
       unfolding view_groups
-      met-before e none =
+      met-before e none kept =
           let one = stands-none shown c asks possible q r adding.step.standing none in
           record {
             step = record { standing = one.standing; grown = grown-twice p q r adding.step.grown one.grown };
@@ -171,6 +173,7 @@ module _ {S P Q : Type 0} (shown : S → Shown) (c : Collector S P) (asks : Name
                 (subst (λ l. AllAsked (asks T) (map (λ j. with_key j os) l) (drop (length p.groups.items) q.questions.items)) (sym (known-keys e))
                 adding.asked);
             fields_left = λ j. known-left e j ∙ ap (λ ks. cond (known j ks) [] (filter (has_key shown c j) fields)) (sym (known-keys e));
+            budget = kept ∙ adding.budget;
           }
 
       -- ## It is new
@@ -249,6 +252,7 @@ module _ {S P Q : Type 0} (shown : S → Shown) (c : Collector S P) (asks : Name
                 ∙ (ap (λ l. map (λ x. (x, with_key x os)) (keys front) ++ (k, l) ∷ []) fields_are
                 ∙ (sym (map-append (λ x. (x, with_key x os)) (keys front) (k ∷ [])) ∙ ap (map (λ x. (x, with_key x os))) (sym (new-keys e)))))));
             fields_left = λ j. new-left e j ∙ ap (λ ks. cond (known j ks) [] (filter (has_key shown c j) fields)) (sym (new-keys e));
+            budget = one.left ∙ adding.budget;
           }
 
       one-more : known k (keys front) ≡ false → (ms : List (CodeOccurrence S)) → members ≡ ms → IsGroupAdded shown (asks T) k ms q r →
@@ -259,7 +263,7 @@ module _ {S P Q : Type 0} (shown : S → Shown) (c : Collector S P) (asks : Name
 
       pub one-added : IsAdding possible T fields (i + 1) p r further
       one-added = elim (cases_Bool (known k (keys front))) [
-        | inl e ↦ met-before e (subst (λ l. IsGroupAdded shown (asks T) k l q r) (known-taken e) added)
+        | inl e ↦ let none = subst (λ l. IsGroupAdded shown (asks T) k l q r) (known-taken e) added in met-before e none.0 none.1
         | inr e ↦ one-more e members refl added
       ]
 
@@ -315,6 +319,7 @@ module _ {S P Q : Type 0} (shown : S → Shown) (c : Collector S P) (asks : Name
       groups = adding.groups ∙ ap (λ l. map (λ k. (k, with_key k (view_all shown c fields))) (keys (view_all shown c l))) (take_all i fields past);
       asked = subst (λ l. AllAsked (asks T) (map (λ k. with_key k (view_all shown c fields)) (keys (view_all shown c l)))
           (drop (length p.groups.items) q.questions.items)) (take_all i fields past) adding.asked;
+      left = adding.budget;
     }
 
   -- so a range that begins where the groups ended, and ends where they end now, stands for them

@@ -1,7 +1,5 @@
 -- How many fields an answer has (7.1.1): what a budget of fields bounds.
-use Rattle.std.specs.Prelude.{ℕ, suc, ◌+◌, ◌≢◌, ◌&&◌, Bool, List, [], ◌∷◌, Option, None, Result, Ok, Err, cond, is_some, unwrap_or}
-use Rattle.juniper_walk.specs.declared.walked.Stop.{Stop}
-use Rattle.juniper_walk.specs.declared.walked.Stop.TheVariants.{Memory, Spent}
+use Rattle.std.specs.Prelude.{ℕ, suc, ◌+◌, List, [], ◌∷◌, Option, unwrap_or}
 use Rattle.graphql_spec.specs.Values.{Value, null, scalar, list, object, Values, no_items, item, Entries, no_entries, entry}
 
 unfoldable mutual
@@ -30,16 +28,3 @@ fields_in_all (v ∷ vs) = fields_in v + fields_in_all vs
 -- the most that may be entered: where no budget is given, as many as can be counted
 abbrev pub most_fields : Option ℕ → ℕ
 most_fields fields = unwrap_or fields 18446744073709551615
-
--- a budget is spent only where one is given
-abbrev pub StopsGiven : Option ℕ → Stop → Type 0
-StopsGiven fields Memory = Unit {0}
-StopsGiven fields Spent = fields ≢ None
-
-abbrev pub SpendsGiven : {A : Type 0} → Option ℕ → Result A Stop → Type 0
-SpendsGiven fields (Ok a) = Unit {0}
-SpendsGiven fields (Err s) = StopsGiven fields s
-
--- why a walk was not ended: its budget, if one was given, is spent, or memory was refused
-abbrev pub stop_of : Option ℕ → Bool → Stop
-stop_of fields spent = cond (is_some fields && spent) Spent Memory

@@ -1,5 +1,6 @@
 pub mod Asking
 pub mod Completing
+pub mod Entered
 pub mod FieldWords
 pub mod Holes
 pub mod Leaves

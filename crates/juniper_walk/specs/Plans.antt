@@ -85,7 +85,6 @@ module _ {S Q : Type 0} where
     pub questions : p.questions.items ≡ []
     pub below : p.below.items ≡ []
     pub left : p.left ≡ fields
-    pub unspent : p.is_spent ≡ false
 
   -- what stands is only added to, and no more fields may be entered than before
   pub record IsGrown (p q : Plan S Q) : Type 0 where
@@ -214,11 +213,6 @@ module _ {S Q : Type 0} where
     pub below : all_made q ≡ all_made p
     pub left : q.left + n ≡ p.left
 
-  -- more were to be taken off than there are
-  pub record IsPast (n : ℕ) (p q : Plan S Q) : Type 0 where
-    pub fewer : p.left < n
-    pub same : q ≡ record p { is_spent = true }
-
   -- a group was added, and what its first field asks
   pub record IsFirstAsked (shown : S → Shown) (asks : Head → Q → Type 0) (k : Name) (o : CodeOccurrence S) (os : List (CodeOccurrence S)) (p q : Plan S Q) :
       Type 0 where
@@ -228,7 +222,7 @@ module _ {S Q : Type 0} where
 
   -- so it was, but where it has no fields
   abbrev pub IsGroupAdded : (S → Shown) → (Head → Q → Type 0) → Name → List (CodeOccurrence S) → Plan S Q → Plan S Q → Type 0
-  IsGroupAdded shown asks k [] p q = IsNoneAdded p q
+  IsGroupAdded shown asks k [] p q = IsNoneAdded p q × (q.left ≡ p.left)
   IsGroupAdded shown asks k (o ∷ os) p q = IsFirstAsked shown asks k o os p q
 
 -- the groups of these occurrences of an object type were added, behind all others
@@ -237,6 +231,7 @@ pub record AreAdded {S P Q : Type 0} (shown : S → Shown) (c : Collector S P) (
   pub step : IsStep shown c asks possible p q
   pub groups : view_groups shown c q.occurrences.items (drop (length p.groups.items) q.groups.items) ≡ grouped_by os
   pub asked : AllAsked (asks T) (map (λ k. with_key k os) (keys os)) (drop (length p.groups.items) q.questions.items)
+  pub left : q.left ≡ p.left
 
 -- the occurrences of the group of a number, with what they select, expanded
 abbrev pub group_at : {S R Q : Type 0} → (S → Shown) → Walk S R → Plan S Q → ℕ → List Occurrence

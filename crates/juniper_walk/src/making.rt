@@ -9,12 +9,13 @@ ghost use Rattle.graphql_spec.specs.Shown.{Name};
 ghost use Rattle.graphql_spec.specs.Selections.{all_below, occurrences};
 ghost use Rattle.juniper_lookahead.specs.Collected.{IsReady, expansion, view_all};
 ghost use Rattle.juniper_syntax.specs.DocumentView.{view_selections};
+ghost use Rattle.juniper_walk.specs.Entered.{EntersAtMost, own_fields};
 ghost use Rattle.juniper_walk.specs.FieldWords.{fields_at as fields_in, head_of};
 ghost use Rattle.juniper_walk.specs.PlanLists.{rises};
 ghost use Rattle.juniper_walk.specs.Plans.{AreAdded, IsGroupAdded, IsMade, IsMadeOf, IsStanding, all_expanded, fields_at, group_count};
 
 use crate::plan::{GroupNo, GroupRange, Plan};
-use crate::{Groups, Resolver, Walk, group_fields, selections_of};
+use crate::{Groups, Resolver, Stop, Walk, group_fields, selections_of};
 use juniper_lookahead::{Collected, Collector, Conditions, Enclosing, Occurrence, collect_fields};
 use juniper_syntax::{Field, ScalarValue, name_number};
 use std::alloc::{AllocError, Global};
@@ -90,7 +91,7 @@ pub(crate) fn add_groups<'d, 'a, S: ScalarValue, R: Resolver<S>>(
 ) -> Result<GroupRange, AllocError>
     requires { IsStanding S.shown collector.now (R.asks collector.now.possible) (R.possible collector.now.possible) plan.old }
     ensures { IfOk result (λ r. IsMade S.shown collector.now (R.asks collector.now.possible) (R.possible collector.now.possible) concrete.now
-        (view_all S.shown collector.now fields.now) plan.old plan.new r) }
+        (view_all S.shown collector.now fields.now) plan.old plan.new r × (plan.new.left ≡ plan.old.left)) }
 {
     let first = GroupNo(plan.groups.len());
     if keys_differ(alloc, fields)? {
@@ -272,7 +273,7 @@ fn root_groups<'d, 'a, S: ScalarValue, R: Resolver<S>>(
     requires ready { IsReady S.shown collector.now }
     requires standing { IsStanding S.shown collector.now (R.asks collector.now.possible) (R.possible collector.now.possible) plan.old }
     ensures { IfOk result (λ r. IsMadeOf S.shown collector.now (R.asks collector.now.possible) (R.possible collector.now.possible)
-        concrete.now enclosing.now plan.old plan.new r) }
+        concrete.now enclosing.now plan.old plan.new r × (plan.new.left ≡ plan.old.left)) }
 {
     let fields = collect_all(alloc, collector, concrete, enclosing)?;
     let groups = add_groups(alloc, collector, plan, concrete, &fields)?;
@@ -293,7 +294,7 @@ fn groups_below<'d, 'a, S: ScalarValue, R: Resolver<S>>(
     requires bound { group.0 < group_count plan.old }
     requires selected { all_expanded S.shown walk.now.collector enclosing.now ≡ all_below (view_all S.shown walk.now.collector (fields_at plan.old group.0)) }
     ensures { IfOk result (λ r. IsMadeOf S.shown walk.now.collector (R.asks walk.now.collector.possible) (R.possible walk.now.collector.possible)
-        concrete.now enclosing.now plan.old plan.new r) }
+        concrete.now enclosing.now plan.old plan.new r × (plan.new.left ≡ plan.old.left)) }
 {
     match plan.made_below(group, concrete) {
         Some(groups) => Ok(groups),
@@ -312,12 +313,14 @@ pub fn enter_root<'d, 'a, S: ScalarValue, R: Resolver<S>>(
     plan: &mut Plan<'d, 'a, S, R::Question>,
     concrete: &str,
     enclosing: &[Enclosing<'d, 'a, S>],
-) -> Result<GroupRange, AllocError>
+) -> Result<GroupRange, Stop>
     requires ready { IsReady S.shown collector.now }
     requires standing { IsStanding S.shown collector.now (R.asks collector.now.possible) (R.possible collector.now.possible) plan.old }
     ensures made { IfOk result (λ r. IsMadeOf S.shown collector.now (R.asks collector.now.possible) (R.possible collector.now.possible)
         concrete.now enclosing.now plan.old plan.new r) }
     ensures counted { IfOk result (λ r. plan.new.left + (r.end.0 - r.first.0) ≤ plan.old.left) }
+    ensures entered { EntersAtMost plan.old.left plan.new.left (own_fields (R.possible collector.now.possible) concrete.now
+        (all_expanded S.shown collector.now enclosing.now)) result }
 {
     let groups = root_groups(alloc, collector, plan, concrete, enclosing)?;
     plan.charge(1, groups)?;
@@ -332,7 +335,7 @@ pub(crate) fn enter_below<'d, 'a, S: ScalarValue, R: Resolver<S>>(
     concrete: &str,
     enclosing: &[Enclosing<'d, 'a, S>],
     objects: usize,
-) -> Result<GroupRange, AllocError>
+) -> Result<GroupRange, Stop>
     requires ready { IsReady S.shown walk.now.collector }
     requires standing { IsStanding S.shown walk.now.collector (R.asks walk.now.collector.possible) (R.possible walk.now.collector.possible) plan.old }
     requires bound { group.0 < group_count plan.old }
@@ -340,6 +343,8 @@ pub(crate) fn enter_below<'d, 'a, S: ScalarValue, R: Resolver<S>>(
     ensures made { IfOk result (λ r. IsMadeOf S.shown walk.now.collector (R.asks walk.now.collector.possible) (R.possible walk.now.collector.possible)
         concrete.now enclosing.now plan.old plan.new r) }
     ensures counted { IfOk result (λ r. plan.new.left + objects * (r.end.0 - r.first.0) ≤ plan.old.left) }
+    ensures entered { EntersAtMost plan.old.left plan.new.left (objects * own_fields (R.possible walk.now.collector.possible) concrete.now
+        (all_expanded S.shown walk.now.collector enclosing.now)) result }
 {
     let groups = groups_below(walk, plan, group, concrete, enclosing)?;
     plan.charge(objects, groups)?;

@@ -4,8 +4,8 @@
 ghost use Rattle.std.specs.Prelude.{◌≡◌, ◌<◌, ◌≤◌, ◌+◌, ◌-◌, ◌*◌, ◌∷◌, IfNone, IfOk, IfSome, MatchResult, OnOk, [], drop, length, slice_range};
 ghost use Rattle.graphql_spec.specs.Values.{no_entries};
 ghost use Rattle.juniper_syntax.specs.ValueView.{view_object};
-ghost use Rattle.juniper_walk.specs.Budget.{most_fields, stop_of};
-ghost use Rattle.juniper_walk.specs.Plans.{IsBare, IsCharged, IsEnded, IsKept, IsOneAdded, IsPast, IsWithin, fields_at, group_count, key_at, made_at};
+ghost use Rattle.juniper_walk.specs.Budget.{most_fields};
+ghost use Rattle.juniper_walk.specs.Plans.{IsBare, IsCharged, IsEnded, IsKept, IsOneAdded, IsWithin, fields_at, group_count, key_at, made_at};
 ghost use Rattle.juniper_walk.specs.PlanLists.{named_in};
 
 use crate::Stop;
@@ -77,8 +77,6 @@ pub struct Plan<'d, 'a, S, Q> {
     pub(crate) keys: Vec<Option<SharedKeys>>,
     /// How many fields may still be entered.
     pub(crate) left: usize,
-    /// Whether more were to be entered than were left.
-    pub(crate) is_spent: bool,
 }
 
 impl<'d, 'a, S: ScalarValue, Q: Drop> Plan<'d, 'a, S, Q> {
@@ -93,7 +91,6 @@ impl<'d, 'a, S: ScalarValue, Q: Drop> Plan<'d, 'a, S, Q> {
             below: Vec::new(alloc),
             keys: Vec::new(alloc),
             left: fields.unwrap_or(usize::MAX),
-            is_spent: false,
         }
     }
 
@@ -112,7 +109,6 @@ impl<'d, 'a, S: ScalarValue, Q: Drop> Plan<'d, 'a, S, Q> {
             below: Vec::with_capacity(alloc, capacity)?,
             keys: Vec::new(alloc),
             left: fields.unwrap_or(usize::MAX),
-            is_spent: false,
         })
     }
 
@@ -120,17 +116,6 @@ impl<'d, 'a, S: ScalarValue, Q: Drop> Plan<'d, 'a, S, Q> {
     /// together keep few. Nothing rests on it.
     pub(crate) fn room(&self) -> usize {
         ROOM.checked_div(self.groups.len()).unwrap_or(ROOM)
-    }
-
-    /// Why a walk over the plan, which had this budget, was not ended.
-    pub fn stop(&self, fields: Option<usize>) -> Stop
-        ensures { result ≡ stop_of fields self.now.is_spent }
-    {
-        if fields.is_some() && self.is_spent {
-            Stop::Spent
-        } else {
-            Stop::Memory
-        }
     }
 
     // What is left behind the fields of so many objects, which have these groups; none where fewer are left.
@@ -152,20 +137,17 @@ impl<'d, 'a, S: ScalarValue, Q: Drop> Plan<'d, 'a, S, Q> {
     }
 
     /// Takes the fields of so many objects, which have these groups, off those that may still be entered; an error where fewer are left.
-    pub(crate) fn charge(&mut self, objects: usize, groups: GroupRange) -> Result<(), AllocError>
+    pub(crate) fn charge(&mut self, objects: usize, groups: GroupRange) -> Result<(), Stop>
         ensures { MatchResult result
             (λ _. IsCharged (objects * (groups.end.0 - groups.first.0)) self.old self.new)
-            (λ _. IsPast (objects * (groups.end.0 - groups.first.0)) self.old self.new) }
+            (λ _. self.old.left < objects * (groups.end.0 - groups.first.0)) }
     {
         match self.left_after(objects, groups) {
             Some(left) => {
                 self.left = left;
                 Ok(())
             }
-            None => {
-                self.is_spent = true;
-                Err(AllocError)
-            }
+            None => Err(Stop::Spent),
         }
     }
 

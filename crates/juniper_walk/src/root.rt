@@ -6,7 +6,8 @@ ghost use Rattle.juniper_syntax.specs.DocumentView.{view_selections};
 ghost use Rattle.juniper_syntax.specs.ValueView.{view_value};
 ghost use Rattle.juniper_conversions.specs.ErrorView.{view_listed};
 ghost use Rattle.juniper_lookahead.specs.Collected.{expansion};
-ghost use Rattle.juniper_walk.specs.Budget.{SpendsGiven, fields_in, most_fields};
+ghost use Rattle.juniper_walk.specs.Budget.{fields_in, most_fields};
+ghost use Rattle.juniper_walk.specs.Entered.{EntersAtMost, SpendsGiven, entered};
 ghost use Rattle.juniper_walk.specs.Plans.{IsBare};
 ghost use Rattle.juniper_walk.specs.PlanWalks.{IsFirstsAnswer};
 ghost use Rattle.juniper_walk.specs.Walking.{IsReadyWalk};
@@ -17,7 +18,6 @@ use crate::walking::execute_selection_set;
 use crate::{Resolver, Stop, Walk, Walked, root_path, sort_errors};
 use juniper_lookahead::Enclosing;
 use juniper_syntax::{ScalarValue, Selection, SourcePosition};
-use std::alloc::AllocError;
 
 /// For so many groups there is room in a plan at first.
 const ROOM: usize = 16;
@@ -41,14 +41,15 @@ pub fn answer<'d, 'a, S: ScalarValue, R: Resolver<S>>(
         (expansion S.shown walk.now.collector (view_selections S.shown selections.now))
         (view_value S.shown r.value) (map (view_listed S.shown) r.errors.items)) }
     ensures counted { IfOk result (λ r. fields_in (view_value S.shown r.value) ≤ most_fields fields) }
-    ensures spent { SpendsGiven fields result }
+    ensures spent { SpendsGiven fields (entered (R.world walk.now.collector.possible) concrete.now root.now
+        (expansion S.shown walk.now.collector (view_selections S.shown selections.now))) result }
 {
     let Ok(mut plan) = Plan::with_capacity(walk.alloc, ROOM, fields) else {
         return Err(Stop::Memory);
     };
     match answer_by(walk, &mut plan, concrete, root, start, selections, fields) {
         Ok(walked) => Ok(walked),
-        Err(_) => Err(plan.stop(fields)),
+        Err(stop) => Err(stop.within(fields)),
     }
 }
 
@@ -61,7 +62,7 @@ fn answer_by<'d, 'a, S: ScalarValue, R: Resolver<S>>(
     start: SourcePosition,
     selections: &'d [Selection<'a, S>],
     fields: Option<usize>,
-) -> Result<Walked<S>, AllocError>
+) -> Result<Walked<S>, Stop>
     requires ready { IsReadyWalk S.shown R.possible R.values (R.world walk.now.collector.possible) walk.now }
     requires bare { IsBare (most_fields fields) plan.old }
     ensures exact { IfOk result (λ r. IsExactAnswerFor (R.world walk.now.collector.possible) concrete.now root.now
@@ -71,6 +72,8 @@ fn answer_by<'d, 'a, S: ScalarValue, R: Resolver<S>>(
         (expansion S.shown walk.now.collector (view_selections S.shown selections.now))
         (view_value S.shown r.value) (map (view_listed S.shown) r.errors.items)) }
     ensures counted { IfOk result (λ r. fields_in (view_value S.shown r.value) ≤ most_fields fields) }
+    ensures entered { EntersAtMost plan.old.left plan.new.left (entered (R.world walk.now.collector.possible) concrete.now root.now
+        (expansion S.shown walk.now.collector (view_selections S.shown selections.now))) result }
 {
     let enclosing = [Enclosing { selections }];
     let groups = enter_root(walk.alloc, &walk.collector, plan, concrete, &enclosing)?;

@@ -13,6 +13,7 @@ ghost use Rattle.juniper_walk.specs.Plans.{IsStanding, IsStep, StandsFor, all_ex
 ghost use Rattle.graphql_spec.specs.NodeLaws.{AreWalkedOnce};
 ghost use Rattle.juniper_walk.specs.PlanWalks.{IsObjectWalked};
 ghost use Rattle.juniper_walk.specs.Budget.{fields_in, fields_in_all};
+ghost use Rattle.juniper_walk.specs.Entered.{EntersAtMost, entered_below, entered_in, entered_nodes};
 ghost use Rattle.juniper_walk.specs.Rows.{AreAdded, AreOfType, AreWholeRows, listed_of, row_fields, values_of};
 ghost use Rattle.juniper_walk.specs.Walking.{IsReadyWalk};
 
@@ -21,12 +22,11 @@ use crate::making::{enter_below, merge_selection_sets};
 use crate::plan::{GroupNo, GroupRange, Plan};
 use crate::preparing::{Taken, execute_field};
 use crate::rows::{Row, ask_column, begin_rows, end_rows, fill_rows};
-use crate::{Resolver, Walk, Walked};
+use crate::{Resolver, Stop, Walk, Walked};
 use juniper_assemble::Spot;
 use juniper_conversions::FieldPath;
 use juniper_lookahead::Enclosing;
 use juniper_syntax::{ScalarValue, Value};
-use std::alloc::{AllocError, Global};
 use std::rc::Rc;
 
 /// The object of a node of an object type, at this path, for these groups, which are those of the enclosing selections, and the errors
@@ -40,7 +40,7 @@ pub fn execute_selection_set<'d, 'a, S: ScalarValue, R: Resolver<S>>(
     node: &R::Node,
     enclosing: &[Enclosing<'d, 'a, S>],
     groups: GroupRange,
-) -> Result<Walked<S>, AllocError>
+) -> Result<Walked<S>, Stop>
     requires ready { IsReadyWalk S.shown R.possible R.values (R.world walk.now.collector.possible) walk.now }
     requires standing { IsStanding S.shown walk.now.collector (R.asks walk.now.collector.possible) (R.possible walk.now.collector.possible) plan.old }
     requires groups { StandsFor S.shown walk.now.collector (R.asks walk.now.collector.possible) concrete.now plan.old groups
@@ -51,6 +51,8 @@ pub fn execute_selection_set<'d, 'a, S: ScalarValue, R: Resolver<S>>(
         (all_expanded S.shown walk.now.collector enclosing.now) concrete.now node.now
         (view_value S.shown r.value) (map (view_listed S.shown) r.errors.items)) }
     ensures counted { IfOk result (λ r. fields_in (view_value S.shown r.value) + plan.new.left ≤ plan.old.left + (groups.end.0 - groups.first.0)) }
+    ensures entered { EntersAtMost plan.old.left plan.new.left (entered_below (R.world walk.now.collector.possible) concrete.now node.now
+        (all_expanded S.shown walk.now.collector enclosing.now)) result }
 {
     let mut entries = plan.new_object(walk.alloc, groups)?;
     let mut errors = Vec::new(walk.alloc);
@@ -85,7 +87,7 @@ pub(crate) fn objects_of<'d, 'a, S: ScalarValue, R: Resolver<S>>(
     plan: &mut Plan<'d, 'a, S, R::Question>,
     nodes: &[Spot<'a, R::Node>],
     group: GroupNo,
-) -> Result<Vec<Walked<S>>, AllocError>
+) -> Result<Vec<Walked<S>>, Stop>
     requires ready { IsReadyWalk S.shown R.possible R.values (R.world walk.now.collector.possible) walk.now }
     requires standing { IsStanding S.shown walk.now.collector (R.asks walk.now.collector.possible) (R.possible walk.now.collector.possible) plan.old }
     requires bound { group.0 < group_count plan.old }
@@ -95,6 +97,8 @@ pub(crate) fn objects_of<'d, 'a, S: ScalarValue, R: Resolver<S>>(
         (all_below (group_at S.shown walk.now plan.old group.0)) (view_nodes nodes.now)
         (values_of S.shown r.items) (listed_of S.shown r.items)) }
     ensures counted { IfOk result (λ r. fields_in_all (values_of S.shown r.items) + plan.new.left ≤ plan.old.left) }
+    ensures entered { EntersAtMost plan.old.left plan.new.left (entered_nodes (R.world walk.now.collector.possible)
+        (all_below (group_at S.shown walk.now plan.old group.0)) (view_nodes nodes.now)) result }
 {
     let mut done = Vec::with_capacity(walk.alloc, nodes.len())?;
     if nodes.is_empty() {
@@ -138,7 +142,7 @@ fn one_by_one<'d, 'a, S: ScalarValue, R: Resolver<S>>(
     enclosing: &[Enclosing<'d, 'a, S>],
     groups: GroupRange,
     done: &mut Vec<Walked<S>>,
-) -> Result<(), AllocError>
+) -> Result<(), Stop>
     requires ready { IsReadyWalk S.shown R.possible R.values (R.world walk.now.collector.possible) walk.now }
     requires standing { IsStanding S.shown walk.now.collector (R.asks walk.now.collector.possible) (R.possible walk.now.collector.possible) plan.old }
     requires groups { StandsFor S.shown walk.now.collector (R.asks walk.now.collector.possible) concrete.now plan.old groups
@@ -150,6 +154,8 @@ fn one_by_one<'d, 'a, S: ScalarValue, R: Resolver<S>>(
         (view_nodes nodes.now) done.old.items done.new.items) }
     ensures counted { IfOk result (λ _. fields_in_all (values_of S.shown done.new.items) + plan.new.left
         ≤ fields_in_all (values_of S.shown done.old.items) + plan.old.left + length nodes.now * (groups.end.0 - groups.first.0)) }
+    ensures entered { EntersAtMost plan.old.left plan.new.left (entered_in (R.world walk.now.collector.possible) concrete.now
+        (all_expanded S.shown walk.now.collector enclosing.now) (view_nodes nodes.now)) result }
 {
     for spot in nodes {
         let walked = execute_selection_set(
@@ -211,7 +217,7 @@ fn rows_of<'d, 'a, S: ScalarValue, R: Resolver<S>>(
     nodes: &[Spot<'a, R::Node>],
     enclosing: &[Enclosing<'d, 'a, S>],
     groups: GroupRange,
-) -> Result<Vec<Row<S>>, AllocError>
+) -> Result<Vec<Row<S>>, Stop>
     requires ready { IsReadyWalk S.shown R.possible R.values (R.world walk.now.collector.possible) walk.now }
     requires standing { IsStanding S.shown walk.now.collector (R.asks walk.now.collector.possible) (R.possible walk.now.collector.possible) plan.old }
     requires groups { StandsFor S.shown walk.now.collector (R.asks walk.now.collector.possible) concrete.now plan.old groups
@@ -222,6 +228,8 @@ fn rows_of<'d, 'a, S: ScalarValue, R: Resolver<S>>(
     ensures rows { IfOk result (λ r. AreWholeRows (R.world walk.now.collector.possible) (all_expanded S.shown walk.now.collector enclosing.now) concrete.now
         S.shown (R.possible walk.now.collector.possible) (view_nodes nodes.now) r.items) }
     ensures counted { IfOk result (λ r. row_fields S.shown r.items + plan.new.left ≤ plan.old.left + length nodes.now * (groups.end.0 - groups.first.0)) }
+    ensures entered { EntersAtMost plan.old.left plan.new.left (entered_in (R.world walk.now.collector.possible) concrete.now
+        (all_expanded S.shown walk.now.collector enclosing.now) (view_nodes nodes.now)) result }
 {
     let mut rows = begin_rows(walk.alloc, plan, groups, nodes.len())?;
     for number in groups.first.0..groups.end.0 {

@@ -1,6 +1,6 @@
 use Rattle.std.proofs.Common.{subst}
 use Rattle.juniper_syntax.specs.ValueView.{view_value}
-use Rattle.juniper_walk.proofs.Stopping.{stop-spends}
+use Rattle.juniper_walk.proofs.Entering.{given-spends}
 use Rattle.juniper_walk.specs.Budget.{fields_in, most_fields}
 use Rattle.juniper_execute.specs.Walkings.{IsBounded}
 use Rattle.juniper_execute.proofs.Bounds.{bare-own}
@@ -15,4 +15,5 @@ returns-clause-counted g c =
     c.in-Ok.ensures.counted
 
 pub returns-in-Err-clause-spent : goal.returns-in-Err-clause-spent
-returns-in-Err-clause-spent g c = stop-spends c.args.fields c.mutate.new.plan.is_spent c.stop.result c.stop.ensures
+returns-in-Err-clause-spent g c =
+    given-spends (Unit {0}) (Unit {0}) c.args.fields _ 0 _ c.in-Err.stop c.within.result c.new-plan.ensures.left c.within.ensures c.in-Err.ensures.entered

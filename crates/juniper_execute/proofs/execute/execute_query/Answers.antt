@@ -1,5 +1,4 @@
 use Rattle.std.proofs.Common.{map, refl, ap, ◌∙◌}
-use Rattle.std.proofs.lemmas.Result.{err_from_is_err_and}
 use Rattle.graphql_spec.specs.Documents.{fragments}
 use Rattle.graphql_spec.specs.Directives.{passes}
 use Rattle.graphql_spec.specs.Fragments.{expand}
@@ -8,6 +7,7 @@ use Rattle.juniper_syntax.specs.DocumentView.{view_definition, view_document, vi
 use Rattle.juniper_syntax.specs.InputView.{view_variables}
 use Rattle.juniper_schema.specs.SchemaView.{view_schema}
 use Rattle.juniper_lookahead.specs.Collected.{expansion}
+use Rattle.juniper_execute.proofs.Entering.{entered-moves, spends-through}
 use Rattle.juniper_execute.specs.Meanings.{world_at}
 use Rattle.juniper_execute.proofs.Executing.{answer-moves, no-cycle, query-agrees, tells-move}
 use Rattle.juniper_execute.proofs.execute.execute_query.Goals as goal
@@ -59,6 +59,17 @@ returns-clause-walked g c =
     )
 
 pub returns-in_err-walked-clause-spent : goal.returns-in_err-walked-clause-spent
+unfolding expansion selected
 returns-in_err-walked-clause-spent g c =
-    let p = err_from_is_err_and c.from_residual.result c.from_residual.ensures.1 in
-    rw (p.1, p.2) c.in_err-walked.ensures.spent
+    let shown = g.S.ScalarValue.shown in
+    let root = c.args.served.now in
+    let s = view_schema shown root.schema.now in
+    let vars = view_variables shown c.args.variables.now in
+    let d = view_document shown c.args.document.now in
+    let o = view_operation shown c.args.operation.now in
+    let W = world_at (g.R.NodeTypes.meaning root.resolver.now) s vars c.args.context.now in
+    let is = c.in-Ok.ensures.is ∙ ap (λ ds. fragments (map (view_definition shown) ds)) c.as_slice.ensures.value in
+    let same = ap (λ fs. expand (passes vars) fs (view_selections shown c.as_slice-2.result.now)) is
+    ∙ ap (λ ss. expand (passes vars) (fragments d) (view_selections shown ss)) c.as_slice-2.ensures.value in
+    spends-through (Unit {0}) _ c.args.fields _ _ _ c.from_residual.result c.from_residual.ensures.1
+    (entered-moves W c.args.root.now _ _ _ _ c.query_name.ensures same) c.in_err-walked.ensures.spent

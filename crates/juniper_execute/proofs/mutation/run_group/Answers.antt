@@ -12,6 +12,7 @@ use Rattle.juniper_execute.specs.RootFields.{all_fields, asks_in, collector_in, 
 use Rattle.juniper_execute.specs.Meanings.{mutation_at}
 use Rattle.juniper_execute.specs.Walkings.{starts_by}
 use Rattle.juniper_execute.proofs.Bounds.{given-counted}
+use Rattle.juniper_execute.proofs.Entering.{group-adds, group-spends}
 use Rattle.juniper_execute.proofs.RootGroups.{completed-for, given-at, group-asked, group-key, group-merges, group-others, group-ran, group-type, has-first}
 use Rattle.juniper_execute.proofs.RootGroups.{left-stopped, place-at, root-whole, stopped-in, told-leaves}
 use Rattle.juniper_execute.proofs.mutation.run_group.Goals as goal
@@ -147,3 +148,57 @@ returns-clause-ran g c =
 
 pub returns-clause-counted : goal.returns-clause-counted
 returns-clause-counted g c = given-counted c.args.served.now.walking _ _ _ _ _ _ _ _ _ _ _ c.in-Ok-give.ensures c.in-Ok.ensures.counted
+
+pub returns-clause-entered : goal.returns-clause-entered
+unfolding world_of
+returns-clause-entered g c =
+    let shown = g.S.ScalarValue.shown in
+    let root = c.args.served.now in
+    let walk = c.args.walk.now in
+    let s = view_schema shown root.schema.now in
+    let M = mutation_at (g.R.NodeTypes.meaning root.resolver.now) s (values_in shown walk) (g.M.MutationSteps.steps walk.steps.now) in
+    let T = walk.concrete.now in
+    let asks = asks_in shown walk s in
+    let os = all_fields shown walk s in
+    let k = key_at c.args.plan.now c.args.group.0 in
+    let fs = c.fields-fields.result.now in
+    let f = c.first_of-first.result.now in
+    let group = subst (λ l. IsGroupOf k os (view_all shown (collector_in shown walk) l)) (sym c.fields-fields.ensures) c.requires.group in
+    let all = group-others shown walk fs f k os c.first_of-first.ensures group in
+    let before = c.args.context.now in
+    let after = c.step-answer.new.context in
+    let all_of = field_in shown walk f ∷ all.0 in
+    let stepped = told-leaves M T all_of before after c.step-answer.result c.in-Ok.ensures.told (c.step-answer.ensures.context all.0) in
+    let declared = (group-asked shown walk (asks walk.concrete.now) fs f c.question-question.result.now c.first_of-first.ensures
+    (asked-here asks walk.concrete.now c.args.plan.now c.args.group.0 _ _ c.question-question.result.now _ c.requires.asked c.question-question.ensures
+    (ap (view_all shown (collector_in shown walk)) (sym c.fields-fields.ensures)))).declared in
+    let typed = group-type (M.world after) T (field_in shown walk f) all.0 _ declared in
+    group-adds M T before after _ all_of (c.requires.group.whole ∙ all.1) _ typed stepped _ _
+    (c.in-Ok.ensures.entered (step_of M T before all_of).1 (c.step-answer.ensures.answer all.0))
+
+pub returns-in-Err-clause-entered : goal.returns-in-Err-clause-entered
+unfolding world_of
+returns-in-Err-clause-entered g c =
+    let shown = g.S.ScalarValue.shown in
+    let root = c.args.served.now in
+    let walk = c.args.walk.now in
+    let s = view_schema shown root.schema.now in
+    let M = mutation_at (g.R.NodeTypes.meaning root.resolver.now) s (values_in shown walk) (g.M.MutationSteps.steps walk.steps.now) in
+    let T = walk.concrete.now in
+    let asks = asks_in shown walk s in
+    let os = all_fields shown walk s in
+    let k = key_at c.args.plan.now c.args.group.0 in
+    let fs = c.fields-fields.result.now in
+    let f = c.first_of-first.result.now in
+    let group = subst (λ l. IsGroupOf k os (view_all shown (collector_in shown walk) l)) (sym c.fields-fields.ensures) c.requires.group in
+    let all = group-others shown walk fs f k os c.first_of-first.ensures group in
+    let before = c.args.context.now in
+    let after = c.step-answer.new.context in
+    let all_of = field_in shown walk f ∷ all.0 in
+    let declared = (group-asked shown walk (asks walk.concrete.now) fs f c.question-question.result.now c.first_of-first.ensures
+    (asked-here asks walk.concrete.now c.args.plan.now c.args.group.0 _ _ c.question-question.result.now _ c.requires.asked c.question-question.ensures
+    (ap (view_all shown (collector_in shown walk)) (sym c.fields-fields.ensures)))).declared in
+    let typed = group-type (M.world after) T (field_in shown walk f) all.0 _ declared in
+    group-spends M T before after (Unit {0}) (Unit {0}) _ _ all_of (c.requires.group.whole ∙ all.1) _ typed c.in-Err.error c.in-Err.ensures.told
+    (λ told. told-leaves M T all_of before after c.step-answer.result told (c.step-answer.ensures.context all.0)) c.args.plan.now.left 0
+    (c.in-Err.ensures.entered (step_of M T before all_of).1 (c.step-answer.ensures.answer all.0))

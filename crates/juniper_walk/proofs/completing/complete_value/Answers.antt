@@ -11,6 +11,10 @@ use Rattle.juniper_walk.proofs.Preparation.{listed-same}
 use Rattle.juniper_walk.specs.PlanWalks.{HasFirst}
 use Rattle.juniper_walk.proofs.Completed.{completed-at}
 use Rattle.juniper_walk.specs.Budget.{fields_in, fields_in_all}
+use Rattle.juniper_walk.specs.Entered.{entered, entered_nodes}
+use Rattle.juniper_walk.specs.Plans.{fields_at}
+use Rattle.graphql_spec.specs.Selections.{all_below}
+use Rattle.juniper_walk.proofs.Entering.{known-unless, replies-alike, through-spends}
 use Rattle.juniper_walk.specs.Holes.{holes_of}
 use Rattle.juniper_walk.specs.Rows.{values_of}
 use Rattle.juniper_walk.proofs.Budget.{fill-fields}
@@ -44,3 +48,25 @@ returns-clause-counted g c =
     let made = ap fields_in c.in_ok-value.ensures.value.value in
     let handed = ap (λ l. fields_in_all (values_of shown l)) c.into_iter-objects.ensures.rest in
     omega (arith, fits, made, handed, c.in_ok-objects_of.ensures.counted)
+
+pub returns-clause-entered : goal.returns-clause-entered
+returns-clause-entered g c = λ reply given.
+    let W = g.R.Completer.world c.args.walk.now.collector.possible in
+    let below = all_below (view_all g.S.ScalarValue.shown c.args.walk.now.collector (fields_at c.args.plan.now c.args.group.0)) in
+    let parted = c.in_ok-skeleton.ensures.parted reply given in
+    let nodes = ap (entered_nodes W below) (ap view_nodes c.deref-2.ensures.value ∙ parted.nodes)
+    ∙ replies-alike W (λ x. entered W (W.concrete x) x below) (path_place c.args.path.now.value) [] _ reply below refl in
+    omega (arith, nodes, c.in_ok-objects_of.ensures.entered)
+
+pub returns-in_err-objects_of-clause-entered : goal.returns-in_err-objects_of-clause-entered
+returns-in_err-objects_of-clause-entered g c = λ reply given.
+    let W = g.R.Completer.world c.args.walk.now.collector.possible in
+    let below = all_below (view_all g.S.ScalarValue.shown c.args.walk.now.collector (fields_at c.args.plan.now c.args.group.0)) in
+    let parted = c.in_ok-skeleton.ensures.parted reply given in
+    let nodes = ap (entered_nodes W below) (ap view_nodes c.deref-2.ensures.value ∙ parted.nodes)
+    ∙ replies-alike W (λ x. entered W (W.concrete x) x below) (path_place c.args.path.now.value) [] _ reply below refl in
+    through-spends (Unit {0}) _ _ 0 _ _ _ _ _ c.from_residual-in_err-objects_of.result c.from_residual-in_err-objects_of.ensures.1
+    c.in_err-objects_of.ensures.entered (λ less. omega (arith, nodes, less))
+
+pub returns-in_err-objects_of-clause-told : goal.returns-in_err-objects_of-clause-told
+returns-in_err-objects_of-clause-told g c = known-unless c.from_residual-in_err-objects_of.result c.in_ok-skeleton.ensures.told

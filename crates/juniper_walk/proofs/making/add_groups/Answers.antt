@@ -18,6 +18,8 @@ returns g c =
       | then-branch+in_ok-add_each w ↦ subst of (sym w.plan-is) w.in_ok-add_each.ensures
       | else-branch+then-fields-le-FEW+in_ok-add_few w ↦ subst of (sym w.plan-is) w.in_ok-add_few.ensures
       | else-branch+else-fields-le-FEW+in_ok-add_grouped w ↦ subst of (sym w.plan-is) w.in_ok-add_grouped.ensures
-    ] in
-    made-added shown collector asks possible c.args.concrete.now fields c.args.plan.now c.if-branch.plan _ added
-    (c.len.ensures ∙ c.args.plan.now.groups.ok.0) (c.len-2.ensures ∙ c.if-branch.plan.groups.ok.0)
+    ] in (
+      made-added shown collector asks possible c.args.concrete.now fields c.args.plan.now c.if-branch.plan _ added
+          (c.len.ensures ∙ c.args.plan.now.groups.ok.0) (c.len-2.ensures ∙ c.if-branch.plan.groups.ok.0),
+      added.left,
+    )

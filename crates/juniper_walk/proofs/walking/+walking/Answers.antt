@@ -1,4 +1,4 @@
-use Rattle.std.proofs.Common.{◌≡◌, ◌<◌, ◌≤◌, ◌+◌, ◌-◌, ◌*◌, [], false, length, map, take, refl, sym, ap, ◌∙◌, subst, arith, rules}
+use Rattle.std.proofs.Common.{◌≡◌, ◌<◌, ◌≤◌, ◌+◌, ◌-◌, ◌*◌, [], ◌∷◌, false, length, map, slice_range, take, refl, sym, ap, ◌∙◌, subst, arith, rules}
 use Rattle.std.proofs.lemmas.List.{length-map}
 use Rattle.std.specs.Vec.Iter.{into_iter_items}
 use Rattle.graphql_spec.specs.ExactAnswers.{whole}
@@ -14,6 +14,9 @@ use Rattle.juniper_walk.proofs.Slices.{taken-all, taken-one}
 use Rattle.juniper_walk.specs.Plans.{IsStanding, IsStep, StandsFor, all_expanded, fields_at, key_at}
 use Rattle.juniper_walk.specs.Leaves.{IsTaken}
 use Rattle.juniper_walk.specs.Budget.{fields_in_all}
+use Rattle.juniper_walk.specs.Entered.{EntersAtMost, entered_at, entered_below, entered_in, entered_nodes, entered_rows, own_fields}
+use Rattle.juniper_walk.proofs.Entering.{at-more, at-taken, column-fits, enter-spends, in-append, in-one, in-taken, key-fits, nodes-taken, rows-taken}
+use Rattle.juniper_walk.proofs.Entering.{run-adds, run-fits, through-spends, walk-spends}
 use Rattle.juniper_walk.specs.Rows.{AreAdded, AreOfType, AreRows, listed_of, row_fields, values_of}
 use Rattle.juniper_walk.proofs.Budget.{all-counted, append-fields, column-counted, leaf-counted, more-counted, no-fields, null-fields}
 use Rattle.juniper_walk.proofs.Budget.{object-fields, put-counted, run-counted, run-length, turn-counted}
@@ -43,6 +46,7 @@ execute_selection_set-loop-number-init g t c =
       walked = start-walking W _ c.args.concrete.now c.args.node.now _ _ _ _ (take-none _ (c.args.groups.first.0 - c.args.groups.first.0) (omega arith))
           c.in_ok-entries.ensures (ap (map (view_listed shown)) c.new-errors.ensures.items);
       counted = omega (arith, no-fields (view_object shown c.in_ok-entries.entries) c.in_ok-entries.ensures);
+      entered = omega arith;
     }
 
 pub execute_selection_set-execute_field-requires-clause-bound : goal.execute_selection_set-execute_field-requires-clause-bound
@@ -119,6 +123,12 @@ execute_selection_set-loop-number-preserved g t c =
     = c.requires.1.1.1.1.1.1.1.1 in
     let ready : IsReadyWalk shown g.R.Conditions.possible g.R.Resolver.values W c.args.walk.now = c.requires.1.1.1.1.1.1.0 in
     let same : possible ≡ W.possible = ready.same in
+    let m = c.args.node.now in
+    let T = c.args.concrete.now in
+    let next = next-keys shown collector asks possible c.args.plan.now c.loop-number.plan c.args.groups T s standing stands c.loop-number.invariant.step
+    c.loop-number.number c.loop-number.auto.number c.loop-number-test.true W same in
+    let falls = group-falls shown collector asks possible c.args.plan.now c.loop-number.plan c.args.groups T s standing stands c.loop-number.invariant.step
+    c.loop-number.number c.loop-number.auto.number c.loop-number-test.true in
     elim c.match-taken.branch [
       | execute_selection_set-in-Leaf+in_ok-put_leaf-in-Leaf w ↦
           let leaf = subst (IsTaken W shown _ c.args.concrete.now c.args.node.now _ _) w.in-Leaf.is c.in_ok-taken.ensures in
@@ -135,6 +145,10 @@ execute_selection_set-loop-number-preserved g t c =
               c.loop-number-test.true,
               leaf-counted _ _ (view_object shown c.loop-number.entries) _ w.in_ok-put_leaf-in-Leaf.ensures,
             ));
+            entered =
+                let more = ap (entered_at W T m s) next ∙ at-more W T m s (take (c.loop-number.number - c.args.groups.first.0) (keys (occurrences W.possible T s)))
+                (key_at c.loop-number.plan c.loop-number.number) in
+                rw w.plan-is (omega (arith, c.loop-number.invariant.entered, more));
           }
       | execute_selection_set-in-Apart+in_ok-objects_of-in-Apart+in_ok-rises-in-Apart+else-rises w ↦
           let apart = subst (IsTaken W shown _ c.args.concrete.now c.args.node.now _ _) w.in-Apart.is c.in_ok-taken.ensures in
@@ -154,6 +168,11 @@ execute_selection_set-loop-number-preserved g t c =
                 (w.in_ok-rises-in-Apart.ensures.put_in.puts w.if-rises.false) in
                 let handed = ap (λ l. fields_in_all (values_of shown l)) w.into_iter-below.ensures.rest in
                 omega (arith, c.loop-number.invariant.counted, c.loop-number-test.true, put, handed, w.in_ok-objects_of-in-Apart.ensures.counted);
+            entered =
+                let fits = key-fits W T m s _ _ _ _ _ (view_nodes w.deref.result.now) (same_nodes ∙ apart.nodes)
+                (group-next shown collector asks possible c.args.plan.now c.loop-number.plan c.args.groups T s standing stands c.loop-number.invariant.step
+                c.loop-number.number c.loop-number.auto.number c.loop-number-test.true W same).whole (omega (arith, falls)) next in
+                omega (arith, c.loop-number.invariant.entered, w.in_ok-objects_of-in-Apart.ensures.entered, fits);
           })
     ]
 
@@ -183,7 +202,46 @@ execute_selection_set-returns-then-rises g t c =
           c.loop-number.invariant.walked _ _ _ _ _ _ _ _ apart same_nodes nodes _
           c.in_ok-rises-in-Apart.ensures.put_in _ (view-Null shown) c.if-rises.true;
       counted = omega (arith, null-fields _ (view-Null shown), c.loop-number.invariant.step.grown.left, c.in_ok-objects_of-in-Apart.ensures.counted);
+      entered =
+          let m = c.args.node.now in
+          let T = c.args.concrete.now in
+          let next = next-keys shown collector asks possible c.args.plan.now c.loop-number.plan c.args.groups T s standing stands c.loop-number.invariant.step
+          c.loop-number.number c.loop-number.auto.number c.loop-number-test.true W same in
+          let falls = group-falls shown collector asks possible c.args.plan.now c.loop-number.plan c.args.groups T s standing stands
+          c.loop-number.invariant.step c.loop-number.number c.loop-number.auto.number c.loop-number-test.true in
+          let fits = key-fits W T m s _ _ _ _ _ (view_nodes c.deref.result.now) (same_nodes ∙ apart.nodes)
+          (group-next shown collector asks possible c.args.plan.now c.loop-number.plan c.args.groups T s standing stands c.loop-number.invariant.step
+          c.loop-number.number c.loop-number.auto.number c.loop-number-test.true W same).whole (omega (arith, falls)) next in
+          let within = at-taken W T m s (c.loop-number.number + 1 - c.args.groups.first.0) in
+          omega (arith, c.loop-number.invariant.entered, c.in_ok-objects_of-in-Apart.ensures.entered, fits, within);
     }
+
+pub execute_selection_set-returns-in_err-objects_of-in-Apart-clause-entered : goal.execute_selection_set-returns-in_err-objects_of-in-Apart-clause-entered
+execute_selection_set-returns-in_err-objects_of-in-Apart-clause-entered g t c =
+    let shown = g.S.ScalarValue.shown in
+    let collector = c.args.walk.now.collector in
+    let asks = g.R.Resolver.asks c.args.walk.now.collector.possible in
+    let possible = g.R.Conditions.possible c.args.walk.now.collector.possible in
+    let W = g.R.Completer.world c.args.walk.now.collector.possible in
+    let s = all_expanded shown collector c.args.enclosing.now in
+    let standing : IsStanding shown collector asks possible c.args.plan.now = c.requires.1.1.1.1.1.1.1.0 in
+    let stands : StandsFor shown collector asks c.args.concrete.now c.args.plan.now c.args.groups (occurrences possible c.args.concrete.now s)
+    = c.requires.1.1.1.1.1.1.1.1 in
+    let ready : IsReadyWalk shown g.R.Conditions.possible g.R.Resolver.values W c.args.walk.now = c.requires.1.1.1.1.1.1.0 in
+    let same : possible ≡ W.possible = ready.same in
+    let apart = subst (IsTaken W shown _ c.args.concrete.now c.args.node.now _ _) c.in-Apart.is c.in_ok-taken.ensures in
+    let m = c.args.node.now in
+    let T = c.args.concrete.now in
+    let next = next-keys shown collector asks possible c.args.plan.now c.loop-number.plan c.args.groups T s standing stands c.loop-number.invariant.step
+    c.loop-number.number c.loop-number.auto.number c.loop-number-test.true W same in
+    let falls = group-falls shown collector asks possible c.args.plan.now c.loop-number.plan c.args.groups T s standing stands
+    c.loop-number.invariant.step c.loop-number.number c.loop-number.auto.number c.loop-number-test.true in
+    let fits = key-fits W T m s _ _ _ _ _ (view_nodes c.deref.result.now) (ap view_nodes c.deref.ensures.value ∙ apart.nodes)
+    (group-next shown collector asks possible c.args.plan.now c.loop-number.plan c.args.groups T s standing stands c.loop-number.invariant.step
+    c.loop-number.number c.loop-number.auto.number c.loop-number-test.true W same).whole (omega (arith, falls)) next in
+    let within = at-taken W T m s (c.loop-number.number + 1 - c.args.groups.first.0) in
+    through-spends (Unit {0}) _ _ 0 _ _ _ _ _ c.from_residual-in_err-objects_of-in-Apart.result c.from_residual-in_err-objects_of-in-Apart.ensures.1
+    c.in_err-objects_of-in-Apart.ensures.entered (λ less. omega (arith, c.loop-number.invariant.entered, fits, within, less))
 
 pub execute_selection_set-returns : goal.execute_selection_set-returns
 execute_selection_set-returns g t c =
@@ -202,6 +260,11 @@ execute_selection_set-returns g t c =
       walked = groups-walked shown collector asks possible c.args.plan.now c.args.groups c.args.concrete.now s stands c.loop-number.number
           c.loop-number-test.false W same _ c.args.node.now _ _ _ (view-Object shown c.loop-number.entries) c.loop-number.invariant.walked;
       counted = omega (arith, object-fields _ _ (view-Object shown c.loop-number.entries), c.loop-number.invariant.counted);
+      entered = omega (
+        arith,
+        c.loop-number.invariant.entered,
+        at-taken W c.args.concrete.now c.args.node.now s (c.loop-number.number - c.args.groups.first.0),
+      );
     }
 
 pub objects_of-returns-then-is_empty-clause-plan : goal.objects_of-returns-then-is_empty-clause-plan
@@ -225,6 +288,7 @@ objects_of-loop-start-init g t c =
       walked = subst (λ l. AreWalkedOnce whole first_start W (all_below (view_all shown collector (fields_at c.args.plan.now c.args.group.0))) []
           (values_of shown l) (listed_of shown l)) (sym c.in_ok-done.ensures.items) tt;
       counted = omega (arith, none-done shown c.in_ok-done.done.items c.in_ok-done.ensures.items);
+      entered = omega arith;
     }
 
 pub objects_of-enter_below-requires-clause-selected : goal.objects_of-enter_below-requires-clause-selected
@@ -316,6 +380,20 @@ objects_of-loop-start-preserved-in_ok-end_rows g t c =
           (ap fields_in_all c.in_ok-end_rows.ensures.values ∙ append-fields _ _)
           (run-length c.args.nodes.now c.loop-start.start c.run_end-end.result some c.run_end-end.ensures.inside)
           c.loop-start.invariant.counted c.in_ok-groups.ensures.counted c.in_ok-rows.ensures.counted;
+      entered =
+          let below = all_below (view_all shown collector (fields_at c.args.plan.now c.args.group.0)) in
+          let T = c.concrete_type_name-concrete.result.now in
+          let run = view_nodes (slice_range c.args.nodes.now c.loop-start.start c.run_end-end.result) in
+          let fits = run-fits W T below (view_nodes (take c.loop-start.start c.args.nodes.now)) run (view_nodes (take c.run_end-end.result c.args.nodes.now))
+          c.run_end-end.ensures.typed (seen-slice (view_spot (λ n. n)) c.args.nodes.now c.loop-start.start c.run_end-end.result low) in
+          let size = length-map (slice_range c.args.nodes.now c.loop-start.start c.run_end-end.result) (view_spot (λ n. n))
+          ∙ run-length c.args.nodes.now c.loop-start.start c.run_end-end.result some c.run_end-end.ensures.inside in
+          let own = ap (λ f. own_fields f T below) c.requires.ready.same in
+          let charged = subst (λ x. c.loop-start.plan.left ≤ c.enter_below.new.plan.left + (c.run_end-end.result - c.loop-start.start) * own_fields possible T x)
+          (ap (all_expanded shown collector) (c.deref.ensures.value ∙ sym c.deref-then-is_column.ensures.value) ∙ selected) c.in_ok-groups.ensures.entered in
+          let counted = subst (λ n. c.loop-start.plan.left ≤ c.enter_below.new.plan.left + (c.run_end-end.result - c.loop-start.start) * n) own charged in
+          let walked = subst (λ x. c.enter_below.new.plan.left ≤ c.rows_of.new.plan.left + entered_in W T x run) selected c.in_ok-rows.ensures.entered in
+          run-adds _ _ _ _ _ _ _ _ _ _ fits size c.loop-start.invariant.entered counted walked;
     }
 
 pub objects_of-loop-start-preserved : goal.objects_of-loop-start-preserved
@@ -340,6 +418,20 @@ objects_of-loop-start-preserved g t c =
           (seen-slice (view_spot (λ n. n)) c.args.nodes.now c.loop-start.start c.run_end-end.result low) added.all_values added.all_errors;
       counted = more-counted _ _ _ _ _ _ _ _ _ (run-length c.args.nodes.now c.loop-start.start c.run_end-end.result some c.run_end-end.ensures.inside)
           c.loop-start.invariant.counted c.in_ok-groups.ensures.counted c.in_ok-one_by_one.ensures.counted;
+      entered =
+          let below = all_below (view_all shown collector (fields_at c.args.plan.now c.args.group.0)) in
+          let T = c.concrete_type_name-concrete.result.now in
+          let run = view_nodes (slice_range c.args.nodes.now c.loop-start.start c.run_end-end.result) in
+          let fits = run-fits W T below (view_nodes (take c.loop-start.start c.args.nodes.now)) run (view_nodes (take c.run_end-end.result c.args.nodes.now))
+          c.run_end-end.ensures.typed (seen-slice (view_spot (λ n. n)) c.args.nodes.now c.loop-start.start c.run_end-end.result low) in
+          let size = length-map (slice_range c.args.nodes.now c.loop-start.start c.run_end-end.result) (view_spot (λ n. n))
+          ∙ run-length c.args.nodes.now c.loop-start.start c.run_end-end.result some c.run_end-end.ensures.inside in
+          let own = ap (λ f. own_fields f T below) c.requires.ready.same in
+          let charged = subst (λ x. c.loop-start.plan.left ≤ c.enter_below.new.plan.left + (c.run_end-end.result - c.loop-start.start) * own_fields possible T x)
+          (ap (all_expanded shown collector) (c.deref.ensures.value ∙ sym c.deref-else-is_column.ensures.value) ∙ selected) c.in_ok-groups.ensures.entered in
+          let counted = subst (λ n. c.loop-start.plan.left ≤ c.enter_below.new.plan.left + (c.run_end-end.result - c.loop-start.start) * n) own charged in
+          let walked = subst (λ x. c.enter_below.new.plan.left ≤ c.one_by_one.new.plan.left + entered_in W T x run) selected c.in_ok-one_by_one.ensures.entered in
+          run-adds _ _ _ _ _ _ _ _ _ _ fits size c.loop-start.invariant.entered counted walked;
     }
 
 pub objects_of-returns-clause-walked : goal.objects_of-returns-clause-walked
@@ -353,6 +445,84 @@ objects_of-returns-clause-walked g t c =
     (values_of shown c.loop-start.done.items) (listed_of shown c.loop-start.done.items))
     (taken-all (view_spot (λ n. n)) c.args.nodes.now c.loop-start.start c.loop-start-test.false) c.loop-start.invariant.walked
 
+pub objects_of-returns-in_err-groups-clause-entered : goal.objects_of-returns-in_err-groups-clause-entered
+objects_of-returns-in_err-groups-clause-entered g t c =
+    let shown = g.S.ScalarValue.shown in
+    let collector = c.args.walk.now.collector in
+    let asks = g.R.Resolver.asks c.args.walk.now.collector.possible in
+    let possible = g.R.Conditions.possible c.args.walk.now.collector.possible in
+    let W = g.R.Completer.world c.args.walk.now.collector.possible in
+    let T = c.concrete_type_name-concrete.result.now in
+    let below = all_below (view_all shown collector (fields_at c.args.plan.now c.args.group.0)) in
+    let selected : all_expanded shown collector c.deref.result.now ≡ below = ap (all_expanded shown collector) c.deref.ensures.value ∙ (c.in_ok-enclosing.ensures
+    ∙ ap (λ l. all_below (view_all shown collector l)) c.fields.ensures) in
+    let some = c.run_end-end.ensures.some in
+    let low : c.loop-start.start ≤ c.run_end-end.result = omega (arith, some) in
+    let run = view_nodes (slice_range c.args.nodes.now c.loop-start.start c.run_end-end.result) in
+    let fits = run-fits W T below (view_nodes (take c.loop-start.start c.args.nodes.now)) run (view_nodes (take c.run_end-end.result c.args.nodes.now))
+    c.run_end-end.ensures.typed (seen-slice (view_spot (λ n. n)) c.args.nodes.now c.loop-start.start c.run_end-end.result low) in
+    let size = length-map (slice_range c.args.nodes.now c.loop-start.start c.run_end-end.result) (view_spot (λ n. n))
+    ∙ run-length c.args.nodes.now c.loop-start.start c.run_end-end.result some c.run_end-end.ensures.inside in
+    let own = ap (λ s. own_fields possible T s) selected ∙ ap (λ f. own_fields f T below) c.requires.ready.same in
+    let within = nodes-taken W (view_spot (λ n. n)) below c.run_end-end.result c.args.nodes.now in
+    through-spends (Unit {0}) _ _ 0 _ _ _ _ _ c.from_residual-in_err-groups.result c.from_residual-in_err-groups.ensures.1 c.in_err-groups.ensures.entered
+    (λ less. enter-spends _ _ _ _ _ _ _ _ _ fits size c.loop-start.invariant.entered
+    (subst (λ n. c.loop-start.plan.left < (c.run_end-end.result - c.loop-start.start) * n) own less) within)
+
+pub objects_of-returns-in_err-rows-clause-entered : goal.objects_of-returns-in_err-rows-clause-entered
+objects_of-returns-in_err-rows-clause-entered g t c =
+    let shown = g.S.ScalarValue.shown in
+    let collector = c.args.walk.now.collector in
+    let asks = g.R.Resolver.asks c.args.walk.now.collector.possible in
+    let possible = g.R.Conditions.possible c.args.walk.now.collector.possible in
+    let W = g.R.Completer.world c.args.walk.now.collector.possible in
+    let T = c.concrete_type_name-concrete.result.now in
+    let below = all_below (view_all shown collector (fields_at c.args.plan.now c.args.group.0)) in
+    let selected : all_expanded shown collector c.deref.result.now ≡ below = ap (all_expanded shown collector) c.deref.ensures.value ∙ (c.in_ok-enclosing.ensures
+    ∙ ap (λ l. all_below (view_all shown collector l)) c.fields.ensures) in
+    let some = c.run_end-end.ensures.some in
+    let low : c.loop-start.start ≤ c.run_end-end.result = omega (arith, some) in
+    let run = view_nodes (slice_range c.args.nodes.now c.loop-start.start c.run_end-end.result) in
+    let fits = run-fits W T below (view_nodes (take c.loop-start.start c.args.nodes.now)) run (view_nodes (take c.run_end-end.result c.args.nodes.now))
+    c.run_end-end.ensures.typed (seen-slice (view_spot (λ n. n)) c.args.nodes.now c.loop-start.start c.run_end-end.result low) in
+    let size = length-map (slice_range c.args.nodes.now c.loop-start.start c.run_end-end.result) (view_spot (λ n. n))
+    ∙ run-length c.args.nodes.now c.loop-start.start c.run_end-end.result some c.run_end-end.ensures.inside in
+    let own = ap (λ s. own_fields possible T s) selected ∙ ap (λ f. own_fields f T below) c.requires.ready.same in
+    let within = nodes-taken W (view_spot (λ n. n)) below c.run_end-end.result c.args.nodes.now in
+    let charged = subst (λ n. c.loop-start.plan.left ≤ c.enter_below.new.plan.left + (c.run_end-end.result - c.loop-start.start) * n) own
+    c.in_ok-groups.ensures.entered in
+    let selected_there = ap (all_expanded shown collector) (c.deref-then-is_column.ensures.value ∙ sym c.deref.ensures.value) ∙ selected in
+    through-spends (Unit {0}) _ _ 0 _ _ _ _ _ c.from_residual-in_err-rows.result c.from_residual-in_err-rows.ensures.1 c.in_err-rows.ensures.entered
+    (λ less. walk-spends _ _ _ _ _ _ _ _ _ _ fits size c.loop-start.invariant.entered charged
+    (subst (λ x. c.enter_below.new.plan.left < entered_in W T x run) selected_there less) within)
+
+pub objects_of-returns-in_err-one_by_one-clause-entered : goal.objects_of-returns-in_err-one_by_one-clause-entered
+objects_of-returns-in_err-one_by_one-clause-entered g t c =
+    let shown = g.S.ScalarValue.shown in
+    let collector = c.args.walk.now.collector in
+    let asks = g.R.Resolver.asks c.args.walk.now.collector.possible in
+    let possible = g.R.Conditions.possible c.args.walk.now.collector.possible in
+    let W = g.R.Completer.world c.args.walk.now.collector.possible in
+    let T = c.concrete_type_name-concrete.result.now in
+    let below = all_below (view_all shown collector (fields_at c.args.plan.now c.args.group.0)) in
+    let selected : all_expanded shown collector c.deref.result.now ≡ below = ap (all_expanded shown collector) c.deref.ensures.value ∙ (c.in_ok-enclosing.ensures
+    ∙ ap (λ l. all_below (view_all shown collector l)) c.fields.ensures) in
+    let some = c.run_end-end.ensures.some in
+    let low : c.loop-start.start ≤ c.run_end-end.result = omega (arith, some) in
+    let run = view_nodes (slice_range c.args.nodes.now c.loop-start.start c.run_end-end.result) in
+    let fits = run-fits W T below (view_nodes (take c.loop-start.start c.args.nodes.now)) run (view_nodes (take c.run_end-end.result c.args.nodes.now))
+    c.run_end-end.ensures.typed (seen-slice (view_spot (λ n. n)) c.args.nodes.now c.loop-start.start c.run_end-end.result low) in
+    let size = length-map (slice_range c.args.nodes.now c.loop-start.start c.run_end-end.result) (view_spot (λ n. n))
+    ∙ run-length c.args.nodes.now c.loop-start.start c.run_end-end.result some c.run_end-end.ensures.inside in
+    let own = ap (λ s. own_fields possible T s) selected ∙ ap (λ f. own_fields f T below) c.requires.ready.same in
+    let within = nodes-taken W (view_spot (λ n. n)) below c.run_end-end.result c.args.nodes.now in
+    let charged = subst (λ n. c.loop-start.plan.left ≤ c.enter_below.new.plan.left + (c.run_end-end.result - c.loop-start.start) * n) own
+    c.in_ok-groups.ensures.entered in
+    let selected_there = ap (all_expanded shown collector) (c.deref-else-is_column.ensures.value ∙ sym c.deref.ensures.value) ∙ selected in
+    through-spends (Unit {0}) _ _ 0 _ _ _ _ _ c.from_residual-in_err-one_by_one.result c.from_residual-in_err-one_by_one.ensures.1 c.in_err-one_by_one.ensures.entered
+    (λ less. walk-spends _ _ _ _ _ _ _ _ _ _ fits size c.loop-start.invariant.entered charged
+    (subst (λ x. c.enter_below.new.plan.left < entered_in W T x run) selected_there less) within)
+
 pub one_by_one-loop-spot-init : goal.one_by_one-loop-spot-init
 one_by_one-loop-spot-init g t c =
     let shown = g.S.ScalarValue.shown in
@@ -365,6 +535,7 @@ one_by_one-loop-spot-init g t c =
       added = none-added (g.R.Completer.world c.args.walk.now.collector.possible) _ shown c.args.done.now.items;
       inside = omega arith;
       counted = omega arith;
+      entered = omega arith;
     }
 
 pub one_by_one-execute_selection_set-requires : goal.one_by_one-execute_selection_set-requires
@@ -404,7 +575,27 @@ one_by_one-loop-spot-preserved g t c =
       inside = omega (arith, below);
       counted = turn-counted _ _ _ _ _ _ i _ (added-one shown c.loop-spot.done.items _ _ c.in_ok-push.ensures.items) c.loop-spot.invariant.counted
           c.in_ok-walked.ensures.counted;
+      entered =
+          let s = all_expanded shown collector c.args.enclosing.now in
+          let one = ap (entered_in W T s) (taken-one (view_spot (λ n. n)) nodes i x below is)
+          ∙ in-append W T s (view_nodes (take i nodes)) (view_spot (λ n. n) x ∷ []) in
+          omega (arith, c.loop-spot.invariant.entered, c.in_ok-walked.ensures.entered, one, in-one W T s (view_spot (λ n. n) x));
     }
+
+pub one_by_one-returns-in_err-walked-clause-entered : goal.one_by_one-returns-in_err-walked-clause-entered
+one_by_one-returns-in_err-walked-clause-entered g t c =
+    let collector = c.args.walk.now.collector in
+    let W = g.R.Completer.world collector.possible in
+    let T = c.args.concrete.now in
+    let s = all_expanded g.S.ScalarValue.shown collector c.args.enclosing.now in
+    let nodes = c.args.nodes.now in
+    let i = c.loop-spot.spot-index in
+    let x = c.spot-item.result in
+    let one = ap (entered_in W T s) (taken-one (view_spot (λ n. n)) nodes i x c.loop-spot-test.true c.spot-item.is)
+    ∙ in-append W T s (view_nodes (take i nodes)) (view_spot (λ n. n) x ∷ []) in
+    let within = in-taken W (view_spot (λ n. n)) T s (i + 1) nodes in
+    through-spends (Unit {0}) _ _ 0 _ _ _ _ _ c.from_residual.result c.from_residual.ensures.1 c.in_err-walked.ensures.entered
+    (λ less. omega (arith, c.loop-spot.invariant.entered, one, in-one W T s (view_spot (λ n. n) x), within, less))
 
 pub one_by_one-returns : goal.one_by_one-returns
 one_by_one-returns g t c =
@@ -416,6 +607,12 @@ one_by_one-returns g t c =
           c.loop-spot.done.items)
           (taken-all (view_spot (λ n. n)) c.args.nodes.now c.loop-spot.spot-index c.loop-spot-test.false) c.loop-spot.invariant.added;
       counted = all-counted _ _ _ _ _ c.loop-spot.invariant.counted (omega (arith, c.loop-spot.invariant.inside, c.loop-spot-test.false));
+      entered = omega (
+        arith,
+        c.loop-spot.invariant.entered,
+        in-taken W (view_spot (λ n. n)) c.args.concrete.now (all_expanded shown c.args.walk.now.collector c.args.enclosing.now) c.loop-spot.spot-index
+            c.args.nodes.now,
+      );
     }
 
 pub rows_of-loop-number-init : goal.rows_of-loop-number-init
@@ -440,6 +637,7 @@ rows_of-loop-number-init g t c =
       counted = rows-counted W s T shown ks (view_nodes nodes) c.in_ok-rows.rows.items rows ∙ length-map nodes (view_spot (λ n. n));
       walked = rows;
       fields = omega (arith, fresh-fields shown (length nodes) c.in_ok-rows.rows.items c.in_ok-rows.ensures);
+      entered = omega arith;
     }
 
 pub rows_of-ask_column-requires-clause-whole : goal.rows_of-ask_column-requires-clause-whole
@@ -523,6 +721,14 @@ rows_of-loop-number-preserved g t c =
           (c.in_ok-column.ensures.pending ks next c.loop-number.invariant.walked) below);
       fields = column-counted _ _ _ _ _ _ _ _ _ _ _ (omega (arith, c.loop-number-test.true)) c.loop-number.invariant.fields c.in_ok-column.ensures.fields
           c.in_ok-below.ensures.counted c.in_ok-fill_rows.ensures.fields;
+      entered =
+          let falls = group-falls shown collector asks possible c.args.plan.now c.loop-number.plan c.args.groups T s standing stands
+          c.loop-number.invariant.step c.loop-number.number c.loop-number.auto.number c.loop-number-test.true in
+          let fits = column-fits W shown T s ks _ k os (view_nodes c.args.nodes.now) _ _ _
+          (c.in_ok-column.ensures.pending ks next c.loop-number.invariant.walked) next.whole (omega (arith, falls)) columns in
+          let walked = subst (λ l. c.loop-number.plan.left ≤ c.objects_of.new.plan.left + entered_nodes W (all_below os) (view_nodes l)) c.deref.ensures.value
+          c.in_ok-below.ensures.entered in
+          omega (arith, c.loop-number.invariant.entered, walked, fits);
     }
 
 pub rows_of-returns-clause-rows : goal.rows_of-returns-clause-rows
@@ -543,3 +749,50 @@ rows_of-returns-clause-rows g t c =
 
 pub rows_of-returns-clause-counted : goal.rows_of-returns-clause-counted
 rows_of-returns-clause-counted g t c = omega (arith, c.loop-number.invariant.fields)
+
+pub rows_of-returns-clause-entered : goal.rows_of-returns-clause-entered
+rows_of-returns-clause-entered g t c =
+    let shown = g.S.ScalarValue.shown in
+    let W = g.R.Completer.world c.args.walk.now.collector.possible in
+    let s = all_expanded shown c.args.walk.now.collector c.args.enclosing.now in
+    omega (
+      arith,
+      c.loop-number.invariant.entered,
+      rows-taken W c.args.concrete.now s (c.loop-number.number - c.args.groups.first.0) (view_nodes c.args.nodes.now),
+    )
+
+pub objects_of-returns-clause-entered : goal.objects_of-returns-clause-entered
+objects_of-returns-clause-entered g t c =
+    let shown = g.S.ScalarValue.shown in
+    let collector = c.args.walk.now.collector in
+    let W = g.R.Completer.world c.args.walk.now.collector.possible in
+    let below = all_below (view_all shown collector (fields_at c.args.plan.now c.args.group.0)) in
+    omega (arith, c.loop-start.invariant.entered, nodes-taken W (view_spot (λ n. n)) below c.loop-start.start c.args.nodes.now)
+
+pub rows_of-returns-in_err-below-clause-entered : goal.rows_of-returns-in_err-below-clause-entered
+rows_of-returns-in_err-below-clause-entered g t c =
+    let shown = g.S.ScalarValue.shown in
+    let collector = c.args.walk.now.collector in
+    let asks = g.R.Resolver.asks c.args.walk.now.collector.possible in
+    let possible = g.R.Conditions.possible c.args.walk.now.collector.possible in
+    let W = g.R.Completer.world c.args.walk.now.collector.possible in
+    let T = c.args.concrete.now in
+    let s = all_expanded shown collector c.args.enclosing.now in
+    let ready : IsReadyWalk shown g.R.Conditions.possible g.R.Resolver.values W c.args.walk.now = c.requires.1.1.1.1.1.1.0 in
+    let standing : IsStanding shown collector asks possible c.args.plan.now = c.requires.1.1.1.1.1.1.1.0 in
+    let stands : StandsFor shown collector asks T c.args.plan.now c.args.groups (occurrences possible T s) = c.requires.1.1.1.1.1.1.1.1.0 in
+    let ks = take (c.loop-number.number - c.args.groups.first.0) (keys (occurrences W.possible T s)) in
+    let k = key_at c.loop-number.plan c.loop-number.number in
+    let os = view_all shown collector (fields_at c.loop-number.plan c.loop-number.number) in
+    let next = group-next shown collector asks possible c.args.plan.now c.loop-number.plan c.args.groups T s standing stands
+    c.loop-number.invariant.step c.loop-number.number c.loop-number.auto.number c.loop-number-test.true W ready.same in
+    let columns = next-keys shown collector asks possible c.args.plan.now c.loop-number.plan c.args.groups T s standing stands
+    c.loop-number.invariant.step c.loop-number.number c.loop-number.auto.number c.loop-number-test.true W ready.same in
+    let falls = group-falls shown collector asks possible c.args.plan.now c.loop-number.plan c.args.groups T s standing stands
+    c.loop-number.invariant.step c.loop-number.number c.loop-number.auto.number c.loop-number-test.true in
+    let fits = column-fits W shown T s ks _ k os (view_nodes c.args.nodes.now) _ _ _
+    (c.in_ok-column.ensures.pending ks next c.loop-number.invariant.walked) next.whole (omega (arith, falls)) columns in
+    let within = rows-taken W T s (c.loop-number.number + 1 - c.args.groups.first.0) (view_nodes c.args.nodes.now) in
+    through-spends (Unit {0}) _ _ 0 _ _ _ _ _ c.from_residual-in_err-below.result c.from_residual-in_err-below.ensures.1 c.in_err-below.ensures.entered
+    (λ less. let walked = subst (λ l. c.loop-number.plan.left < entered_nodes W (all_below os) (view_nodes l)) c.deref.ensures.value less in
+    omega (arith, c.loop-number.invariant.entered, walked, fits, within))

@@ -11,6 +11,7 @@ use Rattle.juniper_walk.specs.Plans.{IsStep, all_expanded, fields_at}
 use Rattle.graphql_spec.specs.NodeLaws.{AreWalkedOnce}
 use Rattle.juniper_walk.specs.PlanWalks.{IsWalking}
 use Rattle.juniper_walk.specs.Budget.{fields_in_all, fields_in_entries}
+use Rattle.juniper_walk.specs.Entered.{entered_at, entered_in, entered_nodes, entered_rows}
 use Rattle.juniper_walk.specs.Rows.{AreAdded, AreRows, listed_of, row_fields, values_of}
 use Rattle.juniper_walk.proofs.walking.+walking.Given as goal
 
@@ -44,6 +45,8 @@ invariant-execute_selection_set-loop-number g l =
           (view_object shown l.entries) (map (view_listed shown) l.errors.items);
       counted : fields_in_entries (view_object shown l.entries) + l.plan.left + (l.fn.groups.end.0 - l.number)
           ≤ l.initial.plan.left + (l.fn.groups.end.0 - l.fn.groups.first.0);
+      entered : l.initial.plan.left ≤ l.plan.left + entered_at W l.concrete l.node (all_expanded shown l.walk.collector l.enclosing)
+          (take (l.number - l.fn.groups.first.0) (keys (occurrences W.possible l.concrete (all_expanded shown l.walk.collector l.enclosing))));
     }
 
 -- and the nodes so far
@@ -58,6 +61,8 @@ invariant-objects_of-loop-start g l =
           (all_below (view_all shown l.walk.collector (fields_at l.initial.plan l.fn.group.0))) (view_nodes (take l.start l.nodes))
           (values_of shown l.done.items) (listed_of shown l.done.items);
       counted : fields_in_all (values_of shown l.done.items) + l.plan.left ≤ l.initial.plan.left;
+      entered : l.initial.plan.left ≤ l.plan.left + entered_nodes (g.R.Completer.world l.walk.collector.possible)
+          (all_below (view_all shown l.walk.collector (fields_at l.initial.plan l.fn.group.0))) (view_nodes (take l.start l.nodes));
     }
 
 -- the objects of the nodes so far were put behind those that were there
@@ -72,6 +77,8 @@ invariant-one_by_one-loop-spot g l =
       inside : l.spot-index ≤ length l.nodes;
       counted : fields_in_all (values_of shown l.done.items) + l.plan.left
           ≤ fields_in_all (values_of shown l.initial.done.items) + l.initial.plan.left + l.spot-index * (l.fn.groups.end.0 - l.fn.groups.first.0);
+      entered : l.initial.plan.left ≤ l.plan.left + entered_in (g.R.Completer.world l.walk.collector.possible) l.concrete
+          (all_expanded shown l.walk.collector l.enclosing) (view_nodes (take l.spot-index l.nodes));
     }
 
 -- the groups so far are walked in each row
@@ -88,4 +95,6 @@ invariant-rows_of-loop-number g l =
           (view_nodes l.nodes) l.rows.items;
       fields : row_fields shown l.rows.items + l.plan.left + length l.nodes * (l.fn.groups.end.0 - l.number)
           ≤ l.initial.plan.left + length l.nodes * (l.fn.groups.end.0 - l.fn.groups.first.0);
+      entered : l.initial.plan.left ≤ l.plan.left + entered_rows W l.concrete s
+          (take (l.number - l.fn.groups.first.0) (keys (occurrences W.possible l.concrete s))) (view_nodes l.nodes);
     }
