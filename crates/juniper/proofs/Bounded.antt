@@ -1,5 +1,5 @@
 -- What a call within a budget of fields answers, under other readings (6.1).
-use Rattle.std.proofs.Common.{◌≡◌, ◌≢◌, ℕ, Option, None, Result, Ok, Err, Vec, Global, map, refl, sym, subst}
+use Rattle.std.proofs.Common.{◌≡◌, ◌≢◌, ◌<◌, ℕ, Option, None, Some, Result, Ok, Err, Vec, Global, map, sym, subst}
 use Rattle.graphql_spec.specs.Outcomes as outcome
 use Rattle.graphql_spec.specs.Outcomes.{Response, Service, responds, refuses}
 use Rattle.graphql_spec.specs.Requests.{Outcome}
@@ -12,8 +12,8 @@ use Rattle.juniper_walk.specs.declared.walked.Stop.{Stop}
 use Rattle.juniper_walk.specs.declared.walked.Stop.TheVariants as stops
 use Rattle.juniper_execute.specs.declared.walking.Walking.TheVariants.{Grouped}
 use Rattle.juniper.specs.Answering.{Responds}
-use Rattle.juniper.specs.Budgets.{AnswersWithin, IsSpentOnly, RefusesWithin, error_of, of_stop}
-use Rattle.juniper_walk.specs.Budget.{StopsGiven}
+use Rattle.juniper.specs.Budgets.{AnswersWithin, IsSpentOnly, RefusesWithin, SpendsOnly, error_of, of_stop}
+use Rattle.juniper_walk.specs.Entered.{SpendsGiven}
 use Rattle.juniper.specs.Promised.{IsFullOutcomeOf}
 use Rattle.juniper.specs.RequestErrors.{view_request_error}
 use Rattle.juniper.specs.WalkedOutcomes.{IsWalkedOutcome}
@@ -49,22 +49,28 @@ stop-refuses P s w is p = subst (RefusesWithin P) (sym is) (go s)
     go stops.Spent = p
 
 -- where no budget is given, none is spent
-pub unspent : (ran : Type 0) (w : Within) → IsSpentOnly None ran w → w ≢ Spent
-unspent ran (Refused e) only = λ is. cc
-unspent ran Spent only = λ is. only.0 refl
+pub unspent : (over : ℕ → Type 0) (w : Within) → IsSpentOnly None over w → w ≢ Spent
+unspent over (Refused e) only = λ is. cc
+unspent over Spent only = λ is. let none : None ≡ Some only.0 = only.1 in absurd cc
 
--- a walk that spends its budget runs
-pub stop-runs : (ran : Type 0) (fields : Option ℕ) (s : Stop) (w : Within) → w ≡ of_stop s → StopsGiven fields s → ran → IsSpentOnly fields ran w
-stop-runs ran fields s w is given p = subst (IsSpentOnly fields ran) (sym is) (go s given)
+-- a walk that spends its budget enters more
+pub stop-runs : (A : Type 0) (over : ℕ → Type 0) (fields : Option ℕ) (n : ℕ) (s : Stop) (w : Within) → w ≡ of_stop s → SpendsGiven {A = A} fields n (Err s) →
+    ((left : ℕ) → left < n → over left) → IsSpentOnly fields over w
+stop-runs A over fields n s w is given f = subst (IsSpentOnly fields over) (sym is) (go s given)
   where
-    go : (t : Stop) → StopsGiven fields t → IsSpentOnly fields ran (of_stop t)
+    go : (t : Stop) → SpendsGiven {A = A} fields n (Err t) → IsSpentOnly fields over (of_stop t)
     go stops.Memory g = tt
-    go stops.Spent g = (g, p)
+    go stops.Spent g = (g.0, g.1, f g.0 g.2)
 
 -- what is spent only by what runs, under another reading
-pub spent-so : (P Q : Type 0) → (P → Q) → (fields : Option ℕ) (w : Within) → IsSpentOnly fields P w → IsSpentOnly fields Q w
+pub spent-so : (P Q : ℕ → Type 0) → ((n : ℕ) → P n → Q n) → (fields : Option ℕ) (w : Within) → IsSpentOnly fields P w → IsSpentOnly fields Q w
 spent-so P Q f fields (Refused e) only = tt
-spent-so P Q f fields Spent only = (only.0, f only.1)
+spent-so P Q f fields Spent only = (only.0, only.1, f only.0 only.2)
+
+pub spends-so : {A : Type 0} (P Q : ℕ → Type 0) → ((n : ℕ) → P n → Q n) → (fields : Option ℕ) (r : Result A Within) → SpendsOnly fields P r →
+    SpendsOnly fields Q r
+spends-so P Q f fields (Ok a) only = tt
+spends-so P Q f fields (Err w) only = spent-so P Q f fields w only
 
 -- what the walk promises where keys are walked at once
 pub walked-full : {C N : Type 0} (S : Service C N) (x : Outcome) (c : C) (r : Response) (after : C) → IsWalkedOutcome S Grouped x c r after →

@@ -1,5 +1,5 @@
 -- Each step of a request, over plain variables (6.1).
-use Rattle.std.proofs.Common.{rules, arith, ◌≡◌, ◌≢◌, ◌==◌, Bool, length, map, true, false, [], ◌∷◌, List, Option, Some, None}
+use Rattle.std.proofs.Common.{rules, arith, ℕ, ◌≡◌, ◌≢◌, ◌==◌, ◌<◌, Bool, length, map, true, false, [], ◌∷◌, List, Option, Some, None}
 use Rattle.std.proofs.Common.{refl, sym, ap, inl}
 use Rattle.std.proofs.Common.{inr, subst, ◌∙◌}
 use Rattle.std.proofs.lemmas.Bool.{both_ways}
@@ -22,7 +22,9 @@ use Rattle.graphql_spec.specs.Outcomes.{Request, Service, Response, responds, re
 use Rattle.graphql_spec.specs.Outcomes.{IsReadAsValid, HasMutation, Steps, mutation_in, world_in}
 use Rattle.graphql_spec.proofs.Deciding.{known-outcome, steps-decide}
 use Rattle.juniper.specs.Answering.{AreCoercible, AreRefused, IsInvalid, IsUnchosen, Responds, StandsFor, outcome_of}
-use Rattle.juniper.specs.Budgets.{IsRun, Runs}
+use Rattle.juniper.specs.Budgets.{EntersMore, IsRunOver, RunsOver}
+use Rattle.juniper_walk.specs.Entered.{entered}
+use Rattle.juniper_execute.specs.Entered.{entered_run}
 use Rattle.juniper.specs.Promised.{IsFullOutcome, IsFullOutcomeOf}
 use Rattle.juniper_execute.specs.Stepping.{IsLeftOf}
 use Rattle.juniper_execute.specs.Walkings.{TellsQuery, TellsRun}
@@ -103,6 +105,11 @@ module _ {C N : Type 0} (S : Service C N) (s : Schema) (d : Document) (o : Opera
           (m, T, has, answer),
     )
 
+    -- what enters more than so many fields
+    pub mutation-over : (n : ℕ) → n < entered_run (mutation_in S m vars) T (selected d o vars) c → IsRunOver S (outcome_of s d o given) c n
+    mutation-over n less =
+        (d, o, vars, mutation-runs k T is ∙ ap (runs d o) (sym e), subst (λ z. EntersMore S z vars (selected d o vars) c n) (sym k) (m, T, has, less))
+
     -- and what it tells of its failures
     pub mutation-lists : (w : Walking) (v : Value) (es : List Listed) → TellsRun w (mutation_in S m vars) T (selected d o vars) c es →
         ListsBy S w (outcome_of s d o given) c (responds v es)
@@ -123,6 +130,11 @@ module _ {C N : Type 0} (S : Service C N) (s : Schema) (d : Document) (o : Opera
       IsOutcomeOf S whole (outcome_of s d o given) c (responds v es) c
   query-ends k vars e v es answer =
       (d, o, vars, query-runs k ∙ ap (runs d o) (sym e), subst (λ z. IsExecuted S whole z vars (selected d o vars) c v es c) (sym k) (answer, refl))
+
+  pub query-over : o.kind ≡ query → (vars : Variables) → vars ≡ coerced_variables (variables_of o) given → (n : ℕ) →
+      n < entered (world_in S vars c) S.schema.query S.root (selected d o vars) → IsRunOver S (outcome_of s d o given) c n
+  query-over k vars e n less =
+      (d, o, vars, query-runs k ∙ ap (runs d o) (sym e), subst (λ z. EntersMore S z vars (selected d o vars) c n) (sym k) less)
 
   -- and what a query tells of its failures
   pub query-lists : o.kind ≡ query → (vars : Variables) → vars ≡ coerced_variables (variables_of o) given → (w : Walking) (v : Value) (es : List Listed) →
@@ -198,8 +210,8 @@ module _ {C N : Type 0} (S : Service C N) (q : Request) (c : C) where
         )
 
         -- an operation that runs becomes of the request
-        pub run-becomes : AreCoercible S.schema o q.variables → IsRun (outcome_of S.schema d o q.variables) → Runs S q
-        run-becomes a r = (r.0, r.1, r.2, subst (Becomes S q) r.3 ((steps-decide S).kind q d o v choice a.fitting a.constant))
+        pub run-becomes : AreCoercible S.schema o q.variables → (n : ℕ) → IsRunOver S (outcome_of S.schema d o q.variables) c n → RunsOver S q c n
+        run-becomes a n r = (r.0, r.1, r.2, subst (Becomes S q) r.3 ((steps-decide S).kind q d o v choice a.fitting a.constant), r.4)
 
 -- an error's response under another reading
 pub responds-so : (P Q : Response → Type 0) → ((r : Response) → P r → Q r) → (e : RequestError) → Responds P e → Responds Q e

@@ -1,10 +1,8 @@
 -- What is against a text: counts of operations that pass a bound, and errors of reading and of rules.
-use Rattle.std.proofs.Common.{◌≡◌, ◌==◌, ◌||◌, ◌-◌, ◌^◌, ℕ, Bool, List, [], ◌∷◌, length, map, nat_lt, refl, sym, ap, subst, ◌∙◌, inl, inr, false, None}
+use Rattle.std.proofs.Common.{◌≡◌, ◌==◌, ◌||◌, ◌-◌, ◌^◌, ℕ, Bool, List, [], ◌∷◌, length, map, nat_lt, refl, sym, ap, subst, ◌∙◌, inl, inr, false}
 use Rattle.std.specs.List.{list_any}
 use Rattle.graphql_spec.specs.Shown.{Text}
 use Rattle.graphql_spec.specs.Documents.{Document, fragments, operations}
-use Rattle.graphql_spec.specs.Outcomes.{Reads}
-use Rattle.graphql_spec.specs.Requests as refused
 use Rattle.graphql_spec.specs.Requests.{Refusal}
 use Rattle.graphql_spec.specs.Rules.{rule_errors}
 use Rattle.graphql_spec.specs.Schema.{Schema}
@@ -14,10 +12,12 @@ use Rattle.juniper_written.specs.declared.counts.Counts.{Counts}
 use Rattle.juniper_syntax.specs.RuleView.{view_rule_error}
 use Rattle.juniper_syntax.specs.declared.rule.RuleError.{RuleError as CodeError}
 use Rattle.juniper.specs.Answering.{StandsFor}
-use Rattle.juniper.specs.Objections.{IsRefusal, IsWithin, has_more_fields, has_more_levels}
+use Rattle.juniper.specs.Objections.{IsRefusal, IsWithin, Objects, ObjectsToRead, has_more_fields, has_more_levels}
 use Rattle.juniper.specs.RequestErrors.{RequestError, is_subscription, multiple_operations, no_mutation_type, no_operation, not_parsed, not_subscription}
-use Rattle.juniper.specs.RequestErrors.{not_valid, out_of_memory, unknown_operation, variable_not_constant}
+use Rattle.juniper.specs.RequestErrors.{not_valid, out_of_memory, unknown_operation, variable_not_constant, view_request_error}
 use Rattle.juniper.specs.declared.prepared.Bounds.{Bounds}
+use Rattle.juniper.specs.declared.prepared.Objection.{Objection}
+use Rattle.juniper.specs.declared.prepared.Objection.TheVariants as objection
 use Rattle.juniper.proofs.Composing.{some-found}
 
 -- ## Counts
@@ -63,9 +63,12 @@ stands-so P Q f no_mutation_type (r, is, p) = (r, is, f r p)
 stands-so P Q f (variable_not_constant n) (r, is, p) = (r, is, f r p)
 
 module _ (b : Bounds) (text : Text) (s : Schema) (disabled : Bool) where
-  -- no document is read
-  pub unread-stands : (e : RequestError) → StandsFor (λ r. (r ≡ refused.not_parsed) × Reads text None) e → StandsFor (IsRefusal b text s disabled) e
-  unread-stands e m = stands-so _ _ (λ r p. inl p) e m
+  -- what is against reading the text is against it
+  pub reading-objects : (e : Objection) → ObjectsToRead b text e → Objects b text s disabled e
+  reading-objects objection.TooLong o = o
+  reading-objects objection.TooManyFields o = o
+  reading-objects objection.TooDeep o = o
+  reading-objects (objection.Refused e) o = (o.0, stands-so _ _ (λ r p. inl p) (view_request_error e) o.1)
 
   -- a document within the bounds breaks rules, and these errors are listed
   pub broken-stands : (d : Document) → IsWithin b text d → (es : List CodeError) (t : Bool) → t ≡ (length es == 0) → t ≡ false →

@@ -36,15 +36,26 @@ module _ (b : Bounds) (text : Text) where
   abbrev pub IsAccepted : Schema → Bool → Document → Type 0
   IsAccepted s disabled d = IsWithin d × (rule_errors s disabled d ≡ [])
 
+  -- no document is read (2)
+  abbrev pub IsUnread : Refusal → Type 0
+  IsUnread r = (r ≡ not_parsed) × Reads text None
+
+  -- what is against reading the text: of bytes, reading, fields and levels the first that fails
+  abbrev pub ObjectsToRead : Objection → Type 0
+  ObjectsToRead TooLong = b.bytes < length text
+  ObjectsToRead TooManyFields = (d : Document) × IsRead d × (has_more_fields b.fields d ≡ true)
+  ObjectsToRead TooDeep = (d : Document) × IsRead d × (has_more_fields b.fields d ≡ false) × (has_more_levels b.levels d ≡ true)
+  ObjectsToRead (Refused e) = (length text ≤ b.bytes) × StandsFor IsUnread (view_request_error e)
+
   -- no document is read, or one within the bounds breaks rules
   abbrev pub IsRefusal : Schema → Bool → Refusal → Type 0
-  IsRefusal s disabled r = ((r ≡ not_parsed) × Reads text None) ⊎ ((d : Document) × IsWithin d × IsInvalid s disabled d r)
+  IsRefusal s disabled r = IsUnread r ⊎ ((d : Document) × IsWithin d × IsInvalid s disabled d r)
 
-  -- what is against the text: of bytes, reading, fields, levels and rules the first that fails
+  -- what is against the text: against reading it, or the rules (5)
   abbrev pub Objects : Schema → Bool → Objection → Type 0
-  Objects s disabled TooLong = b.bytes < length text
-  Objects s disabled TooManyFields = (d : Document) × IsRead d × (has_more_fields b.fields d ≡ true)
-  Objects s disabled TooDeep = (d : Document) × IsRead d × (has_more_fields b.fields d ≡ false) × (has_more_levels b.levels d ≡ true)
+  Objects s disabled TooLong = ObjectsToRead TooLong
+  Objects s disabled TooManyFields = ObjectsToRead TooManyFields
+  Objects s disabled TooDeep = ObjectsToRead TooDeep
   Objects s disabled (Refused e) = (length text ≤ b.bytes) × StandsFor (IsRefusal s disabled) (view_request_error e)
 
 -- the texts that are shown

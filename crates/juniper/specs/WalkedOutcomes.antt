@@ -1,5 +1,5 @@
 -- What each way to walk a request answers (6.1, 7.1.2).
-use Rattle.std.specs.Prelude.{◌≡◌, Bool, List, Result, String, Vec}
+use Rattle.std.specs.Prelude.{◌≡◌, ℕ, Bool, List, Option, Result, String, Vec}
 use Rattle.std.specs.HashMap.{HashMap}
 use Rattle.std.specs.declared.alloc.Global.{Global}
 use Rattle.graphql_spec.specs.Constants.{Members}
@@ -23,7 +23,7 @@ use Rattle.juniper_execute.specs.Walkings.{Lists}
 use Rattle.juniper_execute.specs.declared.walking.Walking.{Walking}
 use Rattle.juniper_execute.specs.declared.walking.Walking.TheVariants.{Grouped, Joined}
 use Rattle.juniper.specs.Answering.{outcome_in}
-use Rattle.juniper.specs.Budgets.{AnswersWithin}
+use Rattle.juniper.specs.Budgets.{AnswersWithin, IsRunOver, SpendsOnly}
 use Rattle.juniper.specs.Promised.{ListsFirsts}
 use Rattle.juniper.specs.Services.{meaning_of, service_at}
 use Rattle.juniper.specs.declared.budget.Within.{Within}
@@ -59,3 +59,16 @@ abbrev pub WalksResolved : {Q I C N S H : Type 0} → (Q → I → C → N → N
     Result (ValueType S × Vec (ExecutionError S) Global) Within → C → Type 0
 WalksResolved concrete answer root shown q i steps s w d o given before result after =
     WalksOperation shown (meaning_of concrete answer q i) steps (root q) s w d o given before result after
+
+-- a budget is spent only where one is given, and the operation enters more, whether introspection is disabled or not
+abbrev pub SpendsOperation : {A C N S H : Type 0} → (S → Shown) → Meaning C N → Steps C N → N → Schema → Vec (Definition S) Global →
+    Spanning (Operation S) Span → HashMap (String Global) (InputValue S) H → Option ℕ → C → Result A Within → Type 0
+SpendsOperation shown m steps n s d o given fields before result = (disabled : Bool) →
+    SpendsOnly fields (IsRunOver (service_at m steps n s disabled) (outcome_in shown s d o given) before) result
+
+-- the same over a query's resolver with its info
+abbrev pub SpendsResolved : {A Q I C N S H : Type 0} → (Q → I → C → N → Name) → (Q → I → C → N → Name → Members → Reply N) → (Q → N) → (S → Shown) → Q →
+    I → Steps C N → Schema → Vec (Definition S) Global → Spanning (Operation S) Span → HashMap (String Global) (InputValue S) H → Option ℕ → C →
+    Result A Within → Type 0
+SpendsResolved concrete answer root shown q i steps s d o given fields before result =
+    SpendsOperation shown (meaning_of concrete answer q i) steps (root q) s d o given fields before result

@@ -36,8 +36,8 @@ impl fmt::Display for Within {
 impl Error for Within {}
 
 impl Within {
-    /// The error of a request that has no budget.
-    pub(crate) fn into_error(self) -> GraphQLError
+    /// The error of a request that has no budget, and so is refused.
+    pub fn into_error(self) -> GraphQLError
         requires { self ≢ within.Spent }
         ensures { result ≡ error_of self }
     {

@@ -15,11 +15,11 @@ ghost use Rattle.juniper_execute.specs.Validity.{IsValid};
 ghost use Rattle.juniper_execute.specs.Walkings.{IsBounded};
 ghost use Rattle.juniper_walk.specs.Budget.{fields_in, most_fields};
 ghost use Rattle.juniper.specs.Answering.{AnswersAs, AreCoercible, outcome_in};
-ghost use Rattle.juniper.specs.Budgets.{AnswersWithin, IsRun, SpendsOnly};
+ghost use Rattle.juniper.specs.Budgets.{AnswersWithin, IsRunOver, SpendsOnly};
 ghost use Rattle.juniper.specs.Promised.{IsFullOutcomeOf};
 ghost use Rattle.juniper.specs.RootView.{service_of};
 ghost use Rattle.juniper.specs.Services.{rooted_steps};
-ghost use Rattle.juniper.specs.WalkedOutcomes.{IsWalkedOutcome, WalksOperation, WalksResolved};
+ghost use Rattle.juniper.specs.WalkedOutcomes.{IsWalkedOutcome, SpendsOperation, SpendsResolved, WalksOperation, WalksResolved};
 
 use crate::budget::Within;
 use crate::error::GraphQLError;
@@ -109,8 +109,8 @@ pub(crate) fn execute_walked<
     ensures answers { AnswersWithin S.shown (λ r. IsWalkedOutcome (service_of Q.concrete Q.answer Q.root M.step M.torn S.shown root_node.now) walking
         (outcome_in S.shown (view_schema S.shown (schema_of root_node.now)) document.now operation.now variables.now) context.old r context.new) result }
     ensures counted { IfOk result (λ p. IsBounded walking (fields_in (view_value S.shown p.0)) (most_fields fields)) }
-    ensures spent { SpendsOnly fields
-        (IsRun (outcome_in S.shown (view_schema S.shown (schema_of root_node.now)) document.now operation.now variables.now)) result }
+    ensures spent { SpendsOnly fields (IsRunOver (service_of Q.concrete Q.answer Q.root M.step M.torn S.shown root_node.now)
+        (outcome_in S.shown (view_schema S.shown (schema_of root_node.now)) document.now operation.now variables.now) context.old) result }
 {
     root_replies(root_node);
     let resolver = QueryResolver {
@@ -156,7 +156,9 @@ fn execute_root<
         (rooted_steps M.step M.torn steps.now.mutation.now steps.now.info.now) (view_schema S.shown schema.now) walking
         document.now operation.now variables.now context.old result context.new }
     ensures counted { IfOk result (λ p. IsBounded walking (fields_in (view_value S.shown p.0)) (most_fields fields)) }
-    ensures spent { SpendsOnly fields (IsRun (outcome_in S.shown (view_schema S.shown schema.now) document.now operation.now variables.now)) result }
+    ensures spent { SpendsResolved Q.concrete Q.answer Q.root S.shown resolver.now.query.now resolver.now.info.now
+        (rooted_steps M.step M.torn steps.now.mutation.now steps.now.info.now) (view_schema S.shown schema.now)
+        document.now operation.now variables.now fields context.old result }
 {
     execute_resolved(
         alloc, walking, document, operation, resolver, steps, schema, variables, context, fields,
@@ -189,7 +191,8 @@ fn execute_resolved<
     ensures answers { WalksResolved Q.concrete Q.answer Q.root S.shown resolver.now.query.now resolver.now.info.now (M.steps steps.now)
         (view_schema S.shown schema.now) walking document.now operation.now variables.now context.old result context.new }
     ensures counted { IfOk result (λ p. IsBounded walking (fields_in (view_value S.shown p.0)) (most_fields fields)) }
-    ensures spent { SpendsOnly fields (IsRun (outcome_in S.shown (view_schema S.shown schema.now) document.now operation.now variables.now)) result }
+    ensures spent { SpendsResolved Q.concrete Q.answer Q.root S.shown resolver.now.query.now resolver.now.info.now (M.steps steps.now)
+        (view_schema S.shown schema.now) document.now operation.now variables.now fields context.old result }
 {
     let undeclared = undeclared_type(alloc);
     let served = Served {
@@ -228,7 +231,8 @@ fn execute_operation<
     ensures answers { WalksOperation S.shown (R.meaning served.now.resolver.now) (M.steps steps.now) root.now (serving.schema_of S.shown served.now)
         served.now.walking document.now operation.now variables.now context.old result context.new }
     ensures counted { IfOk result (λ p. IsBounded served.now.walking (fields_in (view_value S.shown p.0)) (most_fields fields)) }
-    ensures spent { SpendsOnly fields (IsRun (outcome_in S.shown (serving.schema_of S.shown served.now) document.now operation.now variables.now)) result }
+    ensures spent { SpendsOperation S.shown (R.meaning served.now.resolver.now) (M.steps steps.now) root.now (serving.schema_of S.shown served.now)
+        document.now operation.now variables.now fields context.old result }
 {
     match operation.item.operation_type {
         OperationType::Subscription => Err(Within::Refused(GraphQLError::IsSubscription)),

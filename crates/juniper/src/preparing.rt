@@ -1,16 +1,15 @@
 //! Documents are read and validated once, and executed often (section 6.1 of the Specification).
 
-ghost use Rattle.std.specs.Prelude.{◌≡◌, ◌≤◌, Bool, IfOk, MatchResult, nat_lt};
+ghost use Rattle.std.specs.Prelude.{◌≡◌, ◌≤◌, IfOk, MatchResult, nat_lt};
 ghost use Rattle.std.specs.List.{list_any};
-ghost use Rattle.graphql_spec.specs.Schema.{Schema};
 ghost use Rattle.juniper_syntax.specs.DocumentView.{view_document};
 ghost use Rattle.juniper_syntax.specs.ValueView.{view_value};
 ghost use Rattle.juniper_schema.specs.SchemaView.{view_schema};
 ghost use Rattle.juniper_walk.specs.Budget.{fields_in, most_fields};
 ghost use Rattle.juniper_intro.specs.RootView.{is_disabled, schema_of};
 ghost use Rattle.juniper.specs.Answering.{AnswersAs, request_of};
-ghost use Rattle.juniper.specs.Budgets.{AnswersWithin, Runs, SpendsOnly};
-ghost use Rattle.juniper.specs.Objections.{IsWithin, Objects};
+ghost use Rattle.juniper.specs.Budgets.{AnswersWithin, RunsOver, SpendsOnly};
+ghost use Rattle.juniper.specs.Objections.{IsWithin, Objects, ObjectsToRead};
 ghost use Rattle.juniper.specs.PreparedView.{IsOfText, IsPreparedFrom, document_of, root_of, source_of};
 ghost use Rattle.juniper.specs.Promised.{IsFullOutcome};
 ghost use Rattle.juniper.specs.RootView.{service_of};
@@ -18,7 +17,7 @@ ghost use Rattle.juniper.specs.RootView.{service_of};
 use crate::budget::Within;
 use crate::error::GraphQLError;
 use crate::prepared::{Bounds, Objection, Prepared};
-use crate::request::execute_chosen;
+use crate::request::execute_document;
 use juniper_intro::RootNode;
 use juniper_language::{Document, ScalarValue, Value, Variables, parse_document_source};
 use juniper_rules::validate;
@@ -27,15 +26,22 @@ use juniper_values::ExecutionError;
 use juniper_written::{Counts, expanded_counts};
 use std::alloc::Global;
 
-/// Reads a text within bounds.
-fn read_within<'a, S: ScalarValue>(
+/// Reads a text within bounds (2). What is against it is told by an [`Objection`], of these the first:
+///
+/// - [`Objection::TooLong`] exactly where it has more bytes than the bounds;
+/// - [`Objection::Refused`] where it is no document, with the error that [`crate::request::execute_sync`] answers;
+/// - [`Objection::TooManyFields`] where an operation has more fields than the bounds, whichever a request may name;
+/// - [`Objection::TooDeep`] where one has more levels.
+///
+/// [`GraphQLError::OutOfMemory`] may stand in place of each but the first.
+pub fn read_within<'a, S: ScalarValue>(
     alloc: Global,
     text: &'a str,
     bounds: &Bounds,
 ) -> Result<Document<'a, S>, Objection>
     ensures { MatchResult result
         (λ d. IsWithin bounds.now text.now (view_document S.shown d))
-        (λ e. (s : Schema) (disabled : Bool) → Objects bounds.now text.now s disabled e) }
+        (λ e. ObjectsToRead bounds.now text.now e) }
 {
     if text.len() > bounds.bytes {
         return Err(Objection::TooLong);
@@ -71,16 +77,9 @@ fn has_more_levels(counts: &[Counts], most: u64) -> bool
     counts.iter().any(|count| count.levels > most)
 }
 
-/// Prepares a text for the requests that execute its operations on a root: reads it and validates it, within bounds. What is against it
-/// is told by an [`Objection`], of these the first:
-///
-/// - [`Objection::TooLong`] exactly where it has more bytes than the bounds;
-/// - [`Objection::Refused`] where it is no document (2), with the error that [`crate::request::execute_sync`] answers;
-/// - [`Objection::TooManyFields`] where an operation has more fields than the bounds, whichever a request may name;
-/// - [`Objection::TooDeep`] where one has more levels;
-/// - [`Objection::Refused`] where the document breaks rules (5), with the errors that [`crate::request::execute_sync`] answers.
-///
-/// [`GraphQLError::OutOfMemory`] may stand in place of each but the first.
+/// Prepares a text for the requests that execute its operations on a root: reads it within bounds, and validates it. What is against it is told
+/// by an [`Objection`]: that of [`read_within`]; or [`Objection::Refused`] where the document breaks rules (5), with the errors that
+/// [`crate::request::execute_sync`] answers. [`GraphQLError::OutOfMemory`] may stand in place of each but [`Objection::TooLong`].
 pub fn prepare<'r, 'a, Q: GraphQLValue<S>, M: GraphQLType<S>, Sub: GraphQLType<S>, S: ScalarValue>(
     alloc: Global,
     root: &'r RootNode<Q, M, Sub, S>,
@@ -175,10 +174,10 @@ pub fn execute_prepared_within<
         (request_of S.shown (source_of prepared.now) operation_name.entry variables.now) context.old r context.new) result }
     ensures counted { IfOk result (λ p. fields_in (view_value S.shown p.0) ≤ most_fields fields) }
     ensures spent { IsOfText S.shown prepared.now → SpendsOnly fields
-        (Runs (service_of Q.concrete Q.answer Q.root M.step M.torn S.shown (root_of prepared.now))
-        (request_of S.shown (source_of prepared.now) operation_name.entry variables.now)) result }
+        (RunsOver (service_of Q.concrete Q.answer Q.root M.step M.torn S.shown (root_of prepared.now))
+        (request_of S.shown (source_of prepared.now) operation_name.entry variables.now) context.old) result }
 {
-    match execute_chosen(
+    match execute_document(
         alloc,
         &prepared.document,
         operation_name,

@@ -12,7 +12,7 @@ ghost use Rattle.juniper_syntax.specs.ValueView.{view_value};
 ghost use Rattle.juniper_walk.specs.Budget.{fields_in, most_fields};
 ghost use Rattle.juniper_schema.specs.SchemaView.{view_schema};
 ghost use Rattle.juniper.specs.Answering.{AnswersAs, IsInvalid, IsUnchosen, PassesCoercible, StandsFor, request_of};
-ghost use Rattle.juniper.specs.Budgets.{AnswersWithin, Runs, SpendsOnly};
+ghost use Rattle.juniper.specs.Budgets.{AnswersWithin, RunsOver, SpendsOnly};
 ghost use Rattle.juniper.specs.Promised.{IsFullOutcome};
 ghost use Rattle.juniper.specs.RequestErrors.{view_request_error};
 ghost use Rattle.juniper.specs.RootView.{service_of};
@@ -155,9 +155,9 @@ pub fn execute_sync<
 /// each whose fields are begun, has as many as response keys are selected of it, whatever they answer. Introspection counts as all else, and
 /// so do objects that a null takes away.
 ///
-/// [`Within::Refused`] has the error that [`execute_sync`] answers; [`Within::Spent`] stands where an operation runs and more fields were to be
-/// entered than a budget that is given. That may be found late: it leaves the context as want of memory does. Data has no more fields than
-/// that, at all depths together.
+/// [`Within::Refused`] has the error that [`execute_sync`] answers; [`Within::Spent`] comes only where a budget is given and the operation enters
+/// more fields. That may be found late: it leaves the context as want of memory does. Data has no more fields than the budget, at all depths
+/// together.
 pub fn execute_within<
     Q: GraphQLValue<S>,
     M: GraphQLMutationValue<S, Context = Q::Context, Node = Q::Node>,
@@ -176,8 +176,8 @@ pub fn execute_within<
         (λ r. IsFullOutcome (service_of Q.concrete Q.answer Q.root M.step M.torn S.shown root_node.now)
         (request_of S.shown document_source.now operation_name.entry variables.now) context.old r context.new) result }
     ensures counted { IfOk result (λ p. fields_in (view_value S.shown p.0) ≤ most_fields fields) }
-    ensures spent { SpendsOnly fields (Runs (service_of Q.concrete Q.answer Q.root M.step M.torn S.shown root_node.now)
-        (request_of S.shown document_source.now operation_name.entry variables.now)) result }
+    ensures spent { SpendsOnly fields (RunsOver (service_of Q.concrete Q.answer Q.root M.step M.torn S.shown root_node.now)
+        (request_of S.shown document_source.now operation_name.entry variables.now) context.old) result }
 {
     let document = match read(alloc, document_source) {
         Err(error) => return Err(Within::Refused(error)),
@@ -192,7 +192,7 @@ pub fn execute_within<
         Err(error) => return Err(Within::Refused(error)),
         Ok(_) => {}
     }
-    match execute_chosen(
+    match execute_document(
         alloc,
         &document,
         operation_name,
@@ -206,9 +206,10 @@ pub fn execute_within<
     }
 }
 
-/// Chooses the operation of a valid document, tests the values of its variables and executes it, where at most so many fields are entered,
-/// if a budget is given (6.1). Of every text that is read as the document it answers what a request of that text is answered.
-pub(crate) fn execute_chosen<
+/// Executes a document that is known to be valid for a root, as often as one likes: chooses the operation, tests the values of its variables
+/// and executes it, where at most so many fields are entered, if a budget is given (6.1). To each text that is read as the document it answers
+/// what [`execute_within`] answers to a request of that text, and leaves the context as that does.
+pub fn execute_document<
     Q: GraphQLValue<S>,
     M: GraphQLMutationValue<S, Context = Q::Context, Node = Q::Node>,
     Sub: GraphQLType<S>,
@@ -228,8 +229,8 @@ pub(crate) fn execute_chosen<
         (request_of S.shown t operation_name.entry variables.now) context.old r context.new) result }
     ensures counted { IfOk result (λ p. fields_in (view_value S.shown p.0) ≤ most_fields fields) }
     ensures spent { (t : Text) → Reads t (Some (view_document S.shown document.now)) → SpendsOnly fields
-        (Runs (service_of Q.concrete Q.answer Q.root M.step M.torn S.shown root_node.now)
-        (request_of S.shown t operation_name.entry variables.now)) result }
+        (RunsOver (service_of Q.concrete Q.answer Q.root M.step M.torn S.shown root_node.now)
+        (request_of S.shown t operation_name.entry variables.now) context.old) result }
 {
     let operation = match get_operation(document, operation_name) {
         Err(error) => return Err(Within::Refused(error)),

@@ -1,5 +1,5 @@
 -- What is answered to a request, over plain variables.
-use Rattle.std.proofs.Common.{◌≡◌, ◌≤◌, Bool, false, [], length, Some, Result, Ok, Err, Vec, Global, IfOk, refl, sym, subst, inl, inr}
+use Rattle.std.proofs.Common.{◌≡◌, ◌≢◌, ◌≤◌, ℕ, Bool, false, [], length, None, Some, Ok, Err, Vec, Global, refl, sym, subst, inl, inr}
 use Rattle.graphql_spec.specs.Documents.{Document}
 use Rattle.graphql_spec.specs.Rules.{rule_errors}
 use Rattle.graphql_spec.specs.Schema.{Schema}
@@ -9,10 +9,14 @@ use Rattle.graphql_spec.specs.Requests.{Refusal, refused}
 use Rattle.graphql_spec.specs.Shown.{Shown, Text}
 use Rattle.graphql_spec.proofs.Deciding.{steps-decide}
 use Rattle.juniper.specs.Answering.{AnswersAs, Responds, StandsFor}
+use Rattle.juniper.specs.Budgets.{IsSpentOnly, RefusesWithin, error_of}
 use Rattle.juniper.specs.Objections.{IsAccepted, IsRefusal, Objects, has_more_fields, has_more_levels}
 use Rattle.juniper.specs.Promised.{IsFullOutcome}
 use Rattle.juniper.specs.RequestErrors.{RequestError, view_request_error, not_parsed, not_valid, no_operation, multiple_operations, unknown_operation}
 use Rattle.juniper.specs.RequestErrors.{is_subscription, not_subscription, no_mutation_type, variable_not_constant, out_of_memory}
+use Rattle.juniper.specs.declared.budget.Within.{Within}
+use Rattle.juniper.specs.declared.budget.Within.TheVariants as within
+use Rattle.juniper.specs.declared.error.GraphQLError.{GraphQLError}
 use Rattle.juniper.specs.declared.prepared.Bounds.{Bounds}
 use Rattle.juniper.specs.declared.prepared.Objection.{Objection}
 use Rattle.juniper.specs.declared.prepared.Objection.TheVariants as objection
@@ -78,7 +82,15 @@ told-of A G r s t u e f g h = subst (λ x. A x t) e (subst (λ x. A s x) f (h (s
 pub moved : {R : Type 0} (A : R → Bounds → Type 0) (r s : R) (b d : Bounds) → s ≡ r → d ≡ b → A s d → A r b
 moved A r s b d e f a = subst (λ x. A x b) e (subst (λ x. A s x) f a)
 
--- what is known is so of whatever is answered
-pub known-ok : {A E X : Type 0} (r : Result A E) → X → IfOk r (λ _. X)
-known-ok (Ok p) x = x
-known-ok (Err e) x = tt
+-- where no budget is given, none is spent
+pub unspent : (over : ℕ → Type 0) (w : Within) → IsSpentOnly None over w → w ≢ within.Spent
+unspent over (within.Refused e) only = λ is. cc
+unspent over within.Spent only = λ is. let none : None ≡ Some only.0 = only.1 in absurd cc
+
+-- and what is answered is the error of what refuses it
+pub without-budget : (P : Response → Type 0) (w : Within) (e : GraphQLError) → e ≡ error_of w → RefusesWithin P w → Responds P (view_request_error e)
+without-budget P w e is p = subst (λ x. Responds P (view_request_error x)) (sym is) (go w p)
+  where
+    go : (w : Within) → RefusesWithin P w → Responds P (view_request_error (error_of w))
+    go (within.Refused e) p = p
+    go within.Spent p = p

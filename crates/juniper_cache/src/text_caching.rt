@@ -4,23 +4,18 @@ ghost use Rattle.std.specs.Prelude.{◌≡◌, [], IfOk, OnErr, OnOk, Some, cond
 ghost use Rattle.std.specs.NonZero.{non_zero_usize_get};
 ghost use Rattle.graphql_spec.specs.Documents as documents;
 ghost use Rattle.graphql_spec.specs.Outcomes.{Reads};
-ghost use Rattle.graphql_spec.specs.Rules.{rule_errors};
-ghost use Rattle.graphql_spec.specs.Shown.{Text};
 ghost use Rattle.juniper.specs.Answering.{AnswersAs, request_of};
 ghost use Rattle.juniper.specs.Promised.{IsFullOutcome};
 ghost use Rattle.juniper.specs.RootView.{service_of};
-ghost use Rattle.juniper_intro.specs.RootView.{is_disabled, schema_of};
-ghost use Rattle.juniper_schema.specs.SchemaView.{view_schema};
-ghost use Rattle.juniper_syntax.specs.DocumentView.{view_document};
 ghost use Rattle.juniper_cache.specs.Answers.{IsAnswer};
 ghost use Rattle.juniper_cache.specs.Texts.{AreLeft, has_kept, once_used};
 ghost use Rattle.juniper_cache.specs.TextsView.{Admits, bounds_within, most_texts, served_root, texts_in};
 
 use crate::text_cache::TextCache;
 use juniper::{
-    Bounds, Document, ExecutionError, GraphQLError, GraphQLMutationValue, GraphQLType,
-    GraphQLValue, Objection, RootNode, ScalarValue, Value, Variables, check_variables,
-    execute_prepared, execute_validated_query, get_operation, parse_document_source, prepare,
+    Bounds, ExecutionError, GraphQLError, GraphQLMutationValue, GraphQLType, GraphQLValue,
+    Objection, RootNode, ScalarValue, Value, Variables, execute_document, execute_prepared,
+    parse_document_source, prepare,
 };
 use lru::LruCache;
 use std::alloc::{AllocError, Global};
@@ -168,49 +163,21 @@ impl<
             (λ r. IsFullOutcome (service_of Q.concrete Q.answer Q.root M.step M.torn S.shown (served_root self.now))
             (request_of S.shown text.now operation_name.entry variables.now) context.old r context.new) result }
     {
-        match parse_document_source(alloc, text) {
-            Err(_) => Err(GraphQLError::OutOfMemory),
-            Ok(document) => execute_valid(
-                alloc,
-                &document,
-                operation_name,
-                self.root,
-                variables,
-                context,
-            ),
+        let document = match parse_document_source(alloc, text) {
+            Err(_) => return Err(GraphQLError::OutOfMemory),
+            Ok(document) => document,
+        };
+        match execute_document(
+            alloc,
+            &document,
+            operation_name,
+            self.root,
+            variables,
+            context,
+            None,
+        ) {
+            Err(within) => Err(within.into_error()),
+            Ok(answered) => Ok(answered),
         }
-    }
-}
-
-/// Executes a request of a document that is valid.
-fn execute_valid<
-    Q: GraphQLValue<S>,
-    M: GraphQLMutationValue<S, Context = Q::Context, Node = Q::Node>,
-    Sub: GraphQLType<S>,
-    S: ScalarValue,
->(
-    alloc: Global,
-    document: &Document<'_, S>,
-    operation_name: Option<&str>,
-    root: &RootNode<Q, M, Sub, S>,
-    variables: &Variables<S>,
-    context: &mut Q::Context,
-) -> Result<(Value<S>, Vec<ExecutionError<S>>), GraphQLError>
-    requires { rule_errors (view_schema S.shown (schema_of root.now)) (is_disabled root.now) (view_document S.shown document.now) ≡ [] }
-    ensures { (t : Text) → Reads t (Some (view_document S.shown document.now)) → AnswersAs S.shown
-        (λ r. IsFullOutcome (service_of Q.concrete Q.answer Q.root M.step M.torn S.shown root.now)
-        (request_of S.shown t operation_name.entry variables.now) context.old r context.new) result }
-{
-    let operation = match get_operation(document, operation_name) {
-        Err(error) => return Err(error),
-        Ok(operation) => operation,
-    };
-    match check_variables(alloc, operation, variables, root.schema()) {
-        Err(error) => return Err(error),
-        Ok(_) => {}
-    }
-    match execute_validated_query(alloc, document, operation, root, variables, context) {
-        Err(error) => Err(error),
-        Ok(answered) => Ok(answered),
     }
 }

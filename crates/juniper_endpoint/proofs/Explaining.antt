@@ -1,16 +1,14 @@
 -- What explains a refusal: how it is made, and that the line tells it.
 use Rattle.std.proofs.Common.{◌≡◌, ℕ, Bool, true, false, cond, List, [], ◌∷◌, map, Some, refl, sym, ap, ◌∙◌}
-use Rattle.std.proofs.Common.{inl, inr}
 use Rattle.graphql_spec.specs.Documents.{Document, Operation, variables_of}
 use Rattle.graphql_spec.specs.Inputs.{Variables}
 use Rattle.graphql_spec.specs.Outcomes.{Reads, Request}
-use Rattle.graphql_spec.specs.Requests as spec
-use Rattle.graphql_spec.specs.Requests.{Choice, Refusal, choose, chosen, many, unknown}
+use Rattle.graphql_spec.specs.Requests.{Choice, choose, chosen, many, unknown}
 use Rattle.graphql_spec.specs.Rules.{RuleError, rule_errors}
 use Rattle.graphql_spec.specs.Schema.{Schema}
 use Rattle.graphql_spec.specs.Shown.{Text}
 use Rattle.juniper.specs.Answering.{IsUnchosen, StandsFor}
-use Rattle.juniper.specs.Objections.{IsRefusal}
+use Rattle.juniper.specs.Objections.{IsUnread}
 use Rattle.juniper.specs.RequestErrors.{RequestError, not_parsed, not_valid, no_operation, multiple_operations, unknown_operation}
 use Rattle.juniper.specs.RequestErrors.{is_subscription, not_subscription, no_mutation_type, variable_not_constant, out_of_memory}
 use Rattle.juniper.specs.declared.prepared.Bounds.{Bounds}
@@ -20,22 +18,20 @@ use Rattle.juniper_explain.specs.GivenValues.{variable_explanations}
 use Rattle.juniper_explain.specs.Nodes.{explanations}
 use Rattle.juniper_json.specs.Refusals.{refusals_of}
 use Rattle.juniper_json.specs.RefusalText as lines
-use Rattle.juniper_json.specs.RefusalText.{explained_text}
+use Rattle.juniper_json.specs.RefusalText.{explained_text, refusals_text}
 use Rattle.juniper_endpoint.specs.Explained.{IsFaultless, TellsRefusal, explained_as, is_left_out, misfits, nodes_explained}
 use Rattle.juniper_endpoint.specs.Explained.{of_explanation, of_value, values_explained, where_valid}
-use Rattle.juniper_endpoint.specs.Looks.{AreMisfits, IsExplained}
+use Rattle.juniper_endpoint.specs.Looks.{AreMisfits}
 
 -- ## What is left out
 
 module _ (s : Schema) (disabled : Bool) (most : ℕ) where
-  -- the nodes of the document that the text is are explained, or left out
+  -- the nodes of a document are explained, or left out
   module _ (text : Text) where
-    pub nodes-read : (d e : Document) → d ≡ e → is_left_out disabled most text ≡ false →
-        map of_explanation (explanations s disabled e) ≡ nodes_explained s disabled most text d
+    pub nodes-read : (d : Document) → is_left_out disabled most text ≡ false →
+        map of_explanation (explanations s disabled d) ≡ nodes_explained s disabled most text d
     unfolding nodes_explained
-    nodes-read d e same passes =
-        ap (λ x. map of_explanation (explanations s disabled x)) (sym same)
-        ∙ sym (ap (λ b. cond b [] (map of_explanation (explanations s disabled d))) passes)
+    nodes-read d passes = sym (ap (λ b. cond b [] (map of_explanation (explanations s disabled d))) passes)
 
     pub nodes-left-out : (d : Document) → is_left_out disabled most text ≡ true → [] ≡ nodes_explained s disabled most text d
     unfolding nodes_explained
@@ -43,12 +39,10 @@ module _ (s : Schema) (disabled : Bool) (most : ℕ) where
 
   -- and so the values
   module _ (q : Request) where
-    pub values-read : (d e : Document) → d ≡ e → is_left_out disabled most q.text ≡ false →
-        misfits s q.variables (choose e q.operation) ≡ values_explained s disabled most q d
+    pub values-read : (d : Document) → is_left_out disabled most q.text ≡ false →
+        misfits s q.variables (choose d q.operation) ≡ values_explained s disabled most q d
     unfolding values_explained
-    values-read d e same passes =
-        ap (λ x. misfits s q.variables (choose x q.operation)) (sym same)
-        ∙ sym (ap (λ b. cond b [] (misfits s q.variables (choose d q.operation))) passes)
+    values-read d passes = sym (ap (λ b. cond b [] (misfits s q.variables (choose d q.operation))) passes)
 
     pub values-left-out : (d : Document) → is_left_out disabled most q.text ≡ true → [] ≡ values_explained s disabled most q d
     unfolding values_explained
@@ -96,16 +90,16 @@ module _ (s : Schema) (disabled : Bool) (most : ℕ) (q : Request) where
       go [] valid none = (
         valid,
         λ o choice. no-values-listed s q.variables (variables_of o)
-            (none-mapped of_value _ (chosen-misfits s q.variables (choose d q.operation) o choice ∙ (values-read s disabled most q d d refl passes ∙ none))),
+            (none-mapped of_value _ (chosen-misfits s q.variables (choose d q.operation) o choice ∙ (values-read s disabled most q d passes ∙ none))),
       )
       go (x ∷ xs) found none =
-          absurd (cc (sym found ∙ none-listed s disabled d (none-mapped of_explanation _ (nodes-read s disabled most q.text d d refl passes ∙ none))))
+          absurd (cc (sym found ∙ none-listed s disabled d (none-mapped of_explanation _ (nodes-read s disabled most q.text d passes ∙ none))))
 
   -- an error of the request of a valid document
   pub taken-line : (d : Document) → Reads q.text (Some d) → rule_errors s disabled d ≡ [] → (e : RequestError) (es : List lines.Refusal) →
-      AreMisfits s disabled most q e es → (line : Text) → line ≡ explained_text (refusals_of e) es → TellsRefusal s disabled most q e line
+      AreMisfits s disabled most q d e es → (line : Text) → line ≡ explained_text (refusals_of e) es → TellsRefusal s disabled most q e line
   taken-line d reads valid (not_valid ys) es are line told =
-      (d, reads, told ∙ ap (explained_text (refusals_of (not_valid ys))) (are d reads ∙ valid-values d valid))
+      (d, reads, told ∙ ap (explained_text (refusals_of (not_valid ys))) (are ∙ valid-values d valid))
   taken-line d reads valid (not_parsed x) es none line told = told ∙ ap (explained_text (refusals_of (not_parsed x))) none
   taken-line d reads valid no_operation es none line told = told ∙ ap (explained_text (refusals_of no_operation)) none
   taken-line d reads valid multiple_operations es none line told = told ∙ ap (explained_text (refusals_of multiple_operations)) none
@@ -116,24 +110,22 @@ module _ (s : Schema) (disabled : Bool) (most : ℕ) (q : Request) where
   taken-line d reads valid (variable_not_constant n) es none line told = told ∙ ap (explained_text (refusals_of (variable_not_constant n))) none
   taken-line d reads valid out_of_memory es none line told = told ∙ ap (explained_text (refusals_of out_of_memory)) none
 
-  module _ (b : Bounds) where
-    invalid : (ys : List RuleError) (r : Refusal) → Some (spec.not_valid ys) ≡ Some r → (es : List lines.Refusal) →
-        IsExplained s disabled most q.text (not_valid ys) es → IsRefusal b q.text s disabled r → (line : Text) →
-        line ≡ explained_text (refusals_of (not_valid ys)) es → TellsRefusal s disabled most q (not_valid ys) line
-    invalid ys r stands es explained (inl (is, unread)) line told = absurd cc
-    invalid ys r stands es explained (inr (d, within, (x, xs, is, found))) line told =
-        (d, within.0.1, told ∙ ap (explained_text (refusals_of (not_valid ys))) (explained d within.0.1 ∙ invalid-nodes d x xs found))
+  -- the errors of a document that breaks rules
+  pub invalid-line : (d : Document) → Reads q.text (Some d) → (x : RuleError) (xs : List RuleError) → rule_errors s disabled d ≡ x ∷ xs → (line : Text) →
+      line ≡ explained_text (refusals_of (not_valid (x ∷ xs))) (nodes_explained s disabled most q.text d) → TellsRefusal s disabled most q (not_valid (x ∷ xs)) line
+  invalid-line d reads x xs found line told =
+      (d, reads, told ∙ ap (explained_text (refusals_of (not_valid (x ∷ xs)))) (invalid-nodes d x xs found))
 
-    -- an error of a text that is not taken
-    pub objected-line : (e : RequestError) → StandsFor (IsRefusal b q.text s disabled) e → (es : List lines.Refusal) →
-        IsExplained s disabled most q.text e es → (line : Text) → line ≡ explained_text (refusals_of e) es → TellsRefusal s disabled most q e line
-    objected-line (not_valid ys) (r, stands, p) es explained line told = invalid ys r stands es explained p line told
-    objected-line (not_parsed x) stands es none line told = told ∙ ap (explained_text (refusals_of (not_parsed x))) none
-    objected-line no_operation stands es none line told = told ∙ ap (explained_text (refusals_of no_operation)) none
-    objected-line multiple_operations stands es none line told = told ∙ ap (explained_text (refusals_of multiple_operations)) none
-    objected-line unknown_operation stands es none line told = told ∙ ap (explained_text (refusals_of unknown_operation)) none
-    objected-line is_subscription stands es none line told = told ∙ ap (explained_text (refusals_of is_subscription)) none
-    objected-line not_subscription stands es none line told = told ∙ ap (explained_text (refusals_of not_subscription)) none
-    objected-line no_mutation_type stands es none line told = told ∙ ap (explained_text (refusals_of no_mutation_type)) none
-    objected-line (variable_not_constant n) stands es none line told = told ∙ ap (explained_text (refusals_of (variable_not_constant n))) none
-    objected-line out_of_memory stands es none line told = told ∙ ap (explained_text (refusals_of out_of_memory)) none
+  -- the error of a text that is no document
+  pub unread-line : (b : Bounds) (e : RequestError) → StandsFor (IsUnread b q.text) e → (line : Text) → line ≡ refusals_text (refusals_of e) →
+      TellsRefusal s disabled most q e line
+  unread-line b (not_valid ys) (r, stands, (is, unread)) line told = absurd cc
+  unread-line b (not_parsed x) stands line told = told
+  unread-line b no_operation stands line told = told
+  unread-line b multiple_operations stands line told = told
+  unread-line b unknown_operation stands line told = told
+  unread-line b is_subscription stands line told = told
+  unread-line b not_subscription stands line told = told
+  unread-line b no_mutation_type stands line told = told
+  unread-line b (variable_not_constant n) stands line told = told
+  unread-line b out_of_memory stands line told = told

@@ -54,7 +54,7 @@ module _ {C N : Type 0} (S : Service C N) (b : Bounds) (a : Asked) (most : ℕ) 
   reads-leave fields Executed line after (may, (value, es, full, is, few)) = outcome-leaves may (responds value es) after full.0.0
   reads-leave fields Refused line after (inl (bounded, (e, r, is, full, told))) = full.0.0.1
   reads-leave fields Refused line after (inr (inl (same, why))) = same
-  reads-leave fields Refused line after (inr (inr (may, given, ran, full, is))) = outcome-leaves may out_of_memory after full.0.0
+  reads-leave fields Refused line after (inr (inr (may, only, full, is))) = outcome-leaves may out_of_memory after full.0.0
   reads-leave fields Writes line after (same, reads, is, told) = same
   reads-leave fields OutOfMemory line after (inl same) = same
   reads-leave fields OutOfMemory line after (inr (may, (r, full))) = outcome-leaves may r after full.0.0

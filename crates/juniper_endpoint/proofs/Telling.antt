@@ -1,16 +1,18 @@
 -- What is told of a request, over plain variables.
-use Rattle.std.proofs.Common.{◌≡◌, ◌≤◌, ℕ, Bool, List, [], map, Option, Some, None, Result, Ok, Err, IfOk, Vec, Global, string_bytes, refl, sym, ap, subst}
+use Rattle.std.proofs.Common.{◌≡◌, ◌≢◌, ◌≤◌, ℕ, Bool, List, [], ◌∷◌, map, Option, Some, Result, Ok, Err, IfOk, Vec, Global, string_bytes, refl, sym, ap, subst}
 use Rattle.std.proofs.Common.{◌∙◌, inl, inr, length}
 use Rattle.graphql_spec.specs.Documents.{Document}
 use Rattle.graphql_spec.specs.Inputs.{Variables}
 use Rattle.graphql_spec.specs.Outcomes as outcome
 use Rattle.graphql_spec.specs.Outcomes.{Request, Service, Response, refuses, responds, Reads, Becomes}
+use Rattle.graphql_spec.specs.Requests as spec
 use Rattle.graphql_spec.specs.Requests.{Refusal, refused}
+use Rattle.graphql_spec.specs.Rules.{RuleError, rule_errors}
 use Rattle.graphql_spec.specs.Shown.{Name, Text}
 use Rattle.graphql_spec.proofs.Deciding.{steps-decide}
 use Rattle.juniper.specs.Answering.{Responds, StandsFor, refusal_of}
-use Rattle.juniper.specs.Budgets.{AnswersWithin, IsSpentOnly, RefusesWithin, Runs, SpendsOnly}
-use Rattle.juniper.specs.Objections.{IsRefusal, IsWithin, Objects}
+use Rattle.juniper.specs.Budgets.{AnswersWithin, IsSpentOnly, RefusesWithin, RunsOver, SpendsOnly}
+use Rattle.juniper.specs.Objections.{IsUnread, IsWithin, ObjectsToRead}
 use Rattle.juniper.specs.Promised.{IsFullOutcome}
 use Rattle.juniper.specs.RequestErrors.{RequestError, view_request_error, not_parsed, not_valid, no_operation, multiple_operations, unknown_operation}
 use Rattle.juniper.specs.RequestErrors.{is_subscription, not_subscription, no_mutation_type, variable_not_constant, out_of_memory}
@@ -36,10 +38,10 @@ use Rattle.juniper_syntax.specs.Scalars.{default_shown}
 use Rattle.juniper_syntax.specs.ValueView.{view_value}
 use Rattle.juniper_syntax.specs.declared.scalar.DefaultScalarValue.{DefaultScalarValue}
 use Rattle.juniper_syntax.specs.declared.value.Value.{Value}
-use Rattle.juniper_endpoint.proofs.Explaining.{objected-line, taken-line}
+use Rattle.juniper_endpoint.proofs.Explaining.{invalid-line, taken-line, unread-line}
 use Rattle.juniper_endpoint.specs.Explained.{TellsRefusal}
 use Rattle.juniper_endpoint.specs.Lines.{IsTold, bare_line, outcome_of, outcome_text, refused_outcome, writes_text}
-use Rattle.juniper_endpoint.specs.Looks.{AreMisfits, ExplainsFor, IsAnswerTold, IsObjected, IsSeen, IsStopTold}
+use Rattle.juniper_endpoint.specs.Looks.{AreMisfits, ExplainsFor, IsAnswerTold, IsInvalidTold, IsObjected, IsSeen, IsStopTold}
 use Rattle.juniper_endpoint.specs.Replied.{IsTaken, KeepsBounds, MayRun, Replies, given_among, refused_among, request_asked}
 use Rattle.juniper_endpoint.specs.declared.explained.Explainer.{Explainer}
 use Rattle.juniper_endpoint.specs.declared.look.Finding.{Finding}
@@ -81,13 +83,13 @@ pub seen-so : (among rs : List (Name × VariablesError)) (w : Bool) (name : Opti
 seen-so among rs w name d x y e f i = subst (IsSeen among w name d) f (subst (λ r. IsSeen r w name d x) e i)
 
 -- what is told of an answer, by what explains for this service and of the request that is asked
-pub told-of : {C N : Type 0} (S : Service C N) (q asked : Request) (x : Explainer) (r : Answered) (reply : Reply) → ExplainsFor S x → q ≡ asked →
-    IsAnswerTold (view_schema default_shown x.schema.now) x.is_introspection_disabled x.most_bytes q r reply →
-    IsAnswerTold S.schema S.introspection_disabled x.most_bytes asked r reply
-told-of S q asked x r reply explains same t =
-    subst (λ p. IsAnswerTold S.schema S.introspection_disabled x.most_bytes p r reply) same
-    (subst (λ u. IsAnswerTold S.schema u x.most_bytes q r reply) explains.1
-    (subst (λ s. IsAnswerTold s x.is_introspection_disabled x.most_bytes q r reply) explains.0 t))
+pub told-of : {C N : Type 0} (S : Service C N) (q asked : Request) (d : Document) (x : Explainer) (r : Answered) (reply : Reply) → ExplainsFor S x →
+    q ≡ asked → IsAnswerTold (view_schema default_shown x.schema.now) x.is_introspection_disabled x.most_bytes q d r reply →
+    IsAnswerTold S.schema S.introspection_disabled x.most_bytes asked d r reply
+told-of S q asked d x r reply explains same t =
+    subst (λ p. IsAnswerTold S.schema S.introspection_disabled x.most_bytes p d r reply) same
+    (subst (λ u. IsAnswerTold S.schema u x.most_bytes q d r reply) explains.1
+    (subst (λ s. IsAnswerTold s x.is_introspection_disabled x.most_bytes q d r reply) explains.0 t))
 
 module _ {C N : Type 0} (S : Service C N) (b : Bounds) (a : Asked) (most : ℕ) (w : Bool) (c : C) (fields : Option ℕ) where
   -- that memory is refused may be told
@@ -102,23 +104,21 @@ module _ {C N : Type 0} (S : Service C N) (b : Bounds) (a : Asked) (most : ℕ) 
   within-keeps : (d : Document) → IsWithin b a.query d → KeepsBounds S b a
   within-keeps d within = (within.0.0, λ e reads. subst (IsWithin b a.query) (sym (within.0.1.1 e reads.0)) within)
 
-  refusal-keeps : length a.query ≤ b.bytes → (r : Refusal) → IsRefusal b a.query S.schema S.introspection_disabled r → KeepsBounds S b a
-  refusal-keeps low r (inl (is, unread)) = (low, λ d reads. absurd (unread d reads.0))
-  refusal-keeps low r (inr (d, within, found)) = within-keeps d within
+  -- nor does one that is no document
+  unread-keeps : length a.query ≤ b.bytes → (r : Refusal) → IsUnread b a.query r → KeepsBounds S b a
+  unread-keeps low r (is, unread) = (low, λ d reads. absurd (unread d reads.0))
 
-  -- nor does one that is refused
-  objection-keeps : length a.query ≤ b.bytes → (e : RequestError) → StandsFor (IsRefusal b a.query S.schema S.introspection_disabled) e → (r : Refusal) →
-      refusal_of e ≡ Some r → KeepsBounds S b a
+  objection-keeps : length a.query ≤ b.bytes → (e : RequestError) → StandsFor (IsUnread b a.query) e → (r : Refusal) → refusal_of e ≡ Some r → KeepsBounds S b a
   objection-keeps low out_of_memory u r none = absurd cc
-  objection-keeps low (not_parsed e) (q, x, p) r is = refusal-keeps low q p
-  objection-keeps low (not_valid es) (q, x, p) r is = refusal-keeps low q p
-  objection-keeps low no_operation (q, x, p) r is = refusal-keeps low q p
-  objection-keeps low multiple_operations (q, x, p) r is = refusal-keeps low q p
-  objection-keeps low unknown_operation (q, x, p) r is = refusal-keeps low q p
-  objection-keeps low is_subscription (q, x, p) r is = refusal-keeps low q p
-  objection-keeps low not_subscription (q, x, p) r is = refusal-keeps low q p
-  objection-keeps low no_mutation_type (q, x, p) r is = refusal-keeps low q p
-  objection-keeps low (variable_not_constant n) (q, x, p) r is = refusal-keeps low q p
+  objection-keeps low (not_parsed e) (q, x, p) r is = unread-keeps low q p
+  objection-keeps low (not_valid es) (q, x, p) r is = unread-keeps low q p
+  objection-keeps low no_operation (q, x, p) r is = unread-keeps low q p
+  objection-keeps low multiple_operations (q, x, p) r is = unread-keeps low q p
+  objection-keeps low unknown_operation (q, x, p) r is = unread-keeps low q p
+  objection-keeps low is_subscription (q, x, p) r is = unread-keeps low q p
+  objection-keeps low not_subscription (q, x, p) r is = unread-keeps low q p
+  objection-keeps low no_mutation_type (q, x, p) r is = unread-keeps low q p
+  objection-keeps low (variable_not_constant n) (q, x, p) r is = unread-keeps low q p
 
   -- an error of the executor
   error-told : (after : C) → Left after → (e : RequestError) → ((r : Refusal) → refusal_of e ≡ Some r → KeepsBounds S b a) →
@@ -148,61 +148,80 @@ module _ {C N : Type 0} (S : Service C N) (b : Bounds) (a : Asked) (most : ℕ) 
 
   -- ## A request that is executed
 
-  misfit-line : MayRun S b a w → (e : RequestError) (es : List lines.Refusal) → AreMisfits S.schema S.introspection_disabled most (request_asked a) e es →
-      (line : Text) → line ≡ explained_text (refusals_of e) es → TellsError e line
-  misfit-line (d, taken, free) e es are line is =
+  misfit-line : (d : Document) → IsTaken S b a d → (e : RequestError) (es : List lines.Refusal) →
+      AreMisfits S.schema S.introspection_disabled most (request_asked a) d e es → (line : Text) → line ≡ explained_text (refusals_of e) es → TellsError e line
+  misfit-line d taken e es are line is =
       taken-line S.schema S.introspection_disabled most (request_asked a) d taken.0.0.1 taken.1 e es are line is
 
   -- want of memory, behind what is promised
   left-by : MayRun S b a w → (after : C) (r : Answered) → AnswersWithin default_shown (λ x. IsFullOutcome S (request_asked a) c x after) r → Left after
   left-by may after r full = inr (may, some-response (λ x. IsFullOutcome S (request_asked a) c x after) r full)
 
-  stop-told : MayRun S b a w → (after : C) (s : Within) → RefusesWithin (λ x. IsFullOutcome S (request_asked a) c x after) s →
-      IsSpentOnly fields (Runs S (request_asked a)) s → Left after → (reply : Reply) →
-      IsStopTold S.schema S.introspection_disabled most (request_asked a) s reply → Replies S b a most w c fields reply.outcome (string_bytes reply.line) after
-  stop-told may after (within.Refused e) full only left reply (inl (es, are, t)) = told after left (refused_outcome (view_request_error e)) _ reply t
-      (λ l is. error-told after left (view_request_error e) (λ r x. within-keeps may.0 may.1.0) full l
-      (misfit-line may (view_request_error e) es are l is))
-  stop-told may after (within.Refused e) full only left reply (inr is) = told after left OutOfMemory [] reply (inr is) (λ l same. left)
-  stop-told may after within.Spent full only left reply t = told after left Refused _ reply t (λ l is. inr (inr (may, only.0, only.1, full, is)))
+  module _ (d : Document) (taken : IsTaken S b a d) where
+    stop-told : MayRun S b a w → (after : C) (s : Within) → RefusesWithin (λ x. IsFullOutcome S (request_asked a) c x after) s →
+        IsSpentOnly fields (RunsOver S (request_asked a) c) s → Left after → (reply : Reply) →
+        IsStopTold S.schema S.introspection_disabled most (request_asked a) d s reply → Replies S b a most w c fields reply.outcome (string_bytes reply.line) after
+    stop-told may after (within.Refused e) full only left reply (inl (es, are, t)) = told after left (refused_outcome (view_request_error e)) _ reply t
+        (λ l is. error-told after left (view_request_error e) (λ r x. within-keeps d taken.0) full l
+        (misfit-line d taken (view_request_error e) es are l is))
+    stop-told may after (within.Refused e) full only left reply (inr is) = told after left OutOfMemory [] reply (inr is) (λ l same. left)
+    stop-told may after within.Spent full only left reply t = told after left Refused _ reply t (λ l is. inr (inr (may, only, full, is)))
 
-  pub answered-told : MayRun S b a w → (after : C) (r : Answered) → AnswersWithin default_shown (λ x. IsFullOutcome S (request_asked a) c x after) r →
-      IfOk r (λ p. fields_in (view_value default_shown p.0) ≤ most_fields fields) → SpendsOnly fields (Runs S (request_asked a)) r → (reply : Reply) →
-      IsAnswerTold S.schema S.introspection_disabled most (request_asked a) r reply →
-      Replies S b a most w c fields reply.outcome (string_bytes reply.line) after
-  answered-told may after (Ok p) full few only reply t = told after (left-by may after (Ok p) full) (outcome_of (Ok p)) (outcome_text (Ok p)) reply t
-      (λ l is. (may, (view_value default_shown p.0, map (view_listed default_shown) p.1.items, full, is, few)))
-  answered-told may after (Err s) full few only reply t = stop-told may after s full only (left-by may after (Err s) full) reply t
+    pub answered-told : IsSeen (refused_among a.variables) w a.operation_name d look.Passes → (after : C) (r : Answered) →
+        AnswersWithin default_shown (λ x. IsFullOutcome S (request_asked a) c x after) r →
+        IfOk r (λ p. fields_in (view_value default_shown p.0) ≤ most_fields fields) → SpendsOnly fields (RunsOver S (request_asked a) c) r → (reply : Reply) →
+        IsAnswerTold S.schema S.introspection_disabled most (request_asked a) d r reply →
+        Replies S b a most w c fields reply.outcome (string_bytes reply.line) after
+    answered-told free after (Ok p) full few only reply t =
+        let may : MayRun S b a w = (d, taken, free) in
+        told after (left-by may after (Ok p) full) (outcome_of (Ok p)) (outcome_text (Ok p)) reply t
+        (λ l is. (may, (view_value default_shown p.0, map (view_listed default_shown) p.1.items, full, is, few)))
+    answered-told free after (Err s) full few only reply t =
+        let may : MayRun S b a w = (d, taken, free) in stop-told may after s full only (left-by may after (Err s) full) reply t
 
   -- ## A text that is objected to
 
-  refusal-becomes : (r : Refusal) → IsRefusal b a.query S.schema S.introspection_disabled r → Becomes S (request_asked a) (refused r)
-  refusal-becomes r (inl (is, unread)) = subst (λ z. Becomes S (request_asked a) (refused z)) (sym is) ((steps-decide S).unread (request_asked a) unread)
-  refusal-becomes r (inr (d, within, (x, xs, is, found))) =
-      subst (λ z. Becomes S (request_asked a) (refused z)) (sym is) ((steps-decide S).invalid (request_asked a) d within.0.1 x xs found)
+  unread-becomes : (r : Refusal) → IsUnread b a.query r → Becomes S (request_asked a) (refused r)
+  unread-becomes r (is, unread) = subst (λ z. Becomes S (request_asked a) (refused z)) (sym is) ((steps-decide S).unread (request_asked a) unread)
 
-  refusal-full : (e : RequestError) → StandsFor (IsRefusal b a.query S.schema S.introspection_disabled) e →
-      Responds (λ r. IsFullOutcome S (request_asked a) c r c) e
+  refusal-full : (e : RequestError) → StandsFor (IsUnread b a.query) e → Responds (λ r. IsFullOutcome S (request_asked a) c r c) e
   refusal-full out_of_memory u = ((inl refl, tt), tt)
-  refusal-full (not_parsed e) (r, is, p) = (r, is, (((refusal-becomes r p, refl), tt), tt))
-  refusal-full (not_valid es) (r, is, p) = (r, is, (((refusal-becomes r p, refl), tt), tt))
-  refusal-full no_operation (r, is, p) = (r, is, (((refusal-becomes r p, refl), tt), tt))
-  refusal-full multiple_operations (r, is, p) = (r, is, (((refusal-becomes r p, refl), tt), tt))
-  refusal-full unknown_operation (r, is, p) = (r, is, (((refusal-becomes r p, refl), tt), tt))
-  refusal-full is_subscription (r, is, p) = (r, is, (((refusal-becomes r p, refl), tt), tt))
-  refusal-full not_subscription (r, is, p) = (r, is, (((refusal-becomes r p, refl), tt), tt))
-  refusal-full no_mutation_type (r, is, p) = (r, is, (((refusal-becomes r p, refl), tt), tt))
-  refusal-full (variable_not_constant n) (r, is, p) = (r, is, (((refusal-becomes r p, refl), tt), tt))
+  refusal-full (not_parsed e) (r, is, p) = (r, is, (((unread-becomes r p, refl), tt), tt))
+  refusal-full (not_valid es) (r, is, p) = (r, is, (((unread-becomes r p, refl), tt), tt))
+  refusal-full no_operation (r, is, p) = (r, is, (((unread-becomes r p, refl), tt), tt))
+  refusal-full multiple_operations (r, is, p) = (r, is, (((unread-becomes r p, refl), tt), tt))
+  refusal-full unknown_operation (r, is, p) = (r, is, (((unread-becomes r p, refl), tt), tt))
+  refusal-full is_subscription (r, is, p) = (r, is, (((unread-becomes r p, refl), tt), tt))
+  refusal-full not_subscription (r, is, p) = (r, is, (((unread-becomes r p, refl), tt), tt))
+  refusal-full no_mutation_type (r, is, p) = (r, is, (((unread-becomes r p, refl), tt), tt))
+  refusal-full (variable_not_constant n) (r, is, p) = (r, is, (((unread-becomes r p, refl), tt), tt))
 
-  pub objection-told : (e : Objection) → Objects b a.query S.schema S.introspection_disabled e → (reply : Reply) →
-      IsObjected S.schema S.introspection_disabled most a.query e reply → Replies S b a most w c fields reply.outcome (string_bytes reply.line) c
+  pub objection-told : (e : Objection) → ObjectsToRead b a.query e → (reply : Reply) → IsObjected e reply →
+      Replies S b a most w c fields reply.outcome (string_bytes reply.line) c
   objection-told objection.TooLong o reply t = told c (inl refl) Refused _ reply t (λ l is. inr (inl (refl, inl (objection.TooLong, tt, o, is))))
   objection-told objection.TooManyFields o reply t = told c (inl refl) Refused _ reply t (λ l is. inr (inl (refl, inl (objection.TooManyFields, tt, o, is))))
   objection-told objection.TooDeep o reply t = told c (inl refl) Refused _ reply t (λ l is. inr (inl (refl, inl (objection.TooDeep, tt, o, is))))
-  objection-told (objection.Refused e) o reply (inl (es, explained, t)) = told c (inl refl) _ _ reply t (λ l is.
+  objection-told (objection.Refused e) o reply t = told c (inl refl) _ _ reply t (λ l is.
       error-told c (inl refl) (view_request_error e) (objection-keeps o.0 (view_request_error e) o.1) (refusal-full (view_request_error e) o.1) l
-      (objected-line S.schema S.introspection_disabled most (request_asked a) b (view_request_error e) o.1 es explained l is))
-  objection-told (objection.Refused e) o reply (inr is) = memory-told c refl reply is
+      (unread-line S.schema S.introspection_disabled most (request_asked a) b (view_request_error e) o.1 l is))
+
+  -- ## A document that breaks rules
+
+  pub invalid-told : (d : Document) → IsWithin b a.query d → (es : List RuleError) → es ≡ rule_errors S.schema S.introspection_disabled d → es ≢ [] →
+      (reply : Reply) → IsInvalidTold S.schema S.introspection_disabled most a.query es d reply →
+      Replies S b a most w c fields reply.outcome (string_bytes reply.line) c
+  invalid-told d within [] found some reply t = absurd (some refl)
+  invalid-told d within (x ∷ xs) found some reply t = told c (inl refl) Refused _ reply t (λ l is.
+      inl (
+        within-keeps d within,
+        (
+          not_valid (x ∷ xs),
+          spec.not_valid (x ∷ xs),
+          refl,
+          ((((steps-decide S).invalid (request_asked a) d within.0.1 x xs (sym found), refl), tt), tt),
+          invalid-line S.schema S.introspection_disabled most (request_asked a) d within.0.1 x xs (sym found) l is,
+        ),
+      ))
 
   -- ## What a look shows
 
@@ -216,6 +235,3 @@ module _ {C N : Type 0} (S : Service C N) (b : Bounds) (a : Asked) (most : ℕ) 
         Replies S b a most w c fields reply.outcome (string_bytes reply.line) c
     seen-unfitting errors (o, choice, (some, same)) reply t = told c (inl refl) Refused _ reply t
         (λ l is. inr (inl (refl, inr (d, o, (taken, choice), some, is ∙ ap (λ es. refusals_text (refusals_of (not_valid es))) same))))
-
-    pub seen-free : IsSeen (refused_among a.variables) w a.operation_name d look.Passes → MayRun S b a w
-    seen-free free = (d, taken, free)

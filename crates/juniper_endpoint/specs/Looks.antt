@@ -1,9 +1,10 @@
 -- What a look at a request shows, and what its values and its text are found to be. Only private clauses cite these words.
-use Rattle.std.specs.Prelude.{◌≡◌, ◌≢◌, ◌⊎◌, ℕ, Bool, false, List, [], map, string_bytes, Option, Some, Result, Ok, Err, Vec}
+use Rattle.std.specs.Prelude.{◌≡◌, ◌≢◌, ◌⊎◌, ℕ, Bool, false, List, [], map, string_bytes, Option, Result, Ok, Err, Vec}
 use Rattle.std.specs.declared.alloc.Global.{Global}
 use Rattle.graphql_spec.specs.Documents.{Document, Operation, mutation, variables_of}
-use Rattle.graphql_spec.specs.Outcomes.{Reads, Request, Service}
+use Rattle.graphql_spec.specs.Outcomes.{Request, Service}
 use Rattle.graphql_spec.specs.Requests.{choose, chosen}
+use Rattle.graphql_spec.specs.Rules.{RuleError}
 use Rattle.graphql_spec.specs.Schema.{Schema}
 use Rattle.graphql_spec.specs.Shown.{Name, Text}
 use Rattle.juniper.specs.Objections.{objection_text}
@@ -19,7 +20,7 @@ use Rattle.juniper_http.specs.declared.endpoint.Reply.{Reply}
 use Rattle.juniper_http.specs.declared.outcome.Outcome.TheVariants as outcome
 use Rattle.juniper_json.specs.Each.{view_refused}
 use Rattle.juniper_json.specs.Refusals.{refusals_of}
-use Rattle.juniper_json.specs.RefusalText.{Refusal, explained_text}
+use Rattle.juniper_json.specs.RefusalText.{Refusal, explained_text, refusals_text}
 use Rattle.juniper_json.specs.declared.given.GivenVariables.{GivenVariables}
 use Rattle.juniper_json.specs.declared.read.VariablesError.{VariablesError}
 use Rattle.juniper_request.specs.Requests.{Asked}
@@ -55,32 +56,27 @@ module _ (refused : List (Name × VariablesError)) (may_write : Bool) where
   IsSeen name d Writes = (o : Operation) × (choose d name ≡ chosen o) × IsSeenIn o Writes
   IsSeen name d (Unfitting errors) = (o : Operation) × (choose d name ≡ chosen o) × IsSeenIn o (Unfitting errors)
 
+-- what is told of what is against reading a text
+abbrev pub IsObjected : Objection → Reply → Type 0
+IsObjected objection.TooLong reply = IsTold outcome.Refused (bare_line (objection_text objection.TooLong)) reply
+IsObjected objection.TooManyFields reply = IsTold outcome.Refused (bare_line (objection_text objection.TooManyFields)) reply
+IsObjected objection.TooDeep reply = IsTold outcome.Refused (bare_line (objection_text objection.TooDeep)) reply
+IsObjected (objection.Refused e) reply = IsTold (refused_outcome (view_request_error e)) (refusals_text (refusals_of (view_request_error e))) reply
+
+-- what is told of a document that is not valid: these errors, and each node that violates a rule
+abbrev pub IsInvalidTold : Schema → Bool → ℕ → Text → List RuleError → Document → Reply → Type 0
+IsInvalidTold s disabled most text errors d reply =
+    IsTold outcome.Refused (explained_text (refusals_of (not_valid errors)) (nodes_explained s disabled most text d)) reply
+
 -- what is told of an error and what explains it, which is so, or that memory is refused
 abbrev pub IsToldWith : (List Refusal → Type 0) → RequestError → Reply → Type 0
 IsToldWith P e reply =
     ((es : List Refusal) × P es × IsTold (refused_outcome e) (explained_text (refusals_of e) es) reply) ⊎ (reply.outcome ≡ outcome.OutOfMemory)
 
-module _ (s : Schema) (disabled : Bool) (most : ℕ) (text : Text) where
-  -- what is found that explains an error of the text: that it is not valid, its nodes
-  abbrev pub IsExplained : RequestError → List Refusal → Type 0
-  IsExplained (not_valid errors) es = (d : Document) → Reads text (Some d) → es ≡ nodes_explained s disabled most text d
-  IsExplained e es = es ≡ []
-
-  -- what is told of an error of the text
-  abbrev pub IsErrorTold : RequestError → Reply → Type 0
-  IsErrorTold e reply = IsToldWith (IsExplained e) e reply
-
-  -- what is told of an objection
-  abbrev pub IsObjected : Objection → Reply → Type 0
-  IsObjected objection.TooLong reply = IsTold outcome.Refused (bare_line (objection_text objection.TooLong)) reply
-  IsObjected objection.TooManyFields reply = IsTold outcome.Refused (bare_line (objection_text objection.TooManyFields)) reply
-  IsObjected objection.TooDeep reply = IsTold outcome.Refused (bare_line (objection_text objection.TooDeep)) reply
-  IsObjected (objection.Refused e) reply = IsErrorTold (view_request_error e) reply
-
-module _ (s : Schema) (disabled : Bool) (most : ℕ) (q : Request) where
-  -- what is found that explains an error of a valid document's request: that given values do not fit, why
+module _ (s : Schema) (disabled : Bool) (most : ℕ) (q : Request) (d : Document) where
+  -- what is found that explains an error of the request of this valid document: that given values do not fit, why
   abbrev pub AreMisfits : RequestError → List Refusal → Type 0
-  AreMisfits (not_valid errors) es = (d : Document) → Reads q.text (Some d) → es ≡ values_explained s disabled most q d
+  AreMisfits (not_valid errors) es = es ≡ values_explained s disabled most q d
   AreMisfits e es = es ≡ []
 
   -- what is told of such an error
@@ -98,18 +94,14 @@ module _ (s : Schema) (disabled : Bool) (most : ℕ) (q : Request) where
   IsAnswerTold (Err w) reply = IsStopTold w reply
 
 -- what explains that the values of a request do not fit, by what explains texts
-abbrev pub AreMisfitsBy : Explainer → Request → RequestError → List Refusal → Type 0
-AreMisfitsBy x q e rs = AreMisfits (view_schema default_shown x.schema.now) x.is_introspection_disabled x.most_bytes q e rs
-
-abbrev pub AreValuesBy : Explainer → Request → List Refusal → Type 0
-AreValuesBy x q rs = (d : Document) → Reads q.text (Some d) →
-    rs ≡ values_explained (view_schema default_shown x.schema.now) x.is_introspection_disabled x.most_bytes q d
+abbrev pub AreMisfitsBy : Explainer → Request → Document → RequestError → List Refusal → Type 0
+AreMisfitsBy x q d e rs = AreMisfits (view_schema default_shown x.schema.now) x.is_introspection_disabled x.most_bytes q d e rs
 
 -- it explains what is refused on this service
 abbrev pub ExplainsFor : {C N : Type 0} → Service C N → Explainer → Type 0
 ExplainsFor S e = (view_schema default_shown e.schema.now ≡ S.schema) × (e.is_introspection_disabled ≡ S.introspection_disabled)
 
--- what is replied to what is asked of a prepared document, whatever the bounds within which it was taken
-abbrev pub RepliesPrepared : {C N : Type 0} → Service C N → Explainer → Asked → Document → Bool → Option ℕ → C → Reply → C → Type 0
-RepliesPrepared S e a d may_write fields c reply after = (b : Bounds) → ExplainsFor S e → IsTaken S b a d →
+-- what is replied to what is asked of a valid document, whatever the bounds within which it was taken
+abbrev pub RepliesValid : {C N : Type 0} → Service C N → Explainer → Asked → Document → Bool → Option ℕ → C → Reply → C → Type 0
+RepliesValid S e a d may_write fields c reply after = (b : Bounds) → ExplainsFor S e → IsTaken S b a d →
     Replies S b a e.most_bytes may_write c fields reply.outcome (string_bytes reply.line) after

@@ -11,7 +11,7 @@ use Rattle.graphql_spec.specs.Rules.{RuleError}
 use Rattle.graphql_spec.specs.Shown.{Name, Text}
 use Rattle.graphql_spec.specs.Values.{Value}
 use Rattle.juniper.specs.Answering.{refusal_of}
-use Rattle.juniper.specs.Budgets.{Runs, within_text}
+use Rattle.juniper.specs.Budgets.{IsSpentOnly, RunsOver, within_text}
 use Rattle.juniper.specs.Objections.{IsAccepted, IsWithin, Objects, objection_text}
 use Rattle.juniper.specs.Promised.{IsFullOutcome}
 use Rattle.juniper.specs.RequestErrors.{RequestError, not_valid}
@@ -112,11 +112,11 @@ module _ {C N : Type 0} (S : Service C N) (b : Bounds) (a : Asked) where
     IsRefused line after = KeepsBounds × ((e : RequestError) × (r : Refusal) × (refusal_of e ≡ Some r)
         × IsFullOutcome S (request_asked a) c (refuses r) after × TellsRefusal S.schema S.introspection_disabled most (request_asked a) e line)
 
-    -- an operation runs, more fields were to be entered than a budget that is given, and the line says so; the context is as want of memory
+    -- an operation runs that enters more fields than a budget that is given, and the line says so; the context is as want of memory
     -- leaves it
     abbrev pub IsSpent : Option ℕ → Text → C → Type 0
-    IsSpent fields line after = MayRun may_write × (fields ≢ None) × Runs S (request_asked a) × IsFullOutcome S (request_asked a) c out_of_memory after
-        × (line ≡ bare_line (within_text Spent))
+    IsSpent fields line after = MayRun may_write × IsSpentOnly fields (RunsOver S (request_asked a) c) Spent
+        × IsFullOutcome S (request_asked a) c out_of_memory after × (line ≡ bare_line (within_text Spent))
 
     -- What is replied where at most so many fields are entered, if a budget is given, and the context after. Where it is executed, the line is
     -- the text of the response that the Specification's execution has (7.1), with no more fields. Else the context is as it was, but where the

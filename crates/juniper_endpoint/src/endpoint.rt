@@ -2,17 +2,20 @@
 
 ghost use Rattle.std.specs.Prelude.{◌≡◌, string_bytes};
 ghost use Rattle.juniper_request.specs.Requests.{view_request};
+ghost use Rattle.juniper_syntax.specs.DocumentView.{view_document};
 ghost use Rattle.juniper_syntax.specs.Scalars.{default_shown};
+ghost use Rattle.juniper.specs.Objections.{IsWithin};
 ghost use Rattle.juniper.specs.RootView.{service_of};
 ghost use Rattle.juniper_endpoint.specs.Looks.{IsGivenBy};
 ghost use Rattle.juniper_endpoint.specs.Replied.{Replies};
 
-use crate::explained::{Explainer, objection_reply};
+use crate::explained::{Explainer, invalid_reply, objection_reply};
 use crate::given::given_by;
 use crate::lines::without_memory;
-use crate::replied::reply_prepared;
+use crate::replied::reply_valid;
 use juniper::{
-    Bounds, DefaultScalarValue, GraphQLMutationValue, GraphQLType, GraphQLValue, RootNode, prepare,
+    Bounds, DefaultScalarValue, Document, GraphQLMutationValue, GraphQLType, GraphQLValue,
+    RootNode, read_within, validate,
 };
 use juniper_http::{Endpoint, Reply};
 use juniper_json::GivenVariables;
@@ -78,23 +81,55 @@ impl<
         ensures said { Replies (service_of Q.concrete Q.answer Q.root M.step M.torn default_shown self.old.root.now) self.old.bounds (view_request request.now)
             self.old.explained_bytes may_write self.old.context self.old.entered_fields result.outcome (string_bytes result.line) self.new.context }
     {
+        match read_within(alloc, request.query, &self.bounds) {
+            Err(objection) => objection_reply(alloc, objection),
+            Ok(document) => self.reply_to(alloc, &document, request, given, may_write),
+        }
+    }
+
+    /// Replies to a request whose text is that of a document within the bounds, with these values of its variables.
+    fn reply_to(
+        &mut self,
+        alloc: Global,
+        document: &Document<'_, DefaultScalarValue>,
+        request: &GraphQLRequest<'_>,
+        given: &GivenVariables,
+        may_write: bool,
+    ) -> Reply
+        requires within { IsWithin self.old.bounds request.now.query.now (view_document default_shown document.now) }
+        requires given { IsGivenBy (view_request request.now).variables given.now }
+        ensures rest { self.new ≡ record self.old { context = self.new.context } }
+        ensures said { Replies (service_of Q.concrete Q.answer Q.root M.step M.torn default_shown self.old.root.now) self.old.bounds (view_request request.now)
+            self.old.explained_bytes may_write self.old.context self.old.entered_fields result.outcome (string_bytes result.line) self.new.context }
+    {
         let explainer = Explainer {
             schema: self.root.schema(),
             is_introspection_disabled: self.root.is_introspection_disabled(),
             most_bytes: self.explained_bytes,
         };
-        match prepare(alloc, self.root, request.query, &self.bounds) {
-            Err(objection) => objection_reply(alloc, &explainer, request.query, objection),
-            Ok(prepared) => reply_prepared(
+        let errors = match validate(
+            alloc,
+            document,
+            explainer.schema,
+            explainer.is_introspection_disabled,
+        ) {
+            Err(_) => return without_memory(alloc),
+            Ok(errors) => errors,
+        };
+        if errors.is_empty() {
+            reply_valid(
                 alloc,
                 &explainer,
-                &prepared,
+                self.root,
+                document,
                 request,
                 given,
                 may_write,
                 self.entered_fields,
                 &mut self.context,
-            ),
+            )
+        } else {
+            invalid_reply(alloc, &explainer, request.query, document, errors)
         }
     }
 }

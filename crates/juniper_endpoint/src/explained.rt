@@ -1,23 +1,19 @@
 //! What explains that a text is refused (section 5 of the Specification).
 
 ghost use Rattle.std.specs.Prelude.{◌≡◌, IfOk, Some, map};
-ghost use Rattle.graphql_spec.specs.Documents as spec;
-ghost use Rattle.graphql_spec.specs.Outcomes.{Reads};
-ghost use Rattle.juniper.specs.RequestErrors.{view_request_error};
 ghost use Rattle.juniper_explain.specs.Explanations.{view_explanation};
 ghost use Rattle.juniper_explain.specs.GivenValues.{view_variable_explanation};
 ghost use Rattle.juniper_explain.specs.Nodes.{explanations};
 ghost use Rattle.juniper_json.specs.RefusalText.{view_refusal};
 ghost use Rattle.juniper_schema.specs.SchemaView.{view_schema};
 ghost use Rattle.juniper_syntax.specs.DocumentView.{view_document};
+ghost use Rattle.juniper_syntax.specs.RuleView.{view_rule_error};
 ghost use Rattle.juniper_syntax.specs.Scalars.{default_shown};
 ghost use Rattle.juniper_endpoint.specs.Explained.{is_left_out, nodes_explained, of_explanation, of_value};
-ghost use Rattle.juniper_endpoint.specs.Looks.{IsErrorTold, IsExplained, IsObjected};
+ghost use Rattle.juniper_endpoint.specs.Looks.{IsInvalidTold, IsObjected};
 
-use crate::lines::{bare_reply, explained_reply, without_memory};
-use juniper::{
-    DefaultScalarValue, Document, GraphQLError, Objection, SchemaType, parse_document_source,
-};
+use crate::lines::{answered_reply, bare_reply, explained_reply, without_memory};
+use juniper::{DefaultScalarValue, Document, GraphQLError, Objection, RuleError, SchemaType};
 use juniper_explain::{Explanation, VariableExplanation, explain};
 use juniper_http::{Outcome, Reply};
 use juniper_json::Refusal;
@@ -34,15 +30,9 @@ pub struct Explainer<'s> {
     pub most_bytes: usize,
 }
 
-/// The reply that tells what is against a text.
-pub fn objection_reply(
-    alloc: Global,
-    explainer: &Explainer<'_>,
-    text: &str,
-    objection: Objection,
-) -> Reply
-    ensures { IsObjected (view_schema default_shown explainer.now.schema.now) explainer.now.is_introspection_disabled explainer.now.most_bytes text.now
-        objection result }
+/// The reply that tells what is against reading a text.
+pub fn objection_reply(alloc: Global, objection: Objection) -> Reply
+    ensures { IsObjected objection result }
 {
     match objection {
         Objection::TooLong => bare_reply(alloc, Outcome::Refused, "The text is too long"),
@@ -52,58 +42,42 @@ pub fn objection_reply(
             "An operation selects too many fields",
         ),
         Objection::TooDeep => bare_reply(alloc, Outcome::Refused, "An operation nests too deep"),
-        Objection::Refused(error) => refused_reply(alloc, explainer, text, &error),
+        Objection::Refused(error) => answered_reply(alloc, Err(error)),
     }
 }
 
-/// The reply that tells an error of a text, and what explains it.
-fn refused_reply(
+/// The reply that tells the errors of a document that is not valid, and each node that violates a rule.
+pub fn invalid_reply(
     alloc: Global,
     explainer: &Explainer<'_>,
     text: &str,
-    error: &GraphQLError,
+    document: &Document<'_, DefaultScalarValue>,
+    errors: Vec<RuleError>,
 ) -> Reply
-    ensures { IsErrorTold (view_schema default_shown explainer.now.schema.now) explainer.now.is_introspection_disabled explainer.now.most_bytes text.now
-        (view_request_error error.now) result }
+    ensures { IsInvalidTold (view_schema default_shown explainer.now.schema.now) explainer.now.is_introspection_disabled explainer.now.most_bytes text.now
+        (map view_rule_error errors.items) (view_document default_shown document.now) result }
 {
-    match explanations_of(alloc, explainer, text, error) {
+    let error = GraphQLError::ValidationError(errors);
+    match explained(alloc, explainer, text, document) {
         Err(_) => without_memory(alloc),
-        Ok(explanations) => explained_reply(alloc, error, explanations.as_slice()),
+        Ok(explanations) => explained_reply(alloc, &error, explanations.as_slice()),
     }
 }
 
-/// What explains an error of a text: where a document is not valid, each node that violates a rule.
-fn explanations_of(
-    alloc: Global,
-    explainer: &Explainer<'_>,
-    text: &str,
-    error: &GraphQLError,
-) -> Result<Vec<Refusal>, AllocError>
-    ensures { IfOk result (λ made. IsExplained (view_schema default_shown explainer.now.schema.now) explainer.now.is_introspection_disabled
-        explainer.now.most_bytes text.now (view_request_error error.now) (map view_refusal made.items)) }
-{
-    match error {
-        GraphQLError::ValidationError(_) => explained(alloc, explainer, text),
-        _ => Ok(Vec::new(alloc)),
-    }
-}
-
-/// What explains that a document is not valid, by its text. It was read before, so that only memory can be wanting.
+/// Each node of a document that violates a rule, where its text is not left out.
 fn explained(
     alloc: Global,
     explainer: &Explainer<'_>,
     text: &str,
+    document: &Document<'_, DefaultScalarValue>,
 ) -> Result<Vec<Refusal>, AllocError>
-    ensures { IfOk result (λ made. (d : spec.Document) → Reads text.now (Some d) → map view_refusal made.items ≡ nodes_explained
-        (view_schema default_shown explainer.now.schema.now) explainer.now.is_introspection_disabled explainer.now.most_bytes text.now d) }
+    ensures { IfOk result (λ made. map view_refusal made.items ≡ nodes_explained (view_schema default_shown explainer.now.schema.now)
+        explainer.now.is_introspection_disabled explainer.now.most_bytes text.now (view_document default_shown document.now)) }
 {
     if is_left_out(explainer, text) {
         return Ok(Vec::new(alloc));
     }
-    match parse_document_source(alloc, text) {
-        Err(_) => Err(AllocError),
-        Ok(document) => explained_in(alloc, explainer, &document),
-    }
+    explained_in(alloc, explainer, document)
 }
 
 /// Whether nothing is explained of a text, nor of the values that are given with it.

@@ -3,25 +3,20 @@
 ghost use Rattle.std.specs.Prelude.{◌≡◌, ◌≢◌, ◌++◌, ◌∷◌, [], IfOk, OnOk, Some, true, false, map, option_map, string_bytes};
 ghost use Rattle.std.specs.List.{list_any};
 ghost use Rattle.std.specs.Str.{bytes_eq};
-ghost use Rattle.graphql_spec.specs.Documents.{Document, mutation, variables_of};
-ghost use Rattle.graphql_spec.specs.Outcomes.{Reads};
+ghost use Rattle.graphql_spec.specs.Documents.{mutation, variables_of};
 ghost use Rattle.graphql_spec.specs.Requests.{no_fitting_value};
 ghost use Rattle.juniper_json.specs.Each.{view_refused};
 ghost use Rattle.juniper_syntax.specs.RuleView.{view_rule_error};
-ghost use Rattle.juniper_syntax.specs.declared.error.ParseError.TheVariants.{Memory};
-ghost use Rattle.juniper_request.specs.Requests.{view_request};
 ghost use Rattle.juniper_syntax.specs.DocumentView.{view_document, view_kind, view_operation, view_variable, view_word};
 ghost use Rattle.juniper_syntax.specs.Scalars.{default_shown};
 ghost use Rattle.juniper_endpoint.specs.Looks.{IsSeen, IsSeenIn};
 ghost use Rattle.juniper_endpoint.specs.Replied.{refused_errors};
-ghost use Rattle.juniper_endpoint.specs.declared.look.Finding.TheVariants.{Passes};
 
 use juniper::{
-    DefaultScalarValue, Document, Operation, OperationType, ParseError, RuleError, Span, Spanning,
-    VariableDefinition, get_operation, parse_document_source,
+    DefaultScalarValue, Document, Operation, OperationType, RuleError, Span, Spanning,
+    VariableDefinition, get_operation,
 };
 use juniper_json::RefusedVariable;
-use juniper_request::GraphQLRequest;
 use std::alloc::{AllocError, Global};
 
 /// A variable that an operation defines: its name, and what is said of it.
@@ -41,37 +36,8 @@ pub enum Finding {
     Unfitting(Vec<RuleError>),
 }
 
-/// Looks at a request. Nothing is to be seen where it may write and no value is refused, nor of a text that is no document.
+/// Looks at a request of a document. Nothing is to be seen where it may write and no value is refused.
 pub fn look(
-    alloc: Global,
-    request: &GraphQLRequest<'_>,
-    refused: &[RefusedVariable],
-    may_write: bool,
-) -> Result<Finding, AllocError>
-    ensures { IfOk result (λ seen. (d : Document) → Reads request.now.query.now (Some d) →
-        IsSeen (map view_refused refused.now) may_write (view_request request.now).operation_name d seen) }
-{
-    if may_write && refused.is_empty() {
-        return Ok(Finding::Passes);
-    }
-    match parse_document_source(alloc, request.query) {
-        Err(error) => look_past(&error),
-        Ok(document) => look_at(alloc, &document, request.operation_name, refused, may_write),
-    }
-}
-
-/// Nothing is to be seen of a text that is no document. An error where memory was refused.
-fn look_past(error: &Spanning<ParseError, Span>) -> Result<Finding, AllocError>
-    ensures { IfOk result (λ seen. (seen ≡ Passes) × (error.now.item ≢ Memory)) }
-{
-    match error.item {
-        ParseError::Memory => Err(AllocError),
-        _ => Ok(Finding::Passes),
-    }
-}
-
-/// Looks at a document.
-fn look_at(
     alloc: Global,
     document: &Document<'_, DefaultScalarValue>,
     name: Option<&str>,
@@ -80,6 +46,9 @@ fn look_at(
 ) -> Result<Finding, AllocError>
     ensures { IfOk result (IsSeen (map view_refused refused.now) may_write (option_map (λ n. n.now) name.entry) (view_document default_shown document.now)) }
 {
+    if may_write && refused.is_empty() {
+        return Ok(Finding::Passes);
+    }
     let operation = match get_operation(document, name) {
         Err(_) => return Ok(Finding::Passes),
         Ok(operation) => operation,

@@ -1,46 +1,57 @@
-//! Requests whose document is prepared.
+//! Requests of documents that are valid.
 
-ghost use Rattle.std.specs.Prelude.{◌≡◌};
-ghost use Rattle.juniper.specs.PreparedView.{document_of, root_of, source_of};
+ghost use Rattle.std.specs.Prelude.{◌≡◌, []};
+ghost use Rattle.graphql_spec.specs.Rules.{rule_errors};
 ghost use Rattle.juniper.specs.RootView.{service_of};
+ghost use Rattle.juniper_intro.specs.RootView.{is_disabled, schema_of};
 ghost use Rattle.juniper_request.specs.Requests.{view_request};
+ghost use Rattle.juniper_schema.specs.SchemaView.{view_schema};
+ghost use Rattle.juniper_syntax.specs.DocumentView.{view_document};
 ghost use Rattle.juniper_syntax.specs.Scalars.{default_shown};
-ghost use Rattle.juniper_endpoint.specs.Looks.{IsGivenBy, RepliesPrepared};
+ghost use Rattle.juniper_endpoint.specs.Looks.{IsGivenBy, RepliesValid};
 
 use crate::explained::Explainer;
 use crate::lines::{answered_reply, bare_reply, without_memory};
 use crate::look::{Finding, look};
 use crate::values::executed_reply;
 use juniper::{
-    DefaultScalarValue, GraphQLError, GraphQLMutationValue, GraphQLType, GraphQLValue, Prepared,
-    execute_prepared_within,
+    DefaultScalarValue, Document, GraphQLError, GraphQLMutationValue, GraphQLType, GraphQLValue,
+    RootNode, execute_document,
 };
 use juniper_http::{Outcome, Reply};
 use juniper_json::GivenVariables;
 use juniper_request::GraphQLRequest;
 use std::alloc::Global;
 
-/// Replies to a request whose document is prepared, with the values of its variables; at most so many fields are entered, if a budget is given.
-pub fn reply_prepared<
+/// Replies to a request of a document that is valid for the root, with the values of its variables; at most so many fields are entered, if a
+/// budget is given.
+pub fn reply_valid<
     Q: GraphQLValue<DefaultScalarValue>,
     M: GraphQLMutationValue<DefaultScalarValue, Context = Q::Context, Node = Q::Node>,
     Sub: GraphQLType<DefaultScalarValue>,
 >(
     alloc: Global,
     explainer: &Explainer<'_>,
-    prepared: &Prepared<'_, '_, Q, M, Sub, DefaultScalarValue>,
+    root: &RootNode<Q, M, Sub, DefaultScalarValue>,
+    document: &Document<'_, DefaultScalarValue>,
     request: &GraphQLRequest<'_>,
     given: &GivenVariables,
     may_write: bool,
     entered_fields: Option<usize>,
     context: &mut Q::Context,
 ) -> Reply
-    requires text { source_of prepared.now ≡ request.now.query.now }
+    requires valid { rule_errors (view_schema default_shown (schema_of root.now)) (is_disabled root.now) (view_document default_shown document.now) ≡ [] }
     requires given { IsGivenBy (view_request request.now).variables given.now }
-    ensures { RepliesPrepared (service_of Q.concrete Q.answer Q.root M.step M.torn default_shown (root_of prepared.now)) explainer.now
-        (view_request request.now) (document_of default_shown prepared.now) may_write entered_fields context.old result context.new }
+    ensures { RepliesValid (service_of Q.concrete Q.answer Q.root M.step M.torn default_shown root.now) explainer.now
+        (view_request request.now) (view_document default_shown document.now) may_write entered_fields context.old result context.new }
 {
-    match look(alloc, request, &given.refused, may_write) {
+    match look(
+        alloc,
+        document,
+        request.operation_name,
+        &given.refused,
+        may_write,
+    ) {
         Err(_) => without_memory(alloc),
         Ok(Finding::Writes) => bare_reply(
             alloc,
@@ -51,15 +62,16 @@ pub fn reply_prepared<
             answered_reply(alloc, Err(GraphQLError::ValidationError(errors)))
         }
         Ok(Finding::Passes) => {
-            let answered = execute_prepared_within(
+            let answered = execute_document(
                 alloc,
-                prepared,
+                document,
                 request.operation_name,
+                root,
                 &given.values,
                 context,
                 entered_fields,
             );
-            executed_reply(alloc, explainer, request, &given.values, answered)
+            executed_reply(alloc, explainer, request, document, &given.values, answered)
         }
     }
 }

@@ -9,36 +9,36 @@ ghost use Rattle.juniper_schema.specs.SchemaView.{view_schema};
 ghost use Rattle.juniper_syntax.specs.DocumentView.{view_document};
 ghost use Rattle.juniper_syntax.specs.InputView.{view_variables};
 ghost use Rattle.juniper_syntax.specs.Scalars.{default_shown};
-ghost use Rattle.juniper_endpoint.specs.Explained.{misfits};
-ghost use Rattle.juniper_endpoint.specs.Looks.{AreMisfitsBy, AreValuesBy, IsAnswerTold, IsMisfitTold};
+ghost use Rattle.juniper_endpoint.specs.Explained.{misfits, values_explained};
+ghost use Rattle.juniper_endpoint.specs.Looks.{AreMisfitsBy, IsAnswerTold, IsMisfitTold};
 
 use crate::explained::{Explainer, is_left_out, refusals_of};
 use crate::lines::{Response, answered_reply, bare_reply, explained_reply, without_memory};
-use juniper::{
-    DefaultScalarValue, Document, GraphQLError, Variables, Within, get_operation,
-    parse_document_source,
-};
+use juniper::{DefaultScalarValue, Document, GraphQLError, Variables, Within, get_operation};
 use juniper_explain::explain_variables;
 use juniper_http::{Outcome, Reply};
 use juniper_json::Refusal;
 use juniper_request::GraphQLRequest;
 use std::alloc::{AllocError, Global};
 
-/// The reply that tells what the executor answers to a request of a valid document with these values, what explains that the
+/// The reply that tells what the executor answers to a request of this valid document with these values, what explains that the
 /// values do not fit, or that too many fields were to be entered.
 pub fn executed_reply(
     alloc: Global,
     explainer: &Explainer<'_>,
     request: &GraphQLRequest<'_>,
+    document: &Document<'_, DefaultScalarValue>,
     values: &Variables<DefaultScalarValue>,
     answered: Result<Response, Within>,
 ) -> Reply
     ensures { IsAnswerTold (view_schema default_shown explainer.now.schema.now) explainer.now.is_introspection_disabled explainer.now.most_bytes
-        (request_of default_shown request.now.query.now request.now.operation_name values.now) answered result }
+        (request_of default_shown request.now.query.now request.now.operation_name values.now) (view_document default_shown document.now) answered result }
 {
     match answered {
         Ok(response) => answered_reply(alloc, Ok(response)),
-        Err(Within::Refused(error)) => misfit_reply(alloc, explainer, request, values, &error),
+        Err(Within::Refused(error)) => {
+            misfit_reply(alloc, explainer, request, document, values, &error)
+        },
         Err(Within::Spent) => bare_reply(alloc, Outcome::Refused, "The answer has too many fields"),
     }
 }
@@ -48,13 +48,15 @@ fn misfit_reply(
     alloc: Global,
     explainer: &Explainer<'_>,
     request: &GraphQLRequest<'_>,
+    document: &Document<'_, DefaultScalarValue>,
     values: &Variables<DefaultScalarValue>,
     error: &GraphQLError,
 ) -> Reply
     ensures { IsMisfitTold (view_schema default_shown explainer.now.schema.now) explainer.now.is_introspection_disabled explainer.now.most_bytes
-        (request_of default_shown request.now.query.now request.now.operation_name values.now) (view_request_error error.now) result }
+        (request_of default_shown request.now.query.now request.now.operation_name values.now) (view_document default_shown document.now)
+        (view_request_error error.now) result }
 {
-    match misfits_told(alloc, explainer, request, values, error) {
+    match misfits_told(alloc, explainer, request, document, values, error) {
         Err(_) => without_memory(alloc),
         Ok(misfits) => explained_reply(alloc, error, misfits.as_slice()),
     }
@@ -65,35 +67,35 @@ fn misfits_told(
     alloc: Global,
     explainer: &Explainer<'_>,
     request: &GraphQLRequest<'_>,
+    document: &Document<'_, DefaultScalarValue>,
     values: &Variables<DefaultScalarValue>,
     error: &GraphQLError,
 ) -> Result<Vec<Refusal>, AllocError>
     ensures { IfOk result (λ made. AreMisfitsBy explainer.now (request_of default_shown request.now.query.now request.now.operation_name values.now)
-        (view_request_error error.now) (map view_refusal made.items)) }
+        (view_document default_shown document.now) (view_request_error error.now) (map view_refusal made.items)) }
 {
     match error {
-        GraphQLError::ValidationError(_) => misfits(alloc, explainer, request, values),
+        GraphQLError::ValidationError(_) => { misfits(alloc, explainer, request, document, values) }
         _ => Ok(Vec::new(alloc)),
     }
 }
 
-/// Why the values of a request do not fit, by its text. It was read before, so that only memory can be wanting.
+/// Why the values of a request do not fit, where its text is not left out.
 fn misfits(
     alloc: Global,
     explainer: &Explainer<'_>,
     request: &GraphQLRequest<'_>,
+    document: &Document<'_, DefaultScalarValue>,
     values: &Variables<DefaultScalarValue>,
 ) -> Result<Vec<Refusal>, AllocError>
-    ensures { IfOk result (λ made. AreValuesBy explainer.now (request_of default_shown request.now.query.now request.now.operation_name values.now)
-        (map view_refusal made.items)) }
+    ensures { IfOk result (λ made. map view_refusal made.items
+        ≡ values_explained (view_schema default_shown explainer.now.schema.now) explainer.now.is_introspection_disabled explainer.now.most_bytes
+        (request_of default_shown request.now.query.now request.now.operation_name values.now) (view_document default_shown document.now)) }
 {
     if is_left_out(explainer, request.query) {
         return Ok(Vec::new(alloc));
     }
-    match parse_document_source(alloc, request.query) {
-        Err(_) => Err(AllocError),
-        Ok(document) => misfits_in(alloc, explainer, &document, request.operation_name, values),
-    }
+    misfits_in(alloc, explainer, document, request.operation_name, values)
 }
 
 /// Why values do not fit the variables of the operation that the name chooses, if one is.

@@ -1,7 +1,5 @@
-use Rattle.std.proofs.Common.{false, option_map, refl, sym, ap, ◌∙◌}
+use Rattle.std.proofs.Common.{option_map, refl, sym, ap, ◌∙◌}
 use Rattle.std.proofs.lemmas.Result.{err_from_is_err_and}
-use Rattle.graphql_spec.specs.Documents.{variables_of}
-use Rattle.graphql_spec.specs.Requests.{coerced_variables}
 use Rattle.graphql_spec.specs.Requests as spec
 use Rattle.graphql_spec.specs.Shown.{Name}
 use Rattle.juniper_syntax.specs.DocumentView.{view_document, view_kind, view_operation}
@@ -10,10 +8,10 @@ use Rattle.juniper_schema.specs.SchemaView.{view_schema}
 use Rattle.juniper.specs.Answering.{outcome_of}
 use Rattle.juniper.specs.Services.{service_at}
 use Rattle.juniper.specs.WalkedOutcomes.{IsWalkedOutcome}
-use Rattle.juniper.specs.Budgets.{IsRun}
+use Rattle.juniper.specs.Budgets.{IsRunOver}
 use Rattle.juniper.proofs.Bounded.{stop-refuses, stop-runs}
-use Rattle.juniper.proofs.Composing.{subscription-ends, mutation-answers, mutation-ends, mutation-left, mutation-lists, mutation-runs, query-ends, query-lists}
-use Rattle.juniper.proofs.Composing.{query-runs}
+use Rattle.juniper.proofs.Composing.{subscription-ends, mutation-answers, mutation-ends, mutation-left, mutation-lists, mutation-over, query-ends, query-lists}
+use Rattle.juniper.proofs.Composing.{query-over}
 use Rattle.juniper.proofs.execute.execute_operation.Goals as goal
 
 pub returns-in-Subscription-clause-answers : goal.returns-in-Subscription-clause-answers
@@ -112,28 +110,30 @@ returns-clause-answers g c = λ disabled.
     )
 
 pub returns-in-Err-clause-spent : goal.returns-in-Err-clause-spent
-returns-in-Err-clause-spent g c =
+returns-in-Err-clause-spent g c = λ disabled.
     let shown = g.S.ScalarValue.shown in
     let root = c.args.served.now in
     let s = view_schema shown root.schema.now in
-    let S = service_at (g.R.NodeTypes.meaning root.resolver.now) (g.M.MutationSteps.steps c.args.steps.now) c.args.root.now s false in
+    let m = g.M.MutationSteps.steps c.args.steps.now in
+    let S = service_at (g.R.NodeTypes.meaning root.resolver.now) m c.args.root.now s disabled in
     let d = view_document shown c.args.document.now in
     let o = view_operation shown c.args.operation.now in
     let given = view_variables shown c.args.variables.now in
     let T = c.in-Some.concrete.now in
     let is = sym c.mutation_name.ensures ∙ ap (option_map (λ n. n.now)) c.in-Some.is in
-    stop-runs (IsRun (outcome_of s d o given)) c.args.fields c.in-Err.stop _ c.from.ensures c.in-Err.ensures.spent
-    (d, o, coerced_variables (variables_of o) given, mutation-runs S s d o given c.args.context.now (ap view_kind c.in-Mutation.is) T is)
+    stop-runs (Unit {0}) (IsRunOver S (outcome_of s d o given) c.args.context.now) c.args.fields _ c.in-Err.stop _ c.from.ensures c.in-Err.ensures.spent
+    (mutation-over S s d o given c.args.context.now (ap view_kind c.in-Mutation.is) T is m
+    (ap (option_map (λ (n : Name). m)) is, is) _ c.in_ok-values-in-Mutation.ensures c.execute_mutation.new.context)
 
 pub returns-in_err-answered-in-Query-clause-spent : goal.returns-in_err-answered-in-Query-clause-spent
-returns-in_err-answered-in-Query-clause-spent g c =
+returns-in_err-answered-in-Query-clause-spent g c = λ disabled.
     let shown = g.S.ScalarValue.shown in
     let root = c.args.served.now in
     let s = view_schema shown root.schema.now in
-    let S = service_at (g.R.NodeTypes.meaning root.resolver.now) (g.M.MutationSteps.steps c.args.steps.now) c.args.root.now s false in
+    let S = service_at (g.R.NodeTypes.meaning root.resolver.now) (g.M.MutationSteps.steps c.args.steps.now) c.args.root.now s disabled in
     let d = view_document shown c.args.document.now in
     let o = view_operation shown c.args.operation.now in
     let given = view_variables shown c.args.variables.now in
     let p = err_from_is_err_and c.from_residual-in_err-answered-in-Query.result c.from_residual-in_err-answered-in-Query.ensures.1 in
-    rw p.1 (stop-runs (IsRun (outcome_of s d o given)) c.args.fields _ _ p.2 c.in_err-answered-in-Query.ensures.spent
-    (d, o, coerced_variables (variables_of o) given, query-runs S s d o given c.args.context.now (ap view_kind c.in-Query.is)))
+    rw p.1 (stop-runs (Unit {0}) (IsRunOver S (outcome_of s d o given) c.args.context.now) c.args.fields _ _ _ p.2 c.in_err-answered-in-Query.ensures.spent
+    (query-over S s d o given c.args.context.now (ap view_kind c.in-Query.is) _ c.in_ok-values-in-Query.ensures))

@@ -6,9 +6,8 @@ use Rattle.juniper_schema.specs.SchemaView.{view_schema}
 use Rattle.juniper_syntax.specs.DocumentView.{view_document, view_operation}
 use Rattle.juniper_syntax.specs.InputView.{view_variables}
 use Rattle.juniper.specs.Answering.{outcome_of}
-use Rattle.juniper.specs.Budgets.{IsRun, SpendsOnly}
-use Rattle.juniper.proofs.Bounded.{within-answers}
-use Rattle.juniper.proofs.RootOutcomes.{outcome-moved}
+use Rattle.juniper.proofs.Bounded.{spends-so, within-answers}
+use Rattle.juniper.proofs.RootOutcomes.{outcome-moved, over-moved}
 use Rattle.juniper.proofs.execute.execute_walked.Goals as goal
 
 pub execute_root-requires-clause-executable : goal.execute_root-requires-clause-executable
@@ -41,8 +40,14 @@ returns-clause-answers g c =
 pub returns-clause-spent : goal.returns-clause-spent
 returns-clause-spent g c =
     let shown = g.S.ScalarValue.shown in
+    let root = c.args.root_node.now in
     let d = view_document shown c.args.document.now in
     let o = view_operation shown c.args.operation.now in
     let given = view_variables shown c.args.variables.now in
-    subst (λ s. SpendsOnly c.args.fields (IsRun (outcome_of s d o given)) c.execute_root.result) (ap (view_schema shown) c.schema-schema.ensures)
-    c.execute_root.ensures.spent
+    let law = c.root_replies.ensures in
+    spends-so _ _
+    (λ n p. over-moved g.Q.GraphQLValue.concrete g.Q.GraphQLValue.answer g.Q.GraphQLValue.root g.M.GraphQLMutationValue.step g.M.GraphQLMutationValue.torn
+    _ _ _ (view_node_of shown root) (resolver_of root) _ law.types law.replies law.top law.users (is_disabled root) _ _ _ _ _ _ _ _
+    (ap (view_schema shown) c.schema-schema.ensures) c.query_info.ensures c.mutation.ensures c.mutation_info.ensures refl
+    (λ x. outcome_of x d o given) c.args.context.now n p)
+    c.args.fields c.execute_root.result (c.execute_root.ensures.spent (is_disabled root))

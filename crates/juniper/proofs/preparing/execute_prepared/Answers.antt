@@ -1,6 +1,5 @@
 use Rattle.juniper.specs.Answering.{request_of}
 use Rattle.juniper.specs.Promised.{IsFullOutcome}
-use Rattle.juniper.specs.PreparedView.{root_of, source_of}
 use Rattle.juniper.specs.RootView.{service_of}
 use Rattle.std.proofs.lemmas.Grind.{not_there}
 use Rattle.juniper.proofs.Bounded.{unspent, without-budget}

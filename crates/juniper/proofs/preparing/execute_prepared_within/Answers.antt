@@ -1,7 +1,7 @@
 use Rattle.juniper.proofs.preparing.execute_prepared_within.Goals as goal
 
-pub execute_chosen-requires : goal.execute_chosen-requires
-execute_chosen-requires g c = c.args.prepared.now.valid
+pub execute_document-requires : goal.execute_document-requires
+execute_document-requires g c = c.args.prepared.now.valid
 
 pub returns-in-Err-clause-answers : goal.returns-in-Err-clause-answers
 returns-in-Err-clause-answers g c = λ read. c.in-Err.ensures.answers c.args.prepared.now.text.now read

@@ -9,11 +9,12 @@ use Rattle.juniper.specs.Answering.{StandsFor}
 use Rattle.juniper.specs.Objections.{IsRefusal}
 use Rattle.juniper.specs.RequestErrors.{view_request_error}
 use Rattle.juniper.proofs.Composing.{none-found}
-use Rattle.juniper.proofs.Objecting.{broken-stands}
+use Rattle.juniper.proofs.Objecting.{broken-stands, reading-objects}
 use Rattle.juniper.proofs.preparing.prepare.Goals as goal
 
 pub returns-in-Err : goal.returns-in-Err
-returns-in-Err g c = c.in-Err.ensures (view_schema g.S.ScalarValue.shown (schema_of c.args.root.now)) (is_disabled c.args.root.now)
+returns-in-Err g c = reading-objects c.args.bounds.now c.args.text.now (view_schema g.S.ScalarValue.shown (schema_of c.args.root.now))
+    (is_disabled c.args.root.now) c.in-Err.objection c.in-Err.ensures
 
 pub returns-in-Err-validate : goal.returns-in-Err-validate
 returns-in-Err-validate g c = (c.in-Ok.ensures.0.0, tt)

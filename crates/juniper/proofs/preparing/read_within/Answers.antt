@@ -3,19 +3,17 @@ use Rattle.graphql_spec.specs.Documents.{Document}
 use Rattle.graphql_spec.specs.Grammar.{Spells}
 use Rattle.juniper_syntax.specs.DocumentView.{view_definition, view_document}
 use Rattle.juniper.proofs.Composing.{read-failed}
-use Rattle.juniper.proofs.Objecting.{tells-fields, tells-levels, unread-stands}
-use Rattle.juniper.specs.RequestErrors.{view_request_error}
+use Rattle.juniper.proofs.Objecting.{tells-fields, tells-levels}
 use Rattle.juniper.proofs.preparing.read_within.Goals as goal
 
 pub returns-in-Err : goal.returns-in-Err
-returns-in-Err g c = λ s disabled. (
+returns-in-Err g c = (
   c.if-text-bounds.false,
-  unread-stands c.args.bounds.now c.args.text.now s disabled (view_request_error c.from.result)
-      (read-failed ((d : Document) → Spells c.args.text.now d → ⊥) c.in-Err.error c.from.result c.from.ensures c.in-Err.ensures),
+  read-failed ((d : Document) → Spells c.args.text.now d → ⊥) c.in-Err.error c.from.result c.from.ensures c.in-Err.ensures,
 )
 
 pub returns-then-has_more_fields : goal.returns-then-has_more_fields
-returns-then-has_more_fields g c = λ s disabled.
+returns-then-has_more_fields g c =
     let view = view_definition g.S.ScalarValue.shown in
     let d = view_document g.S.ScalarValue.shown c.in-Ok.document in
     let more = tells-fields c.args.bounds.now.fields c.in-Ok-expanded_counts.counts.items c.as_slice-2.result.now c.has_more_fields.result d
@@ -24,7 +22,7 @@ returns-then-has_more_fields g c = λ s disabled.
     (d, (c.if-text-bounds.false, c.in-Ok.ensures), more ∙ c.if-has_more_fields.true)
 
 pub returns-then-has_more_levels : goal.returns-then-has_more_levels
-returns-then-has_more_levels g c = λ s disabled.
+returns-then-has_more_levels g c =
     let view = view_definition g.S.ScalarValue.shown in
     let d = view_document g.S.ScalarValue.shown c.in-Ok.document in
     let counts = c.in-Ok-expanded_counts.counts.items in

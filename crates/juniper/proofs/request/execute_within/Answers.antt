@@ -49,18 +49,18 @@ returns-in-Err-check_document-clause-answers g c =
     (at-validate S q c.args.context.now d read e (subst (λ b. StandsFor (IsInvalid s b d) e) off
     (subst (λ x. StandsFor (IsInvalid x c.is_introspection_disabled.result d) e) same c.in-Err-check_document.ensures)))
 
-pub execute_chosen-requires : goal.execute_chosen-requires
-execute_chosen-requires g c =
+pub execute_document-requires : goal.execute_document-requires
+execute_document-requires g c =
     let shown = g.S.ScalarValue.shown in
     let d = view_document shown c.in-Ok.document in
     subst (λ b. rule_errors (view_schema shown (schema_of c.args.root_node.now)) b d ≡ []) c.is_introspection_disabled.ensures
     (subst (λ x. rule_errors x c.is_introspection_disabled.result d ≡ []) (ap (view_schema shown) c.schema.ensures) c.in-Ok-check_document.ensures)
 
-pub returns-in-Err-execute_chosen-clause-answers : goal.returns-in-Err-execute_chosen-clause-answers
-returns-in-Err-execute_chosen-clause-answers g c = c.in-Err-execute_chosen.ensures.answers c.args.document_source.now c.in-Ok.ensures
+pub returns-in-Err-execute_document-clause-answers : goal.returns-in-Err-execute_document-clause-answers
+returns-in-Err-execute_document-clause-answers g c = c.in-Err-execute_document.ensures.answers c.args.document_source.now c.in-Ok.ensures
 
 pub returns-clause-answers : goal.returns-clause-answers
-returns-clause-answers g c = c.in-Ok-execute_chosen.ensures.answers c.args.document_source.now c.in-Ok.ensures
+returns-clause-answers g c = c.in-Ok-execute_document.ensures.answers c.args.document_source.now c.in-Ok.ensures
 
-pub returns-in-Err-execute_chosen-clause-spent : goal.returns-in-Err-execute_chosen-clause-spent
-returns-in-Err-execute_chosen-clause-spent g c = c.in-Err-execute_chosen.ensures.spent c.args.document_source.now c.in-Ok.ensures
+pub returns-in-Err-execute_document-clause-spent : goal.returns-in-Err-execute_document-clause-spent
+returns-in-Err-execute_document-clause-spent g c = c.in-Err-execute_document.ensures.spent c.args.document_source.now c.in-Ok.ensures

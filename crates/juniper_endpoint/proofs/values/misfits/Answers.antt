@@ -9,18 +9,17 @@ use Rattle.juniper_endpoint.proofs.Explaining.{values-left-out, values-read}
 use Rattle.juniper_endpoint.proofs.values.misfits.Goals as goal
 
 pub returns-then-is_left_out : goal.returns-then-is_left_out
-returns-then-is_left_out c = λ d reads.
+returns-then-is_left_out c =
     let e = c.args.explainer.now in
     let q = request_of default_shown c.args.request.now.query.now c.args.request.now.operation_name c.args.values.now in
     ap (map view_refusal) c.new.ensures.items
-    ∙ values-left-out (view_schema default_shown e.schema.now) e.is_introspection_disabled e.most_bytes q d
+    ∙ values-left-out (view_schema default_shown e.schema.now) e.is_introspection_disabled e.most_bytes q (view_document default_shown c.args.document.now)
     (sym c.is_left_out.ensures ∙ c.if-is_left_out.true)
 
 pub returns : goal.returns
 returns c =
     let e = c.args.explainer.now in
     let q = request_of default_shown c.args.request.now.query.now c.args.request.now.operation_name c.args.values.now in
-    let document = view_document default_shown c.in-Ok.document in
-    IfOk-weaker c.misfits_in.result _ _ (λ made is d reads. is
-    ∙ values-read (view_schema default_shown e.schema.now) e.is_introspection_disabled e.most_bytes q d document (c.in-Ok.ensures.1 d reads.0)
+    IfOk-weaker c.misfits_in.result _ _ (λ made is. is
+    ∙ values-read (view_schema default_shown e.schema.now) e.is_introspection_disabled e.most_bytes q (view_document default_shown c.args.document.now)
     (sym c.is_left_out.ensures ∙ c.if-is_left_out.false)) c.misfits_in.ensures

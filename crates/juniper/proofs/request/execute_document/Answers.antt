@@ -15,10 +15,10 @@ use Rattle.juniper.specs.RequestErrors.{view_request_error}
 use Rattle.juniper.specs.RootView.{service_of}
 use Rattle.juniper.specs.WalkedOutcomes.{IsWalkedOutcome}
 use Rattle.juniper_execute.specs.declared.walking.Walking.TheVariants.{Grouped}
-use Rattle.juniper.specs.Budgets.{IsRun, Runs}
+use Rattle.juniper.specs.Budgets.{IsRunOver, RunsOver}
 use Rattle.juniper.proofs.Bounded.{spent-so, walked-full, within-refuses}
 use Rattle.juniper.proofs.Composing.{at-choose, at-coerce, full-execute, refused-full, run-becomes}
-use Rattle.juniper.proofs.request.execute_chosen.Goals as goal
+use Rattle.juniper.proofs.request.execute_document.Goals as goal
 
 pub returns-in-Err-clause-answers : goal.returns-in-Err-clause-answers
 unfolding rooted_service
@@ -125,5 +125,5 @@ returns-in-Err-execute_walked-clause-spent g c = λ text read.
     let o = view_operation shown c.in-Ok.operation.now in
     let fits : AreCoercible s o q.variables =
     subst (λ x. AreCoercible x o q.variables) (ap (view_schema shown) c.schema.ensures) c.in-Ok-check_variables.ensures in
-    spent-so (IsRun (outcome_of s d o q.variables)) (Runs S q)
+    spent-so (IsRunOver S (outcome_of s d o q.variables) c.args.context.now) (RunsOver S q c.args.context.now)
     (run-becomes S q c.args.context.now d read valid o c.in-Ok.ensures fits) c.args.fields c.in-Err-execute_walked.within c.in-Err-execute_walked.ensures.spent
