@@ -5,11 +5,8 @@ pub mod NearView
 pub mod Nearest
 pub mod Nodes
 pub mod Parts
-pub mod Positions
-pub mod PositionsView
 pub mod Reasons
 pub mod ReasonsView
 pub mod Sites
 pub mod SitesView
-pub mod Variables
 pub mod Words

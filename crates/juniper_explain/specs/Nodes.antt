@@ -20,13 +20,13 @@ use Rattle.graphql_spec.specs.Rules.{set_is_wrong, must_be_written, uses_undefin
 use Rattle.graphql_spec.specs.Rules.{is_introspection}
 use Rattle.graphql_spec.specs.VariableUses.{definition_of, may_stand, parts}
 use Rattle.graphql_spec.specs.Written.{all_directives, argument_lists, defined_variables, heads, selections_of}
+use Rattle.juniper_type_rules.specs.Positions.{Place, places_used}
+use Rattle.juniper_type_rules.specs.Variables.{words_used}
 use Rattle.juniper_explain.specs.declared.rule.Rule.{Rule}
 use Rattle.juniper_explain.specs.declared.rule.Rule.TheVariants as rule
 use Rattle.juniper_explain.specs.Explanations.{Explanation, Judgement, explanations_at, first_judged, found, judged, named, whole}
 use Rattle.juniper_explain.specs.Nearest.{suggested}
-use Rattle.juniper_explain.specs.Positions.{Place, places_used}
 use Rattle.juniper_explain.specs.Sites.{Site, sites}
-use Rattle.juniper_explain.specs.Variables.{words_used}
 use Rattle.juniper_explain.specs.Words.{condition_words, definition_word, directive_word, field_words, spread_words, type_word}
 
 -- ## Names

@@ -28,14 +28,11 @@ mod repeats;
 mod rule;
 mod sites;
 mod spreads;
-mod standing;
 mod types;
 mod undefined;
 mod uses;
 mod value_parts;
-mod variable_places;
 mod variable_values;
-mod variable_words;
 mod variables;
 mod words;
 

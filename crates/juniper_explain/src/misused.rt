@@ -9,19 +9,20 @@ ghost use Rattle.juniper_meta.specs.MetaView as metas;
 ghost use Rattle.juniper_schema.specs.SchemaView.{view_schema};
 ghost use Rattle.juniper_syntax.specs.DocumentView.{view_variable};
 ghost use Rattle.juniper_syntax.specs.TypeView.{view_type};
+ghost use Rattle.juniper_type_rules.specs.Positions.{places_in_call};
+ghost use Rattle.juniper_type_rules.specs.UsesView.{view_place, view_places};
 ghost use Rattle.juniper_explain.specs.Adding.{Adds, WherePlaced};
 ghost use Rattle.juniper_explain.specs.Nodes.{misused_at, misused_by, misused_variables, where_found};
-ghost use Rattle.juniper_explain.specs.PositionsView.{view_place, view_places};
+ghost use Rattle.juniper_explain.specs.Parts.{view_each};
 
 use crate::explanation::{Explanation, add};
 use crate::parts::parts_of;
 use crate::rule::Rule;
-use crate::standing::may_stand;
-use crate::variable_places::{Place, places_used};
 use crate::variables::listed;
 use juniper_rules::ListedOnTypes;
 use juniper_schema::SchemaType;
 use juniper_syntax::{DefinedVariable, Definition, ScalarValue, Type};
+use juniper_type_rules::{Place, may_stand, places_in_calls};
 use juniper_written::FragmentsByName;
 use std::alloc::{AllocError, Global};
 
@@ -63,12 +64,31 @@ fn explain_all<'u, 'p, 'l, 'd: 'u, 'a, S: ScalarValue>(
     match own.definition {
         Definition::Operation(operation) => {
             let parts = parts_of(alloc, document, fragments, one)?;
-            let places = places_used(alloc, schema, &parts)?;
             let variables = listed(&operation.item.variable_definitions);
-            explain_places(alloc, variables, &places, explanations)
+            explain_parts(alloc, schema, variables, &parts, explanations)
         }
         Definition::Fragment(_) => Ok(()),
     }
+}
+
+/// Explains the variables in the arguments of some definitions, of which this is listed, that may not stand there.
+fn explain_parts<'u, 'd: 'u, 'a, S: ScalarValue>(
+    alloc: Global,
+    schema: &'u SchemaType<S>,
+    variables: &[DefinedVariable<'a, S>],
+    parts: &Vec<&ListedOnTypes<'_, 'd, 'a, S>>,
+    explanations: &mut Vec<Explanation>,
+) -> Result<(), AllocError>
+    ensures { OnOk result (Adds explanations.old.items explanations.new.items
+        (flat_map (λ l. flat_map (misused_by (map (view_variable S.shown) variables.now))
+        (flat_map (places_in_call (view_schema S.shown schema.now)) l.calls)) (view_each S.shown parts.now.items))) }
+{
+    for index in 0..parts.len() {
+        let part = parts[index];
+        let places = places_in_calls(alloc, schema, &part.calls)?;
+        explain_places(alloc, variables, &places, explanations)?;
+    }
+    Ok(())
 }
 
 /// Explains those of the variables at positions that may not stand there.
@@ -96,7 +116,7 @@ fn explain_place<'a, S: ScalarValue>(
 ) -> Result<(), AllocError>
     ensures { OnOk result (Adds explanations.old.items explanations.new.items (misused_by (map (view_variable S.shown) variables.now) (view_place place.now))) }
 {
-    match first_of(variables, place.variable.item) {
+    match first_of(variables, place.used.variable) {
         Some(variable) => explain_variable(alloc, variable, place, explanations),
         None => Ok(()),
     }
@@ -127,15 +147,15 @@ fn explain_variable<S: ScalarValue>(
 ) -> Result<(), AllocError>
     ensures { OnOk result (Adds explanations.old.items explanations.new.items (misused_at (view_variable S.shown variable.now) (view_place place.now))) }
 {
-    if may_stand(variable, place.expected, place.has_default) {
+    let used = place.used;
+    if may_stand(variable, &used) {
         return Ok(());
     }
-    let word = place.variable;
-    let message = misused_text(alloc, word.item, &variable.1.var_type.item, place.expected)?;
+    let message = misused_text(alloc, used.variable, &variable.1.var_type.item, used.place)?;
     add(
         explanations,
         Rule::VariablesInAllowedPosition,
-        word.span.start,
+        place.span.start,
         message,
     )
 }

@@ -12,10 +12,10 @@ use crate::value_parts::{
     ValuePlace, add_missing, add_repeated, add_undeclared, add_unfit, add_wrong_size, is_list,
     takes_fields,
 };
-use crate::variable_places::{input_fields, item_type};
 use juniper_meta::find_argument;
 use juniper_schema::SchemaType;
 use juniper_syntax::{InputField, InputValue, ScalarValue, Span, Spanning, Type};
+use juniper_type_rules::{input_fields, item_type};
 use std::alloc::{AllocError, Global};
 
 /// Adds why a value does not fit a type: nothing where it does. Of a list at a list type, and of an object at an input object,

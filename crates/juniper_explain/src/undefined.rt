@@ -9,18 +9,20 @@ ghost use Rattle.graphql_spec.specs.Documents.{word_name};
 ghost use Rattle.graphql_spec.specs.Schema.{Schema};
 ghost use Rattle.graphql_spec.specs.VariableUses as variable_uses;
 ghost use Rattle.juniper_syntax.specs.DocumentView.{view_operation, view_variable, view_word};
+ghost use Rattle.juniper_type_rules.specs.Variables.{words_given};
 ghost use Rattle.juniper_explain.specs.Adding.{Adds, WherePlaced};
 ghost use Rattle.juniper_explain.specs.Explanations.{named};
 ghost use Rattle.juniper_explain.specs.Nodes.{undefined_name, undefined_text, undefined_variables, where_found};
+ghost use Rattle.juniper_explain.specs.Parts.{view_each};
 ghost use Rattle.juniper_explain.specs.Words.{view_words};
 
 use crate::explanation::{Explanation, Wording, add_named};
 use crate::parts::parts_of;
 use crate::rule::Rule;
-use crate::variable_words::words_used;
 use crate::variables::listed;
 use juniper_rules::ListedOnTypes;
 use juniper_syntax::{DefinedVariable, Definition, Operation, ScalarValue, Span, Spanning};
+use juniper_type_rules::words_in_lists;
 use juniper_written::FragmentsByName;
 use std::alloc::{AllocError, Global};
 
@@ -60,22 +62,22 @@ fn explain_all<'p, 'l, 'd, 'a, S: ScalarValue>(
     match listed.definition {
         Definition::Operation(operation) => {
             let parts = parts_of(alloc, document, fragments, one)?;
-            let words = words_used(alloc, &parts)?;
-            explain_words(alloc, operation, &words, explanations)
+            explain_parts(alloc, operation, &parts, explanations)
         }
         Definition::Fragment(_) => Ok(()),
     }
 }
 
-/// Explains those of the names that the operation does not define.
-fn explain_words<'a, S: ScalarValue>(
+/// Explains the variables in the arguments of some definitions, of which this is listed, that the operation does not define.
+fn explain_parts<'a, S: ScalarValue>(
     alloc: Global,
     operation: &Spanning<Operation<'a, S>, Span>,
-    words: &Vec<Spanning<&str, Span>>,
+    parts: &Vec<&ListedOnTypes<'_, '_, 'a, S>>,
     explanations: &mut Vec<Explanation>,
 ) -> Result<(), AllocError>
     ensures { OnOk result (Adds explanations.old.items explanations.new.items
-        (flat_map (undefined_name (view_operation S.shown operation.now)) (view_words words.now.items))) }
+        (flat_map (λ l. flat_map (undefined_name (view_operation S.shown operation.now)) (flat_map (flat_map words_given) l.listing.arguments))
+        (view_each S.shown parts.now.items))) }
 {
     let variables = listed(&operation.item.variable_definitions);
     let after = undefined_text(alloc, &operation.item.name)?;
@@ -84,9 +86,30 @@ fn explain_words<'a, S: ScalarValue>(
         before: "Variable `$",
         after: after.as_str(),
     };
+    for index in 0..parts.len() {
+        let part = parts[index];
+        let listed = part.listed;
+        let words = words_in_lists(alloc, &listed.arguments)?;
+        explain_words(alloc, variables, &words, &wording, explanations)?;
+    }
+    Ok(())
+}
+
+/// Explains those of the names that none of the variables has.
+fn explain_words<'a, S: ScalarValue>(
+    alloc: Global,
+    variables: &[DefinedVariable<'a, S>],
+    words: &Vec<Spanning<&str, Span>>,
+    wording: &Wording<'_>,
+    explanations: &mut Vec<Explanation>,
+) -> Result<(), AllocError>
+    ensures { OnOk result (Adds explanations.old.items explanations.new.items
+        (flat_map (λ w. named (is_none (variable_uses.definition_of (map (view_variable S.shown) variables.now) w.item))
+        wording.now.rule w wording.now.before.now wording.now.after.now) (view_words words.now.items))) }
+{
     for index in 0..words.len() {
         let word = words[index];
-        explain_name(alloc, variables, &word, &wording, explanations)?;
+        explain_name(alloc, variables, &word, wording, explanations)?;
     }
     Ok(())
 }

@@ -17,10 +17,10 @@ ghost use Rattle.juniper_explain.specs.ReasonsView.{place_text, view_messages};
 
 use crate::given::names_of;
 use crate::nearest::{suggested, suggestion};
-use crate::variable_places::input_fields;
 use juniper_meta::{Argument, EnumValue, MetaType, find_argument};
 use juniper_schema::{SchemaType, has_field};
 use juniper_syntax::{InputField, InputValue, ScalarValue, Type};
+use juniper_type_rules::input_fields;
 use std::alloc::{AllocError, Global};
 
 /// Where a given value stands.

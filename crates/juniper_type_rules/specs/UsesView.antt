@@ -4,10 +4,11 @@ use Rattle.std.specs.Borrow.{Bor}
 use Rattle.std.specs.List.{flat_map, list_any}
 use Rattle.std.specs.Option.{option_to_list}
 use Rattle.graphql_spec.specs.Shown.{Shown, Name}
+use Rattle.graphql_spec.specs.Positions.{Span as At}
+use Rattle.graphql_spec.specs.Types.{TypeRef}
 use Rattle.graphql_spec.specs.Documents as spec
 use Rattle.graphql_spec.specs.Documents.{Document, Definition, Operation, operation, fragment, fragments}
 use Rattle.graphql_spec.specs.Fragments.{spreads}
-use Rattle.graphql_spec.specs.Inputs.{Input, null}
 use Rattle.graphql_spec.specs.Placed.{Call, calls}
 use Rattle.graphql_spec.specs.Schema.{Schema}
 use Rattle.graphql_spec.specs.VariableUses as uses
@@ -15,14 +16,17 @@ use Rattle.graphql_spec.specs.VariableUses.{as_definitions, is_reached, names_us
 use Rattle.graphql_spec.specs.Written.{argument_lists}
 use Rattle.juniper_syntax.specs.declared.position.Spanning.{Spanning}
 use Rattle.juniper_syntax.specs.declared.position.Span.{Span}
+use Rattle.juniper_syntax.specs.Positions.{view_span}
 use Rattle.juniper_syntax.specs.DocumentView.{view_variable}
 use Rattle.juniper_syntax.specs.declared.ast.VariableDefinition.{VariableDefinition}
 use Rattle.juniper_meta.specs.MetaView.{view_type}
 use Rattle.juniper_written.specs.WrittenView.{named, view_names}
 use Rattle.juniper_written.specs.declared.name_map.NameMap.{NameMap}
 use Rattle.juniper_type_rules.specs.Numbers.{AreNumbers, names_of, spread_numbers_of, view_lists}
+use Rattle.juniper_type_rules.specs.Positions as positions
 use Rattle.juniper_type_rules.specs.declared.reach.NumberedUsed.{NumberedUsed}
 use Rattle.juniper_type_rules.specs.declared.reach.UsesOfFragments.{UsesOfFragments}
+use Rattle.juniper_type_rules.specs.declared.uses.Place.{Place}
 use Rattle.juniper_type_rules.specs.declared.uses.Use.{Use}
 use Rattle.juniper_type_rules.specs.declared.uses.Used.{Used}
 
@@ -58,6 +62,13 @@ view_use u = record { variable = u.variable.now; place = view_type u.place.now; 
 
 abbrev pub view_uses : List Use → List uses.Use
 view_uses = map view_use
+
+-- a variable at a position, and where it is written
+abbrev pub view_place : Place → positions.Place
+view_place p = record { used = view_use p.used; span = view_span p.span }
+
+abbrev pub view_places : List Place → List positions.Place
+view_places = map view_place
 
 -- what a definition uses
 abbrev pub view_used : Used → Usage
@@ -107,6 +118,10 @@ pub record AreUsesOfFragments (s : Schema) (r : UsesOfFragments) (d : Document) 
   pub numbered : view_all_numbered r.numbered.items ≡ flat_map (numbered_of r.numbers) (map (usage_of s) (as_definitions (fragments d)))
 
 -- ## Only private clauses cite what follows
+
+-- a variable that is written here, at a position of this type, which may have a default
+abbrev pub place_at : Name → At → TypeRef → Bool → positions.Place
+place_at n at t b = record { used = record { variable = n; place = t; has_default = b }; span = at }
 
 -- the definition of a variable that the map has at a name
 unfoldable pub definition_at : {S : Type 0} → (S → Shown) → NameMap (Bor (Spanning (Bor (List ℕ)) Span × VariableDefinition S)) → Name →

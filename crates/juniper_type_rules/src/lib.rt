@@ -12,7 +12,6 @@ mod fragments_on_composite_types;
 mod introspection;
 mod known_argument_names;
 mod known_type_names;
-mod names;
 mod no_undefined_variables;
 mod numbers;
 mod once;
@@ -23,9 +22,9 @@ mod reach;
 mod roots;
 mod scalar_leafs;
 mod uses;
-mod values;
 mod variables_are_input_types;
 mod variables_in_allowed_position;
+mod words;
 
 pub use arguments_of_correct_type::has_wrong_argument;
 pub use default_values_of_correct_type::has_wrong_default;
@@ -36,11 +35,11 @@ pub use known_argument_names::has_unknown_argument;
 pub use known_type_names::has_unknown_type;
 pub use no_undefined_variables::uses_undefined;
 pub use owned_types::owned_type;
+pub use places::{input_fields, item_type, places_in_calls};
 pub use provided_non_null_arguments::{is_left_out, lacks_argument};
 pub use reach::{UsesOfFragments, uses_of_fragments};
 pub use scalar_leafs::{has_wrong_set, set_is_wrong};
-pub use uses::{Use, Used, used_in};
+pub use uses::{Place, Use, Used, used_in};
 pub use variables_are_input_types::has_other_variable;
-pub use variables_in_allowed_position::{
-    fits_nullable, has_real_default, is_compatible, misuses_variable,
-};
+pub use variables_in_allowed_position::{may_stand, misuses_variable};
+pub use words::words_in_lists;

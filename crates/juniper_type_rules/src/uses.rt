@@ -1,24 +1,23 @@
 //! What a definition uses of variables (section 5.8 of the Specification).
 
 ghost use Rattle.std.specs.Prelude.{◌≡◌, IfOk, option_map};
-ghost use Rattle.graphql_spec.specs.Placed as placed;
 ghost use Rattle.juniper_syntax.specs.DocumentView.{view_definition};
 ghost use Rattle.juniper_schema.specs.SchemaView.{view_schema};
 ghost use Rattle.juniper_written.specs.WrittenView.{view_lists};
 ghost use Rattle.juniper_placed.specs.CallView.{view_calls};
 ghost use Rattle.juniper_type_rules.specs.UsesView.{IsUsageIn, fragment_name, has_variables, view_used};
 
-use crate::names::names_in_lists;
 use crate::once::{names_once, uses_once};
-use crate::places::uses_in_calls;
+use crate::places::{places_in_calls, uses_of_places};
+use crate::words::{names_of_words, words_in_lists};
 use juniper_placed::Call;
 use juniper_schema::SchemaType;
-use juniper_syntax::{Definition, ScalarValue, Type};
+use juniper_syntax::{Definition, ScalarValue, Span, Type};
 use juniper_written::ArgumentLists;
 use std::alloc::{AllocError, Global};
 
 /// A variable at a place (5.8.5).
-#[derive(Drop)]
+#[derive(Clone, Copy)]
 pub struct Use<'u> {
     /// Its name.
     pub variable: &'u str,
@@ -26,6 +25,15 @@ pub struct Use<'u> {
     pub place: &'u Type<String>,
     /// Whether the place has a default.
     pub has_default: bool,
+}
+
+/// A variable at a place, and where it is written.
+#[derive(Clone, Copy)]
+pub struct Place<'u> {
+    /// The variable, with the type of its place.
+    pub used: Use<'u>,
+    /// Where it stands in the text.
+    pub span: Span,
 }
 
 /// What a definition uses of variables in its own arguments.
@@ -60,8 +68,10 @@ pub fn used_in<'u, 'd: 'u, 'a: 'u, 's: 'u, S: ScalarValue>(
     ensures { IfOk result (λ u. IsUsageIn (view_schema S.shown schema.now) (view_definition S.shown definition.now) (view_lists S.shown arguments.now)
         (view_calls S.shown calls.now) (view_used u)) }
 {
-    let names = names_once(alloc, names_in_lists(alloc, arguments)?)?;
-    let uses = uses_once(alloc, uses_in_calls(alloc, schema, calls)?)?;
+    let words = words_in_lists(alloc, arguments)?;
+    let names = names_once(alloc, names_of_words(alloc, &words)?)?;
+    let places = places_in_calls(alloc, schema, calls)?;
+    let uses = uses_once(alloc, uses_of_places(alloc, &places)?)?;
     Ok(Used {
         fragment: fragment_name(definition),
         names,

@@ -89,7 +89,7 @@ fn is_allowed<S: ScalarValue>(defined: &VariablesByName<'_, '_, S>, used: &Use<'
 /// Whether a variable of this definition may stand there (IsVariableUsageAllowed). One that takes null may stand where
 /// null is not taken, if it or the place has a default.
 #[tactic(auto, unfolding(graphql_spec::specs::VariableUses::may_stand))]
-fn may_stand<S: ScalarValue>(variable: &DefinedVariable<'_, S>, used: &Use<'_>) -> bool
+pub fn may_stand<S: ScalarValue>(variable: &DefinedVariable<'_, S>, used: &Use<'_>) -> bool
     ensures { result ≡ spec.may_stand (view_variable S.shown variable.now) (view_use used.now) }
 {
     let of_type = &variable.1.var_type.item;
@@ -103,7 +103,7 @@ fn may_stand<S: ScalarValue>(variable: &DefinedVariable<'_, S>, used: &Use<'_>) 
 }
 
 /// Whether there is a default other than null.
-pub fn has_real_default<S: ScalarValue>(default: &Option<Spanning<InputValue<S>, Span>>) -> bool
+fn has_real_default<S: ScalarValue>(default: &Option<Spanning<InputValue<S>, Span>>) -> bool
     ensures { result ≡ spec.has_real_default (option_map (view_spanning (view_input S.shown)) default.now) }
 {
     match default {
@@ -114,7 +114,7 @@ pub fn has_real_default<S: ScalarValue>(default: &Option<Spanning<InputValue<S>,
 
 /// Whether a variable of the first type fits a place of the second (AreTypesCompatible).
 #[tactic(auto, unfolding(graphql_spec::specs::VariableUses::compatible))]
-pub fn is_compatible(variable: &Type<&str>, place: &Type<String>) -> bool
+fn is_compatible(variable: &Type<&str>, place: &Type<String>) -> bool
     ensures { result ≡ compatible (types.view_type (λ n. n.now) variable.now) (view_type place.now) }
 {
     match place {
@@ -134,7 +134,7 @@ pub fn is_compatible(variable: &Type<&str>, place: &Type<String>) -> bool
 
 /// Whether it fits the place, if null is taken there too.
 #[tactic(auto, unfolding(graphql_spec::specs::VariableUses::compatible, graphql_spec::specs::Types::nullable))]
-pub fn fits_nullable(variable: &Type<&str>, place: &Type<String>) -> bool
+fn fits_nullable(variable: &Type<&str>, place: &Type<String>) -> bool
     ensures { result ≡ compatible (types.view_type (λ n. n.now) variable.now) (nullable (view_type place.now)) }
 {
     match place {

@@ -5,7 +5,7 @@ use Rattle.juniper_syntax.proofs.Lists.{seen-push}
 use Rattle.juniper_written.proofs.Lists.{seen-all, seen-next}
 use Rattle.juniper_explain.specs.Words.{view_words}
 use Rattle.juniper_explain.proofs.InputFields.{word_of_field, words-are}
-use Rattle.juniper_explain.proofs.WordNames.{same-word}
+use Rattle.juniper_type_rules.proofs.WordsIn.{same-word}
 use Rattle.juniper_explain.proofs.input_fields.words_of_fields.Goals as goal
 
 pub loop-field-init : goal.loop-field-init

@@ -3,7 +3,7 @@ use Rattle.std.proofs.lemmas.Result.{on_ok_weaker}
 use Rattle.juniper_syntax.specs.DocumentView.{view_variable}
 use Rattle.juniper_explain.specs.Explanations.{view_explanations}
 use Rattle.juniper_explain.specs.Nodes.{misused_at, misused_by}
-use Rattle.juniper_explain.specs.PositionsView.{view_place}
+use Rattle.juniper_type_rules.specs.UsesView.{view_place}
 use Rattle.juniper_explain.proofs.misused.explain_place.Goals as goal
 
 pub returns-in-Some : goal.returns-in-Some

@@ -3,7 +3,7 @@ use Rattle.juniper_syntax.specs.DocumentView.{view_variable}
 use Rattle.juniper_written.proofs.Lists.{flat-next, flat-all, flat-seen}
 use Rattle.juniper_explain.specs.Explanations.{view_explanations}
 use Rattle.juniper_explain.specs.Nodes.{misused_by}
-use Rattle.juniper_explain.specs.PositionsView.{view_place}
+use Rattle.juniper_type_rules.specs.UsesView.{view_place}
 use Rattle.juniper_explain.proofs.misused.explain_places.Goals as goal
 
 pub loop-place-init : goal.loop-place-init

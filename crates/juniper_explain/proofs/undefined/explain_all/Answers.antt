@@ -7,22 +7,22 @@ use Rattle.juniper_rules.specs.Listing.{definition_of}
 use Rattle.juniper_syntax.specs.DocumentView.{view_definition, view_operation}
 use Rattle.juniper_explain.specs.Explanations.{view_explanations}
 use Rattle.juniper_explain.specs.Nodes.{undefined_name, undefined_variables}
-use Rattle.juniper_explain.specs.Variables.{words_given}
+use Rattle.juniper_type_rules.specs.Variables.{words_given}
 use Rattle.juniper_explain.proofs.PartWords.{words-of}
 use Rattle.juniper_explain.proofs.undefined.explain_all.Goals as goal
 
-pub returns-in_ok-words-in-Operation : goal.returns-in_ok-words-in-Operation
+pub returns-in_ok-parts-in-Operation : goal.returns-in_ok-parts-in-Operation
 unfolding undefined_variables
-returns-in_ok-words-in-Operation g c =
+returns-in_ok-parts-in-Operation g c =
     let shown = g.S.ScalarValue.shown in
     let o = view_operation shown c.in-Operation.operation in
     let old = view_explanations c.args.explanations.now.items in
     let same : definition_of shown c.args.one.now.listed.now ≡ documents.operation o = ap (view_definition shown) c.in-Operation.is in
-    on_ok_weaker c.explain_words.result (λ added s d are fragments is. added
-    ∙ (ap (λ ws. old ++ flat_map (undefined_name o) ws) (c.in_ok-words-in-Operation.ensures
-    ∙ (ap (flat_map (λ l. flat_map (flat_map words_given) l.listing.arguments)) (c.in_ok-parts-in-Operation.ensures s d o are fragments is same)
-    ∙ words-of s (parts d o)))
-    ∙ ap (λ x. old ++ undefined_variables d x) (sym same))) c.explain_words.ensures
+    on_ok_weaker c.explain_parts.result (λ added s d are fragments is. added
+    ∙ (ap (λ ls. old ++ flat_map (λ l. flat_map (undefined_name o) (flat_map (flat_map words_given) l.listing.arguments)) ls)
+    (c.in_ok-parts-in-Operation.ensures s d o are fragments is same)
+    ∙ (ap (λ l. old ++ l) (words-of (undefined_name o) s (parts d o))
+    ∙ ap (λ x. old ++ undefined_variables d x) (sym same)))) c.explain_parts.ensures
 
 pub returns-in-Fragment : goal.returns-in-Fragment
 unfolding undefined_variables

@@ -5,7 +5,7 @@ use Rattle.juniper_schema.specs.SchemaView.{view_schema}
 use Rattle.juniper_explain.specs.Explanations.{view_explanations}
 use Rattle.juniper_explain.specs.Nodes.{unknown_type}
 use Rattle.juniper_explain.specs.Words.{type_word}
-use Rattle.juniper_explain.proofs.WordNames.{same-word}
+use Rattle.juniper_type_rules.proofs.WordsIn.{same-word}
 use Rattle.juniper_explain.proofs.variables.explain_unknown_variable.Goals as goal
 
 pub returns : goal.returns
