@@ -30,7 +30,8 @@ inlines-are (field h below rest) =
 inlines-are (spread x rest) = inlines-are rest
 inlines-are (inline x below rest) =
     names-append (word_list x.condition ++ inline_words below) (inline_words rest)
-    ∙ (ap₂ (λ a b. a ++ b) (names-append (word_list x.condition) (inline_words below) ∙ ap (λ l. names_of_words (word_list x.condition) ++ l) (inlines-are below))
+    ∙ (ap₂ (λ a b. a ++ b) (names-append (word_list x.condition) (inline_words below)
+    ∙ ap (λ l. names_of_words (word_list x.condition) ++ l) (inlines-are below))
     (inlines-are rest)
     ∙ one-condition x.condition (conditions below) (conditions rest))
 

@@ -27,7 +27,7 @@ loop-index-preserved g c =
     flat-next (at_places shown s found) xs.items (view_explanations c.args.explanations.now.items) l.index c.index-part.result.now
     before (view_explanations c.explain_places.new.explanations.items) below c.index-part.ensures l.invariant
     (c.in_ok-explain_places.ensures
-    ∙ ap (λ ps. before ++ flat_map found ps) (ap view_places c.deref-2.ensures.value
+    ∙ ap (λ ps. before ++ flat_map found ps) (ap view_places c.deref-in-loop-index.ensures.value
     ∙ (c.in_ok-places.ensures ∙ ap (λ calls. flat_map (places_in_call s) (view_calls shown calls)) c.deref.ensures.value)))
 
 pub returns : goal.returns

@@ -31,8 +31,8 @@ loop-index-preserved g c =
     flat-next (at_words shown (undefined_name o)) xs.items (view_explanations c.args.explanations.now.items) l.index part
     before (view_explanations c.explain_words.new.explanations.items) below c.index-part.ensures l.invariant
     (c.in_ok-explain_words.ensures
-    ∙ (ap (λ ws. before ++ flat_map (λ w. named (is_none (definition_of defined w.item)) rule.NoUndefinedVariables w (codes "Variable `$") c.as_str.result.now) ws)
-    c.in_ok-words.ensures
+    ∙ (ap (λ ws. before ++ flat_map (λ w. named (is_none (definition_of defined w.item)) rule.NoUndefinedVariables w (codes "Variable `$") c.as_str.result.now)
+    ws) c.in_ok-words.ensures
     ∙ ap₂ (λ vs t. before ++ flat_map (λ w. named (is_none (definition_of vs w.item)) rule.NoUndefinedVariables w (codes "Variable `$") t)
     (flat_map (flat_map words_given) (view_lists shown part.now.listed.now.arguments)))
     (c.listed-variables.ensures ∙ variables-seen shown c.args.operation.now.item.variable_definitions o refl)

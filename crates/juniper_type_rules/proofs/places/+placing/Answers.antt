@@ -26,7 +26,8 @@ push_declared-returns-in_ok-push_of_value-in-Some g t c =
     let old = view_places c.args.places.now.items in
     let place = view_type c.in-Some.argument.now.arg_type in
     c.in_ok-push_of_value-in-Some.ensures
-    ∙ (ap (λ b. old ++ places_at s v (view_span c.args.span) place b) (c.is_some-has_default.ensures ∙ sym (some-map (view_input shown) c.in-Some.argument.now.default_value))
+    ∙ (ap (λ b. old ++ places_at s v (view_span c.args.span) place b) (c.is_some-has_default.ensures
+    ∙ sym (some-map (view_input shown) c.in-Some.argument.now.default_value))
     ∙ ap (λ o. old ++ at_declared (option_map (λ a. view_argument shown a.now) o) (λ p b. places_at s v (view_span c.args.span) p b)) (sym c.in-Some.is))
 
 pub push_declared-returns-in-None : goal.push_declared-returns-in-None
@@ -36,30 +37,34 @@ push_declared-returns-in-None g t c =
     let s = view_schema shown c.args.schema.now in
     let v = view_input shown c.args.value.now in
     let old = view_places c.args.places.now.items in
-    sym (append-nil old) ∙ ap (λ o. old ++ at_declared (option_map (λ a. view_argument shown a.now) o) (λ p b. places_at s v (view_span c.args.span) p b)) (sym c.in-None.is)
+    sym (append-nil old) ∙ ap (λ o. old ++ at_declared (option_map (λ a. view_argument shown a.now) o) (λ p b. places_at s v (view_span c.args.span) p b))
+    (sym c.in-None.is)
 
 pub push_of_value-returns-in-Null : goal.push_of_value-returns-in-Null
 unfolding places_at
 push_of_value-returns-in-Null g t c =
     let shown = g.S.ScalarValue.shown in
+    let s = view_schema shown c.args.schema.now in
     let old = view_places c.args.places.now.items in
-    sym (append-nil old) ∙ ap (λ v. old ++ places_at (view_schema shown c.args.schema.now) v (view_span c.args.span) (view_type c.args.expected.now) c.args.has_default)
+    sym (append-nil old) ∙ ap (λ v. old ++ places_at s v (view_span c.args.span) (view_type c.args.expected.now) c.args.has_default)
     (sym (ap (view_input shown) c.in-Null.is ∙ view-Null shown))
 
 pub push_of_value-returns-in-Scalar : goal.push_of_value-returns-in-Scalar
 unfolding places_at
 push_of_value-returns-in-Scalar g t c =
     let shown = g.S.ScalarValue.shown in
+    let s = view_schema shown c.args.schema.now in
     let old = view_places c.args.places.now.items in
-    sym (append-nil old) ∙ ap (λ v. old ++ places_at (view_schema shown c.args.schema.now) v (view_span c.args.span) (view_type c.args.expected.now) c.args.has_default)
+    sym (append-nil old) ∙ ap (λ v. old ++ places_at s v (view_span c.args.span) (view_type c.args.expected.now) c.args.has_default)
     (sym (ap (view_input shown) c.in-Scalar.is ∙ view-Scalar shown c.in-Scalar.field-0))
 
 pub push_of_value-returns-in-Enum : goal.push_of_value-returns-in-Enum
 unfolding places_at
 push_of_value-returns-in-Enum g t c =
     let shown = g.S.ScalarValue.shown in
+    let s = view_schema shown c.args.schema.now in
     let old = view_places c.args.places.now.items in
-    sym (append-nil old) ∙ ap (λ v. old ++ places_at (view_schema shown c.args.schema.now) v (view_span c.args.span) (view_type c.args.expected.now) c.args.has_default)
+    sym (append-nil old) ∙ ap (λ v. old ++ places_at s v (view_span c.args.span) (view_type c.args.expected.now) c.args.has_default)
     (sym (ap (view_input shown) c.in-Enum.is ∙ view-Enum shown c.in-Enum.field-0))
 
 pub push_of_value-returns-in_ok-push_place-in-Variable : goal.push_of_value-returns-in_ok-push_place-in-Variable
@@ -84,7 +89,8 @@ push_of_value-returns-in_ok-push_of_items-in-List g t c =
     c.in_ok-push_of_items-in-List.ensures
     ∙ (ap (λ p. old ++ places_in_items s (view_items shown c.as_slice.result.now) p) c.item_type.ensures
     ∙ (ap (λ vs. old ++ places_in_items s (view_items shown vs) (item_type place)) c.as_slice.ensures.value
-    ∙ ap (λ v. old ++ places_at s v (view_span c.args.span) place c.args.has_default) (sym (ap (view_input shown) c.in-List.is ∙ view-List shown c.in-List.items))))
+    ∙ ap (λ v. old ++ places_at s v (view_span c.args.span) place c.args.has_default)
+    (sym (ap (view_input shown) c.in-List.is ∙ view-List shown c.in-List.items))))
 
 pub push_of_value-returns-in_ok-push_of_fields-in-Object : goal.push_of_value-returns-in_ok-push_of_fields-in-Object
 unfolding places_at
@@ -96,7 +102,8 @@ push_of_value-returns-in_ok-push_of_fields-in-Object g t c =
     c.in_ok-push_of_fields-in-Object.ensures
     ∙ (ap (λ vs. old ++ places_in_fields s (view_fields shown vs) (map (view_argument shown) c.input_fields.result.now)) c.as_slice-in-Object.ensures.value
     ∙ (ap (λ ds. old ++ places_in_fields s (view_fields shown c.in-Object.fields.items) ds) c.input_fields.ensures
-    ∙ ap (λ v. old ++ places_at s v (view_span c.args.span) place c.args.has_default) (sym (ap (view_input shown) c.in-Object.is ∙ view-Object shown c.in-Object.fields))))
+    ∙ ap (λ v. old ++ places_at s v (view_span c.args.span) place c.args.has_default)
+    (sym (ap (view_input shown) c.in-Object.is ∙ view-Object shown c.in-Object.fields))))
 
 pub push_of_items-loop-item-init : goal.push_of_items-loop-item-init
 push_of_items-loop-item-init g t c = refl

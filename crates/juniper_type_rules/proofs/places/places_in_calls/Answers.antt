@@ -10,7 +10,8 @@ use Rattle.juniper_type_rules.proofs.places.places_in_calls.Goals as goal
 pub loop-call-init : goal.loop-call-init
 loop-call-init g c =
     let shown = g.S.ScalarValue.shown in
-    ap (λ l. view_places l ++ flat_map (λ x. places_in_call (view_schema shown c.args.schema.now) (view_call shown x)) c.args.calls.now) c.new-places.ensures.items
+    ap (λ l. view_places l ++ flat_map (λ x. places_in_call (view_schema shown c.args.schema.now) (view_call shown x)) c.args.calls.now)
+    c.new-places.ensures.items
 
 pub loop-call-preserved : goal.loop-call-preserved
 loop-call-preserved g c =

@@ -28,7 +28,8 @@ loop-argument-preserved g c =
     let before = view_places l.places.items in
     flat-next (λ a. places_given s ds (code.view_argument shown a)) c.deref-argument-items.result.now (view_places c.args.places.now.items) l.argument-index x
     before (view_places c.push_declared.new.places.items) c.loop-argument-test.true c.argument-item.is l.invariant
-    (c.in_ok-push_declared-in-Some.ensures ∙ ap (λ o. before ++ at_declared o (λ p b. places_at s (view_input shown x.1.item) (view_span x.1.span) p b)) c.find_argument-found.ensures)
+    (c.in_ok-push_declared-in-Some.ensures
+    ∙ ap (λ o. before ++ at_declared o (λ p b. places_at s (view_input shown x.1.item) (view_span x.1.span) p b)) c.find_argument-found.ensures)
 
 pub returns-after-loop-argument : goal.returns-after-loop-argument
 unfolding written places_in_call

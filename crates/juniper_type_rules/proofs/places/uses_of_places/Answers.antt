@@ -11,7 +11,8 @@ pub loop-place-preserved : goal.loop-place-preserved
 loop-place-preserved c =
     let l = c.loop-place in
     seen-next (λ p. view_use p.used) c.args.places.now [] l.place-index c.place-item.result (view_uses l.uses.items) (view_uses c.push.new.self.items)
-    c.loop-place-test.true c.place-item.is l.invariant (seen-push view_use l.uses.items c.push.new.self.items c.place-item.result.used c.in_ok-push.ensures.items)
+    c.loop-place-test.true c.place-item.is l.invariant
+    (seen-push view_use l.uses.items c.push.new.self.items c.place-item.result.used c.in_ok-push.ensures.items)
 
 pub returns : goal.returns
 returns c =

@@ -25,14 +25,16 @@ unfolding variable_words
 push_of_value-returns-in-Scalar g t c =
     let shown = g.S.ScalarValue.shown in
     let old = map view_word c.args.words.now.items in
-    sym (append-nil old) ∙ ap (λ v. old ++ variable_words v (view_span c.args.span)) (sym (ap (view_input shown) c.in-Scalar.is ∙ view-Scalar shown c.in-Scalar.field-0))
+    sym (append-nil old) ∙ ap (λ v. old ++ variable_words v (view_span c.args.span))
+    (sym (ap (view_input shown) c.in-Scalar.is ∙ view-Scalar shown c.in-Scalar.field-0))
 
 pub push_of_value-returns-in-Enum : goal.push_of_value-returns-in-Enum
 unfolding variable_words
 push_of_value-returns-in-Enum g t c =
     let shown = g.S.ScalarValue.shown in
     let old = map view_word c.args.words.now.items in
-    sym (append-nil old) ∙ ap (λ v. old ++ variable_words v (view_span c.args.span)) (sym (ap (view_input shown) c.in-Enum.is ∙ view-Enum shown c.in-Enum.field-0))
+    sym (append-nil old) ∙ ap (λ v. old ++ variable_words v (view_span c.args.span))
+    (sym (ap (view_input shown) c.in-Enum.is ∙ view-Enum shown c.in-Enum.field-0))
 
 pub push_of_value-returns-in_ok-push-in-Variable : goal.push_of_value-returns-in_ok-push-in-Variable
 unfolding variable_words
@@ -73,7 +75,8 @@ pub push_of_items-returns : goal.push_of_items-returns
 push_of_items-returns g t c =
     let shown = g.S.ScalarValue.shown in
     let old = map view_word c.args.words.now.items in
-    flat-all (words_of_item shown) c.args.items.now old c.loop-item.item-index (map view_word c.loop-item.words.items) c.loop-item-test.false c.loop-item.invariant
+    flat-all (words_of_item shown) c.args.items.now old c.loop-item.item-index (map view_word c.loop-item.words.items)
+    c.loop-item-test.false c.loop-item.invariant
     ∙ ap (λ l. old ++ l) (items-are shown c.args.items.now)
 
 pub push_of_fields-loop-field-init : goal.push_of_fields-loop-field-init
