@@ -1,5 +1,5 @@
 -- A budget of fields, by the way to walk (6.2).
-use Rattle.std.proofs.Common.{ℕ, suc, ◌≡◌, ◌+◌, ◌-◌, ◌<◌, ◌≤◌, Bool, true, false, cond, List, IfOk, Result, Ok, Err, refl, sym, ap, subst, arith}
+use Rattle.std.proofs.Common.{ℕ, suc, ◌≡◌, ◌+◌, ◌-◌, ◌<◌, ◌≤◌, Bool, true, false, cond, List, IfOk, Result, refl, sym, ap, subst, arith}
 use Rattle.graphql_spec.specs.Errors.{Listed}
 use Rattle.graphql_spec.specs.Shown.{Name}
 use Rattle.graphql_spec.specs.Values.{Value, Entries, no_entries, null, object, put}
@@ -18,14 +18,6 @@ use Rattle.juniper_execute.specs.declared.walking.Walking.TheVariants.{Grouped, 
 pub bounded-grouped : {A E : Type 0} (w : Walking) → w ≡ Grouped → (n : A → ℕ) (fields : ℕ) (r : Result A E) → IfOk r (λ a. n a ≤ fields) →
     IfOk r (λ a. IsBounded w (n a) fields)
 bounded-grouped w is n fields r p = subst (λ v. IfOk r (λ a. IsBounded v (n a) fields)) (sym is) p
-
--- the walk that joins promises nothing
-pub bounded-joined : {A E : Type 0} (w : Walking) → w ≡ Joined → (n : A → ℕ) (fields : ℕ) (r : Result A E) → IfOk r (λ a. IsBounded w (n a) fields)
-bounded-joined {A = A} {E = E} w is n fields r = subst (λ v. IfOk r (λ a. IsBounded v (n a) fields)) (sym is) (any r)
-  where
-    any : (x : Result A E) → IfOk x (λ a. IsBounded Joined (n a) fields)
-    any (Ok a) = tt
-    any (Err e) = tt
 
 -- ## The groups of a mutation
 

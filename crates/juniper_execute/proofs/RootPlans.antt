@@ -1,5 +1,5 @@
 -- One root group of a plan after the other (6.2.2).
-use Rattle.std.proofs.Common.{◌≡◌, ℕ, Bool, ◌+◌, ◌-◌, ◌<◌, ◌≤◌, true, false, List, [], ◌∷◌, ◌++◌, drop, length, take, IfOk, Result, Ok, Err, refl, sym, ap, ◌∙◌, inl, inr}
+use Rattle.std.proofs.Common.{◌≡◌, ℕ, Bool, ◌+◌, ◌-◌, ◌<◌, ◌≤◌, true, false, List, [], ◌∷◌, ◌++◌, drop, length, take, Result, Ok, Err, refl, sym, ap, ◌∙◌, inl, inr}
 use Rattle.std.proofs.Common.{subst, arith}
 use Rattle.graphql_spec.specs.Shown.{Name, Shown}
 use Rattle.graphql_spec.specs.Errors.{Listed}
@@ -217,8 +217,3 @@ on-err Q P (Err e) f p = p
 pub plan-moves : {C N : Type 0} (M : Mutation C N) (pick : List Position → List Position) (T : Name) (ks : List Name) (os : List Occurrence) (c : C)
     (v w : Value) (es : List Listed) (now : C) → w ≡ v → HasRun whole pick M T ks os c v es now → HasRun whole pick M T ks os c w es now
 plan-moves M pick T ks os c v w es now e r = subst (λ x. HasRun whole pick M T ks os c x es now) (sym e) r
-
--- what holds at all, holds of an answer
-pub on-any : {A E : Type 0} {P : Type 0} (r : Result A E) → P → IfOk r (λ a. P)
-on-any (Ok a) p = p
-on-any (Err e) p = tt

@@ -265,9 +265,11 @@ module _ (vs : List FieldAt) (t : List (List ℕ)) where
             | inr q ↦ rw q m
           ]
 
-          own-group : (h : FieldAt) → h ≡ v → In (length heads) (cond (nat_eq (at_group v) (at_group h)) (groups (at_group v) ++ length heads ∷ []) (groups (at_group h)))
+          own-group : (h : FieldAt) → h ≡ v → In (length heads)
+              (cond (nat_eq (at_group v) (at_group h)) (groups (at_group v) ++ length heads ∷ []) (groups (at_group h)))
           own-group h q =
-              let e : nat_eq (at_group v) (at_group h) ≡ true = subst (λ (u : FieldAt). nat_eq (at_group v) (at_group u) ≡ true) (sym q) (itself (at_group v)) in
+              let e : nat_eq (at_group v) (at_group h) ≡ true = subst (λ (u : FieldAt). nat_eq (at_group v) (at_group u) ≡ true) (sym q)
+              (itself (at_group v)) in
               rw e (in_second (length heads) (groups (at_group v)) (length heads ∷ []) (inl refl))
 
       -- a place more of a head

@@ -3,7 +3,6 @@
 #![tactic(auto)]
 
 #[cfg(test)]
-#[cfg(test)]
 mod by_hand;
 #[cfg(test)]
 mod demo;

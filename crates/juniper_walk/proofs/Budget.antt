@@ -5,7 +5,7 @@ use Rattle.std.proofs.Math.Nat.{add-mul, mul-add}
 use Rattle.std.proofs.lemmas.List.{length-drop, length-take}
 use Rattle.std.specs.Str.{bytes_eq}
 use Rattle.graphql_spec.specs.Shown.{Name, Shown}
-use Rattle.graphql_spec.specs.Values.{Value, null, scalar, list, object, Values, no_items, item, Entries, no_entries, entry, any_null, put}
+use Rattle.graphql_spec.specs.Values.{Value, null, scalar, list, object, Values, Entries, no_entries, entry, any_null, put}
 use Rattle.graphql_spec.specs.Execution.{whole_list}
 use Rattle.graphql_spec.specs.Skeletons.{Skeleton, Skeletons, absent, filled, several, hole, no_skeletons, skeleton, fill, fill_all, first_of}
 use Rattle.juniper_walk.specs.Budget.{fields_in, fields_in_all, fields_in_entries, fields_in_items}

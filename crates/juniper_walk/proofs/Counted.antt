@@ -1,11 +1,11 @@
 -- How many fields are made, and how many may still be entered.
-use Rattle.std.proofs.Common.{ℕ, zero, suc, ◌≡◌, ◌+◌, ◌-◌, ◌*◌, ◌≤◌, ◌<◌, List, [], ◌∷◌, ◌++◌, length, map, set, get_or, take, drop, Option, Some, None}
-use Rattle.std.proofs.Common.{Bool, true, false, is_some, refl, sym, ap, subst, ◌∙◌, arith}
+use Rattle.std.proofs.Common.{ℕ, zero, suc, ◌≡◌, ◌+◌, ◌≤◌, ◌<◌, List, [], ◌∷◌, ◌++◌, length, set, get_or, take, drop, Option, Some, None}
+use Rattle.std.proofs.Common.{true, is_some, refl, sym, ap, ◌∙◌, arith}
 use Rattle.std.specs.List.{drop-map}
 use Rattle.std.proofs.lemmas.List.{length-append, map-append}
 use Rattle.graphql_spec.specs.Shown.{Name, Shown}
 use Rattle.graphql_spec.specs.Skeletons.{Skeleton, fill}
-use Rattle.graphql_spec.specs.Values.{Value, null, object, put}
+use Rattle.graphql_spec.specs.Values.{Value, object, put}
 use Rattle.juniper_syntax.specs.declared.value.Object.{Object}
 use Rattle.juniper_syntax.specs.ValueView.{view_object, view_value}
 use Rattle.juniper_walk.specs.declared.walked.Walked.{Walked}

@@ -1,5 +1,6 @@
 -- Sums of what a walk enters.
-use Rattle.std.proofs.Common.{ℕ, zero, suc, ◌≡◌, ◌+◌, ◌*◌, ◌≤◌, ◌<◌, Bool, true, false, cond, List, [], ◌∷◌, ◌++◌, length, map, take, drop, Option, Some, None, Result, Ok, Err}
+use Rattle.std.proofs.Common.{ℕ, zero, suc, ◌≡◌, ◌+◌, ◌*◌, ◌≤◌, ◌<◌, Bool, true, false, cond, List, [], ◌∷◌, ◌++◌, length, map, take, drop, Option, Some}
+use Rattle.std.proofs.Common.{None, Result, Ok, Err}
 use Rattle.std.proofs.Common.{refl, sym, ap, ◌∙◌, subst, arith, inl, inr}
 use Rattle.std.proofs.Math.Nat.{add-mul}
 use Rattle.std.proofs.lemmas.List.{map-append, take-append-drop}
@@ -14,7 +15,8 @@ use Rattle.graphql_spec.specs.Shown.{Name, Shown}
 use Rattle.graphql_spec.specs.Skeletons.{Spot, all_node_spots, node_spots, reply_node_spots}
 use Rattle.graphql_spec.specs.Types.{TypeRef, named, list_of}
 use Rattle.juniper_walk.specs.Budget.{most_fields}
-use Rattle.juniper_walk.specs.Entered.{EntersAtMost, SpendsGiven, UnlessMemory, entered, entered_at, entered_below, entered_by, entered_in, entered_nodes, entered_rows, own_fields}
+use Rattle.juniper_walk.specs.Entered.{EntersAtMost, SpendsGiven, UnlessMemory, entered, entered_at, entered_below, entered_by, entered_in}
+use Rattle.juniper_walk.specs.Entered.{entered_nodes, entered_rows, own_fields}
 use Rattle.juniper_walk.specs.Entered.{stop_within, under_key}
 use Rattle.juniper_walk.specs.Rows.{AreOfType, ArePending, IsOpen, awaited}
 use Rattle.juniper_walk.specs.declared.rows.Opened.{Opened}

@@ -1,19 +1,16 @@
 -- A field's answer, taken apart from its nodes.
-use Rattle.std.proofs.Common.{◌≡◌, Bool, List, [], ◌∷◌, ◌++◌, Bor, refl, sym, ap, ◌∙◌, subst}
+use Rattle.std.proofs.Common.{◌≡◌, Bool, List, [], ◌∷◌, Bor, refl, sym, ap, ◌∙◌, subst}
 use Rattle.graphql_spec.specs.Shown.{Shown, Name}
 use Rattle.graphql_spec.specs.Positions.{Position}
 use Rattle.graphql_spec.specs.Documents.{response_key}
-use Rattle.graphql_spec.specs.Types.{TypeRef, required}
-use Rattle.graphql_spec.specs.Errors.{Place, key, Listed}
 use Rattle.graphql_spec.specs.ExactAnswers.{whole}
 use Rattle.graphql_spec.specs.Selections.{Occurrence, occurrences, with_key}
 use Rattle.graphql_spec.specs.Documents.{Selections}
 use Rattle.graphql_spec.specs.Directives.{passes}
 use Rattle.graphql_spec.proofs.Lists.{same_refl}
 use Rattle.graphql_spec.proofs.Parts.{chain-end}
-use Rattle.graphql_spec.specs.Resolvers.{Error, World}
-use Rattle.graphql_spec.specs.Execution.{type_of, reply_of}
-use Rattle.graphql_spec.specs.Skeletons.{Spot, Skeleton, listed_spots}
+use Rattle.graphql_spec.specs.Resolvers.{Error}
+use Rattle.graphql_spec.specs.Skeletons.{Spot, listed_spots}
 use Rattle.juniper_syntax.specs.declared.position.Spanning.{Spanning}
 use Rattle.juniper_syntax.specs.declared.position.Span.{Span}
 use Rattle.juniper_syntax.specs.Positions.{view_span}
@@ -27,7 +24,6 @@ use Rattle.juniper_lookahead.specs.FragmentView.{ExpandAlike, fragments_in}
 use Rattle.juniper_lookahead.specs.Collected.{expansion, view_collected}
 use Rattle.juniper_lookahead.specs.declared.collecting.Collector.{Collector}
 use Rattle.juniper_walk.specs.FieldWords.{head_of}
-use Rattle.juniper_walk.specs.Completing.{IsParted}
 
 pub same-head : {S P : Type 0} (shown : S → Shown) (c : Collector S P) (f : Spanning (FieldType S) Span) → (view_collected shown c f).head ≡ head_of shown f
 unfolding view_collected

@@ -1,5 +1,5 @@
 -- How many fields a walk enters at most: those of each object, and below them those of each node, whatever a null takes away (6.3, 6.4.3).
-use Rattle.std.specs.Prelude.{◌≡◌, ◌<◌, ◌≤◌, ℕ, Bool, zero, suc, ◌+◌, List, [], ◌∷◌, length, Option, Some, None, Result, Ok, Err, string_bytes}
+use Rattle.std.specs.Prelude.{◌≡◌, ◌<◌, ◌≤◌, ℕ, Bool, zero, suc, ◌+◌, List, [], length, Option, Some, None, Result, Ok, Err, string_bytes}
 use Rattle.std.specs.List.{sum_by}
 use Rattle.graphql_spec.specs.Execution.{reply_of, type_of}
 use Rattle.graphql_spec.specs.Resolvers.{Reply, World}

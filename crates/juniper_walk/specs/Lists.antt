@@ -1,11 +1,9 @@
 -- What is asked of the nodes of a list for the occurrences of a response key (6.4.2).
-use Rattle.std.specs.Prelude.{◌≡◌, Bool, true, false, List, [], ◌∷◌, Option, Some, None, Result, string_bytes}
+use Rattle.std.specs.Prelude.{◌≡◌, Bool, true, false, List, [], ◌∷◌, Option, Some, None, string_bytes}
 use Rattle.graphql_spec.specs.Resolvers.{Reply}
 use Rattle.graphql_spec.specs.Shown.{Shown}
 use Rattle.graphql_spec.specs.Types.{TypeRef}
-use Rattle.juniper_conversions.specs.declared.field_error.ResolveError.{ResolveError}
 use Rattle.juniper_values.specs.ResolvedView.{Answers}
-use Rattle.juniper_values.specs.declared.resolved.Resolved.{Resolved}
 use Rattle.juniper_syntax.specs.TypeView.{view_type}
 use Rattle.juniper_walk.specs.declared.asking.Asked.{Asked}
 

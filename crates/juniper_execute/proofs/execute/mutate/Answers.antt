@@ -30,7 +30,8 @@ returns-in_err-fragments-clause-walked g c =
     let o = view_operation shown c.args.operation.now in
     let start = c.args.context.now in
     let all = selected d o vars in
-    walked-err shown root.walking M T all start _ _ c.from_residual.ensures.0 (left-same M T (keys (root_fields M T all start)) (root_fields M T all start) start)
+    walked-err shown root.walking M T all start _ _ c.from_residual.ensures.0
+    (left-same M T (keys (root_fields M T all start)) (root_fields M T all start) start)
 
 pub returns-in_err-path-clause-walked : goal.returns-in_err-path-clause-walked
 returns-in_err-path-clause-walked g c =
@@ -44,7 +45,8 @@ returns-in_err-path-clause-walked g c =
     let o = view_operation shown c.args.operation.now in
     let start = c.args.context.now in
     let all = selected d o vars in
-    walked-err shown root.walking M T all start _ _ c.from_residual-in_err-path.ensures.0 (left-same M T (keys (root_fields M T all start)) (root_fields M T all start) start)
+    walked-err shown root.walking M T all start _ _ c.from_residual-in_err-path.ensures.0
+    (left-same M T (keys (root_fields M T all start)) (root_fields M T all start) start)
 
 pub run_groups-requires-clause-ready : goal.run_groups-requires-clause-ready
 run_groups-requires-clause-ready g c =

@@ -45,7 +45,8 @@ returns-in_ok-put_group-in-None c there t before are =
     heads-new (seen t vs) t before heads old are c.args.field (view_vertex t vertex) (vertex-some t vs c.args.field vertex there) vertex.below refl
     hd c.push-in-None.new.self.items now made.0 made.1 made.2 c.in_ok-push-in-None-2.ensures.items
     (λ p he e h eh s. none p (subst (In p) (sym (c.deref-2.ensures.value ∙ c.take_group-group.ensures.numbers))
-    (subst (λ n. In p (old n)) (ap₂ group_number s.key s.call ∙ sym c.group_number-number.ensures) (are.grouped p he h e eh))) he (subst (λ l. slice_get l p ≡ Some he) (sym c.deref.ensures.value) e) h eh s)
+    (subst (λ n. In p (old n)) (ap₂ group_number s.key s.call ∙ sym c.group_number-number.ensures) (are.grouped p he h e eh))) he
+    (subst (λ l. slice_get l p ≡ Some he) (sym c.deref.ensures.value) e) h eh s)
     (subst (λ n. (k : ℕ) → now k ≡ cond (nat_eq n k) (old n ++ length heads ∷ []) (old k)) c.group_number-number.ensures
     (put-back old mid now number (old number ++ length heads ∷ []) c.take_group-group.ensures.taken
     (λ k. c.in_ok-put_group-in-None.ensures k ∙ ap (λ l. cond (nat_eq number k) l (mid k))

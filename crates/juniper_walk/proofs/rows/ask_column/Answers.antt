@@ -1,5 +1,4 @@
 use Rattle.std.proofs.Common.{length, option_map, sym, ap, ◌∙◌, subst, arith}
-use Rattle.graphql_spec.specs.Selections.{occurrences}
 use Rattle.juniper_assemble.specs.SpotView.{view_nodes, view_spot}
 use Rattle.juniper_lookahead.specs.Collected.{view_all}
 use Rattle.juniper_walk.specs.Lists.{first_in}

@@ -14,7 +14,7 @@ use Rattle.juniper_walk.proofs.Slices.{taken-all, taken-one}
 use Rattle.juniper_walk.specs.Plans.{IsStanding, IsStep, StandsFor, all_expanded, fields_at, key_at}
 use Rattle.juniper_walk.specs.Leaves.{IsTaken}
 use Rattle.juniper_walk.specs.Budget.{fields_in_all}
-use Rattle.juniper_walk.specs.Entered.{EntersAtMost, entered_at, entered_below, entered_in, entered_nodes, entered_rows, own_fields}
+use Rattle.juniper_walk.specs.Entered.{entered_at, entered_in, entered_nodes, own_fields}
 use Rattle.juniper_walk.proofs.Entering.{at-more, at-taken, column-fits, enter-spends, in-append, in-one, in-taken, key-fits, nodes-taken, rows-taken}
 use Rattle.juniper_walk.proofs.Entering.{run-adds, run-fits, through-spends, walk-spends}
 use Rattle.juniper_walk.specs.Rows.{AreAdded, AreOfType, AreRows, listed_of, row_fields, values_of}
@@ -23,7 +23,8 @@ use Rattle.juniper_walk.proofs.Budget.{object-fields, put-counted, run-counted, 
 use Rattle.juniper_walk.proofs.Counted.{added-one, fresh-fields, none-done}
 use Rattle.juniper_walk.proofs.Leaves.{leaf-put}
 use Rattle.juniper_walk.proofs.Nodes.{none-yet}
-use Rattle.juniper_walk.proofs.Rounds.{all-keys, group-asked, group-bound, group-falls, group-is, group-next, group-stops, group-walked, groups-walked, more-steps}
+use Rattle.juniper_walk.proofs.Rounds.{all-keys, group-asked, group-bound, group-falls, group-is, group-next, group-stops, group-walked, groups-walked}
+use Rattle.juniper_walk.proofs.Rounds.{more-steps}
 use Rattle.juniper_walk.proofs.Rounds.{next-keys, no-step, node-falls, run-walked, step-made, still-selected, still-stands, take-none}
 use Rattle.juniper_walk.proofs.Turns.{start-walking}
 use Rattle.juniper_walk.proofs.Holes.{prepared-holes}
@@ -146,7 +147,8 @@ execute_selection_set-loop-number-preserved g t c =
               leaf-counted _ _ (view_object shown c.loop-number.entries) _ w.in_ok-put_leaf-in-Leaf.ensures,
             ));
             entered =
-                let more = ap (entered_at W T m s) next ∙ at-more W T m s (take (c.loop-number.number - c.args.groups.first.0) (keys (occurrences W.possible T s)))
+                let more = ap (entered_at W T m s) next ∙ at-more W T m s
+                (take (c.loop-number.number - c.args.groups.first.0) (keys (occurrences W.possible T s)))
                 (key_at c.loop-number.plan c.loop-number.number) in
                 rw w.plan-is (omega (arith, c.loop-number.invariant.entered, more));
           }
@@ -327,7 +329,8 @@ objects_of-one_by_one-requires g t c κs within =
     let standing : IsStanding shown collector asks possible c.enter_below.new.plan = c.in_ok-groups.ensures.made.standing in
     let groups : StandsFor shown collector asks T c.enter_below.new.plan c.in_ok-groups.groups
     (occurrences possible T (all_expanded shown collector c.deref-else-is_column.result.now)) =
-    subst (λ s. StandsFor shown collector asks T c.enter_below.new.plan c.in_ok-groups.groups (occurrences possible T s)) same c.in_ok-groups.ensures.made.stands in
+    subst (λ s. StandsFor shown collector asks T c.enter_below.new.plan c.in_ok-groups.groups (occurrences possible T s)) same
+    c.in_ok-groups.ensures.made.stands in
     let typed = c.run_end-end.ensures.typed in
     (omega (arith, c.decreases, falls), search (rules, standing, groups, typed))
 
@@ -350,7 +353,8 @@ objects_of-rows_of-requires g t c κs within =
     let standing : IsStanding shown collector asks possible c.enter_below.new.plan = c.in_ok-groups.ensures.made.standing in
     let groups : StandsFor shown collector asks T c.enter_below.new.plan c.in_ok-groups.groups
     (occurrences possible T (all_expanded shown collector c.deref-then-is_column.result.now)) =
-    subst (λ s. StandsFor shown collector asks T c.enter_below.new.plan c.in_ok-groups.groups (occurrences possible T s)) same c.in_ok-groups.ensures.made.stands in
+    subst (λ s. StandsFor shown collector asks T c.enter_below.new.plan c.in_ok-groups.groups (occurrences possible T s)) same
+    c.in_ok-groups.ensures.made.stands in
     (omega (arith, c.decreases, falls), search (rules, standing, groups))
 
 pub objects_of-loop-start-preserved-in_ok-end_rows : goal.objects_of-loop-start-preserved-in_ok-end_rows
@@ -389,7 +393,8 @@ objects_of-loop-start-preserved-in_ok-end_rows g t c =
           let size = length-map (slice_range c.args.nodes.now c.loop-start.start c.run_end-end.result) (view_spot (λ n. n))
           ∙ run-length c.args.nodes.now c.loop-start.start c.run_end-end.result some c.run_end-end.ensures.inside in
           let own = ap (λ f. own_fields f T below) c.requires.ready.same in
-          let charged = subst (λ x. c.loop-start.plan.left ≤ c.enter_below.new.plan.left + (c.run_end-end.result - c.loop-start.start) * own_fields possible T x)
+          let charged = subst
+          (λ x. c.loop-start.plan.left ≤ c.enter_below.new.plan.left + (c.run_end-end.result - c.loop-start.start) * own_fields possible T x)
           (ap (all_expanded shown collector) (c.deref.ensures.value ∙ sym c.deref-then-is_column.ensures.value) ∙ selected) c.in_ok-groups.ensures.entered in
           let counted = subst (λ n. c.loop-start.plan.left ≤ c.enter_below.new.plan.left + (c.run_end-end.result - c.loop-start.start) * n) own charged in
           let walked = subst (λ x. c.enter_below.new.plan.left ≤ c.rows_of.new.plan.left + entered_in W T x run) selected c.in_ok-rows.ensures.entered in
@@ -427,10 +432,12 @@ objects_of-loop-start-preserved g t c =
           let size = length-map (slice_range c.args.nodes.now c.loop-start.start c.run_end-end.result) (view_spot (λ n. n))
           ∙ run-length c.args.nodes.now c.loop-start.start c.run_end-end.result some c.run_end-end.ensures.inside in
           let own = ap (λ f. own_fields f T below) c.requires.ready.same in
-          let charged = subst (λ x. c.loop-start.plan.left ≤ c.enter_below.new.plan.left + (c.run_end-end.result - c.loop-start.start) * own_fields possible T x)
+          let charged = subst
+          (λ x. c.loop-start.plan.left ≤ c.enter_below.new.plan.left + (c.run_end-end.result - c.loop-start.start) * own_fields possible T x)
           (ap (all_expanded shown collector) (c.deref.ensures.value ∙ sym c.deref-else-is_column.ensures.value) ∙ selected) c.in_ok-groups.ensures.entered in
           let counted = subst (λ n. c.loop-start.plan.left ≤ c.enter_below.new.plan.left + (c.run_end-end.result - c.loop-start.start) * n) own charged in
-          let walked = subst (λ x. c.enter_below.new.plan.left ≤ c.one_by_one.new.plan.left + entered_in W T x run) selected c.in_ok-one_by_one.ensures.entered in
+          let walked = subst (λ x. c.enter_below.new.plan.left ≤ c.one_by_one.new.plan.left + entered_in W T x run) selected
+          c.in_ok-one_by_one.ensures.entered in
           run-adds _ _ _ _ _ _ _ _ _ _ fits size c.loop-start.invariant.entered counted walked;
     }
 
@@ -454,7 +461,8 @@ objects_of-returns-in_err-groups-clause-entered g t c =
     let W = g.R.Completer.world c.args.walk.now.collector.possible in
     let T = c.concrete_type_name-concrete.result.now in
     let below = all_below (view_all shown collector (fields_at c.args.plan.now c.args.group.0)) in
-    let selected : all_expanded shown collector c.deref.result.now ≡ below = ap (all_expanded shown collector) c.deref.ensures.value ∙ (c.in_ok-enclosing.ensures
+    let selected : all_expanded shown collector c.deref.result.now ≡ below = ap (all_expanded shown collector) c.deref.ensures.value
+    ∙ (c.in_ok-enclosing.ensures
     ∙ ap (λ l. all_below (view_all shown collector l)) c.fields.ensures) in
     let some = c.run_end-end.ensures.some in
     let low : c.loop-start.start ≤ c.run_end-end.result = omega (arith, some) in
@@ -478,7 +486,8 @@ objects_of-returns-in_err-rows-clause-entered g t c =
     let W = g.R.Completer.world c.args.walk.now.collector.possible in
     let T = c.concrete_type_name-concrete.result.now in
     let below = all_below (view_all shown collector (fields_at c.args.plan.now c.args.group.0)) in
-    let selected : all_expanded shown collector c.deref.result.now ≡ below = ap (all_expanded shown collector) c.deref.ensures.value ∙ (c.in_ok-enclosing.ensures
+    let selected : all_expanded shown collector c.deref.result.now ≡ below = ap (all_expanded shown collector) c.deref.ensures.value
+    ∙ (c.in_ok-enclosing.ensures
     ∙ ap (λ l. all_below (view_all shown collector l)) c.fields.ensures) in
     let some = c.run_end-end.ensures.some in
     let low : c.loop-start.start ≤ c.run_end-end.result = omega (arith, some) in
@@ -505,7 +514,8 @@ objects_of-returns-in_err-one_by_one-clause-entered g t c =
     let W = g.R.Completer.world c.args.walk.now.collector.possible in
     let T = c.concrete_type_name-concrete.result.now in
     let below = all_below (view_all shown collector (fields_at c.args.plan.now c.args.group.0)) in
-    let selected : all_expanded shown collector c.deref.result.now ≡ below = ap (all_expanded shown collector) c.deref.ensures.value ∙ (c.in_ok-enclosing.ensures
+    let selected : all_expanded shown collector c.deref.result.now ≡ below = ap (all_expanded shown collector) c.deref.ensures.value
+    ∙ (c.in_ok-enclosing.ensures
     ∙ ap (λ l. all_below (view_all shown collector l)) c.fields.ensures) in
     let some = c.run_end-end.ensures.some in
     let low : c.loop-start.start ≤ c.run_end-end.result = omega (arith, some) in
@@ -519,7 +529,8 @@ objects_of-returns-in_err-one_by_one-clause-entered g t c =
     let charged = subst (λ n. c.loop-start.plan.left ≤ c.enter_below.new.plan.left + (c.run_end-end.result - c.loop-start.start) * n) own
     c.in_ok-groups.ensures.entered in
     let selected_there = ap (all_expanded shown collector) (c.deref-else-is_column.ensures.value ∙ sym c.deref.ensures.value) ∙ selected in
-    through-spends (Unit {0}) _ _ 0 _ _ _ _ _ c.from_residual-in_err-one_by_one.result c.from_residual-in_err-one_by_one.ensures.1 c.in_err-one_by_one.ensures.entered
+    through-spends (Unit {0}) _ _ 0 _ _ _ _ _ c.from_residual-in_err-one_by_one.result c.from_residual-in_err-one_by_one.ensures.1
+    c.in_err-one_by_one.ensures.entered
     (λ less. walk-spends _ _ _ _ _ _ _ _ _ _ fits size c.loop-start.invariant.entered charged
     (subst (λ x. c.enter_below.new.plan.left < entered_in W T x run) selected_there less) within)
 

@@ -20,7 +20,8 @@ reply_valid-requires-clause-valid g c =
     let es = c.in-Ok.errors.items in
     let seen : map view_rule_error es ≡ rule_errors (view_schema default_shown (schema_of root)) (is_disabled root) d =
     subst (λ b. map view_rule_error es ≡ rule_errors (view_schema default_shown (schema_of root)) b d) c.is_introspection_disabled.ensures
-    (subst (λ x. map view_rule_error es ≡ rule_errors x c.is_introspection_disabled.result d) (ap (view_schema default_shown) c.schema.ensures) c.in-Ok.ensures) in
+    (subst (λ x. map view_rule_error es ≡ rule_errors x c.is_introspection_disabled.result d) (ap (view_schema default_shown) c.schema.ensures)
+    c.in-Ok.ensures) in
     none_found view_rule_error es c.is_empty.result _ (c.is_empty.ensures ∙ ap (λ n. n == 0) c.in-Ok.errors.ok.0) seen c.if-is_empty.true
 
 pub returns-in-Err-clause-said : goal.returns-in-Err-clause-said
@@ -39,7 +40,8 @@ returns-then-is_empty-clause-said g c =
     let es = c.in-Ok.errors.items in
     let seen : map view_rule_error es ≡ rule_errors (view_schema default_shown (schema_of root)) (is_disabled root) d =
     subst (λ b. map view_rule_error es ≡ rule_errors (view_schema default_shown (schema_of root)) b d) c.is_introspection_disabled.ensures
-    (subst (λ x. map view_rule_error es ≡ rule_errors x c.is_introspection_disabled.result d) (ap (view_schema default_shown) c.schema.ensures) c.in-Ok.ensures) in
+    (subst (λ x. map view_rule_error es ≡ rule_errors x c.is_introspection_disabled.result d) (ap (view_schema default_shown) c.schema.ensures)
+    c.in-Ok.ensures) in
     c.reply_valid.ensures c.args.self.now.bounds (ap (view_schema default_shown) c.schema.ensures, c.is_introspection_disabled.ensures)
     (c.requires.within, none_found view_rule_error es c.is_empty.result _ (c.is_empty.ensures ∙ ap (λ n. n == 0) c.in-Ok.errors.ok.0) seen c.if-is_empty.true)
 
@@ -56,7 +58,8 @@ returns-else-is_empty-clause-said g c =
     let es = c.in-Ok.errors.items in
     let seen : map view_rule_error es ≡ rule_errors s (is_disabled root) d =
     subst (λ b. map view_rule_error es ≡ rule_errors s b d) c.is_introspection_disabled.ensures
-    (subst (λ x. map view_rule_error es ≡ rule_errors x c.is_introspection_disabled.result d) (ap (view_schema default_shown) c.schema.ensures) c.in-Ok.ensures) in
+    (subst (λ x. map view_rule_error es ≡ rule_errors x c.is_introspection_disabled.result d) (ap (view_schema default_shown) c.schema.ensures)
+    c.in-Ok.ensures) in
     let some = some_found view_rule_error es c.is_empty.result _ (c.is_empty.ensures ∙ ap (λ n. n == 0) c.in-Ok.errors.ok.0) refl c.if-is_empty.false in
     let told = subst (λ b. IsInvalidTold s b self.explained_bytes a.query (map view_rule_error es) d c.invalid_reply.result) c.is_introspection_disabled.ensures
     (subst (λ x. IsInvalidTold x c.is_introspection_disabled.result self.explained_bytes a.query (map view_rule_error es) d c.invalid_reply.result)
