@@ -5,8 +5,8 @@ use Rattle.std.specs.Fmt.{signed_decimal}
 use Rattle.graphql_spec.specs.Shown.{Text, Shown, int, text, boolean, shown_int, shown_text}
 use Rattle.graphql_spec.specs.Constants.{scalar}
 use Rattle.graphql_spec.specs.Resolvers.{Error}
-use Rattle.juniper_id.specs.declared.identifier.ID.{ID}
-use Rattle.juniper_id.specs.Text.{id_text}
+use Rattle.juniper_conversions.specs.declared.identifier.ID.{ID}
+use Rattle.juniper_conversions.specs.IdText.{id_text}
 use Rattle.juniper_conversions.specs.Conversions.{GivesScalar}
 use Rattle.juniper_conversions.specs.Identifiers.{shown_id, id_of}
 

@@ -3,9 +3,9 @@ use Rattle.std.proofs.Common.{◌≡◌, Result, Ok, Err, Global, refl}
 use Rattle.std.specs.Prelude.{◌≢◌, IsOkAnd, IsSomeAnd}
 use Rattle.std.specs.declared.boxed.Box.{Box}
 use Rattle.graphql_spec.specs.Constants.{Constant, null}
-use Rattle.juniper_nullable.specs.Nullable.{some}
-use Rattle.juniper_nullable.specs.declared.nullable.Nullable.{Nullable}
-use Rattle.juniper_nullable.specs.declared.nullable.Nullable.TheVariants as nullable
+use Rattle.juniper_conversions.specs.Nullable.{some}
+use Rattle.juniper_conversions.specs.declared.nullable.Nullable.{Nullable}
+use Rattle.juniper_conversions.specs.declared.nullable.Nullable.TheVariants as nullable
 use Rattle.juniper_conversions.specs.RoundTrips.{ComesBack, ComesBackAs}
 use Rattle.juniper_conversions.specs.Conversions.{GivesBox}
 use Rattle.juniper_conversions.specs.WrappedConversions.{GivesNullable}

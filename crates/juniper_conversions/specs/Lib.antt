@@ -9,3 +9,5 @@ pub mod ListConversions
 pub mod Options
 pub mod RoundTrips
 pub mod WrappedConversions
+pub mod IdText
+pub mod Nullable

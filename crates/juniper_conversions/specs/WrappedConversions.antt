@@ -1,8 +1,8 @@
 -- What conversions of `Nullable` answer (2.9.5, 3.12).
 use Rattle.std.specs.Prelude.{◌≡◌, ◌≢◌, Result, Ok, Err}
 use Rattle.graphql_spec.specs.Constants.{Constant, null}
-use Rattle.juniper_nullable.specs.declared.nullable.Nullable.{Nullable}
-use Rattle.juniper_nullable.specs.declared.nullable.Nullable.TheVariants as nullable
+use Rattle.juniper_conversions.specs.declared.nullable.Nullable.{Nullable}
+use Rattle.juniper_conversions.specs.declared.nullable.Nullable.TheVariants as nullable
 
 -- `Nullable`: null is the null that is written, any other value goes as the type inside
 abbrev pub GivesNullable : {A E : Type 0} → (Constant → Result A E → Type 0) → Constant → Result (Nullable A) E → Type 0

@@ -1,13 +1,12 @@
 //! Conversions between scalars and IDs (section 3.5.5 of the Specification).
 
 ghost use Rattle.std.specs.Prelude.{◌≡◌, IfOk, codes, option_map};
-ghost use Rattle.juniper_id.specs.Text.{id_text};
+ghost use Rattle.juniper_conversions.specs.IdText.{id_text};
 ghost use Rattle.juniper_conversions.specs.Identifiers.{id_of, shown_id};
 ghost use Rattle.juniper_conversions.specs.ErrorView.{view_error};
 
-use crate::FieldError;
 use crate::scalar_traits::{FromScalarValue, ToScalarValue, refused_scalar};
-use juniper_id::ID;
+use crate::{FieldError, ID};
 use juniper_syntax::ScalarValue;
 use std::alloc::{AllocError, Global};
 

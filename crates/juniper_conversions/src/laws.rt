@@ -2,11 +2,11 @@
 
 ghost use Rattle.std.specs.Prelude.{◌≡◌, ◌≢◌, MatchResult, Ok, IsOkAnd, IsSomeAnd, None, Some, string_bytes};
 ghost use Rattle.graphql_spec.specs.Constants.{null};
-ghost use Rattle.juniper_id.specs.Text.{id_text};
+ghost use Rattle.juniper_conversions.specs.IdText.{id_text};
 ghost use Rattle.juniper_conversions.specs.RoundTrips.{ComesBack, ComesBackAs};
 
+use crate::ID;
 use crate::convert::{FromInputValue, ToInputValue};
-use juniper_id::ID;
 use juniper_syntax::ScalarValue;
 
 /// An Int comes back from the input value that it makes.

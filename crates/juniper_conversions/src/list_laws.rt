@@ -4,11 +4,11 @@ ghost use Rattle.std.specs.Prelude.{◌≡◌, ◌≢◌, Ok, IsOkAnd, IsSomeAnd
 ghost use Rattle.std.specs.declared.alloc.Global.{Global};
 ghost use Rattle.std.specs.declared.boxed.Box.{Box};
 ghost use Rattle.graphql_spec.specs.Constants.{null};
-ghost use Rattle.juniper_nullable.specs.Nullable.{some};
+ghost use Rattle.juniper_conversions.specs.Nullable.{some};
 ghost use Rattle.juniper_conversions.specs.RoundTrips.{AlwaysBrings, BringsBack, ComesBack, ComesBackAs, EachComesBackAs};
 
+use crate::Nullable;
 use crate::convert::{FromInputValue, ToInputValue};
-use juniper_nullable::Nullable;
 use juniper_syntax::ScalarValue;
 
 /// What a vector writes comes back where each item's does: where each item has an answer, item by item such answers are

@@ -1,10 +1,10 @@
 //! Laws of conversions between scalars and the types of resolvers. Each function does nothing; its contract is the law.
 
 ghost use Rattle.std.specs.Prelude.{◌≡◌, MatchResult, Ok, string_bytes};
-ghost use Rattle.juniper_id.specs.Text.{id_text};
+ghost use Rattle.juniper_conversions.specs.IdText.{id_text};
 
+use crate::ID;
 use crate::scalar_traits::{FromScalarValue, ToScalarValue};
-use juniper_id::ID;
 use juniper_syntax::ScalarValue;
 
 /// An Int comes back from the scalar that it makes (3.5.1).

@@ -3,8 +3,8 @@
 
 ghost use Rattle.std.specs.Prelude.{◌≡◌, IfOk};
 
+use crate::Nullable;
 use crate::convert::{FromInputValue, ToInputValue};
-use juniper_nullable::Nullable;
 use juniper_syntax::{InputValue, ScalarValue};
 use std::alloc::{AllocError, Global};
 

@@ -10,7 +10,7 @@ use Rattle.juniper_rules.specs.Listing.{PlacedListing, listing_of, placed_listin
 use Rattle.juniper_rules.specs.declared.lists.ListedOnTypes.{ListedOnTypes}
 use Rattle.juniper_written.proofs.Lists.{flat-seen}
 use Rattle.juniper_written.specs.WrittenView.{view_lists}
-use Rattle.juniper_placed.specs.CallView.{view_calls}
+use Rattle.juniper_type_rules.specs.CallView.{view_calls}
 use Rattle.juniper_type_rules.specs.Positions.{Place, places_in_call, places_used}
 use Rattle.juniper_type_rules.specs.Variables.{words_given, words_used}
 

@@ -5,7 +5,7 @@ ghost use Rattle.std.specs.List.{flat_map};
 ghost use Rattle.graphql_spec.specs.Fields.{fields_of, type_named};
 ghost use Rattle.graphql_spec.specs.Types.{type_text};
 ghost use Rattle.juniper_meta.specs.MetaView as metas;
-ghost use Rattle.juniper_placed.specs.PlacedView.{view_parts, view_placed};
+ghost use Rattle.juniper_type_rules.specs.PlacedView.{view_parts, view_placed};
 ghost use Rattle.juniper_schema.specs.SchemaView.{view_schema};
 ghost use Rattle.juniper_written.specs.WrittenView.{view_names};
 ghost use Rattle.juniper_explain.specs.Adding.{Adds};
@@ -15,10 +15,9 @@ ghost use Rattle.juniper_explain.specs.Nodes.{set_text, suggestion, unknown_fiel
 use crate::explanation::{Explanation, add};
 use crate::nearest::{suggested, suggestion};
 use crate::rule::Rule;
-use juniper_placed::{Placed, PlacedParts};
 use juniper_schema::{SchemaType, meta};
 use juniper_syntax::{ScalarValue, Type};
-use juniper_type_rules::set_is_wrong;
+use juniper_type_rules::{Placed, PlacedParts, set_is_wrong};
 use std::alloc::{AllocError, Global};
 
 /// Explains the fields that their parent types lack.

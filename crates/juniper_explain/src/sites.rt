@@ -3,17 +3,17 @@
 ghost use Rattle.std.specs.Prelude.{◌≡◌, ◌++◌, IfOk, OnOk, Some, map};
 ghost use Rattle.std.specs.List.{flat_map};
 ghost use Rattle.graphql_spec.specs.Placed.{directive_named};
-ghost use Rattle.juniper_placed.specs.PlacedView.{view_parts, view_placed};
+ghost use Rattle.juniper_type_rules.specs.PlacedView.{view_parts, view_placed};
 ghost use Rattle.juniper_syntax.specs.DocumentView.{view_directive};
 ghost use Rattle.juniper_written.specs.WrittenView.{view_directives_at};
 ghost use Rattle.juniper_explain.specs.Sites.{directive_site, field_site};
 ghost use Rattle.juniper_explain.specs.SitesView.{owner_text, view_sites};
 
 use juniper_meta::meta::Argument;
-use juniper_placed::{Placed, PlacedParts};
 use juniper_schema::SchemaType;
 use juniper_syntax::ast::Arguments;
 use juniper_syntax::{Directive, ScalarValue, SourcePosition, Span, Spanning};
+use juniper_type_rules::{Placed, PlacedParts};
 use std::alloc::{AllocError, Global};
 use std::fmt;
 

@@ -3,8 +3,8 @@
 ghost use Rattle.std.specs.Prelude.{◌≡◌, IfOk, List, OnOk};
 ghost use Rattle.graphql_spec.specs.Documents as documents;
 ghost use Rattle.juniper_rules.specs.Listing.{AreListedOnTypes, IsListedOnTypes, definition_of};
-ghost use Rattle.juniper_placed.specs.PlacedView.{view_parts};
-ghost use Rattle.juniper_placed.specs.Placing.{parts_of};
+ghost use Rattle.juniper_type_rules.specs.PlacedView.{view_parts};
+ghost use Rattle.juniper_type_rules.specs.Placing.{parts_of};
 ghost use Rattle.juniper_schema.specs.SchemaView.{view_schema};
 ghost use Rattle.juniper_syntax.specs.DocumentView.{view_definition};
 ghost use Rattle.juniper_explain.specs.Adding.{AddsAll, AddsOfArguments, AddsTwo, Explain};
@@ -18,10 +18,10 @@ use crate::given::{explain_unknown_arguments, explain_wrong_arguments};
 use crate::sites::sites;
 use crate::variables::{explain_defaults, explain_other_variables, variables_of};
 use crate::words::words_in;
-use juniper_placed::PlacedParts;
 use juniper_rules::ListedOnTypes;
 use juniper_schema::SchemaType;
 use juniper_syntax::{Definition, ScalarValue};
+use juniper_type_rules::PlacedParts;
 use std::alloc::{AllocError, Global};
 
 /// Explains what the rules on types find in a document, of whose definitions this is listed. An error where memory is

@@ -15,9 +15,9 @@ ghost use Rattle.juniper_field_graph.specs.PlainKeys.{AreOnce, placed_on, writte
 
 use crate::gathering::type_inside;
 use crate::{same_call, types_agree};
-use juniper_placed::root_name;
 use juniper_schema::SchemaType;
 use juniper_syntax::{Definition, Field, ScalarValue, Selection, Span, Spanning, name_number};
+use juniper_type_rules::root_name;
 use std::alloc::{AllocError, Global};
 use std::collections::BTreeMap;
 

@@ -134,6 +134,7 @@ impl<Q: GraphQLValue<S>, M: GraphQLType<S>, Sub: GraphQLType<S>, S: ScalarValue>
         }
     }
 
+    #[inline(always)]
     fn resolve_field(
         &self,
         alloc: Global,
@@ -199,6 +200,7 @@ impl<Q: GraphQLValue<S>, M: GraphQLType<S>, Sub: GraphQLType<S>, S: ScalarValue>
 > {
     /// What a user's node answers to a field: the schema answers `__schema` and `__type`, and the query's resolver all else.
     #[tactic(auto, unfolding(crate::specs::Handles::held_user_reply))]
+    #[inline(always)]
     fn resolve_users(
         &self,
         alloc: Global,

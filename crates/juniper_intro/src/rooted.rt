@@ -37,6 +37,7 @@ fn rooted<N: Drop, S: ScalarValue>(
 
 /// What the query's resolver answered, with the root's nodes in place of the user's.
 #[tactic(auto, unfolding(graphql_spec::specs::SeenNodes::map_reply))]
+#[inline(always)]
 pub fn rooted_answer<N: Drop, S: ScalarValue>(
     alloc: Global,
     answered: Result<Resolved<N, S>, ResolveError<S>>,

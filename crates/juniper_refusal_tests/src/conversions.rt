@@ -2,8 +2,7 @@
 
 use crate::inputs::{Input, Scalar, ending, read_input};
 use crate::turns::{Ended, Room, Task, Turn, tried};
-use juniper_id::ID;
-use juniper_nullable::Nullable;
+use juniper_conversions::{ID, Nullable};
 use juniper_values::{FromInputValue, ToInputValue};
 use std::alloc::{AllocError, Global};
 use std::fmt::Debug;

@@ -7,8 +7,8 @@ ghost use Rattle.juniper_meta.specs.MetaView.{unnamed_meta};
 
 use crate::graphql_type::{GraphQLReference, GraphQLType};
 use crate::registry::Registry;
+use juniper_conversions::Nullable;
 use juniper_meta::MetaType;
-use juniper_nullable::Nullable;
 use juniper_syntax::{ScalarValue, Type};
 use std::alloc::{AllocError, Global};
 

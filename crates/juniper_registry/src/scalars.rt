@@ -6,7 +6,7 @@ ghost use Rattle.juniper_meta.specs.BuiltInScalars.{booleans, ids, ints, scalar_
 
 use crate::graphql_type::{GraphQLReference, GraphQLType};
 use crate::registry::Registry;
-use juniper_id::ID;
+use juniper_conversions::ID;
 use juniper_meta::{MetaType, boolean_scalar, id_scalar, int_scalar, string_scalar};
 use juniper_syntax::{ScalarValue, Type};
 use std::alloc::{AllocError, Global};

@@ -3,10 +3,9 @@
 use crate::kinds::unknown;
 use crate::samples::{Character, Episode, Found, Human, Review};
 use crate::table::Row;
-use juniper_id::ID;
+use juniper_conversions::{ID, Nullable};
 use juniper_meta::meta::Field;
 use juniper_meta::{ListMeta, MetaType, ScalarKinds};
-use juniper_nullable::Nullable;
 use juniper_registry::{GraphQLReference, GraphQLType, Registry, RegistryError, TypeKind};
 use juniper_syntax::DefaultScalarValue;
 use std::alloc::{AllocError, Global};

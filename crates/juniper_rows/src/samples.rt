@@ -7,7 +7,7 @@ ghost use Rattle.graphql_spec.specs.Shown.{boolean, int, text};
 ghost use Rattle.juniper_meta.specs.MetaView.{view_field};
 ghost use Rattle.juniper_registry.specs.DeclaredTypes.{enum, input_object, input_with_default, interface, list_type, object, optional, type_named, union};
 
-use juniper_id::ID;
+use juniper_conversions::ID;
 use juniper_meta::MetaType;
 use juniper_meta::meta::Field;
 use juniper_registry::{GraphQLReference, GraphQLType, Registry};

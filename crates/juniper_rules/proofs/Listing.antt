@@ -5,9 +5,9 @@ use Rattle.graphql_spec.specs.Documents.{Argument, Definition, Document}
 use Rattle.graphql_spec.specs.Placed.{Call, calls}
 use Rattle.graphql_spec.specs.Schema.{Schema}
 use Rattle.graphql_spec.specs.Written.{argument_lists}
-use Rattle.juniper_placed.specs.CallView.{view_calls}
-use Rattle.juniper_placed.specs.PlacedView.{view_parts}
-use Rattle.juniper_placed.specs.Placing as placing
+use Rattle.juniper_type_rules.specs.CallView.{view_calls}
+use Rattle.juniper_type_rules.specs.PlacedView.{view_parts}
+use Rattle.juniper_type_rules.specs.Placing as placing
 use Rattle.juniper_written.specs.Parts.{Parts, lists_of, parts_of}
 use Rattle.juniper_written.specs.WrittenView.{view_lists, view_written}
 use Rattle.juniper_rules.specs.Listing.{AreListed, AreListedOnTypes, IsListed, IsListedOnTypes, Listing, PlacedListing, definition_of, listing_of}

@@ -7,9 +7,9 @@ ghost use Rattle.juniper_syntax.specs.DocumentView.{view_definition};
 ghost use Rattle.juniper_rules.specs.Listing.{AreListed, AreListedOnTypes, IsListed, definition_of, listing_of, placed_listing_of, view_listed};
 ghost use Rattle.juniper_rules.specs.Listing.{view_listed_on_types};
 
-use juniper_placed::{Call, PlacedParts, calls, placed_in};
 use juniper_schema::SchemaType;
 use juniper_syntax::{Definition, ScalarValue};
+use juniper_type_rules::{Call, PlacedParts, calls, placed_in};
 use juniper_written::{ArgumentLists, Written, argument_lists, written_in};
 use std::alloc::{AllocError, Global};
 

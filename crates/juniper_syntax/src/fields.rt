@@ -166,6 +166,7 @@ impl<V: Drop> Fields<V> {
 
     /// Puts a value at a key, which is copied where it is not the next of those that came as a hint. A new key goes last; one that is there
     /// keeps its place, and its old value is let go. Where memory is refused all stays as it was.
+    #[inline(always)]
     pub fn put(&mut self, alloc: Global, key: &str, value: V) -> Result<(), AllocError>
         ensures ok { OnOk result (said self.new ≡ insert_entry bytes_eq (said self.old) key.now value) }
         ensures err { OnErr result (said self.new ≡ said self.old) }

@@ -84,6 +84,7 @@ pub(crate) fn places_of(alloc: Global, names: &[String]) -> Result<Places, Alloc
 }
 
 /// Whether the key stands at the place.
+#[inline(always)]
 pub(crate) fn is_at(names: &[String], place: usize, key: &str) -> bool
     ensures { result ≡ stands_at names.now place key.now }
 {

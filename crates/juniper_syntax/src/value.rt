@@ -149,6 +149,7 @@ impl<S: ScalarValue> Object<S> {
 
     /// Puts a value at a key, which is copied where it is not the next that was hinted at. A new key goes last; one that is there keeps its
     /// place, and its old value is let go. Where memory is refused the object stays as it was.
+    #[inline(always)]
     pub fn put_field(&mut self, alloc: Global, key: &str, value: Value<S>) -> Result<(), AllocError>
         ensures ok { OnOk result (view_object S.shown self.new ≡ put key.now (view_value S.shown value) (view_object S.shown self.old)) }
         ensures err { OnErr result (view_object S.shown self.new ≡ view_object S.shown self.old) }

@@ -13,3 +13,5 @@ mod Tests
 mod Unused
 pub mod Walking
 pub mod WordsIn
+mod Calling
+mod Placing

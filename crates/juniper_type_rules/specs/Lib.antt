@@ -3,3 +3,7 @@ pub mod Numbers
 pub mod Positions
 pub mod UsesView
 pub mod Variables
+pub mod CallView
+pub mod Parents
+pub mod PlacedView
+pub mod Placing

@@ -4,13 +4,13 @@ ghost use Rattle.std.specs.Prelude.{◌≡◌, option_map};
 ghost use Rattle.std.specs.List.{list_any};
 ghost use Rattle.graphql_spec.specs.Rules as rules;
 ghost use Rattle.juniper_meta.specs.MetaView.{view_argument};
-ghost use Rattle.juniper_placed.specs.CallView.{view_call, view_calls};
+ghost use Rattle.juniper_type_rules.specs.CallView.{view_call, view_calls};
 ghost use Rattle.juniper_schema.specs.SchemaView.{view_schema};
 ghost use Rattle.juniper_syntax.specs.InputView.{view_input};
 ghost use Rattle.juniper_type_rules.specs.SetTests.{misfits};
 
+use crate::Call;
 use juniper_meta::{Argument, find_argument};
-use juniper_placed::Call;
 use juniper_schema::SchemaType;
 use juniper_syntax::{InputValue, ScalarValue};
 

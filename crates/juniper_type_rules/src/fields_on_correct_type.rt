@@ -3,9 +3,9 @@
 ghost use Rattle.std.specs.Prelude.{◌≡◌};
 ghost use Rattle.std.specs.List.{list_any};
 ghost use Rattle.std.specs.Option.{is_none};
-ghost use Rattle.juniper_placed.specs.PlacedView.{view_parts, view_placed};
+ghost use Rattle.juniper_type_rules.specs.PlacedView.{view_parts, view_placed};
 
-use juniper_placed::{Placed, PlacedParts};
+use crate::{Placed, PlacedParts};
 use juniper_syntax::ScalarValue;
 
 /// Whether a field is one that its parent type lacks.

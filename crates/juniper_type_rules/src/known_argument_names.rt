@@ -6,10 +6,10 @@ ghost use Rattle.std.specs.Option.{is_none};
 ghost use Rattle.graphql_spec.specs.Fields.{declaration_in};
 ghost use Rattle.graphql_spec.specs.Rules as rules;
 ghost use Rattle.juniper_meta.specs.MetaView.{view_argument};
-ghost use Rattle.juniper_placed.specs.CallView.{view_call, view_calls};
+ghost use Rattle.juniper_type_rules.specs.CallView.{view_call, view_calls};
 
+use crate::Call;
 use juniper_meta::{Argument, find_argument};
-use juniper_placed::Call;
 use juniper_syntax::ScalarValue;
 
 /// Whether one of the fields or directives is given an argument that it does not declare.

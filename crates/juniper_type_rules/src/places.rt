@@ -10,13 +10,13 @@ ghost use Rattle.juniper_syntax.specs.Positions.{view_span};
 ghost use Rattle.juniper_syntax.specs.InputView.{view_fields, view_input, view_items};
 ghost use Rattle.juniper_meta.specs.MetaView.{view_argument, view_type};
 ghost use Rattle.juniper_schema.specs.SchemaView.{view_schema};
-ghost use Rattle.juniper_placed.specs.CallView.{view_call, view_calls};
+ghost use Rattle.juniper_type_rules.specs.CallView.{view_call, view_calls};
 ghost use Rattle.juniper_type_rules.specs.Positions.{places_at, places_in_call, places_in_fields, places_in_items, uses_of_places};
 ghost use Rattle.juniper_type_rules.specs.UsesView.{place_at, view_places, view_uses};
 
+use crate::Call;
 use crate::uses::{Place, Use};
 use juniper_meta::{Argument, find_argument};
-use juniper_placed::Call;
 use juniper_schema::SchemaType;
 use juniper_syntax::ast::Arguments;
 use juniper_syntax::{InputField, InputValue, ScalarValue, Span, Spanning, Type};

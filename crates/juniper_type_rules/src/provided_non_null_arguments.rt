@@ -6,11 +6,11 @@ ghost use Rattle.std.specs.Str.{bytes_eq};
 ghost use Rattle.graphql_spec.specs.Documents.{written};
 ghost use Rattle.graphql_spec.specs.Rules as rules;
 ghost use Rattle.juniper_meta.specs.MetaView.{view_argument};
-ghost use Rattle.juniper_placed.specs.CallView.{view_call, view_calls};
+ghost use Rattle.juniper_type_rules.specs.CallView.{view_call, view_calls};
 ghost use Rattle.juniper_syntax.specs.DocumentView.{view_arguments};
 
+use crate::Call;
 use juniper_meta::meta::Argument;
-use juniper_placed::Call;
 use juniper_syntax::ast::Arguments;
 use juniper_syntax::{ScalarValue, Span, Spanning};
 

@@ -4,11 +4,11 @@ ghost use Rattle.std.specs.Prelude.{◌≡◌};
 ghost use Rattle.std.specs.List.{list_any};
 ghost use Rattle.graphql_spec.specs.Rules.{set_is_wrong};
 ghost use Rattle.juniper_meta.specs.MetaView.{view_type};
-ghost use Rattle.juniper_placed.specs.PlacedView.{view_parts, view_placed};
+ghost use Rattle.juniper_type_rules.specs.PlacedView.{view_parts, view_placed};
 ghost use Rattle.juniper_schema.specs.SchemaView.{view_schema};
 ghost use Rattle.juniper_type_rules.specs.SetTests.{has_wrong_set};
 
-use juniper_placed::{Placed, PlacedParts};
+use crate::{Placed, PlacedParts};
 use juniper_schema::SchemaType;
 use juniper_syntax::{ScalarValue, Type};
 

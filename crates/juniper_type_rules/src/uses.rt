@@ -4,13 +4,13 @@ ghost use Rattle.std.specs.Prelude.{◌≡◌, IfOk, option_map};
 ghost use Rattle.juniper_syntax.specs.DocumentView.{view_definition};
 ghost use Rattle.juniper_schema.specs.SchemaView.{view_schema};
 ghost use Rattle.juniper_written.specs.WrittenView.{view_lists};
-ghost use Rattle.juniper_placed.specs.CallView.{view_calls};
+ghost use Rattle.juniper_type_rules.specs.CallView.{view_calls};
 ghost use Rattle.juniper_type_rules.specs.UsesView.{IsUsageIn, fragment_name, has_variables, view_used};
 
+use crate::Call;
 use crate::once::{names_once, uses_once};
 use crate::places::{places_in_calls, uses_of_places};
 use crate::words::{names_of_words, words_in_lists};
-use juniper_placed::Call;
 use juniper_schema::SchemaType;
 use juniper_syntax::{Definition, ScalarValue, Span, Type};
 use juniper_written::ArgumentLists;

@@ -1,6 +1,6 @@
 //! `ID` (section 3.5.5 of the Specification): its text, its copies, and its JSON.
 
-use juniper_id::ID;
+use juniper_conversions::ID;
 use std::test::Fail;
 
 #[test]

@@ -1,7 +1,7 @@
 //! `Nullable` (section 2.9.5 of the Specification): its cases, what is put for nulls, what is mapped, and its derives.
 
-use juniper_nullable::Nullable;
-use juniper_nullable::Nullable::{ExplicitNull, ImplicitNull};
+use juniper_conversions::Nullable;
+use juniper_conversions::Nullable::{ExplicitNull, ImplicitNull};
 use std::hash::{BuildHasher, BuildHasherDefault, DefaultHasher};
 use std::test::Fail;
 

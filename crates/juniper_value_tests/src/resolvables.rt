@@ -1,7 +1,6 @@
 //! What values of Rust answer as a resolver's.
 
-use juniper_id::ID;
-use juniper_nullable::Nullable;
+use juniper_conversions::{ID, Nullable};
 use juniper_syntax::DefaultScalarValue;
 use juniper_values::{IntoResolvable, OfNode, ResolveError, Resolved};
 use std::alloc::{AllocError, Global};

@@ -13,8 +13,7 @@ ghost use Rattle.juniper_words.specs.Nodes.{nodes_at, nodes_reply};
 ghost use Rattle.juniper_words.specs.Replies.{count_reply, fails_with_code, found_or_code};
 ghost use Rattle.juniper_value_tests.specs.declared.words.Episode.TheVariants as episodes;
 
-use juniper_conversions::ResolveError;
-use juniper_id::ID;
+use juniper_conversions::{ID, ResolveError};
 use juniper_meta::{Argument, MetaType, ScalarKinds};
 use juniper_registry::{GraphQLReference, GraphQLType, Registry};
 use juniper_syntax::{DefaultScalarValue, InputValue, ScalarValue, Spanning, Type, Value};

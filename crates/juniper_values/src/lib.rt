@@ -14,10 +14,8 @@ pub use arguments::Arguments;
 pub use into_resolvable::{IntoResolvable, OfNode};
 pub use juniper_conversions::{
     ExecutionError, ExecutionResult, FieldError, FieldResult, FromInputValue,
-    FromInputValueArrayError, FromInputValueVecError, FromScalarValue, IntoFieldError, PathPart,
-    PathSegment, ResolveError, ToInputValue, ToScalarValue,
+    FromInputValueArrayError, FromInputValueVecError, FromScalarValue, ID, IntoFieldError,
+    Nullable, PathPart, PathSegment, ResolveError, ToInputValue, ToScalarValue,
 };
-pub use juniper_id::ID;
-pub use juniper_nullable::Nullable;
 pub use reading::{EnumName, NamedValue, enum_argument, int_argument};
 pub use resolved::Resolved;

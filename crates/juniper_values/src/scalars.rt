@@ -3,12 +3,12 @@
 ghost use Rattle.std.specs.Prelude.{string_bytes};
 ghost use Rattle.graphql_spec.specs.Resolvers.{answered, leaf};
 ghost use Rattle.graphql_spec.specs.Shown.{boolean, int, text};
-ghost use Rattle.juniper_id.specs.Text.{id_text};
+ghost use Rattle.juniper_conversions.specs.IdText.{id_text};
 
 use crate::ResolveError;
 use crate::into_resolvable::IntoResolvable;
 use crate::resolved::Resolved;
-use juniper_id::ID;
+use juniper_conversions::ID;
 use juniper_syntax::ScalarValue;
 use std::alloc::Global;
 

@@ -2,13 +2,13 @@
 //! Specification).
 
 ghost use Rattle.std.specs.Prelude.{map};
-ghost use Rattle.juniper_nullable.specs.Nullable.{some};
+ghost use Rattle.juniper_conversions.specs.Nullable.{some};
 ghost use Rattle.juniper_values.specs.Replies.{list_reply, option_reply, result_reply};
 
 use crate::into_resolvable::IntoResolvable;
 use crate::resolved::Resolved;
 use crate::{IntoFieldError, ResolveError};
-use juniper_nullable::Nullable;
+use juniper_conversions::Nullable;
 use juniper_syntax::ScalarValue;
 use std::alloc::Global;
 

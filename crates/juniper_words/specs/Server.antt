@@ -10,7 +10,7 @@ pub use Rattle.graphql_spec.specs.Resolvers.{Error, Reply, Tree, answered, faile
 pub use Rattle.graphql_spec.specs.Schema.{FieldDeclaration, InputDeclaration, plain_field, plain_input}
 pub use Rattle.graphql_spec.specs.Types.{TypeRef}
 pub use Rattle.juniper_words.specs.Data.{Declarations, declared}
-pub use Rattle.juniper_id.specs.Text.{id_text}
+pub use Rattle.juniper_conversions.specs.IdText.{id_text}
 pub use Rattle.juniper_meta.specs.MetaView.{Meta, view_argument, view_field, view_meta}
 pub use Rattle.juniper_registry.specs.DeclaredTypes.{enum, input_object, input_with_default, interface, list_type, object, optional, type_named, union}
 pub use Rattle.juniper_values.specs.Answered.{each_reply, fails_with, int_reply, int_sum, text_reply, trees_reply}

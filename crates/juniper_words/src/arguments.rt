@@ -2,13 +2,12 @@
 
 ghost use Rattle.std.specs.Prelude.{option_map, string_bytes};
 ghost use Rattle.graphql_spec.specs.Constants.{find};
-ghost use Rattle.juniper_id.specs.Text.{id_text};
+ghost use Rattle.juniper_conversions.specs.IdText.{id_text};
 ghost use Rattle.juniper_values.specs.ArgumentView.{view_arguments};
 ghost use Rattle.juniper_words.specs.InputsRead.{ReadsAs, argument, bool_argument, given, id_argument, text_argument};
 
 use crate::input_type::InputType;
-use juniper_conversions::ResolveError;
-use juniper_id::ID;
+use juniper_conversions::{ID, ResolveError};
 use juniper_syntax::{InputValue, ScalarValue};
 use juniper_values::Arguments;
 use std::alloc::Global;

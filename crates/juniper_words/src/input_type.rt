@@ -4,12 +4,11 @@ ghost use Rattle.std.specs.Prelude.{◌≡◌, ℤ, Bool, Option, Result, option
 ghost use Rattle.graphql_spec.specs.Constants.{Constant, meaning};
 ghost use Rattle.graphql_spec.specs.Resolvers.{Error};
 ghost use Rattle.graphql_spec.specs.Shown.{Text};
-ghost use Rattle.juniper_id.specs.Text.{id_text};
+ghost use Rattle.juniper_conversions.specs.IdText.{id_text};
 ghost use Rattle.juniper_syntax.specs.InputView.{view_input};
 ghost use Rattle.juniper_words.specs.InputsRead.{ReadsAs, read_bool, read_id, read_int, read_option, read_text};
 
-use juniper_conversions::{FromInputValue, ResolveError};
-use juniper_id::ID;
+use juniper_conversions::{FromInputValue, ID, ResolveError};
 use juniper_syntax::{InputValue, ScalarValue};
 use std::alloc::Global;
 

@@ -198,6 +198,7 @@ impl<T: QueryType<S>, S: ScalarValue> GraphQLValue<S> for Named<T> {
         T::concrete_type_name(node)
     }
 
+    #[inline(always)]
     fn resolve_field(
         &self,
         alloc: Global,

@@ -1,13 +1,12 @@
 //! What the rules on uses of variables and on introspection find.
 
 use crate::pieces::put_if;
-use juniper_placed::{calls, placed_in};
 use juniper_schema::SchemaType;
 use juniper_schema_text::Scalar;
 use juniper_syntax::{Definition, Document};
 use juniper_type_rules::{
-    Used, UsesOfFragments, looks_at_schema, misuses_variable, used_in, uses_of_fragments,
-    uses_undefined,
+    Used, UsesOfFragments, calls, looks_at_schema, misuses_variable, placed_in, used_in,
+    uses_of_fragments, uses_undefined,
 };
 use juniper_written::{argument_lists, fragments_by_name, written_in};
 use std::alloc::{AllocError, Global};

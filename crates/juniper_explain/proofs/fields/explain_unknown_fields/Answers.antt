@@ -1,7 +1,7 @@
 use Rattle.std.proofs.Common.{refl, ap, map, ◌∙◌, ◌++◌}
 use Rattle.std.specs.List.{flat_map}
 use Rattle.juniper_schema.specs.SchemaView.{view_schema}
-use Rattle.juniper_placed.specs.PlacedView.{view_placed}
+use Rattle.juniper_type_rules.specs.PlacedView.{view_placed}
 use Rattle.juniper_explain.specs.Explanations.{view_explanations}
 use Rattle.juniper_explain.specs.Nodes.{unknown_field}
 use Rattle.juniper_written.proofs.Lists.{flat-all, flat-next, flat-seen}

@@ -1,5 +1,5 @@
 use Rattle.juniper_schema.specs.SchemaView.{view_schema}
-use Rattle.juniper_placed.specs.PlacedView.{view_placed}
+use Rattle.juniper_type_rules.specs.PlacedView.{view_placed}
 use Rattle.juniper_explain.specs.Explanations.{view_explanations}
 use Rattle.juniper_explain.specs.Nodes.{unknown_field}
 use Rattle.juniper_written.proofs.Lists.{IsFlatSoFar}

@@ -1,7 +1,7 @@
 use Rattle.std.proofs.Common.{◌<◌, ◌≤◌, length, map, refl, ap, ◌∙◌, ◌++◌, arith}
 use Rattle.std.specs.List.{flat_map}
 use Rattle.juniper_rules.specs.Listing.{view_listed_on_types}
-use Rattle.juniper_placed.specs.CallView.{view_calls}
+use Rattle.juniper_type_rules.specs.CallView.{view_calls}
 use Rattle.juniper_schema.specs.SchemaView.{view_schema}
 use Rattle.juniper_syntax.specs.DocumentView.{view_variable}
 use Rattle.juniper_written.proofs.Lists.{flat-next, flat-all, flat-seen}

@@ -1,6 +1,6 @@
 use Rattle.std.proofs.Common.{refl, ap, map, ◌∙◌, ◌++◌}
 use Rattle.std.specs.List.{flat_map}
-use Rattle.juniper_placed.specs.PlacedView.{view_placed}
+use Rattle.juniper_type_rules.specs.PlacedView.{view_placed}
 use Rattle.juniper_explain.specs.SitesView.{view_sites}
 use Rattle.juniper_explain.specs.Sites.{field_site}
 use Rattle.juniper_written.proofs.Lists.{flat-all, flat-next, flat-seen}

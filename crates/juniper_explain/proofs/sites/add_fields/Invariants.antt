@@ -1,4 +1,4 @@
-use Rattle.juniper_placed.specs.PlacedView.{view_placed}
+use Rattle.juniper_type_rules.specs.PlacedView.{view_placed}
 use Rattle.juniper_explain.specs.SitesView.{view_sites}
 use Rattle.juniper_explain.specs.Sites.{field_site}
 use Rattle.juniper_written.proofs.Lists.{IsFlatSoFar}

@@ -2,7 +2,7 @@ use Rattle.std.proofs.Common.{ap, ◌∙◌, ◌++◌}
 use Rattle.std.specs.List.{flat_map}
 use Rattle.std.proofs.lemmas.Result.{on_ok_weaker}
 use Rattle.graphql_spec.specs.Placed.{directive_named}
-use Rattle.juniper_placed.specs.Placing.{parts_of}
+use Rattle.juniper_type_rules.specs.Placing.{parts_of}
 use Rattle.juniper_schema.specs.SchemaView.{view_schema}
 use Rattle.juniper_explain.specs.Nodes.{missing_arguments, unknown_arguments, wrong_arguments}
 use Rattle.juniper_explain.specs.Sites.{directive_site, field_site, sites}

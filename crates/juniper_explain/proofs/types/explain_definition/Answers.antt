@@ -5,7 +5,7 @@ use Rattle.graphql_spec.specs.Placed.{placed_in}
 use Rattle.graphql_spec.specs.Written.{defined_variables}
 use Rattle.juniper_rules.specs.Listing.{definition_of}
 use Rattle.juniper_rules.proofs.Listing.{placed-is}
-use Rattle.juniper_placed.specs.Placing.{parts_of}
+use Rattle.juniper_type_rules.specs.Placing.{parts_of}
 use Rattle.juniper_schema.specs.SchemaView.{view_schema}
 use Rattle.juniper_explain.specs.Explanations.{view_explanations}
 use Rattle.juniper_explain.specs.Nodes.{missing_arguments, other_condition, other_variable, type_findings, unknown_arguments, unknown_field, wrong_arguments}

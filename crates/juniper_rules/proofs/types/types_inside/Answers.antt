@@ -4,8 +4,8 @@ use Rattle.std.specs.Option.{is_none}
 use Rattle.graphql_spec.specs.Fields.{is_composite, type_named}
 use Rattle.graphql_spec.specs.Rules.{gives_too_few, gives_unknown, gives_wrong, has_other_condition, has_unknown_argument, has_unknown_field}
 use Rattle.graphql_spec.specs.Rules.{has_wrong_argument, has_wrong_set, lacks_argument}
-use Rattle.juniper_placed.specs.CallView.{view_calls}
-use Rattle.juniper_placed.specs.Placing as placing
+use Rattle.juniper_type_rules.specs.CallView.{view_calls}
+use Rattle.juniper_type_rules.specs.Placing as placing
 use Rattle.juniper_schema.specs.SchemaView.{view_schema}
 use Rattle.juniper_type_rules.specs.SetTests as sets
 use Rattle.juniper_written.specs.Parts.{parts_of}

@@ -1,6 +1,6 @@
 use Rattle.std.proofs.Common.{ap, ◌∙◌}
 use Rattle.std.proofs.lemmas.Result.{IfOk-weaker}
-use Rattle.juniper_placed.specs.CallView.{view_calls}
+use Rattle.juniper_type_rules.specs.CallView.{view_calls}
 use Rattle.juniper_schema.specs.SchemaView.{view_schema}
 use Rattle.juniper_rules.proofs.Listing.{arguments-are, calls-are, listed-is}
 use Rattle.juniper_rules.proofs.uses.used_by.Goals as goal

@@ -1,6 +1,6 @@
 use Rattle.std.proofs.Common.{sym}
 use Rattle.graphql_spec.specs.Rules.{gives_wrong}
-use Rattle.juniper_placed.specs.CallView.{view_call}
+use Rattle.juniper_type_rules.specs.CallView.{view_call}
 use Rattle.juniper_schema.specs.SchemaView.{view_schema}
 use Rattle.juniper_written.proofs.Deciding.{open-first, open-next, one-passes, none-passes}
 use Rattle.juniper_type_rules.proofs.arguments_of_correct_type.has_wrong_argument.Goals as goal

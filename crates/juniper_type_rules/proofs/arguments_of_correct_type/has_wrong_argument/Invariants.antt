@@ -1,5 +1,5 @@
 use Rattle.graphql_spec.specs.Rules.{gives_wrong}
-use Rattle.juniper_placed.specs.CallView.{view_call}
+use Rattle.juniper_type_rules.specs.CallView.{view_call}
 use Rattle.juniper_schema.specs.SchemaView.{view_schema}
 use Rattle.juniper_written.proofs.Deciding.{IsOpen}
 use Rattle.juniper_type_rules.proofs.arguments_of_correct_type.has_wrong_argument.Given as goal

@@ -1,5 +1,5 @@
 use Rattle.std.specs.Option.{is_none}
-use Rattle.juniper_placed.specs.PlacedView.{view_placed}
+use Rattle.juniper_type_rules.specs.PlacedView.{view_placed}
 use Rattle.juniper_written.proofs.Deciding.{IsOpen}
 use Rattle.juniper_type_rules.proofs.fields_on_correct_type.has_unknown_field.Given as goal
 

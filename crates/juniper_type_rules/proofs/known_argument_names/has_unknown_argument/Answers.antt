@@ -1,6 +1,6 @@
 use Rattle.std.proofs.Common.{sym}
 use Rattle.graphql_spec.specs.Rules.{gives_unknown}
-use Rattle.juniper_placed.specs.CallView.{view_call}
+use Rattle.juniper_type_rules.specs.CallView.{view_call}
 use Rattle.juniper_written.proofs.Deciding.{open-first, open-next, one-passes, none-passes}
 use Rattle.juniper_type_rules.proofs.known_argument_names.has_unknown_argument.Goals as goal
 

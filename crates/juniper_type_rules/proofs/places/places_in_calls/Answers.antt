@@ -3,7 +3,7 @@ use Rattle.std.specs.List.{flat_map}
 use Rattle.juniper_type_rules.specs.Positions.{places_in_call}
 use Rattle.juniper_schema.specs.SchemaView.{view_schema}
 use Rattle.juniper_written.proofs.Lists.{flat-next, flat-all, flat-seen}
-use Rattle.juniper_placed.specs.CallView.{view_call}
+use Rattle.juniper_type_rules.specs.CallView.{view_call}
 use Rattle.juniper_type_rules.specs.UsesView.{view_places}
 use Rattle.juniper_type_rules.proofs.places.places_in_calls.Goals as goal
 

@@ -1,5 +1,5 @@
 use Rattle.graphql_spec.specs.Rules.{gives_too_few}
-use Rattle.juniper_placed.specs.CallView.{view_call}
+use Rattle.juniper_type_rules.specs.CallView.{view_call}
 use Rattle.juniper_written.proofs.Deciding.{IsOpen}
 use Rattle.juniper_type_rules.proofs.provided_non_null_arguments.lacks_argument.Given as goal
 

@@ -1,5 +1,5 @@
 use Rattle.std.proofs.Common.{ap, map, sym, ◌∙◌}
-use Rattle.juniper_placed.specs.PlacedView.{view_placed}
+use Rattle.juniper_type_rules.specs.PlacedView.{view_placed}
 use Rattle.juniper_schema.specs.SchemaView.{view_schema}
 use Rattle.juniper_type_rules.specs.SetTests.{has_wrong_set}
 use Rattle.std.specs.List.{list_any}

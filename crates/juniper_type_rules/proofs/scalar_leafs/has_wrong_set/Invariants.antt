@@ -1,4 +1,4 @@
-use Rattle.juniper_placed.specs.PlacedView.{view_placed}
+use Rattle.juniper_type_rules.specs.PlacedView.{view_placed}
 use Rattle.juniper_schema.specs.SchemaView.{view_schema}
 use Rattle.juniper_type_rules.specs.SetTests.{has_wrong_set}
 use Rattle.juniper_written.proofs.Deciding.{IsOpen}

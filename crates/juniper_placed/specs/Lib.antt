@@ -1,4 +1,0 @@
-pub mod CallView
-pub mod Parents
-pub mod PlacedView
-pub mod Placing
