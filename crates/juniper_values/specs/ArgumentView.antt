@@ -21,10 +21,21 @@ use Rattle.juniper_meta.specs.declared.declaration.Argument.{Argument}
 abbrev pub Placed : Type 0 → Type 0
 Placed S = Spanning (InputValue S) Span
 
--- arguments by their names, by what they mean
+-- arguments by their names, by what they mean, put to others
+abbrev pub members_onto : {A : Type 0} → (A → Constant) → Members → List (Bor (List ℕ) × A) → Members
+members_onto meant ms [] = ms
+members_onto meant ms (a ∷ rest) = insert a.0.now (meant a.1) (members_onto meant ms rest)
+
+-- what a value means, and one that is lent
+abbrev pub meant : {S : Type 0} → (S → Shown) → Placed S → Constant
+meant shown v = meaning (view_input shown v.item)
+
+abbrev pub meant_lent : {S : Type 0} → (S → Shown) → Bor (Placed S) → Constant
+meant_lent shown v = meaning (view_input shown v.now.item)
+
+-- arguments by their names
 abbrev pub members_of : {S : Type 0} → (S → Shown) → List (Bor (List ℕ) × Placed S) → Members
-members_of shown [] = no_members
-members_of shown (a ∷ rest) = insert a.0.now (meaning (view_input shown a.1.item)) (members_of shown rest)
+members_of shown = members_onto (meant shown) no_members
 
 -- the same, where there are any
 abbrev pub view_given : {S H : Type 0} → (S → Shown) → Option (IndexMap (Bor (List ℕ)) (Placed S) H) → Members
@@ -38,7 +49,7 @@ view_declared shown (Some ds) = map (view_argument shown) ds.now
 
 -- the meaning of arguments: each name with its constant
 abbrev pub view_arguments : {S : Type 0} → (S → Shown) → Arguments S → Members
-view_arguments shown a = members_of shown a.items.entries
+view_arguments shown a = members_onto (meant shown) (members_onto (meant_lent shown) no_members a.lent.items.entries) a.items.entries
 
 -- What is got of an argument, by the value that is there: nothing where there is none, else what the value is converted
 -- into, or its error; nothing is said where memory is refused.

@@ -1,8 +1,8 @@
 //! The arguments that a resolver sees (section 6.4.1 of the Specification).
 
-ghost use Rattle.std.specs.Prelude.{◌≡◌, IfOk, OnOk, map, option_map, string_bytes};
+ghost use Rattle.std.specs.Prelude.{◌≡◌, IfOk, OnOk, Some, is_some, map, option_map, string_bytes};
 ghost use Rattle.graphql_spec.specs.Arguments.{put_default, with_defaults};
-ghost use Rattle.graphql_spec.specs.Constants.{find, meaning};
+ghost use Rattle.graphql_spec.specs.Constants.{find, meaning, no_members};
 ghost use Rattle.juniper_syntax.specs.InputView.{view_input};
 ghost use Rattle.juniper_values.specs.ArgumentView.{members_of, view_arguments, view_declared, view_given, GivesArgument};
 ghost use Rattle.juniper_meta.specs.MetaView.{view_argument};
@@ -12,12 +12,29 @@ use juniper_conversions::{FromInputValue, IntoFieldError, ResolveError};
 use juniper_meta::meta::Argument;
 use juniper_syntax::{InputValue, ScalarValue, Span, Spanning};
 use std::alloc::{AllocError, Global};
+use std::fmt;
 
 /// The arguments of a field by their names: what is written for them, and the defaults of those that are declared and not
-/// written.
+/// written. A value is made for the field, or lent by what holds it while the field is resolved.
 #[derive(Debug, Drop)]
 pub struct Arguments<'a, S> {
     items: IndexMap<&'a str, Spanning<InputValue<S>, Span>>,
+    lent: LentArguments<'a, S>,
+}
+
+// The values that are lent.
+#[derive(Drop)]
+struct LentArguments<'a, S> {
+    items: IndexMap<&'a str, &'a Spanning<InputValue<S>, Span>>,
+}
+
+impl<S: fmt::Debug> fmt::Debug for LentArguments<'_, S> {
+    fn fmt<W: fmt::Write>(&self, f: &mut fmt::Formatter<W>) -> fmt::Result {
+        for (name, value) in &self.items {
+            write!(f, "{name}: {value:?} ")?;
+        }
+        Ok(())
+    }
 }
 
 impl<'a, S: ScalarValue> Arguments<'a, S> {
@@ -30,15 +47,113 @@ impl<'a, S: ScalarValue> Arguments<'a, S> {
     ) -> Result<Self, AllocError>
         ensures { IfOk result (λ made. view_arguments S.shown made ≡ with_defaults (view_declared S.shown declared.entry) (view_given S.shown given.entry)) }
     {
-        let items = fill_defaults(alloc, or_empty(alloc, given), or_none(declared))?;
-        Ok(Arguments { items })
+        let mut made = Arguments {
+            items: or_empty(alloc, given),
+            lent: LentArguments {
+                items: IndexMap::new(alloc),
+            },
+        };
+        made.put_defaults(alloc, or_none(declared))?;
+        Ok(made)
     }
 
-    /// The value of the argument of that name with its place, if there is one; the place of a default is the document's start.
+    /// No arguments: [`Arguments::put`], [`Arguments::lend`] and [`Arguments::put_defaults`] add some.
+    pub fn none(alloc: Global) -> Self
+        ensures { view_arguments S.shown result ≡ no_members }
+    {
+        Arguments {
+            items: IndexMap::new(alloc),
+            lent: LentArguments {
+                items: IndexMap::new(alloc),
+            },
+        }
+    }
+
+    /// Whether there is an argument of that name.
+    fn has(&self, name: &str) -> bool
+        ensures { result ≡ is_some (find name.now (view_arguments S.shown self.now)) }
+    {
+        self.items.contains_key(name) || self.lent.items.contains_key(name)
+    }
+
+    /// Puts in a value, unless there is one of that name. An error where memory is refused.
+    pub fn put(
+        &mut self,
+        name: &'a str,
+        value: Spanning<InputValue<S>, Span>,
+    ) -> Result<(), AllocError>
+        ensures { OnOk result (view_arguments S.shown self.new
+            ≡ put_default name.now (Some (view_input S.shown value.item)) (view_arguments S.shown self.old)) }
+    {
+        if self.has(name) {
+            return Ok(());
+        }
+        drop(self.items.insert(name, value)?);
+        Ok(())
+    }
+
+    /// Puts in a value that is lent, unless there is one of that name. An error where memory is refused.
+    pub fn lend(
+        &mut self,
+        name: &'a str,
+        value: &'a Spanning<InputValue<S>, Span>,
+    ) -> Result<(), AllocError>
+        ensures { OnOk result (view_arguments S.shown self.new
+            ≡ put_default name.now (Some (view_input S.shown value.now.item)) (view_arguments S.shown self.old)) }
+    {
+        if self.has(name) {
+            return Ok(());
+        }
+        self.lent.items.insert(name, value)?;
+        Ok(())
+    }
+
+    /// Puts in the defaults of the declared arguments that are not there. An error where memory is refused.
+    pub fn put_defaults(
+        &mut self,
+        alloc: Global,
+        declared: &'a [Argument<S>],
+    ) -> Result<(), AllocError>
+        ensures { OnOk result (view_arguments S.shown self.new
+            ≡ with_defaults (map (view_argument S.shown) declared.now) (view_arguments S.shown self.old)) }
+    {
+        for argument in declared {
+            self.put_default(alloc, argument)?;
+        }
+        Ok(())
+    }
+
+    // Puts in the default of a declared argument that is not there.
+    fn put_default(&mut self, alloc: Global, argument: &'a Argument<S>) -> Result<(), AllocError>
+        ensures { OnOk result (view_arguments S.shown self.new ≡ put_default (string_bytes argument.now.name)
+            (option_map (view_input S.shown) argument.now.default_value) (view_arguments S.shown self.old)) }
+    {
+        let name = argument.name.as_str();
+        match &argument.default_value {
+            None => Ok(()),
+            Some(value) => {
+                if self.has(name) {
+                    return Ok(());
+                }
+                let value = Spanning::unlocated(value.try_clone(alloc)?);
+                drop(self.items.insert(name, value)?);
+                Ok(())
+            }
+        }
+    }
+
+    /// The value of the argument of that name with its place, if there is one. What is not written there, a default or the value of a
+    /// variable, has the document's start as its place, but a value that is made for the field has that of what is written.
     pub fn get_input_value(&self, name: &str) -> Option<&Spanning<InputValue<S>, Span>>
         ensures { option_map (λ v. meaning (view_input S.shown v.now.item)) result ≡ find name.now (view_arguments S.shown self.now) }
     {
-        self.items.get(name)
+        match self.items.get(name) {
+            Some(value) => Some(value),
+            None => match self.lent.items.get(name) {
+                Some(value) => Some(*value),
+                None => None,
+            },
+        }
     }
 
     /// The argument of that name as a `T`; `Ok(None)` exactly where no argument and no default of that name is there. An
@@ -82,43 +197,5 @@ fn or_none<'a, S: ScalarValue>(declared: Option<&'a [Argument<S>]>) -> &'a [Argu
     match declared {
         Some(declared) => declared,
         None => &[],
-    }
-}
-
-/// The arguments, and the defaults of the declared ones that are not among them.
-fn fill_defaults<'a, S: ScalarValue>(
-    alloc: Global,
-    mut items: IndexMap<&'a str, Spanning<InputValue<S>, Span>>,
-    declared: &'a [Argument<S>],
-) -> Result<IndexMap<&'a str, Spanning<InputValue<S>, Span>>, AllocError>
-    ensures { IfOk result (λ filled. members_of S.shown filled.entries
-        ≡ with_defaults (map (view_argument S.shown) declared.now) (members_of S.shown items.entry.entries)) }
-{
-    for argument in declared {
-        put_default(alloc, &mut items, argument)?;
-    }
-    Ok(items)
-}
-
-/// Puts in the default of a declared argument that is not there.
-fn put_default<'a, S: ScalarValue>(
-    alloc: Global,
-    items: &mut IndexMap<&'a str, Spanning<InputValue<S>, Span>>,
-    argument: &'a Argument<S>,
-) -> Result<(), AllocError>
-    ensures { OnOk result (members_of S.shown items.new.entries ≡ put_default (string_bytes argument.now.name)
-        (option_map (view_input S.shown) argument.now.default_value) (members_of S.shown items.old.entries)) }
-{
-    let name = argument.name.as_str();
-    if items.contains_key(name) {
-        return Ok(());
-    }
-    match &argument.default_value {
-        None => Ok(()),
-        Some(value) => {
-            let value = Spanning::unlocated(value.try_clone(alloc)?);
-            drop(items.insert(name, value)?);
-            Ok(())
-        }
     }
 }
