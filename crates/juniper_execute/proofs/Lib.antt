@@ -9,3 +9,6 @@ mod RootPlans
 pub mod SeenEntered
 pub mod ToldFirsts
 mod Undeclared
+mod Constants
+mod Lent
+mod Making

@@ -1,12 +1,12 @@
 -- What is asked of all nodes of an object type alike (3.6, 6.4.1).
-use Rattle.std.specs.Prelude.{◌≡◌, IfSome, Option, cond, is_some, option_map, string_bytes}
+use Rattle.std.specs.Prelude.{◌≡◌, IfSome, option_map, string_bytes}
 use Rattle.std.specs.declared.cmp.PartialEq.{Ghosts as Equality}
 use Rattle.std.specs.declared.fmt.Debug.{Ghosts as Shows}
-use Rattle.graphql_spec.specs.Arguments.{coerced_arguments, put_given}
-use Rattle.graphql_spec.specs.Constants.{Members, find}
+use Rattle.graphql_spec.specs.Arguments.{coerced_arguments}
+use Rattle.graphql_spec.specs.Constants.{Members}
 use Rattle.graphql_spec.specs.Documents.{Head, response_key, written}
 use Rattle.graphql_spec.specs.Fields.{declared_arguments, declared_type, field_of, is_possible}
-use Rattle.graphql_spec.specs.Inputs.{Input, Variables}
+use Rattle.graphql_spec.specs.Inputs.{Variables}
 use Rattle.graphql_spec.specs.Schema.{Schema}
 use Rattle.graphql_spec.specs.Shown.{Name, Shown}
 use Rattle.juniper_conversions.specs.PathView.{path_place}
@@ -50,7 +50,3 @@ pub record IsFieldAsked {S : Type 0} {scalar : Scalars S} {equality : Equality S
   pub first : IsFirstOf f at.occurrences.now
   pub path : IsStepOf (response_key (head_of shown f)) (path_place at.path.now)
   pub whole : IsWholeGroup shown (is_possible (view_schema shown s)) vars at.fragments.now T at.enclosing.now at.occurrences.now
-
--- a written argument is put to those before it, unless one of its name is there, or it has no value
-abbrev pub put_absent : Name → Option Input → Members → Members
-put_absent k v ms = cond (is_some (find k ms)) ms (put_given k v ms)

@@ -14,6 +14,7 @@ ghost use Rattle.juniper_execute.specs.ServedView.{mutation_root, schema_of, ser
 ghost use Rattle.juniper_execute.specs.Validity.{IsValid};
 ghost use Rattle.juniper_execute.specs.Walkings.{IsBounded, MutationWalked, QueryWalked, selected_by};
 
+use crate::allowance::Allowance;
 use crate::mutation::run_groups;
 use crate::node_resolver::{MutationSteps, NodeResolver};
 use crate::question::Question;
@@ -50,11 +51,13 @@ pub fn execute_query<'d, 'a, R: NodeResolver<S>, S: ScalarValue>(
     let Ok(fragments) = fragments_of(alloc, document.as_slice()) else {
         return Err(Stop::Memory);
     };
+    let allowance = Allowance::new(operation, variables);
     let service = Service {
         resolver: served.resolver,
         context,
         schema: served.schema,
         variables,
+        allowance: &allowance,
         query_type: served.query_type(),
         undeclared: served.undeclared,
     };
@@ -142,6 +145,7 @@ fn mutate<
         (view_variables S.shown variables.now)) concrete.now (selected_by S.shown document.now operation.now variables.now) context.old) result }
 {
     let fragments = fragments_of(alloc, document.as_slice())?;
+    let allowance = Allowance::new(operation, variables);
     let path = root_path(alloc, operation.span.start)?;
     let walk = RootWalk {
         alloc,
@@ -150,6 +154,7 @@ fn mutate<
         selections: operation.item.selection_set.as_slice(),
         fragments: &fragments,
         variables,
+        allowance: &allowance,
         path: &path,
     };
     match run_groups(served, &walk, plan, context) {

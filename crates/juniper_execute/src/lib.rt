@@ -2,6 +2,7 @@
 //! two ways to walk what an operation selects.
 #![tactic(auto)]
 
+mod allowance;
 mod coerce;
 mod execute;
 mod mutation;
@@ -13,6 +14,7 @@ mod served;
 mod service;
 mod small;
 mod walking;
+mod weight;
 
 pub use execute::{execute_mutation, execute_query};
 pub use node_resolver::{MutationSteps, NodeResolver, NodeTypes, Nodes, Replies};

@@ -154,6 +154,7 @@ fn complete<'s, 'd, 'a, R: NodeResolver<S>, M, S: ScalarValue>(
         context,
         schema: served.schema,
         variables: walk.variables,
+        allowance: walk.allowance,
         query_type: served.query_type(),
         undeclared: served.undeclared,
     };
@@ -274,6 +275,7 @@ fn plan_root<'s, 'd, 'a, R: NodeResolver<S>, M, S: ScalarValue>(
         context,
         schema: served.schema,
         variables: walk.variables,
+        allowance: walk.allowance,
         query_type: served.query_type(),
         undeclared: served.undeclared,
     };

@@ -1,5 +1,6 @@
 //! What the root groups of a mutation are run with (section 6.2.2 of the Specification).
 
+use crate::allowance::Allowance;
 use juniper_lookahead::FragmentMap;
 use juniper_syntax::{Selection, Variables};
 use juniper_types::FieldPath;
@@ -18,6 +19,8 @@ pub(crate) struct RootWalk<'r, 'd, 'a, M, S> {
     pub(crate) selections: &'d [Selection<'a, S>],
     pub(crate) fragments: &'r FragmentMap<'d, 'a, S>,
     pub(crate) variables: &'r Variables<S>,
+    /// What it may make of arguments.
+    pub(crate) allowance: &'r Allowance,
     /// The path of the root.
     pub(crate) path: &'r Rc<FieldPath<'a>>,
 }

@@ -9,6 +9,7 @@ ghost use Rattle.juniper_schema.specs.SchemaView.{view_schema};
 ghost use Rattle.juniper_execute.specs.Questions.{IsQuestion};
 ghost use Rattle.juniper_execute.specs.Meanings.{is_undeclared, world_at};
 
+use crate::allowance::Allowance;
 use crate::coerce::kept_arguments;
 use crate::node_resolver::{NodeResolver, NodeTypes, Nodes, all_replies, only_reply};
 use crate::question::{Question, arguments_of, declared_type, shown_type};
@@ -27,6 +28,8 @@ pub(crate) struct Service<'c, 's, R: NodeTypes<S>, S: ScalarValue> {
     pub(crate) resolver: &'c R,
     pub(crate) context: &'c R::Context,
     pub(crate) variables: &'c Variables<S>,
+    /// What it may make of arguments.
+    pub(crate) allowance: &'c Allowance,
     pub(crate) schema: &'s SchemaType<S>,
     /// What resolvers are shown as the type of a field that is not declared, which no valid document has.
     pub(crate) query_type: &'s MetaType<S>,
@@ -79,8 +82,15 @@ impl<'c, 's, R: NodeResolver<S>, S: ScalarValue> Resolver<S> for Service<'c, 's,
         let declaration = schema.field_of(concrete, field.item.name.item);
         let declared = declared_type(declaration, self.undeclared);
         let of_field = arguments_of(declaration);
-        let arguments = kept_arguments(alloc, of_field, field, self.variables, room)?;
         let shown = shown_type(alloc, schema, self.query_type, declared)?;
+        let arguments = kept_arguments(
+            alloc,
+            of_field,
+            field,
+            self.variables,
+            room,
+            self.allowance,
+        )?;
         Ok(Question {
             declaration,
             declared,
