@@ -1,5 +1,5 @@
 -- Parameters that are read pair by pair.
-use Rattle.std.proofs.Common.{◌≡◌, ℕ, List, [], ◌∷◌, codes, Option, Some, None, Result, Ok, Err, IfOk, String, Global, string_bytes, refl, sym, ap, subst, ◌∙◌}
+use Rattle.std.proofs.Common.{◌≡◌, ℕ, List, ◌∷◌, codes, Option, Some, None, Result, Ok, IfOk, String, Global, string_bytes, refl, subst, ◌∙◌}
 use Rattle.std.specs.Option.{option_or}
 use Rattle.std.specs.declared.alloc.AllocError.{AllocError}
 use Rattle.form_urlencoded.specs.Form.{DecodesTo}

@@ -19,9 +19,16 @@ verb_of m =
     if (bytes_eq m (codes "GET") || bytes_eq m (codes "HEAD")) then verb.Reads
     else (if bytes_eq m (codes "POST") then verb.Posts else (if bytes_eq m (codes "OPTIONS") then verb.AsksMethods else verb.Other))
 
--- the paths at which something is served
-abbrev pub is_known : List ℕ → Bool
-is_known path = bytes_eq path (codes "/") || bytes_eq path (codes "/graphql")
+-- the paths at which requests are served
+abbrev pub is_served : List ℕ → Bool
+is_served path = bytes_eq path (codes "/") || bytes_eq path (codes "/graphql")
+
+-- The paths at which there is an answer to what a method asks for. `OPTIONS *` asks of the server as a whole (RFC 9110, section 9.3.7).
+abbrev pub is_known : Verb → List ℕ → Bool
+is_known verb.Reads path = is_served path
+is_known verb.Posts path = is_served path
+is_known verb.AsksMethods path = is_served path || bytes_eq path (codes "*")
+is_known verb.Other path = is_served path
 
 -- A request that says nothing of what it takes gets GraphQL's own media type.
 abbrev pub media_of : Facts → Option MediaType

@@ -4,6 +4,7 @@ pub mod Connections
 pub mod ContentTypes
 pub mod Decisions
 pub mod Media
+pub mod Origins
 pub mod Outcomes
 pub mod Parameters
 pub mod Parts

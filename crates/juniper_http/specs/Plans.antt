@@ -87,7 +87,7 @@ taken_by r = ranges_of (get_all (head_of r).headers (codes "accept"))
 -- What is known of a request's head. An `Accept` with no range in it is as if it were missing.
 pub record AreFacts (limits : Limits) (r : Request (List ℕ)) (f : Facts) : Type 0 where
   pub verb : f.verb ≡ verb_of (head_of r).method
-  pub path : f.is_known_path ≡ is_known (uri_path (head_of r).uri)
+  pub path : f.is_known_path ≡ is_known f.verb (uri_path (head_of r).uri)
   pub query : f.has_query ≡ is_some (uri_query (head_of r).uri)
   pub accept : f.has_accept ≡ nat_lt 0 (length (taken_by r))
   pub media : f.media ≡ choice (taken_by r)

@@ -1,15 +1,19 @@
 -- What a request is served.
-use Rattle.std.specs.Prelude.{◌≡◌, ℕ, Bool, true, false, List, [], ◌∷◌, codes, string_bytes, Result, Ok, Err}
+use Rattle.std.specs.Prelude.{◌≡◌, ℕ, Bool, true, false, List, [], ◌∷◌, ◌++◌, codes, string_bytes, Result, Ok, Err}
+use Rattle.std.specs.declared.alloc.Global.{Global}
 use Rattle.http.specs.declared.request.Request.{Request}
 use Rattle.http_server.specs.declared.response.Response.{Response}
 use Rattle.juniper_request.specs.Requests.{Asked, Body, single, batch, request_in, view_body}
 use Rattle.juniper_request.specs.declared.error.RequestError.{RequestError}
 use Rattle.juniper_http.specs.Batches.{IsBatchReply}
+use Rattle.juniper_http.specs.Origins.{origin_fields}
 use Rattle.juniper_http.specs.Parts.{asked_by}
 use Rattle.juniper_http.specs.Plans.{IsPlan}
 use Rattle.juniper_http.specs.Responses.{Header, IsPage, IsRefusal, Says, TellsMethods}
 use Rattle.juniper_http.specs.declared.endpoint.Reply.{Reply}
 use Rattle.juniper_http.specs.declared.media.MediaType.{MediaType}
+use Rattle.juniper_http.specs.declared.origins.AllowedOrigins.TheVariants.{Own}
+use Rattle.juniper_http.specs.declared.plan.Limits.{Limits}
 use Rattle.juniper_http.specs.declared.plan.Plan.{Plan}
 use Rattle.juniper_http.specs.declared.plan.Plan.TheVariants.{Page, Methods, Refuse, Ask, Post}
 use Rattle.juniper_http.specs.declared.refusal.Refusal.TheVariants.{NotARequest}
@@ -21,6 +25,14 @@ closing true = (codes "connection", codes "close") ∷ []
 closing false = []
 
 module _ {S : Type 0} where
+  -- a service as it is made
+  abbrev pub service_over : Global → S → Limits → GraphQLService S
+  service_over alloc endpoint limits = record { alloc = alloc; endpoint = endpoint; limits = limits; closes = false; origins = Own }
+
+  -- the fields of an answer that stand before those of its plan
+  abbrev pub first_fields : GraphQLService S → Request (List ℕ) → List Header
+  first_fields s request = closing s.closes ++ origin_fields s.origins request
+
   -- one request, which may write, is put between the two states, and the response says the reply
   abbrev pub Puts : (S → Asked → Bool → Reply → S → Type 0) → List Header → MediaType → Asked → Bool → S → Response → S → Type 0
   Puts replies before media asked may_write s r t =
@@ -51,4 +63,4 @@ module _ {S : Type 0} where
       (new : S) × (t ≡ record s { endpoint = new }) × ((p : Plan) × IsPlan s.limits request p × Follows replies before p s.endpoint r new)
 
   abbrev pub Serves : (S → Asked → Bool → Reply → S → Type 0) → GraphQLService S → Request (List ℕ) → Response → GraphQLService S → Type 0
-  Serves replies s request r t = ServesBehind replies (closing s.closes) s request r t
+  Serves replies s request r t = ServesBehind replies (first_fields s request) s request r t

@@ -38,7 +38,7 @@ pub enum Body {
 pub struct Facts {
     /// What its method asks for.
     pub verb: Verb,
-    /// Whether something is served at its path.
+    /// Whether there is an answer to what it asks for at its path.
     pub is_known_path: bool,
     /// Whether its target has a query.
     pub has_query: bool,

@@ -6,7 +6,7 @@ ghost use Rattle.juniper_request.specs.Requests.{view_body};
 ghost use Rattle.http_header.specs.HeaderMap.{get_all};
 ghost use Rattle.juniper_http.specs.Accept.{field_ranges, view_range};
 ghost use Rattle.juniper_http.specs.ContentTypes.{IsBodyType, IsFieldType, IsLineType, are_plain, is_plain_line};
-ghost use Rattle.juniper_http.specs.Decisions.{is_known, verb_of};
+ghost use Rattle.juniper_http.specs.Decisions.{is_known, is_served, verb_of};
 ghost use Rattle.juniper_http.specs.declared.decision.Verb.TheVariants as verbs;
 ghost use Rattle.juniper_http.specs.Plans.{AreFacts, IsBodyPlan, IsDocumentPlan, IsJsonPlan, IsPlan, IsPlanFor, IsQueryPlan, batch_len, taken_by};
 
@@ -30,6 +30,18 @@ pub struct Limits {
     /// A batch of more requests is refused.
     pub max_batch_len: usize,
 }
+
+impl Limits {
+    /// For requests of strangers: 256 KiB, and ten requests in a batch.
+    pub const DEFAULT: Limits = Limits {
+        max_body_len: 256 * 1024,
+        max_batch_len: 10,
+    };
+}
+
+const _: () = prove!(Limits::DEFAULT.max_body_len == 262_144);
+
+const _: () = prove!(Limits::DEFAULT.max_batch_len == 10);
 
 /// What is to be done for a request.
 #[derive(Drop)]
@@ -69,9 +81,10 @@ fn facts_of(alloc: Global, request: &Request<Bytes>, limits: &Limits) -> Result<
     ensures { IfOk result (AreFacts limits.now request.now) }
 {
     let ranges = accepted(alloc, request)?;
+    let verb = verb(request.method().as_str());
     Ok(Facts {
-        verb: verb(request.method().as_str()),
-        is_known_path: is_known(request.uri().path()),
+        verb,
+        is_known_path: is_known(verb, request.uri().path()),
         has_query: request.uri().query().is_some(),
         has_accept: has_range(ranges.as_slice()),
         media: choose(ranges.as_slice()),
@@ -94,9 +107,19 @@ fn verb(method: &str) -> Verb
     }
 }
 
-/// Whether something is served at a path.
-fn is_known(path: &str) -> bool
-    ensures { result ≡ is_known path.now }
+/// Whether what a verb asks for is served at a path.
+fn is_known(verb: Verb, path: &str) -> bool
+    ensures { result ≡ is_known verb path.now }
+{
+    match verb {
+        Verb::AsksMethods => is_served(path) || path == "*",
+        Verb::Reads | Verb::Posts | Verb::Other => is_served(path),
+    }
+}
+
+/// Whether requests are served at a path.
+fn is_served(path: &str) -> bool
+    ensures { result ≡ is_served path.now }
 {
     path == "/" || path == "/graphql"
 }

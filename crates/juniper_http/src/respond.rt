@@ -17,7 +17,7 @@ use http_server::Response;
 use std::alloc::{AllocError, Global};
 
 /// The methods that are answered.
-const ALL_METHODS: &str = "GET, HEAD, POST, OPTIONS";
+pub(crate) const ALL_METHODS: &str = "GET, HEAD, POST, OPTIONS";
 
 /// What the page may do: run its own script, and ask its own server.
 const PAGE_POLICY: &str =

@@ -4,11 +4,12 @@ ghost use Rattle.std.specs.Prelude.{◌≡◌, [], ◌++◌, OnErr, OnOk};
 ghost use Rattle.http_server.specs.Response.{fields_of};
 ghost use Rattle.juniper_request.specs.Requests.{request_in, view_body, view_request};
 ghost use Rattle.serde_json.specs.View.{view};
-ghost use Rattle.juniper_http.specs.Served.{Puts, PutsBody, PutsOne, Serves, ServesBehind, closing};
+ghost use Rattle.juniper_http.specs.Served.{Puts, PutsBody, PutsOne, Serves, ServesBehind, closing, service_over};
 
 use crate::batch::put_each;
 use crate::endpoint::Endpoint;
 use crate::media::MediaType;
+use crate::origins::AllowedOrigins;
 use crate::plan::{Limits, Plan, plan_of};
 use crate::refusal::Refusal;
 use crate::respond::{answer_or_fail, refuse, show_page, tell_methods};
@@ -21,7 +22,7 @@ use std::alloc::{AllocError, Global};
 
 /// GraphQL over HTTP, over an endpoint.
 #[derive(Drop)]
-pub struct GraphQLService<E> {
+pub struct GraphQLService<'o, E> {
     /// Where memory comes from.
     pub alloc: Global,
     /// What answers requests.
@@ -30,9 +31,11 @@ pub struct GraphQLService<E> {
     pub limits: Limits,
     /// Whether each answer is the last of its connection.
     pub closes: bool,
+    /// The origins whose pages may read answers.
+    pub origins: AllowedOrigins<'o>,
 }
 
-impl<E: Endpoint> Service for GraphQLService<E> {
+impl<E: Endpoint> Service for GraphQLService<'_, E> {
     ghost answers = { λ old request response new. Serves E.replies old request response new };
 
     fn call(
@@ -41,11 +44,25 @@ impl<E: Endpoint> Service for GraphQLService<E> {
         response: &mut Response,
     ) -> Result<(), AllocError> {
         self.say_closing(response)?;
+        self.origins.say(request, response)?;
         self.serve(request, response)
     }
 }
 
-impl<E: Endpoint> GraphQLService<E> {
+impl<'o, E: Endpoint> GraphQLService<'o, E> {
+    /// A service over an endpoint that keeps connections, and says nothing of origins.
+    pub fn new(alloc: Global, endpoint: E, limits: Limits) -> GraphQLService<'o, E>
+        ensures { result ≡ service_over alloc endpoint limits }
+    {
+        GraphQLService {
+            alloc,
+            endpoint,
+            limits,
+            closes: false,
+            origins: AllowedOrigins::Own,
+        }
+    }
+
     /// Serves a request behind the fields that a response has.
     fn serve(&mut self, request: &Request<Bytes>, response: &mut Response) -> Result<(), AllocError>
         requires status { response.old.status ≡ 200 }

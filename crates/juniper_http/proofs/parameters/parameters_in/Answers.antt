@@ -1,4 +1,3 @@
-use Rattle.std.proofs.Common.{string_bytes}
 use Rattle.form_urlencoded.specs.Parse.{owned_pairs_left}
 use Rattle.juniper_http.specs.Parameters.{given_in, view_parameters}
 use Rattle.juniper_http.proofs.Pairs.{one_more}

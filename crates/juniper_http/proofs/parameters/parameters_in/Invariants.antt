@@ -1,7 +1,6 @@
-use Rattle.std.proofs.Common.{◌≡◌, codes}
-use Rattle.std.specs.Option.{option_or}
+use Rattle.std.proofs.Common.{◌≡◌}
 use Rattle.form_urlencoded.specs.Parse.{owned_pairs_left}
-use Rattle.juniper_http.specs.Parameters.{given_in, last_value, view_parameters}
+use Rattle.juniper_http.specs.Parameters.{given_in, view_parameters}
 use Rattle.juniper_http.proofs.Pairs.{behind}
 use Rattle.juniper_http.proofs.parameters.parameters_in.Given as goal
 
