@@ -6,6 +6,10 @@ use juniper_demo_server::{DemoContext, answer};
 use std::env;
 use std::process::ExitCode;
 
+/// What is told where standard output fails.
+const UNWRITTEN: &str =
+    "The answer was not written, or not wholly; the request was executed, unless it is to be refused";
+
 fn main(rt: HostRuntime) -> ExitCode {
     let alloc = rt.alloc();
     let arguments = match env::args(&rt) {
@@ -29,6 +33,9 @@ fn main(rt: HostRuntime) -> ExitCode {
     };
     match written {
         Ok(()) => ExitCode::from(status),
-        Err(_) => ExitCode::from(1),
+        Err(error) => {
+            let _told = eprintln!(rt; "{UNWRITTEN}: {error}");
+            ExitCode::from(1)
+        }
     }
 }

@@ -16,7 +16,7 @@ use Rattle.http_server.specs.declared.response.Response.{Response as HttpRespons
 use Rattle.juniper_http.specs.Parts.{asked_by}
 use Rattle.juniper_http.specs.Plans.{IsPlanFor}
 use Rattle.juniper_http.specs.Responses.{Header}
-use Rattle.juniper_http.specs.Served.{Follows, Serves, closing}
+use Rattle.juniper_http.specs.Served.{Follows, Serves, first_fields}
 use Rattle.juniper_http.specs.declared.endpoint.Reply.{Reply}
 use Rattle.juniper_http.specs.declared.plan.Plan.{Plan}
 use Rattle.juniper_http.specs.declared.plan.Plan.TheVariants.{Page, Methods, Refuse, Ask, Post}
@@ -77,4 +77,4 @@ module _ {S : Type 0} (replies : S → Asked → Bool → Reply → S → Type 0
   pub service-leaves : (s : GraphQLService S) (request : HttpRequest (List ℕ)) (r : HttpResponse) (t : GraphQLService S) →
       (head_of request).method ≢ codes "POST" → Serves replies s request r t → t ≡ s
   service-leaves s request r t other (new, is, (p, plan, follows)) =
-      is ∙ ap (λ e. record s { endpoint = e }) (follows-leave (closing s.closes) _ _ p s.endpoint r new other plan.0 follows)
+      is ∙ ap (λ e. record s { endpoint = e }) (follows-leave (first_fields s request) _ _ p s.endpoint r new other plan.0 follows)

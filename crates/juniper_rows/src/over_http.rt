@@ -11,9 +11,10 @@ use juniper::Bounds;
 use juniper_demo_server::{DemoContext, DemoRoot, made_root};
 use juniper_endpoint::RootEndpoint;
 use juniper_http::{
-    Endpoint, GraphQLService, Limits, MediaType, add_ranges, choose, serve_connection,
+    AllowedOrigins, Endpoint, GraphQLService, Limits, MediaType, add_ranges, choose,
+    serve_connection,
 };
-use responses::responses_in;
+use responses::{head_in, responses_in};
 use shows::Shows;
 use std::alloc::{AllocError, Global};
 use std::hash::RandomState;
@@ -48,11 +49,15 @@ fn told_of(
     what: &str,
     received: &[u8],
 ) -> Result<String, AllocError> {
+    if let Some(origins) = what.strip_prefix("head for ") {
+        return head_for(alloc, keys, origins, received);
+    }
     match what {
         "demo" => answers_of_demo(alloc, keys, false, received),
         "demo without introspection" => answers_of_demo(alloc, keys, true, received),
         "sent by the demo" => Ok(demo_sent(alloc, keys, false, received)?.text),
         "service" => answers_of_service(alloc, keys, received),
+        "service by default" => answers_by_default(alloc, keys, received),
         "sent by the service" => service_sent(alloc, keys, received),
         _ => unknown(alloc),
     }
@@ -150,7 +155,7 @@ fn sent_on(
         entered_fields: Some(8),
         explained_bytes: 100,
     };
-    let mut service = service_over(alloc, endpoint, 200);
+    let mut service = service_over(alloc, endpoint, 200, AllowedOrigins::Own);
     let text = sent_by(alloc, keys, &mut service, received)?;
     let count = service.endpoint.context.count;
     Ok(DemoSent { text, count })
@@ -168,12 +173,46 @@ fn answers_of_service(
 
 /// What the service sends over an endpoint that shows what it is asked.
 fn service_sent(alloc: Global, keys: RandomState, received: &[u8]) -> Result<String, AllocError> {
-    let mut service = service_over(alloc, Shows { count: 0 }, 80);
+    let mut service = service_over(alloc, Shows { count: 0 }, 80, AllowedOrigins::Own);
     sent_by(alloc, keys, &mut service, received)
 }
 
+/// What a service with the limits for strangers answers over such an endpoint.
+fn answers_by_default(
+    alloc: Global,
+    keys: RandomState,
+    received: &[u8],
+) -> Result<String, AllocError> {
+    let mut service = GraphQLService::new(alloc, Shows { count: 0 }, Limits::DEFAULT);
+    let sent = sent_by(alloc, keys, &mut service, received)?;
+    responses_in(alloc, sent.as_str())
+}
+
+/// The head of what the service answers whose answers the pages of these origins may read: `its own`, `any`, or a list between blanks.
+fn head_for(
+    alloc: Global,
+    keys: RandomState,
+    origins: &str,
+    received: &[u8],
+) -> Result<String, AllocError> {
+    let listed = origins.split(' ').collect::<Vec<&str>>(alloc)?;
+    let origins = match origins {
+        "its own" => AllowedOrigins::Own,
+        "any" => AllowedOrigins::Any,
+        _ => AllowedOrigins::Listed(listed.as_slice()),
+    };
+    let mut service = service_over(alloc, Shows { count: 0 }, 80, origins);
+    let sent = sent_by(alloc, keys, &mut service, received)?;
+    head_in(alloc, sent.as_str())
+}
+
 /// A service that takes bodies of so many bytes, and batches of two.
-fn service_over<E: Endpoint>(alloc: Global, endpoint: E, max_body_len: usize) -> GraphQLService<E> {
+fn service_over<E: Endpoint>(
+    alloc: Global,
+    endpoint: E,
+    max_body_len: usize,
+    origins: AllowedOrigins<'_>,
+) -> GraphQLService<'_, E> {
     let limits = Limits {
         max_body_len,
         max_batch_len: 2,
@@ -183,6 +222,7 @@ fn service_over<E: Endpoint>(alloc: Global, endpoint: E, max_body_len: usize) ->
         endpoint,
         limits,
         closes: false,
+        origins,
     }
 }
 
@@ -190,7 +230,7 @@ fn service_over<E: Endpoint>(alloc: Global, endpoint: E, max_body_len: usize) ->
 fn sent_by<E: Endpoint>(
     alloc: Global,
     keys: RandomState,
-    service: &mut GraphQLService<E>,
+    service: &mut GraphQLService<'_, E>,
     received: &[u8],
 ) -> Result<String, AllocError> {
     let config = Config {

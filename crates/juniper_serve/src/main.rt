@@ -26,14 +26,12 @@ use std::{env, io};
 /// What is told of words that are not understood.
 const USAGE: &str = "usage: juniper_serve [--lines | --sdl]";
 
-/// A longer body is refused by a response with errors.
-const MAX_BODY: usize = 256 * 1024;
+/// What is told where standard output fails.
+const UNWRITTEN: &str =
+    "The answer to the last line was not written, or not wholly; its request was executed, unless it is to be refused";
 
 /// The connection refuses a body that is longer than this before it is read.
 const MAX_READ: usize = 1024 * 1024;
-
-/// A batch of more requests is refused.
-const MAX_BATCH: usize = 50;
 
 /// A request that enters more fields is refused.
 const MAX_ENTERED: usize = 100_000;
@@ -41,11 +39,7 @@ const MAX_ENTERED: usize = 100_000;
 /// Of a longer text nothing is explained.
 const MAX_EXPLAINED: usize = 4 * 1024;
 
-const _: () = prove!(MAX_BODY == 262_144);
-
 const _: () = prove!(MAX_READ == 1_048_576);
-
-const _: () = prove!(MAX_BATCH == 50);
 
 const _: () = prove!(MAX_ENTERED == 100_000);
 
@@ -54,16 +48,7 @@ const _: () = prove!(MAX_EXPLAINED == 4_096);
 /// Answers the requests of one connection.
 fn serve_http<E: Endpoint + Drop>(rt: &HostRuntime, endpoint: E) -> io::Result<()> {
     let alloc = rt.alloc();
-    let limits = Limits {
-        max_body_len: MAX_BODY,
-        max_batch_len: MAX_BATCH,
-    };
-    let service = GraphQLService {
-        alloc,
-        endpoint,
-        limits,
-        closes: false,
-    };
+    let service = GraphQLService::new(alloc, endpoint, Limits::DEFAULT);
     let mut logged = Logged { rt, service };
     let config = Config {
         max_body_len: MAX_READ,
@@ -76,16 +61,19 @@ fn serve_http<E: Endpoint + Drop>(rt: &HostRuntime, endpoint: E) -> io::Result<(
     serve_connection(alloc, keys, config, &mut logged, &mut reader, &mut writer)
 }
 
-/// Answers the request in each line.
-fn serve_lines<E: Endpoint>(rt: &HostRuntime, endpoint: &mut E) -> io::Result<()> {
+/// Answers the request in each line, also where the log cannot be written; a status tells that an answer was not.
+fn serve_lines<E: Endpoint>(rt: &HostRuntime, endpoint: &mut E) -> io::Result<ExitCode> {
     let alloc = rt.alloc();
     for line in rt.reader().split(alloc, b'\n') {
         let request = line?;
         let response = response_to(alloc, endpoint, request.as_slice())?;
-        println!(rt; "{response}")?;
-        eprintln!(rt; "{} B, {} B", request.len(), response.len())?;
+        if let Err(error) = println!(rt; "{response}") {
+            let _told = eprintln!(rt; "{UNWRITTEN}: {error}");
+            return Ok(ExitCode::from(1));
+        }
+        let _logged = eprintln!(rt; "{} B, {} B", request.len(), response.len());
     }
-    Ok(())
+    Ok(ExitCode::from(0))
 }
 
 /// Prints the schema; a status tells that it has no text.
@@ -102,7 +90,7 @@ fn print_schema(rt: &HostRuntime, root: &DemoRoot) -> io::Result<ExitCode> {
     }
 }
 
-/// Serves a root in a mode; a status tells that its schema cannot be printed.
+/// Serves a root in a mode; a status tells that an answer was not written, or that the schema cannot be printed.
 fn serve(rt: &HostRuntime, mode: Mode, root: &DemoRoot) -> io::Result<ExitCode> {
     let mut endpoint = RootEndpoint {
         root,
@@ -112,11 +100,13 @@ fn serve(rt: &HostRuntime, mode: Mode, root: &DemoRoot) -> io::Result<ExitCode> 
         explained_bytes: MAX_EXPLAINED,
     };
     match mode {
-        Mode::Http => serve_http(rt, endpoint)?,
-        Mode::Lines => serve_lines(rt, &mut endpoint)?,
-        Mode::Sdl => return print_schema(rt, root),
+        Mode::Http => {
+            serve_http(rt, endpoint)?;
+            Ok(ExitCode::from(0))
+        }
+        Mode::Lines => serve_lines(rt, &mut endpoint),
+        Mode::Sdl => print_schema(rt, root),
     }
-    Ok(ExitCode::from(0))
 }
 
 /// Serves in the mode of the words; a status tells that there is none.

@@ -17,6 +17,21 @@ pub fn responses_in(alloc: Global, sent: &str) -> Result<String, AllocError> {
     Ok(shown)
 }
 
+/// Of a response its status and its fields but the length of its body, with ` ;; ` between each two.
+pub fn head_in(alloc: Global, sent: &str) -> Result<String, AllocError> {
+    let mut shown = String::new(alloc);
+    let (head, _) = sent.split_once("\r\n\r\n").unwrap_or((sent, ""));
+    shown.push_str(head.get(9..12).unwrap_or(""))?;
+    let mut separator = " ";
+    for field in head.split("\r\n").skip(1) {
+        if !field.starts_with("content-length: ") {
+            write!(shown, "{separator}{field}")?;
+            separator = " ;; ";
+        }
+    }
+    Ok(shown)
+}
+
 /// Writes the status of a response, its media type and its body.
 fn put_response(response: &str, shown: &mut String) -> Result<(), AllocError> {
     let (head, body) = response.split_once("\r\n\r\n").unwrap_or((response, ""));
