@@ -196,14 +196,19 @@ fn head_for(
     received: &[u8],
 ) -> Result<String, AllocError> {
     let listed = origins.split(' ').collect::<Vec<&str>>(alloc)?;
-    let origins = match origins {
-        "its own" => AllowedOrigins::Own,
-        "any" => AllowedOrigins::Any,
-        _ => AllowedOrigins::Listed(listed.as_slice()),
-    };
-    let mut service = service_over(alloc, Shows { count: 0 }, 80, origins);
+    let allowed = allowed_origins(origins, listed.as_slice());
+    let mut service = service_over(alloc, Shows { count: 0 }, 80, allowed);
     let sent = sent_by(alloc, keys, &mut service, received)?;
     head_in(alloc, sent.as_str())
+}
+
+/// The origins of this name, or else the listed ones.
+fn allowed_origins<'o>(name: &str, listed: &'o [&'o str]) -> AllowedOrigins<'o> {
+    match name {
+        "its own" => AllowedOrigins::Own,
+        "any" => AllowedOrigins::Any,
+        _ => AllowedOrigins::Listed(listed),
+    }
 }
 
 /// A service that takes bodies of so many bytes, and batches of two.

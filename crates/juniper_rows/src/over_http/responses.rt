@@ -22,11 +22,12 @@ pub fn head_in(alloc: Global, sent: &str) -> Result<String, AllocError> {
     let mut shown = String::new(alloc);
     let (head, _) = sent.split_once("\r\n\r\n").unwrap_or((sent, ""));
     shown.push_str(head.get(9..12).unwrap_or(""))?;
-    let mut separator = " ";
+    let mut is_first = true;
     for field in head.split("\r\n").skip(1) {
         if !field.starts_with("content-length: ") {
-            write!(shown, "{separator}{field}")?;
-            separator = " ;; ";
+            shown.push_str(if is_first { " " } else { " ;; " })?;
+            shown.push_str(field)?;
+            is_first = false;
         }
     }
     Ok(shown)
