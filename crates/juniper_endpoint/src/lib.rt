@@ -8,6 +8,8 @@
 mod endpoint;
 mod explained;
 mod given;
+mod guard;
+pub mod guard_laws;
 pub mod laws;
 mod lines;
 mod look;
@@ -15,3 +17,4 @@ mod replied;
 mod values;
 
 pub use endpoint::RootEndpoint;
+pub use guard::{Guard, GuardedEndpoint};
