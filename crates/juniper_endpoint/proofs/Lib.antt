@@ -2,4 +2,5 @@ pub mod Chosen
 pub mod Explaining
 pub mod Leaving
 pub mod Looking
+pub mod Saying
 pub mod Telling

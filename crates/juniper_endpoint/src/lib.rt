@@ -2,7 +2,8 @@
 //!
 //! [`RootEndpoint`] is an `Endpoint` of `juniper_http`: each reply is the text of the outcome that `juniper::execute_sync` promises, or
 //! says why the request is not executed. Why a document is not valid is explained beside the errors, node by node, and why given
-//! values do not fit, part by part.
+//! values do not fit, part by part. [`serve`] is a whole program over one: over standard input and output it serves HTTP, lines of JSON, or
+//! the schema's text.
 #![tactic(auto)]
 
 mod endpoint;
@@ -10,8 +11,16 @@ mod explained;
 mod given;
 pub mod laws;
 mod lines;
+mod logged;
 mod look;
+mod mode;
 mod replied;
+mod request_lines;
+mod serving;
 mod values;
 
 pub use endpoint::RootEndpoint;
+pub use logged::Logged;
+pub use mode::{Mode, mode_of};
+pub use request_lines::response_to;
+pub use serving::{Host, ServerLimits, report, serve, serve_endpoint};

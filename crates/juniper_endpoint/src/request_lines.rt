@@ -4,7 +4,7 @@ ghost use Rattle.std.specs.Prelude.{◌≡◌, List, ℕ, IfOk, string_bytes};
 ghost use Rattle.juniper_request.specs.Requests.{request_in};
 ghost use Rattle.serde_json.specs.View.{view};
 ghost use Rattle.juniper_http.specs.Batches.{PutsAsked};
-ghost use Rattle.juniper_serve.specs.Lines.{AnswersLine, Says};
+ghost use Rattle.juniper_endpoint.specs.RequestLines.{AnswersLine, Says};
 
 use juniper_http::{Endpoint, Refusal};
 use juniper_request::{GraphQLBatchRequest, RequestError, read_request, request_of};

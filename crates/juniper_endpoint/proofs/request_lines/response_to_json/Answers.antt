@@ -3,8 +3,8 @@ use Rattle.juniper_http.specs.Batches.{PutsAsked}
 use Rattle.juniper_http.specs.Outcomes.{reply_text}
 use Rattle.juniper_request.specs.Requests.{request_in, view_request}
 use Rattle.serde_json.specs.View.{view}
-use Rattle.juniper_serve.proofs.Saying.{puts, said}
-use Rattle.juniper_serve.proofs.lines.response_to_json.Goals as goal
+use Rattle.juniper_endpoint.proofs.Saying.{puts, said}
+use Rattle.juniper_endpoint.proofs.request_lines.response_to_json.Goals as goal
 
 pub returns-in-Ok : goal.returns-in-Ok
 returns-in-Ok g c =

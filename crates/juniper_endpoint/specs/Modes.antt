@@ -1,8 +1,8 @@
 -- The words of the command line.
 use Rattle.std.specs.Prelude.{ℕ, if◌then◌else◌, List, [], ◌∷◌, Option, Some, None, codes}
 use Rattle.std.specs.Str.{bytes_eq}
-use Rattle.juniper_serve.specs.declared.mode.Mode.{Mode}
-use Rattle.juniper_serve.specs.declared.mode.Mode.TheVariants.{Http, Lines, Sdl}
+use Rattle.juniper_endpoint.specs.declared.mode.Mode.{Mode}
+use Rattle.juniper_endpoint.specs.declared.mode.Mode.TheVariants.{Http, Lines, Sdl}
 
 -- the mode of a word
 abbrev pub named_mode : List ℕ → Option Mode

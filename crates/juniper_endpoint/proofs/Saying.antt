@@ -6,7 +6,7 @@ use Rattle.juniper_http.specs.Outcomes.{reply_text}
 use Rattle.juniper_http.specs.declared.endpoint.Reply.{Reply}
 use Rattle.juniper_request.specs.Requests.{Asked}
 use Rattle.juniper_request.specs.declared.error.RequestError.{RequestError}
-use Rattle.juniper_serve.specs.Lines.{Says}
+use Rattle.juniper_endpoint.specs.RequestLines.{Says}
 
 module _ {S : Type 0} where
   -- what is done is said, or memory is refused for the telling

@@ -1,7 +1,7 @@
 //! The words of the command line.
 
 ghost use Rattle.std.specs.Prelude.{◌≡◌, map, string_bytes};
-ghost use Rattle.juniper_serve.specs.Modes.{mode_of, named_mode};
+ghost use Rattle.juniper_endpoint.specs.Modes.{mode_of, named_mode};
 
 /// What is served.
 #[derive(Clone, Copy, Debug, PartialEq, Eq)]
