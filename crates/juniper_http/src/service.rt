@@ -118,14 +118,19 @@ impl<'o, E: Endpoint> GraphQLService<'o, E> {
         response: &mut Response,
     ) -> Result<(), AllocError>
         requires { response.old.body.items ≡ [] }
-        ensures ok { OnOk result (PutsBody E.replies (fields_of response.old) media (view_body body.now) self.old.endpoint response.new self.new.endpoint) }
+        ensures ok { OnOk result (PutsBody E.replies self.old.limits.max_answer_len (fields_of response.old) media (view_body body.now) self.old.endpoint response.new self.new.endpoint) }
         ensures rest { self.new ≡ record self.old { endpoint = self.new.endpoint } }
         ensures err { OnErr result (self.new ≡ self.old) }
     {
         match body {
             GraphQLBatchRequest::Single(json) => self.put_json(media, json, response),
             GraphQLBatchRequest::Batch(members) => {
-                let reply = put_each(&mut self.endpoint, self.alloc, members);
+                let reply = put_each(
+                    &mut self.endpoint,
+                    self.alloc,
+                    members,
+                    self.limits.max_answer_len,
+                );
                 answer_or_fail(response, media, reply);
                 Ok(())
             }
