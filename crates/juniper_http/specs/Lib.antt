@@ -2,7 +2,10 @@ pub mod Accept
 pub mod Batches
 pub mod Connections
 pub mod ContentTypes
+pub mod Credentials
 pub mod Decisions
+pub mod Denials
+pub mod Guards
 pub mod Media
 pub mod Origins
 pub mod Outcomes

@@ -8,6 +8,7 @@ ghost use Rattle.juniper_http.specs.Accept.{field_ranges, view_range};
 ghost use Rattle.juniper_http.specs.ContentTypes.{IsBodyType, IsFieldType, IsLineType, are_plain, is_plain_line};
 ghost use Rattle.juniper_http.specs.Decisions.{is_known, is_served, verb_of};
 ghost use Rattle.juniper_http.specs.declared.decision.Verb.TheVariants as verbs;
+ghost use Rattle.juniper_http.specs.Guards.{asked_media};
 ghost use Rattle.juniper_http.specs.Plans.{AreFacts, IsBodyPlan, IsDocumentPlan, IsJsonPlan, IsPlan, IsPlanFor, IsQueryPlan, batch_len, taken_by};
 
 use crate::accept::{Range, add_ranges, choose, has_range, wants_page};
@@ -61,6 +62,18 @@ pub enum Plan {
     Ask(MediaType, RequestParts, bool),
     /// The requests of a `POST`.
     Post(MediaType, GraphQLBatchRequest),
+}
+
+impl Plan {
+    /// The media type of what answers a plan that asks the endpoint something; `None` for one that asks nothing.
+    pub fn asked_media(&self) -> Option<MediaType>
+        ensures { result ≡ asked_media self.now }
+    {
+        match self {
+            Plan::Page | Plan::Methods | Plan::Refuse(_) => None,
+            Plan::Ask(media, _, _) | Plan::Post(media, _) => Some(*media),
+        }
+    }
 }
 
 /// What is to be done for a request; an error where memory is refused.

@@ -3,9 +3,11 @@
 ghost use Rattle.std.specs.Prelude.{◌≡◌, [], ◌++◌, OnOk, string_bytes};
 ghost use Rattle.http.specs.StatusCode.{IsStatusCode};
 ghost use Rattle.http_server.specs.Response.{IsResponse, fields_of};
+ghost use Rattle.juniper_http.specs.Denials.{Denies, IsDenial, denial_fields};
 ghost use Rattle.juniper_http.specs.Responses.{IsPage, IsRefusal, Says, TellsMethods, page_fields, refusal_fields, reply_fields};
 ghost use Rattle.juniper_http.specs.Outcomes.{reply_text, status_of as status_spec};
 
+use crate::denial::Denial;
 use crate::endpoint::Reply;
 use crate::media::MediaType;
 use crate::outcome::{Outcome, status_of};
@@ -81,6 +83,48 @@ fn label_refusal(response: &mut Response, refusal: Refusal) -> Result<(), AllocE
         ),
         _ => Ok(()),
     }
+}
+
+/// Fills a response with a denial. Where memory is refused it is a bare 500: the endpoint was asked, and is not asked again.
+pub fn deny_or_fail(response: &mut Response, media: MediaType, denial: Denial)
+    requires { response.old.body.items ≡ [] }
+    ensures { Denies (fields_of response.old) media denial response.new }
+{
+    if deny(response, media, denial).is_err() {
+        fail(response);
+    }
+}
+
+/// Fills a response with a denial.
+fn deny(response: &mut Response, media: MediaType, denial: Denial) -> Result<(), AllocError>
+    requires { response.old.body.items ≡ [] }
+    ensures { OnOk result (IsDenial (fields_of response.old) media denial response.new) }
+{
+    response.status = status(denial.status());
+    let text = denial.text();
+    label_denial(response, media, denial)?;
+    response.body.push(Bytes::from_static(text.as_bytes()))
+}
+
+/// Adds the fields of a denial.
+fn label_denial(response: &mut Response, media: MediaType, denial: Denial) -> Result<(), AllocError>
+    ensures fields { OnOk result (fields_of response.new ≡ fields_of response.old ++ denial_fields denial media) }
+    ensures status { response.new.status ≡ response.old.status }
+    ensures body { response.new.body ≡ response.old.body }
+{
+    response.add_header(header::CONTENT_TYPE, media.content_type())?;
+    match denial {
+        Denial::Unauthorized(challenge) => response.add_header(header::WWW_AUTHENTICATE, challenge),
+        Denial::Forbidden | Denial::OutOfMemory => Ok(()),
+    }
+}
+
+/// Makes a response a bare 500.
+pub fn fail(response: &mut Response)
+    ensures { IsResponse 500 [] [] response.new }
+{
+    response.clear();
+    response.status = StatusCode::INTERNAL_SERVER_ERROR;
 }
 
 /// Fills a response with the methods that are answered.

@@ -1,10 +1,11 @@
 //! Requests over HTTP, answered by an endpoint.
 
-ghost use Rattle.std.specs.Prelude.{◌≡◌, [], ◌++◌, OnErr, OnOk};
+ghost use Rattle.std.specs.Prelude.{◌≡◌, [], ◌++◌, IsErr, OnErr, OnOk};
 ghost use Rattle.http_server.specs.Response.{fields_of};
 ghost use Rattle.juniper_request.specs.Requests.{request_in, view_body, view_request};
 ghost use Rattle.serde_json.specs.View.{view};
-ghost use Rattle.juniper_http.specs.Served.{Puts, PutsBody, PutsOne, Serves, ServesBehind, closing, service_over};
+ghost use Rattle.juniper_http.specs.Guards.{IsNoRequest, MayPutNothing};
+ghost use Rattle.juniper_http.specs.Served.{Follows, Puts, PutsBody, PutsOne, Serves, ServesBehind, closing, service_over};
 
 use crate::batch::put_each;
 use crate::endpoint::Endpoint;
@@ -70,7 +71,20 @@ impl<'o, E: Endpoint> GraphQLService<'o, E> {
         ensures ok { OnOk result (ServesBehind E.replies (fields_of response.old) self.old request.now response.new self.new) }
         ensures err { OnErr result (self.new ≡ self.old) }
     {
-        match plan_of(self.alloc, request, &self.limits)? {
+        let plan = plan_of(self.alloc, request, &self.limits)?;
+        self.follow(plan, response)
+    }
+
+    /// Does what is planned for a request, and fills a response with what comes of it.
+    pub(crate) fn follow(&mut self, plan: Plan, response: &mut Response) -> Result<(), AllocError>
+        requires status { response.old.status ≡ 200 }
+        requires body { response.old.body.items ≡ [] }
+        ensures ok { OnOk result (Follows E.replies self.old.limits.max_answer_len (fields_of response.old) plan self.old.endpoint response.new self.new.endpoint) }
+        ensures rest { self.new ≡ record self.old { endpoint = self.new.endpoint } }
+        ensures err { OnErr result (self.new ≡ self.old) }
+        ensures only { OnErr result (MayPutNothing plan) }
+    {
+        match plan {
             Plan::Page => show_page(response),
             Plan::Methods => tell_methods(response),
             Plan::Refuse(refusal) => refuse(self.alloc, response, refusal),
@@ -83,7 +97,7 @@ impl<'o, E: Endpoint> GraphQLService<'o, E> {
     }
 
     /// Says that the connection closes, where it does.
-    fn say_closing(&self, response: &mut Response) -> Result<(), AllocError>
+    pub(crate) fn say_closing(&self, response: &mut Response) -> Result<(), AllocError>
         ensures fields { OnOk result (fields_of response.new ≡ fields_of response.old ++ closing self.now.closes) }
         ensures status { response.new.status ≡ response.old.status }
         ensures body { response.new.body ≡ response.old.body }
@@ -118,9 +132,11 @@ impl<'o, E: Endpoint> GraphQLService<'o, E> {
         response: &mut Response,
     ) -> Result<(), AllocError>
         requires { response.old.body.items ≡ [] }
-        ensures ok { OnOk result (PutsBody E.replies self.old.limits.max_answer_len (fields_of response.old) media (view_body body.now) self.old.endpoint response.new self.new.endpoint) }
+        ensures ok { OnOk result (PutsBody E.replies self.old.limits.max_answer_len (fields_of response.old) media (view_body body.now) self.old.endpoint
+            response.new self.new.endpoint) }
         ensures rest { self.new ≡ record self.old { endpoint = self.new.endpoint } }
         ensures err { OnErr result (self.new ≡ self.old) }
+        ensures only { OnErr result (IsNoRequest (view_body body.now)) }
     {
         match body {
             GraphQLBatchRequest::Single(json) => self.put_json(media, json, response),
@@ -149,6 +165,7 @@ impl<'o, E: Endpoint> GraphQLService<'o, E> {
             (PutsOne E.replies (fields_of response.old) media (request_in (view json.now)) self.old.endpoint response.new self.new.endpoint) }
         ensures rest { self.new ≡ record self.old { endpoint = self.new.endpoint } }
         ensures err { OnErr result (self.new ≡ self.old) }
+        ensures only { OnErr result (IsErr (request_in (view json.now))) }
     {
         match request_of(json) {
             Ok(request) => {
