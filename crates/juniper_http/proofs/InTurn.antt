@@ -25,8 +25,8 @@ put_next replies left (e ∷ ds) d s m t texts text between rest h p =
 
 -- a request, while bytes are left
 pub put_asked : {S : Type 0} (replies : S → Asked → Bool → Reply → S → Type 0) (left : Option ℕ) (n : ℕ) (d : Data) (a : Asked) (s t : S) (reply : Reply)
-    (text : List ℕ) (rest : Option ℕ) → left ≡ Some n → Ok a ≡ request_in d → replies s a true reply t → text ≡ reply_text reply.outcome (string_bytes reply.line)
-    → rest ≡ less n (length text) → PutsWithin replies left d s text t rest
+    (text : List ℕ) (rest : Option ℕ) → left ≡ Some n → Ok a ≡ request_in d → replies s a true reply t →
+    text ≡ reply_text reply.outcome (string_bytes reply.line) → rest ≡ less n (length text) → PutsWithin replies left d s text t rest
 put_asked replies left n d a s t reply text rest some is r told behind = rw (some, sym is) ((reply, r, told), behind)
 
 -- a member for whose reply no bytes are left

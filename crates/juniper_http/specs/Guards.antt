@@ -39,7 +39,8 @@ MayPutNothing (Post media requests) = IsNoRequest (view_body requests)
 module _ {S : Type 0} where
   -- What is done behind a verdict, from the state that it left. Who is admitted is answered as the plan says; where memory is refused for the answer to
   -- what is no request, it is a bare 500. Who is denied is told so, and nothing is put.
-  abbrev pub FollowsVerdict : (S → Asked → Bool → Reply → S → Type 0) → ℕ → List Header → MediaType → Plan → Result (Unit {0}) Denial → S → Response → S → Type 0
+  abbrev pub FollowsVerdict : (S → Asked → Bool → Reply → S → Type 0) → ℕ → List Header → MediaType → Plan → Result (Unit {0}) Denial → S → Response → S
+      → Type 0
   FollowsVerdict replies most before media p (Ok admitted) s r t = Follows replies most before p s r t ⊎ (MayPutNothing p × (t ≡ s) × IsResponse 500 [] [] r)
   FollowsVerdict replies most before media p (Err why) s r t = (t ≡ s) × Denies before media why r
 

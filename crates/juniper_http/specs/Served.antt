@@ -58,9 +58,11 @@ module _ {S : Type 0} where
   Follows replies most before (Post media requests) s r t = PutsBody replies most before media (view_body requests) s r t
 
   -- A request is answered, behind these fields: by the plan for it, which is followed. Of the service nothing changes but the endpoint.
-  abbrev pub ServesBehind : (S → Asked → Bool → Reply → S → Type 0) → List Header → GraphQLService S → Request (List ℕ) → Response → GraphQLService S → Type 0
+  abbrev pub ServesBehind : (S → Asked → Bool → Reply → S → Type 0) → List Header → GraphQLService S → Request (List ℕ) → Response → GraphQLService S
+      → Type 0
   ServesBehind replies before s request r t =
-      (new : S) × (t ≡ record s { endpoint = new }) × ((p : Plan) × IsPlan s.limits request p × Follows replies s.limits.max_answer_len before p s.endpoint r new)
+      (new : S) × (t ≡ record s { endpoint = new })
+      × ((p : Plan) × IsPlan s.limits request p × Follows replies s.limits.max_answer_len before p s.endpoint r new)
 
   abbrev pub Serves : (S → Asked → Bool → Reply → S → Type 0) → GraphQLService S → Request (List ℕ) → Response → GraphQLService S → Type 0
   Serves replies s request r t = ServesBehind replies (first_fields s request) s request r t

@@ -79,7 +79,8 @@ impl<'o, E: Endpoint> GraphQLService<'o, E> {
     pub(crate) fn follow(&mut self, plan: Plan, response: &mut Response) -> Result<(), AllocError>
         requires status { response.old.status ≡ 200 }
         requires body { response.old.body.items ≡ [] }
-        ensures ok { OnOk result (Follows E.replies self.old.limits.max_answer_len (fields_of response.old) plan self.old.endpoint response.new self.new.endpoint) }
+        ensures ok { OnOk result (Follows E.replies self.old.limits.max_answer_len (fields_of response.old) plan self.old.endpoint response.new
+            self.new.endpoint) }
         ensures rest { self.new ≡ record self.old { endpoint = self.new.endpoint } }
         ensures err { OnErr result (self.new ≡ self.old) }
         ensures only { OnErr result (MayPutNothing plan) }

@@ -13,7 +13,8 @@ pub returns-in-Ok : goal.returns-in-Ok
 returns-in-Ok g c = (
   c.text-text.result.now,
   put_asked g.E.Endpoint.replies c.args.left.now c.in-Some.bytes (view c.args.member.now) (view_request c.in-Ok.request) c.args.endpoint.now
-      c.reply-reply.new.self c.reply-reply.result c.text-text.result.now c.less.result c.in-Some.is c.in-Ok.ensures c.reply-reply.ensures c.text-text.ensures c.less.ensures,
+      c.reply-reply.new.self c.reply-reply.result c.text-text.result.now c.less.result c.in-Some.is c.in-Ok.ensures c.reply-reply.ensures
+      c.text-text.ensures c.less.ensures,
   c.joined.ensures,
 )
 
