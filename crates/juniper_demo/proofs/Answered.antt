@@ -17,11 +17,11 @@ use Rattle.graphql_spec.specs.Outcomes.{Service, Steps, responds, refuses, out_o
 use Rattle.graphql_spec.specs.ExactAnswers.{whole, PathsDiffer, IsExactOutcome}
 use Rattle.graphql_spec.specs.Introspection.{RootedNode, rooted_service}
 use Rattle.graphql_spec.proofs.Demo.{at}
-use Rattle.juniper_answer_laws.proofs.Executed.{is_selected, is_data, are_failures, the_data, the_error, the_place, the_failure}
-use Rattle.juniper_answer_laws.proofs.Declared.{Declares, queried}
-use Rattle.juniper_answer_laws.proofs.Request.{the_document, the_operation, the_text_spells}
-use Rattle.juniper_answer_laws.proofs.Valid.{is_valid}
-use Rattle.juniper_answer_laws.specs.DemoLine.{asking}
+use Rattle.juniper_demo.proofs.Executed.{is_selected, is_data, are_failures, the_data, the_error, the_place, the_failure}
+use Rattle.juniper_demo.proofs.Declared.{Declares, queried}
+use Rattle.juniper_demo.proofs.Request.{the_document, the_operation, the_text_spells}
+use Rattle.juniper_demo.proofs.Valid.{is_valid}
+use Rattle.juniper_demo.specs.DemoLine.{asking}
 
 -- ## The error
 

@@ -6,7 +6,7 @@ use Rattle.graphql_spec.specs.BuiltIns.{value_named}
 use Rattle.graphql_spec.specs.Types.{nullable}
 use Rattle.graphql_spec.specs.Fields.{entry_in, shape_of, or_else, type_named, fields_of, field_in, field_of, typename_field}
 use Rattle.juniper_demo_server.specs.DemoSchema.{IsDemoSchema}
-use Rattle.juniper_answer_laws.proofs.Declared.{Declares, queried}
+use Rattle.juniper_demo.proofs.Declared.{Declares, queried}
 
 module _ (s : Schema) (demo : IsDemoSchema s) where
   pub declared : Declares (queried s.entries s.mutation)

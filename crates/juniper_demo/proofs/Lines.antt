@@ -26,11 +26,11 @@ use Rattle.juniper_demo_server.specs.declared.demo.DemoContext.{DemoContext}
 use Rattle.juniper_demo_server.specs.declared.demo.DemoNode.{DemoNode}
 use Rattle.juniper_demo_server.specs.declared.demo.DemoNode.TheVariants.{Query}
 use Rattle.juniper_demo_server.specs.declared.outcome.Answer.{Answer}
-use Rattle.juniper_answer_laws.specs.DemoLine.{asking, the_line, IsTheLine, OutcomesAreTheLine, TheLineIsAnswered, WordIsAnsweredByTheLine}
-use Rattle.juniper_answer_laws.proofs.Answered.{answers, memory_leaves, never_refused, the_listed}
-use Rattle.juniper_answer_laws.proofs.Declared.{Declares, queried}
-use Rattle.juniper_answer_laws.proofs.Executed.{the_data}
-use Rattle.juniper_answer_laws.proofs.Served.{declared}
+use Rattle.juniper_demo.specs.DemoLine.{asking, the_line, IsTheLine, OutcomesAreTheLine, TheLineIsAnswered, WordIsAnsweredByTheLine}
+use Rattle.juniper_demo.proofs.Answered.{answers, memory_leaves, never_refused, the_listed}
+use Rattle.juniper_demo.proofs.Declared.{Declares, queried}
+use Rattle.juniper_demo.proofs.Executed.{the_data}
+use Rattle.juniper_demo.proofs.Served.{declared}
 
 -- how the data and the error are written
 line_is_written : answer_text the_data (the_listed ∷ []) ≡ the_line

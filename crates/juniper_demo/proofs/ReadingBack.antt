@@ -24,9 +24,9 @@ use Rattle.serde_json.specs.Written.{outline, items_outline, members_outline, co
 use Rattle.serde_json.proofs.Texts.{print-outline}
 use Rattle.juniper_json.specs.AnswerText.{value_data, values_data, entries_data, scalar_data, items_data, step_data, location_data, extensions_data}
 use Rattle.juniper_json.specs.AnswerText.{error_data, errors_data, answer_data}
-use Rattle.juniper_answer_laws.specs.ReadBack.{IsJsonOf, said, said_items, said_entries, shown_error, items_said, list_said, only, member_said, number_said}
-use Rattle.juniper_answer_laws.specs.ReadBack.{step_said, place_said, said_or_null, error_with, error_said, errors_said, answer_said, IsInt}
-use Rattle.juniper_answer_laws.specs.ReadBack.{HasInts, HaveInts, EntriesHaveInts, AreCounted, HasNumbers, AllHaveNumbers, AnswersReadBack}
+use Rattle.juniper_demo.specs.ReadBack.{IsJsonOf, said, said_items, said_entries, shown_error, items_said, list_said, only, member_said, number_said}
+use Rattle.juniper_demo.specs.ReadBack.{step_said, place_said, said_or_null, error_with, error_said, errors_said, answer_said, IsInt}
+use Rattle.juniper_demo.specs.ReadBack.{HasInts, HaveInts, EntriesHaveInts, AreCounted, HasNumbers, AllHaveNumbers, AnswersReadBack}
 
 -- ## Numbers
 

@@ -1,5 +1,5 @@
-use Rattle.juniper_answer_laws.proofs.Lines.{outcomes-are-the-line, the-line-is-answered, word-is-answered}
-use Rattle.juniper_answer_laws.proofs.demo_line.Goals as goal
+use Rattle.juniper_demo.proofs.Lines.{outcomes-are-the-line, the-line-is-answered, word-is-answered}
+use Rattle.juniper_demo.proofs.laws.demo_line.Goals as goal
 
 pub returns-clause-outcomes : goal.returns-clause-outcomes
 returns-clause-outcomes c = outcomes-are-the-line

@@ -1,8 +1,7 @@
 //! Laws of the lines that programs print. Each function does nothing; its contract is the law.
-#![tactic(auto)]
 
-ghost use Rattle.juniper_answer_laws.specs.DemoLine.{OutcomesAreTheLine, TheLineIsAnswered, WordIsAnsweredByTheLine};
-ghost use Rattle.juniper_answer_laws.specs.ReadBack.{AnswersReadBack};
+ghost use Rattle.juniper_demo.specs.DemoLine.{OutcomesAreTheLine, TheLineIsAnswered, WordIsAnsweredByTheLine};
+ghost use Rattle.juniper_demo.specs.ReadBack.{AnswersReadBack};
 
 /// The text of an answer is that of one JSON value, by the grammar of RFC 8259, and the value says the data and the errors that were
 /// answered: each message, place in the text, path and extension. Ints are of 32 bits, and other numbers of 64 (sections 7.1 and 7.2.2).

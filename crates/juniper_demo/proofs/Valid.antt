@@ -28,8 +28,8 @@ use Rattle.graphql_spec.specs.Rules.{type_errors, use_errors, first_found, at_ea
 use Rattle.graphql_spec.specs.Rules.{spreads_unknown, spreads_itself, repeats_variable, repeats_argument, repeats_input_field, has_unknown_directive}
 use Rattle.graphql_spec.specs.Rules.{has_unknown_type, has_other_condition, has_other_variable, has_wrong_default, variable_types, uses_undefined}
 use Rattle.graphql_spec.specs.Rules.{looks_at_schema}
-use Rattle.juniper_answer_laws.proofs.Request.{the_document, the_operation, the_directive, the_argument, first_id, again, skipped, failing, last_id}
-use Rattle.juniper_answer_laws.proofs.Declared.{Declares, queried, id_field, name_field, fail_field}
+use Rattle.juniper_demo.proofs.Request.{the_document, the_operation, the_directive, the_argument, first_id, again, skipped, failing, last_id}
+use Rattle.juniper_demo.proofs.Declared.{Declares, queried, id_field, name_field, fail_field}
 
 module _ (es : List Entry) (m : Option Name) (known : Declares (queried es m)) where
   abbrev s : Schema

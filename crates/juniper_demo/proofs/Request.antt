@@ -9,7 +9,7 @@ use Rattle.graphql_spec.specs.Tokens.{Token, mark, name, IsText, starts_name, co
 use Rattle.graphql_spec.specs.Tokens.{is_line_end, is_source_byte, ignore_byte, is_ignored}
 use Rattle.graphql_spec.specs.Grammar.{At, IsArgument, IsDirective, IsField, AreSelections, Spells, IsDerived, begin_of, span_of, boolean_word, is_end}
 use Rattle.graphql_spec.proofs.Demo.{at, span, word}
-use Rattle.juniper_answer_laws.specs.DemoLine.{the_request}
+use Rattle.juniper_demo.specs.DemoLine.{the_request}
 
 abbrev pub the_argument : Argument
 the_argument = record { name = word (codes "if") 26; value = record { item = scalar (boolean true); span = span 30 34 } }

@@ -22,8 +22,8 @@ use Rattle.graphql_spec.specs.Rules.{is_introspection}
 use Rattle.graphql_spec.specs.SeenNodes.{map_tree, map_reply}
 use Rattle.graphql_spec.specs.Introspection.{RootedNode, root, rooted_concrete, rooted_answer, user_reply}
 use Rattle.graphql_spec.proofs.Demo.{at}
-use Rattle.juniper_answer_laws.proofs.Request.{the_document, the_operation, first_id, again, failing, last_id}
-use Rattle.juniper_answer_laws.proofs.Declared.{Declares, queried}
+use Rattle.juniper_demo.proofs.Request.{the_document, the_operation, first_id, again, failing, last_id}
+use Rattle.juniper_demo.proofs.Declared.{Declares, queried}
 
 -- what is selected, whatever the variables
 abbrev pub the_forest : Forest
