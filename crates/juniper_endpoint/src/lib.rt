@@ -23,4 +23,4 @@ pub use endpoint::RootEndpoint;
 pub use logged::Logged;
 pub use mode::{Mode, mode_of};
 pub use request_lines::response_to;
-pub use serving::{Host, ServerLimits, report, serve, serve_endpoint};
+pub use serving::{Host, ServerLimits, report, serve, serve_endpoint, serve_http};

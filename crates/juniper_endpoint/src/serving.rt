@@ -4,7 +4,7 @@ use crate::endpoint::RootEndpoint;
 use crate::logged::Logged;
 use crate::mode::{Mode, mode_of};
 use crate::request_lines::response_to;
-use http_server::Config;
+use http_server::{Config, Service};
 use juniper::{
     Bounds, DefaultScalarValue, GraphQLMutationValue, GraphQLType, GraphQLValue, RootNode,
     SchemaType,
@@ -120,7 +120,11 @@ fn run<R: Host, E: Endpoint + Drop>(
 ) -> io::Result<ExitCode> {
     let words = env::args(rt)?.skip(1).collect::<Vec<String>>(rt.alloc())?;
     match mode_of(words.as_slice()) {
-        Some(Mode::Http) => serve_http(rt, endpoint, limits),
+        Some(Mode::Http) => {
+            let service = GraphQLService::new(rt.alloc(), endpoint, limits.http);
+            serve_http(rt, service, limits)?;
+            Ok(ExitCode::from(0))
+        }
         Some(Mode::Lines) => serve_lines(rt, endpoint),
         Some(Mode::Sdl) => print_schema(rt, schema),
         None => {
@@ -130,14 +134,14 @@ fn run<R: Host, E: Endpoint + Drop>(
     }
 }
 
-/// Answers the requests of one connection.
-fn serve_http<R: Host, E: Endpoint + Drop>(
+/// Answers the requests of one connection of HTTP/1.1 by a service, over standard input and output, with a line on standard error for each. An
+/// error where these fail, or memory is refused.
+pub fn serve_http<R: Host, S: Service + Drop>(
     rt: &R,
-    endpoint: E,
+    service: S,
     limits: &ServerLimits,
-) -> io::Result<ExitCode> {
+) -> io::Result<()> {
     let alloc = rt.alloc();
-    let service = GraphQLService::new(alloc, endpoint, limits.http);
     let mut logged = Logged { rt, service };
     let config = Config {
         max_body_len: limits.read_bytes,
@@ -147,8 +151,7 @@ fn serve_http<R: Host, E: Endpoint + Drop>(
     let keys = RandomState::new(rt)?;
     let mut reader = rt.reader();
     let mut writer = io::writer(rt);
-    serve_connection(alloc, keys, config, &mut logged, &mut reader, &mut writer)?;
-    Ok(ExitCode::from(0))
+    serve_connection(alloc, keys, config, &mut logged, &mut reader, &mut writer)
 }
 
 /// Answers the request in each line, also where the log cannot be written; a status tells that an answer was not.
