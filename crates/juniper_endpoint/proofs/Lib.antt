@@ -2,4 +2,5 @@ pub mod Chosen
 pub mod Explaining
 pub mod Leaving
 pub mod Looking
+pub mod Refusing
 pub mod Telling
