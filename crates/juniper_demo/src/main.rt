@@ -2,6 +2,8 @@
 //! the values of variables of a JSON object, and prints its answer as one line of JSON.
 #![tactic(auto)]
 
+mod laws;
+
 use juniper_demo_server::{DemoContext, answer};
 use std::env;
 use std::process::ExitCode;

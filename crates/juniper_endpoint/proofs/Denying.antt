@@ -18,19 +18,19 @@ module _ {S K : Type 0} (admits : S → Request (List ℕ) → Result (Unit {0})
     (kept : S → K) (request : Request (List ℕ)) (s : S)
     (denied : (verdict : Result (Unit {0}) Denial) (next : S) → admits s request verdict next → IsErr verdict)
     (leaves : (verdict : Result (Unit {0}) Denial) (next : S) → admits s request verdict next → OnErr verdict (kept next ≡ kept s)) where
-  verdict-leaves : (before : List Header) (media : MediaType) (p : Plan) (verdict : Result (Unit {0}) Denial) (next : S) (r : Response) (t : S) →
-      admits s request verdict next → FollowsVerdict replies before media p verdict next r t → kept t ≡ kept s
-  verdict-leaves before media p (Ok admitted) next r t a f = absurd (denied (Ok admitted) next a)
-  verdict-leaves before media p (Err why) next r t a (same, told) = ap kept same ∙ leaves (Err why) next a
+  verdict-leaves : (most : ℕ) (before : List Header) (media : MediaType) (p : Plan) (verdict : Result (Unit {0}) Denial) (next : S) (r : Response) (t : S) →
+      admits s request verdict next → FollowsVerdict replies most before media p verdict next r t → kept t ≡ kept s
+  verdict-leaves most before media p (Ok admitted) next r t a f = absurd (denied (Ok admitted) next a)
+  verdict-leaves most before media p (Err why) next r t a (same, told) = ap kept same ∙ leaves (Err why) next a
 
-  follows-leave : (before : List Header) (p : Plan) (r : Response) (t : S) → FollowsGuarded admits replies before request p (asked_media p) s r t →
-      kept t ≡ kept s
-  follows-leave before Page r t (same, page) = ap kept same
-  follows-leave before Methods r t (same, told) = ap kept same
-  follows-leave before (Refuse why) r t (same, told) = ap kept same
-  follows-leave before (Ask media parts may_write) r t (verdict, next, a, f) =
-      verdict-leaves before media (Ask media parts may_write) verdict next r t a f
-  follows-leave before (Post media requests) r t (verdict, next, a, f) = verdict-leaves before media (Post media requests) verdict next r t a f
+  follows-leave : (most : ℕ) (before : List Header) (p : Plan) (r : Response) (t : S) →
+      FollowsGuarded admits replies most before request p (asked_media p) s r t → kept t ≡ kept s
+  follows-leave most before Page r t (same, page) = ap kept same
+  follows-leave most before Methods r t (same, told) = ap kept same
+  follows-leave most before (Refuse why) r t (same, told) = ap kept same
+  follows-leave most before (Ask media parts may_write) r t (verdict, next, a, f) =
+      verdict-leaves most before media (Ask media parts may_write) verdict next r t a f
+  follows-leave most before (Post media requests) r t (verdict, next, a, f) = verdict-leaves most before media (Post media requests) verdict next r t a f
 
 pub service-leaves : {S K : Type 0} (admits : S → Request (List ℕ) → Result (Unit {0}) Denial → S → Type 0)
     (replies : S → Asked → Bool → Reply → S → Type 0) (kept : S → K) (request : Request (List ℕ)) (s : GuardedService S) (r : Response) (t : GuardedService S) →
@@ -39,4 +39,4 @@ pub service-leaves : {S K : Type 0} (admits : S → Request (List ℕ) → Resul
     ServesGuarded admits replies s request r t → kept t.service.endpoint ≡ kept s.service.endpoint
 service-leaves admits replies kept request s r t denied leaves (new, is, (p, plan, follows)) =
     ap (λ x. kept x.service.endpoint) is
-    ∙ follows-leave admits replies kept request s.service.endpoint denied leaves (first_fields s.service request) p r new follows
+    ∙ follows-leave admits replies kept request s.service.endpoint denied leaves _ (first_fields s.service request) p r new follows

@@ -63,18 +63,18 @@ module _ {C N : Type 0} (S : Service C N) (b : Bounds) (a : Asked) (most : ℕ) 
 
 module _ {S : Type 0} (replies : S → Asked → Bool → Reply → S → Type 0)
     (leaves : (s : S) (a : Asked) (reply : Reply) (t : S) → replies s a false reply t → t ≡ s) where
-  follows-leave : (before : List Header) (method body : List ℕ) (p : Plan) (s : S) (r : HttpResponse) (t : S) → method ≢ codes "POST" →
-      IsPlanFor method body p → Follows replies before p s r t → t ≡ s
-  follows-leave before method body Page s r t other is (same, page) = same
-  follows-leave before method body Methods s r t other is (same, told) = same
-  follows-leave before method body (Refuse why) s r t other is (same, told) = same
-  follows-leave before method body (Ask media parts may_write) s r t other is (reply, replied, says) = elim (cases_Bool may_write) [
+  follows-leave : (most : ℕ) (before : List Header) (method body : List ℕ) (p : Plan) (s : S) (r : HttpResponse) (t : S) → method ≢ codes "POST" →
+      IsPlanFor method body p → Follows replies most before p s r t → t ≡ s
+  follows-leave most before method body Page s r t other is (same, page) = same
+  follows-leave most before method body Methods s r t other is (same, told) = same
+  follows-leave most before method body (Refuse why) s r t other is (same, told) = same
+  follows-leave most before method body (Ask media parts may_write) s r t other is (reply, replied, says) = elim (cases_Bool may_write) [
     | inl w ↦ absurd (other (is w))
     | inr w ↦ leaves s (asked_by parts) reply t (subst (λ x. replies s (asked_by parts) x reply t) w replied)
   ]
-  follows-leave before method body (Post media requests) s r t other (posts, read) f = absurd (other posts)
+  follows-leave most before method body (Post media requests) s r t other (posts, read) f = absurd (other posts)
 
   pub service-leaves : (s : GraphQLService S) (request : HttpRequest (List ℕ)) (r : HttpResponse) (t : GraphQLService S) →
       (head_of request).method ≢ codes "POST" → Serves replies s request r t → t ≡ s
   service-leaves s request r t other (new, is, (p, plan, follows)) =
-      is ∙ ap (λ e. record s { endpoint = e }) (follows-leave (first_fields s request) _ _ p s.endpoint r new other plan.0 follows)
+      is ∙ ap (λ e. record s { endpoint = e }) (follows-leave s.limits.max_answer_len (first_fields s request) _ _ p s.endpoint r new other plan.0 follows)

@@ -63,12 +63,12 @@ IsObjected objection.TooManyFields reply = IsTold outcome.Refused (bare_line (ob
 IsObjected objection.TooDeep reply = IsTold outcome.Refused (bare_line (objection_text objection.TooDeep)) reply
 IsObjected (objection.Refused e) reply = IsTold (refused_outcome (view_request_error e)) (refusals_text (refusals_of (view_request_error e))) reply
 
--- what is told of a document that is not valid: these errors, and each node that violates a rule
+-- what is told of a document that is not valid: each node that violates a rule, and these errors where no node is explained
 abbrev pub IsInvalidTold : Schema → Bool → ℕ → Text → List RuleError → Document → Reply → Type 0
 IsInvalidTold s disabled most text errors d reply =
     IsTold outcome.Refused (explained_text (refusals_of (not_valid errors)) (nodes_explained s disabled most text d)) reply
 
--- what is told of an error and what explains it, which is so, or that memory is refused
+-- what explains an error, which is so, is told, or the error itself where nothing does; or that memory is refused
 abbrev pub IsToldWith : (List Refusal → Type 0) → RequestError → Reply → Type 0
 IsToldWith P e reply =
     ((es : List Refusal) × P es × IsTold (refused_outcome e) (explained_text (refusals_of e) es) reply) ⊎ (reply.outcome ≡ outcome.OutOfMemory)
@@ -76,7 +76,7 @@ IsToldWith P e reply =
 module _ (s : Schema) (disabled : Bool) (most : ℕ) (q : Request) (d : Document) where
   -- what is found that explains an error of the request of this valid document: that given values do not fit, why
   abbrev pub AreMisfits : RequestError → List Refusal → Type 0
-  AreMisfits (not_valid errors) es = es ≡ values_explained s disabled most q d
+  AreMisfits (not_valid errors) es = es ≡ values_explained s disabled most q errors d
   AreMisfits e es = es ≡ []
 
   -- what is told of such an error

@@ -2,21 +2,20 @@
 
 ghost use Rattle.std.specs.Prelude.{◌≡◌, IfOk, Some, map};
 ghost use Rattle.juniper_explain.specs.Explanations.{view_explanation};
-ghost use Rattle.juniper_explain.specs.GivenValues.{view_variable_explanation};
 ghost use Rattle.juniper_explain.specs.Nodes.{explanations};
 ghost use Rattle.juniper_json.specs.RefusalText.{view_refusal};
 ghost use Rattle.juniper_schema.specs.SchemaView.{view_schema};
 ghost use Rattle.juniper_syntax.specs.DocumentView.{view_document};
 ghost use Rattle.juniper_syntax.specs.RuleView.{view_rule_error};
 ghost use Rattle.juniper_syntax.specs.Scalars.{default_shown};
-ghost use Rattle.juniper_endpoint.specs.Explained.{is_left_out, nodes_explained, of_explanation, of_value};
+ghost use Rattle.juniper_endpoint.specs.Explained.{is_left_out, nodes_explained, of_explanation, rule_number};
 ghost use Rattle.juniper_endpoint.specs.Looks.{IsInvalidTold, IsObjected};
 
 use crate::lines::{answered_reply, bare_reply, explained_reply, without_memory};
 use juniper::{DefaultScalarValue, Document, GraphQLError, Objection, RuleError, SchemaType};
-use juniper_explain::{Explanation, VariableExplanation, explain};
+use juniper_explain::{Explanation, Rule, explain};
 use juniper_http::{Outcome, Reply};
-use juniper_json::Refusal;
+use juniper_json::{BrokenRule, Refusal};
 use std::alloc::{AllocError, Global};
 
 /// What refused texts are explained by.
@@ -46,7 +45,7 @@ pub fn objection_reply(alloc: Global, objection: Objection) -> Reply
     }
 }
 
-/// The reply that tells the errors of a document that is not valid, and each node that violates a rule.
+/// The reply that tells of a document that is not valid each node that violates a rule, or its errors where none is explained.
 pub fn invalid_reply(
     alloc: Global,
     explainer: &Explainer<'_>,
@@ -105,53 +104,57 @@ fn explained_in(
     refusals_of(alloc, explanations)
 }
 
-/// What is told of a refusal beside its errors: a text and a place.
-pub trait Explains: Drop {
-    ghost use Rattle.juniper_json.specs.RefusalText.{Refusal};
-
-    /// How it is written.
-    ghost written: { Self → Refusal };
-
-    /// As it is written.
-    fn into_refusal(self) -> Refusal
-        ensures { view_refusal result ≡ written self };
-}
-
-/// An explanation of a node.
-impl Explains for Explanation {
-    ghost written = { λ e. of_explanation (view_explanation e) };
-
-    fn into_refusal(self) -> Refusal {
-        Refusal {
-            message: self.message,
-            place: Some(self.location),
-        }
-    }
-}
-
-/// An explanation of a given value.
-impl Explains for VariableExplanation {
-    ghost written = { λ e. of_value (view_variable_explanation e) };
-
-    fn into_refusal(self) -> Refusal {
-        Refusal {
-            message: self.message,
-            place: Some(self.location),
-        }
-    }
-}
-
-/// Explanations, as they are written.
-pub fn refusals_of<E: Explains>(
-    alloc: Global,
-    explanations: Vec<E>,
-) -> Result<Vec<Refusal>, AllocError>
-    ensures { IfOk result (λ made. map view_refusal made.items ≡ map E.written explanations.items) }
+/// Explanations of nodes, as errors.
+fn refusals_of(alloc: Global, explanations: Vec<Explanation>) -> Result<Vec<Refusal>, AllocError>
+    ensures { IfOk result (λ made. map view_refusal made.items ≡ map (λ e. of_explanation (view_explanation e)) explanations.items) }
 {
     let mut refusals = Vec::with_capacity(alloc, explanations.len())?;
     for explanation in explanations {
-        let refusal = explanation.into_refusal();
-        refusals.push(refusal)?;
+        refusals.push(refusal_of(alloc, explanation)?)?;
     }
     Ok(refusals)
+}
+
+/// An explanation of a node, as an error.
+fn refusal_of(alloc: Global, explanation: Explanation) -> Result<Refusal, AllocError>
+    ensures { IfOk result (λ made. view_refusal made ≡ of_explanation (view_explanation explanation)) }
+{
+    let text = String::from_str(alloc, explanation.rule.message())?;
+    let number = Some(rule_number(explanation.rule));
+    Ok(Refusal {
+        message: explanation.message,
+        place: Some(explanation.location),
+        rule: Some(BrokenRule { text, number }),
+    })
+}
+
+/// The number of a rule: its place, from 1, in the order in which errors are listed at a definition.
+#[tactic(auto, unfolding(crate::specs::Explained::rule_number))]
+fn rule_number(rule: Rule) -> usize
+    ensures { result ≡ rule_number rule }
+{
+    match rule {
+        Rule::UniqueOperationNames => 1,
+        Rule::LoneAnonymousOperation => 2,
+        Rule::UniqueFragmentNames => 3,
+        Rule::KnownFragmentNames => 4,
+        Rule::NoFragmentCycles => 5,
+        Rule::UniqueVariableNames => 6,
+        Rule::UniqueArgumentNames => 7,
+        Rule::UniqueInputFieldNames => 8,
+        Rule::KnownDirectives => 9,
+        Rule::KnownTypeNames => 10,
+        Rule::FragmentsOnCompositeTypes => 11,
+        Rule::VariablesAreInputTypes => 12,
+        Rule::FieldsOnCorrectType => 13,
+        Rule::ScalarLeafs => 14,
+        Rule::KnownArgumentNames => 15,
+        Rule::ProvidedNonNullArguments => 16,
+        Rule::ArgumentsOfCorrectType => 17,
+        Rule::DefaultValuesOfCorrectType => 18,
+        Rule::NoUndefinedVariables => 19,
+        Rule::VariablesInAllowedPosition => 20,
+        Rule::OverlappingFieldsCanBeMerged => 21,
+        Rule::DisableIntrospection => 22,
+    }
 }

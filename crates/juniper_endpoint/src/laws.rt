@@ -1,18 +1,26 @@
 //! Laws of replies. Each function does nothing; its contract is the law.
 
-ghost use Rattle.std.specs.Prelude.{◌≡◌, ◌≢◌, Bool, ℕ, List, Option, [], codes, false};
+ghost use Rattle.std.specs.Prelude.{◌≡◌, ◌≢◌, Bool, ℕ, List, Option, Some, [], codes, false};
 ghost use Rattle.graphql_spec.specs.Documents.{Document};
 ghost use Rattle.graphql_spec.specs.Outcomes as outcomes;
+ghost use Rattle.graphql_spec.specs.Requests.{Refusal};
+ghost use Rattle.graphql_spec.specs.Rules.{RuleError};
 ghost use Rattle.graphql_spec.specs.Schema.{Schema};
 ghost use Rattle.graphql_spec.specs.Shown.{Text};
 ghost use Rattle.http.specs.Request.{head_of};
 ghost use Rattle.http.specs.declared.request.Request.{Request};
 ghost use Rattle.http_server.specs.declared.response.Response.{Response};
+ghost use Rattle.juniper.specs.Answering.{refusal_of};
+ghost use Rattle.juniper.specs.Promised.{IsFullOutcome};
+ghost use Rattle.juniper.specs.RequestErrors.{RequestError};
 ghost use Rattle.juniper.specs.declared.prepared.Bounds.{Bounds};
 ghost use Rattle.juniper_http.specs.Served.{Serves};
 ghost use Rattle.juniper_http.specs.declared.endpoint.Reply.{Reply};
 ghost use Rattle.juniper_http.specs.declared.outcome.Outcome.{Outcome};
 ghost use Rattle.juniper_http.specs.declared.service.GraphQLService.{GraphQLService};
+ghost use Rattle.juniper_json.specs.RefusalText as lines;
+ghost use Rattle.juniper_json.specs.RefusalText.{told_errors};
+ghost use Rattle.juniper_json.specs.Refusals.{refusals_of};
 ghost use Rattle.juniper_request.specs.Requests.{Asked};
 ghost use Rattle.juniper_endpoint.specs.Explained.{IsFaultless, explained_as, is_left_out};
 ghost use Rattle.juniper_endpoint.specs.Replied.{Replies};
@@ -45,8 +53,15 @@ pub fn gets_leave<E: Endpoint>()
 {}
 
 /// Something is explained of each request that breaks a rule, or whose values do not fit the operation that is chosen, where its text is
-/// not left out.
+/// not left out, whatever errors are listed.
 pub fn refusals_are_explained()
-    ensures { (s : Schema) (disabled : Bool) (most : ℕ) (q : outcomes.Request) (d : Document) → is_left_out disabled most q.text ≡ false →
-        explained_as s disabled most q d ≡ [] → IsFaultless s disabled q d }
+    ensures { (s : Schema) (disabled : Bool) (most : ℕ) (q : outcomes.Request) (errors : List RuleError) (d : Document) →
+        is_left_out disabled most q.text ≡ false → explained_as s disabled most q errors d ≡ [] → IsFaultless s disabled q d }
+{}
+
+/// Some error is told of each request that the executor refuses, whatever explains it.
+pub fn refusals_have_errors<C, N>()
+    ensures { (S : outcomes.Service C N) (q : outcomes.Request) (c : C) (e : RequestError) (r : Refusal) (after : C)
+        (explanations : List lines.Refusal) → refusal_of e ≡ Some r → IsFullOutcome S q c (outcomes.refuses r) after →
+        told_errors (refusals_of e) explanations ≢ [] }
 {}

@@ -87,7 +87,7 @@ fn refused_outcome(error: &GraphQLError) -> Outcome
     }
 }
 
-/// The reply that tells an error and these explanations of it.
+/// The reply that tells these explanations of an error, or the error itself where there are none.
 pub fn explained_reply(alloc: Global, error: &GraphQLError, explanations: &[Refusal]) -> Reply
     ensures { IsTold (refused_outcome (view_request_error error.now))
         (explained_text (refusals_of (view_request_error error.now)) (map view_refusal explanations.now)) result }

@@ -1,22 +1,43 @@
 -- The members of a batch, one after another.
-use Rattle.std.proofs.Common.{◌≡◌, ℕ, suc, zero, ◌<◌, ◌≤◌, ◌⊎◌, List, [], ◌∷◌, ◌++◌, length, map, take, get_or, Bool, codes, string_bytes}
-use Rattle.std.proofs.Common.{String, Global, Result, Ok, Err, IfOk, IfErr, IsOkAnd, append_assoc, refl, sym, ap, inl, inr, arith}
+use Rattle.std.proofs.Common.{◌≡◌, ℕ, suc, zero, ◌<◌, ◌≤◌, ◌⊎◌, List, [], ◌∷◌, ◌++◌, length, map, take, get_or, Bool, true, codes, string_bytes}
+use Rattle.std.proofs.Common.{String, Global, None, Option, Some, Result, Ok, Err, IfOk, IfErr, IsOkAnd, append_assoc, refl, sym, ap, inl, inr, arith}
 use Rattle.std.specs.List.{join_with_byte}
 use Rattle.std.specs.declared.alloc.AllocError.{AllocError}
 use Rattle.serde_json.specs.Data.{Data}
 use Rattle.serde_json.specs.View.{view}
 use Rattle.serde_json.specs.declared.value.Value.{Value}
-use Rattle.juniper_request.specs.Requests.{Asked}
-use Rattle.juniper_http.specs.Batches.{PutsEach, PutsMember, array_text}
+use Rattle.juniper_request.specs.Requests.{Asked, request_in}
+use Rattle.juniper_request.specs.declared.error.RequestError.{RequestError}
+use Rattle.juniper_http.specs.Batches.{PutsEach, PutsWithin, array_text, less}
+use Rattle.juniper_http.specs.Outcomes.{reply_text}
+use Rattle.juniper_http.specs.Refusals.{refusal_text}
 use Rattle.juniper_http.specs.declared.endpoint.Reply.{Reply}
 use Rattle.juniper_http.specs.declared.outcome.Outcome.TheVariants.{Executed, OutOfMemory}
+use Rattle.juniper_http.specs.declared.refusal.Refusal.TheVariants.{LongAnswer, NotARequest}
 
 -- one more is put
-pub put_next : {S : Type 0} (replies : S → Asked → Bool → Reply → S → Type 0) (ds : List Data) (d : Data) (s m t : S) (texts : List (List ℕ)) (text : List ℕ)
-    → PutsEach replies ds s texts m → PutsMember replies d m text t → PutsEach replies (ds ++ d ∷ []) s (texts ++ text ∷ []) t
-put_next replies [] d s m t texts text h p = (text, [], t, rw h.1 refl, rw (sym h.0) p, (refl, refl))
-put_next replies (e ∷ ds) d s m t texts text h p =
-    (h.0, h.1 ++ text ∷ [], h.2, rw h.3 refl, h.4, put_next replies ds d h.2 m t h.1 text h.5 p)
+pub put_next : {S : Type 0} (replies : S → Asked → Bool → Reply → S → Type 0) (left : Option ℕ) (ds : List Data) (d : Data) (s m t : S) (texts : List (List ℕ))
+    (text : List ℕ) (between rest : Option ℕ) → PutsEach replies left ds s texts m between → PutsWithin replies between d m text t rest →
+    PutsEach replies left (ds ++ d ∷ []) s (texts ++ text ∷ []) t rest
+put_next replies left [] d s m t texts text between rest h p = (text, [], t, rest, rw h.1 refl, rw (sym h.0, sym h.2) p, (refl, refl, refl))
+put_next replies left (e ∷ ds) d s m t texts text between rest h p =
+    (h.0, h.1 ++ text ∷ [], h.2, h.3, rw h.4 refl, h.5, put_next replies h.3 ds d h.2 m t h.1 text between rest h.6 p)
+
+-- a request, while bytes are left
+pub put_asked : {S : Type 0} (replies : S → Asked → Bool → Reply → S → Type 0) (left : Option ℕ) (n : ℕ) (d : Data) (a : Asked) (s t : S) (reply : Reply)
+    (text : List ℕ) (rest : Option ℕ) → left ≡ Some n → Ok a ≡ request_in d → replies s a true reply t →
+    text ≡ reply_text reply.outcome (string_bytes reply.line) → rest ≡ less n (length text) → PutsWithin replies left d s text t rest
+put_asked replies left n d a s t reply text rest some is r told behind = rw (some, sym is) ((reply, r, told), behind)
+
+-- a member for whose reply no bytes are left
+pub put_over : {S : Type 0} (replies : S → Asked → Bool → Reply → S → Type 0) (left : Option ℕ) (d : Data) (s : S) → left ≡ None →
+    PutsWithin replies left d s (refusal_text LongAnswer) s left
+put_over replies left d s none = rw none (refl, refl, refl)
+
+-- what is no request
+pub put_none : {S : Type 0} (replies : S → Asked → Bool → Reply → S → Type 0) (left : Option ℕ) (n : ℕ) (d : Data) (e : RequestError) (s : S) → left ≡ Some n →
+    Err e ≡ request_in d → PutsWithin replies left d s (refusal_text (NotARequest e)) s left
+put_none replies left n d e s some is = rw (some, sym is) ((refl, refl), refl)
 
 -- the members so far, with the next
 taken : (items : List Value) (i : ℕ) (x : Value) → i < length items → x ≡ get_or items i x

@@ -39,16 +39,17 @@ MayPutNothing (Post media requests) = IsNoRequest (view_body requests)
 module _ {S : Type 0} where
   -- What is done behind a verdict, from the state that it left. Who is admitted is answered as the plan says; where memory is refused for the answer to
   -- what is no request, it is a bare 500. Who is denied is told so, and nothing is put.
-  abbrev pub FollowsVerdict : (S → Asked → Bool → Reply → S → Type 0) → List Header → MediaType → Plan → Result (Unit {0}) Denial → S → Response → S → Type 0
-  FollowsVerdict replies before media p (Ok admitted) s r t = Follows replies before p s r t ⊎ (MayPutNothing p × (t ≡ s) × IsResponse 500 [] [] r)
-  FollowsVerdict replies before media p (Err why) s r t = (t ≡ s) × Denies before media why r
+  abbrev pub FollowsVerdict : (S → Asked → Bool → Reply → S → Type 0) → ℕ → List Header → MediaType → Plan → Result (Unit {0}) Denial → S → Response → S
+      → Type 0
+  FollowsVerdict replies most before media p (Ok admitted) s r t = Follows replies most before p s r t ⊎ (MayPutNothing p × (t ≡ s) × IsResponse 500 [] [] r)
+  FollowsVerdict replies most before media p (Err why) s r t = (t ≡ s) × Denies before media why r
 
   -- A plan that asks something, answered as this media type, is followed behind one verdict on the request; a plan that asks nothing behind none.
   abbrev pub FollowsGuarded : (S → Request (List ℕ) → Result (Unit {0}) Denial → S → Type 0) → (S → Asked → Bool → Reply → S → Type 0)
-      → List Header → Request (List ℕ) → Plan → Option MediaType → S → Response → S → Type 0
-  FollowsGuarded admits replies before request p None s r t = Follows replies before p s r t
-  FollowsGuarded admits replies before request p (Some media) s r t =
-      (verdict : Result (Unit {0}) Denial) × (next : S) × admits s request verdict next × FollowsVerdict replies before media p verdict next r t
+      → ℕ → List Header → Request (List ℕ) → Plan → Option MediaType → S → Response → S → Type 0
+  FollowsGuarded admits replies most before request p None s r t = Follows replies most before p s r t
+  FollowsGuarded admits replies most before request p (Some media) s r t =
+      (verdict : Result (Unit {0}) Denial) × (next : S) × admits s request verdict next × FollowsVerdict replies most before media p verdict next r t
 
   -- A request is answered, behind these fields: by the plan for it, which is followed. Of the service nothing changes but the endpoint.
   abbrev pub ServesGuardedBehind : (S → Request (List ℕ) → Result (Unit {0}) Denial → S → Type 0) → (S → Asked → Bool → Reply → S → Type 0)
@@ -56,7 +57,7 @@ module _ {S : Type 0} where
   ServesGuardedBehind admits replies before s request r t =
       (new : S) × (t ≡ record s { service = record s.service { endpoint = new } })
       × ((p : Plan) × IsPlan s.service.limits request p
-      × FollowsGuarded admits replies before request p (asked_media p) s.service.endpoint r new)
+      × FollowsGuarded admits replies s.service.limits.max_answer_len before request p (asked_media p) s.service.endpoint r new)
 
   abbrev pub ServesGuarded : (S → Request (List ℕ) → Result (Unit {0}) Denial → S → Type 0) → (S → Asked → Bool → Reply → S → Type 0)
       → GuardedService S → Request (List ℕ) → Response → GuardedService S → Type 0

@@ -3,7 +3,7 @@ use Rattle.std.specs.Prelude.{ℕ, List, ◌++◌, codes}
 use Rattle.juniper_request.specs.Requests.{message, place_text}
 use Rattle.juniper_http.specs.declared.refusal.Refusal.{Refusal}
 use Rattle.juniper_http.specs.declared.refusal.Refusal.TheVariants.{NotFound, Method, NotAcceptable, MediaType, Coding, TooLarge, NotJson, NotARequest}
-use Rattle.juniper_http.specs.declared.refusal.Refusal.TheVariants.{EmptyBatch, LongBatch}
+use Rattle.juniper_http.specs.declared.refusal.Refusal.TheVariants.{EmptyBatch, LongBatch, LongAnswer}
 
 -- the status of a refusal
 abbrev pub refusal_status : Refusal → ℕ
@@ -14,6 +14,7 @@ refusal_status MediaType = 415
 refusal_status Coding = 415
 refusal_status TooLarge = 413
 refusal_status LongBatch = 413
+refusal_status LongAnswer = 413
 refusal_status (NotJson fault) = 400
 refusal_status (NotARequest e) = 400
 refusal_status EmptyBatch = 400
@@ -30,6 +31,7 @@ refusal_message (NotJson fault) = place_text fault
 refusal_message (NotARequest e) = message e
 refusal_message EmptyBatch = codes "the batch is empty"
 refusal_message LongBatch = codes "the batch is too long"
+refusal_message LongAnswer = codes "the answers to the batch are too long"
 
 -- its body: errors, and no data
 abbrev pub refusal_text : Refusal → List ℕ

@@ -12,7 +12,7 @@ use Rattle.juniper_http.specs.declared.outcome.Outcome.TheVariants.{Executed, Re
 use Rattle.juniper_http.specs.declared.page.TheConstants.{PAGE}
 use Rattle.juniper_http.specs.declared.refusal.Refusal.{Refusal}
 use Rattle.juniper_http.specs.declared.refusal.Refusal.TheVariants.{NotFound, Method, NotAcceptable, MediaType as OtherType, Coding, TooLarge, NotJson}
-use Rattle.juniper_http.specs.declared.refusal.Refusal.TheVariants.{NotARequest, EmptyBatch, LongBatch}
+use Rattle.juniper_http.specs.declared.refusal.Refusal.TheVariants.{NotARequest, EmptyBatch, LongBatch, LongAnswer}
 
 -- the name and the value of a field
 abbrev pub Header : Type 0
@@ -53,6 +53,7 @@ refusal_fields OtherType = content_type (media_text Json) ∷ []
 refusal_fields Coding = content_type (media_text Json) ∷ no_coding ∷ []
 refusal_fields TooLarge = content_type (media_text Json) ∷ []
 refusal_fields LongBatch = content_type (media_text Json) ∷ []
+refusal_fields LongAnswer = content_type (media_text Json) ∷ []
 refusal_fields (NotJson fault) = content_type (media_text Json) ∷ []
 refusal_fields (NotARequest e) = content_type (media_text Json) ∷ []
 refusal_fields EmptyBatch = content_type (media_text Json) ∷ []

@@ -43,24 +43,26 @@ module _ {S : Type 0} where
   PutsOne replies before media (Ok asked) s r t = Puts replies before media asked true s r t
   PutsOne replies before media (Err e) s r t = (t ≡ s) × IsRefusal before (NotARequest e) r
 
-  -- the requests of a POST are put
-  abbrev pub PutsBody : (S → Asked → Bool → Reply → S → Type 0) → List Header → MediaType → Body → S → Response → S → Type 0
-  PutsBody replies before media (single d) s r t = PutsOne replies before media (request_in d) s r t
-  PutsBody replies before media (batch ds) s r t =
-      (reply : Reply) × IsBatchReply replies ds s reply t × Says before media reply.outcome (string_bytes reply.line) r
+  -- the requests of a POST are put, several while their replies have at most so many bytes
+  abbrev pub PutsBody : (S → Asked → Bool → Reply → S → Type 0) → ℕ → List Header → MediaType → Body → S → Response → S → Type 0
+  PutsBody replies most before media (single d) s r t = PutsOne replies before media (request_in d) s r t
+  PutsBody replies most before media (batch ds) s r t =
+      (reply : Reply) × IsBatchReply replies most ds s reply t × Says before media reply.outcome (string_bytes reply.line) r
 
   -- what is done for a plan, between two states of the endpoint
-  abbrev pub Follows : (S → Asked → Bool → Reply → S → Type 0) → List Header → Plan → S → Response → S → Type 0
-  Follows replies before Page s r t = (t ≡ s) × IsPage before r
-  Follows replies before Methods s r t = (t ≡ s) × TellsMethods before r
-  Follows replies before (Refuse why) s r t = (t ≡ s) × IsRefusal before why r
-  Follows replies before (Ask media parts may_write) s r t = Puts replies before media (asked_by parts) may_write s r t
-  Follows replies before (Post media requests) s r t = PutsBody replies before media (view_body requests) s r t
+  abbrev pub Follows : (S → Asked → Bool → Reply → S → Type 0) → ℕ → List Header → Plan → S → Response → S → Type 0
+  Follows replies most before Page s r t = (t ≡ s) × IsPage before r
+  Follows replies most before Methods s r t = (t ≡ s) × TellsMethods before r
+  Follows replies most before (Refuse why) s r t = (t ≡ s) × IsRefusal before why r
+  Follows replies most before (Ask media parts may_write) s r t = Puts replies before media (asked_by parts) may_write s r t
+  Follows replies most before (Post media requests) s r t = PutsBody replies most before media (view_body requests) s r t
 
   -- A request is answered, behind these fields: by the plan for it, which is followed. Of the service nothing changes but the endpoint.
-  abbrev pub ServesBehind : (S → Asked → Bool → Reply → S → Type 0) → List Header → GraphQLService S → Request (List ℕ) → Response → GraphQLService S → Type 0
+  abbrev pub ServesBehind : (S → Asked → Bool → Reply → S → Type 0) → List Header → GraphQLService S → Request (List ℕ) → Response → GraphQLService S
+      → Type 0
   ServesBehind replies before s request r t =
-      (new : S) × (t ≡ record s { endpoint = new }) × ((p : Plan) × IsPlan s.limits request p × Follows replies before p s.endpoint r new)
+      (new : S) × (t ≡ record s { endpoint = new })
+      × ((p : Plan) × IsPlan s.limits request p × Follows replies s.limits.max_answer_len before p s.endpoint r new)
 
   abbrev pub Serves : (S → Asked → Bool → Reply → S → Type 0) → GraphQLService S → Request (List ℕ) → Response → GraphQLService S → Type 0
   Serves replies s request r t = ServesBehind replies (first_fields s request) s request r t

@@ -7,13 +7,13 @@ ghost use Rattle.juniper_http.specs.declared.denial.Denial.TheVariants as gives;
 use http::HeaderValue;
 use std::alloc::AllocError;
 
-/// Why nothing of a request is executed: whoever sends it is not known, or may not ask.
+/// Why nothing of a request is executed: what is known of whoever asks does not suffice.
 #[derive(Debug, Drop)]
 pub enum Denial {
-    /// It has no credentials, or none that hold: 401. Its `www-authenticate` is this challenge, which says how to authenticate, as `Bearer`
-    /// or `Basic realm="staff"` (RFC 9110, sections 11.6.1 and 15.5.2).
+    /// Nobody asks who is known: no credentials, or none that hold. The answer is a 401. Its `www-authenticate` is this challenge, as
+    /// `Bearer` or `Basic realm="staff"`, which says how to authenticate (RFC 9110, sections 11.6.1 and 15.5.2).
     Unauthorized(HeaderValue),
-    /// Whoever sends it may not ask: 403 (RFC 9110, section 15.5.4).
+    /// Whoever asks may not: 403, and other credentials may do (RFC 9110, section 15.5.4).
     Forbidden,
     /// Memory is refused: 500.
     OutOfMemory,

@@ -18,13 +18,13 @@ use http::Request;
 use http_server::{Response, Service};
 use std::alloc::{AllocError, Global};
 
-/// An endpoint that finds out who sends a request, before anything of it is put.
+/// Looks at who asks, before anything of a request is put to the endpoint that it is.
 pub trait Guarded {
     // From the first state, this is the verdict on the request, and it leaves the second state.
     ghost admits: { Self → Request (List ℕ) → Result (Unit {0}) Denial → Self → Type 0 };
 
-    /// Admits whoever sends a request, or denies the request. It is called once for each request over HTTP that asks something, also for a
-    /// batch, and never for one that HTTP itself refuses, nor for the page or `OPTIONS`. It is to look at the head, not at what is asked.
+    /// Admits whoever sends a request, or denies. It is asked once for each request over HTTP that asks something, also for a batch, and
+    /// never for one that HTTP itself refuses, nor for the page or `OPTIONS`. What the request asks is no reason to deny it: its head is.
     fn admit(&mut self, alloc: Global, request: &Request<Bytes>) -> Result<(), Denial>
         ensures { admits self.old request.now result self.new };
 }
@@ -87,8 +87,8 @@ impl<'o, E: Endpoint + Guarded> GuardedService<'o, E> {
     )
         requires status { response.old.status ≡ 200 }
         requires body { response.old.body.items ≡ [] }
-        ensures said { FollowsGuarded E.admits E.replies (fields_of response.old) request.now plan (Some media) self.old.service.endpoint
-            response.new self.new.service.endpoint }
+        ensures said { FollowsGuarded E.admits E.replies self.old.service.limits.max_answer_len (fields_of response.old) request.now plan
+            (Some media) self.old.service.endpoint response.new self.new.service.endpoint }
         ensures rest { self.new ≡ record self.old { service = record self.old.service { endpoint = self.new.service.endpoint } } }
     {
         let alloc = self.service.alloc;

@@ -30,19 +30,24 @@ pub struct Limits {
     pub max_body_len: usize,
     /// A batch of more requests is refused.
     pub max_batch_len: usize,
+    /// Once the replies to a batch have more bytes together, its other members are refused.
+    pub max_answer_len: usize,
 }
 
 impl Limits {
-    /// For requests of strangers: 256 KiB, and ten requests in a batch.
+    /// For requests of strangers: 256 KiB, ten requests in a batch, and a batch that is answered 1 MiB and one more reply.
     pub const DEFAULT: Limits = Limits {
         max_body_len: 256 * 1024,
         max_batch_len: 10,
+        max_answer_len: 1024 * 1024,
     };
 }
 
 const _: () = prove!(Limits::DEFAULT.max_body_len == 262_144);
 
 const _: () = prove!(Limits::DEFAULT.max_batch_len == 10);
+
+const _: () = prove!(Limits::DEFAULT.max_answer_len == 1_048_576);
 
 /// What is to be done for a request.
 #[derive(Drop)]

@@ -29,6 +29,8 @@ pub enum Refusal {
     EmptyBatch,
     /// A batch with more requests than the limit.
     LongBatch,
+    /// A member of a batch whose earlier members were replied more bytes than the limit.
+    LongAnswer,
 }
 
 impl Refusal {
@@ -41,7 +43,7 @@ impl Refusal {
             Refusal::Method => 405,
             Refusal::NotAcceptable => 406,
             Refusal::MediaType | Refusal::Coding => 415,
-            Refusal::TooLarge | Refusal::LongBatch => 413,
+            Refusal::TooLarge | Refusal::LongBatch | Refusal::LongAnswer => 413,
             Refusal::NotJson(_) | Refusal::NotARequest(_) | Refusal::EmptyBatch => 400,
         }
     }
@@ -62,6 +64,7 @@ impl Refusal {
             Refusal::NotARequest(error) => error.message(),
             Refusal::EmptyBatch => "the batch is empty",
             Refusal::LongBatch => "the batch is too long",
+            Refusal::LongAnswer => "the answers to the batch are too long",
         };
         String::from_str(alloc, text)
     }

@@ -79,7 +79,8 @@ impl<'o, E: Endpoint> GraphQLService<'o, E> {
     pub(crate) fn follow(&mut self, plan: Plan, response: &mut Response) -> Result<(), AllocError>
         requires status { response.old.status ≡ 200 }
         requires body { response.old.body.items ≡ [] }
-        ensures ok { OnOk result (Follows E.replies (fields_of response.old) plan self.old.endpoint response.new self.new.endpoint) }
+        ensures ok { OnOk result (Follows E.replies self.old.limits.max_answer_len (fields_of response.old) plan self.old.endpoint response.new
+            self.new.endpoint) }
         ensures rest { self.new ≡ record self.old { endpoint = self.new.endpoint } }
         ensures err { OnErr result (self.new ≡ self.old) }
         ensures only { OnErr result (MayPutNothing plan) }
@@ -132,7 +133,8 @@ impl<'o, E: Endpoint> GraphQLService<'o, E> {
         response: &mut Response,
     ) -> Result<(), AllocError>
         requires { response.old.body.items ≡ [] }
-        ensures ok { OnOk result (PutsBody E.replies (fields_of response.old) media (view_body body.now) self.old.endpoint response.new self.new.endpoint) }
+        ensures ok { OnOk result (PutsBody E.replies self.old.limits.max_answer_len (fields_of response.old) media (view_body body.now) self.old.endpoint
+            response.new self.new.endpoint) }
         ensures rest { self.new ≡ record self.old { endpoint = self.new.endpoint } }
         ensures err { OnErr result (self.new ≡ self.old) }
         ensures only { OnErr result (IsNoRequest (view_body body.now)) }
@@ -140,7 +142,12 @@ impl<'o, E: Endpoint> GraphQLService<'o, E> {
         match body {
             GraphQLBatchRequest::Single(json) => self.put_json(media, json, response),
             GraphQLBatchRequest::Batch(members) => {
-                let reply = put_each(&mut self.endpoint, self.alloc, members);
+                let reply = put_each(
+                    &mut self.endpoint,
+                    self.alloc,
+                    members,
+                    self.limits.max_answer_len,
+                );
                 answer_or_fail(response, media, reply);
                 Ok(())
             }

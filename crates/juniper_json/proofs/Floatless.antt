@@ -1,14 +1,14 @@
 -- An answer has no floats.
-use Rattle.std.proofs.Common.{◌≡◌, pos, negsuc, List, [], ◌∷◌, Option, Some, None, false, refl}
+use Rattle.std.proofs.Common.{◌≡◌, ℕ, pos, negsuc, List, [], ◌∷◌, Option, Some, None, false, refl}
 use Rattle.graphql_spec.specs.Shown.{Shown, int, text, boolean}
 use Rattle.graphql_spec.specs.Positions.{Position}
 use Rattle.graphql_spec.specs.Values.{Value, Values, Entries, null, scalar, list, object, no_items, item, no_entries, entry}
 use Rattle.graphql_spec.specs.Errors.{Listed, Step, key, index}
-use Rattle.serde_json.specs.Data.{Data}
+use Rattle.serde_json.specs.Data.{Data, Members}
 use Rattle.serde_json.specs.Written.{has_float, items_have_float, members_have_float}
 use Rattle.juniper_json.specs.AnswerText.{scalar_data, value_data, values_data, entries_data, items_data, step_data, location_data, extensions_data}
 use Rattle.juniper_json.specs.AnswerText.{error_data, errors_data, answer_data}
-use Rattle.juniper_json.specs.RefusalText.{Refusal, explained_data, explained_members, explanations_data, placed_data, refusal_data}
+use Rattle.juniper_json.specs.RefusalText.{BrokenRule, Refusal, number_members, placed_members, refusal_data, refusals_data, rule_data, rule_members}
 
 scalar_has_none : (x : Shown) → has_float (scalar_data x) ≡ false
 unfolding scalar_data
@@ -72,20 +72,25 @@ pub answer_has_none : (v : Value) (es : List Listed) → has_float (answer_data 
 unfolding answer_data
 answer_has_none v es = rw (value_has_none v) (errors_have_none es)
 
-placed_has_none : (o : Option Position) → members_have_float (placed_data o) ≡ false
-unfolding placed_data
-placed_has_none None = refl
-placed_has_none (Some p) = rw (list_has_none location_data location_has_none (p ∷ [])) refl
+number_has_none : (o : Option ℕ) → members_have_float (number_members o) ≡ false
+unfolding number_members
+number_has_none None = refl
+number_has_none (Some n) = refl
+
+rule_has_none : (o : Option BrokenRule) → members_have_float (rule_members o) ≡ false
+unfolding rule_members rule_data
+rule_has_none None = refl
+rule_has_none (Some r) = rw (number_has_none r.number) refl
+
+placed_has_none : (o : Option Position) (rest : Members) → members_have_float rest ≡ false → members_have_float (placed_members o rest) ≡ false
+unfolding placed_members
+placed_has_none None rest none = none
+placed_has_none (Some p) rest none = rw (list_has_none location_data location_has_none (p ∷ [])) none
 
 refusal_has_none : (r : Refusal) → has_float (refusal_data r) ≡ false
 unfolding refusal_data
-refusal_has_none r = placed_has_none r.place
+refusal_has_none r = placed_has_none r.place (rule_members r.rule) (rule_has_none r.rule)
 
-explanations_have_none : (es : List Refusal) → members_have_float (explained_members es) ≡ false
-unfolding explained_members explanations_data
-explanations_have_none [] = refl
-explanations_have_none (e ∷ es) = rw (list_has_none refusal_data refusal_has_none (e ∷ es)) refl
-
-pub refusals_have_none : (rs es : List Refusal) → has_float (explained_data rs es) ≡ false
-unfolding explained_data
-refusals_have_none rs es = rw (list_has_none refusal_data refusal_has_none rs) (explanations_have_none es)
+pub refusals_have_none : (rs : List Refusal) → has_float (refusals_data rs) ≡ false
+unfolding refusals_data
+refusals_have_none rs = rw (list_has_none refusal_data refusal_has_none rs) refl

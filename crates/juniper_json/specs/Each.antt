@@ -11,7 +11,7 @@ use Rattle.juniper_json.specs.declared.read.VariablesError.TheVariants.{Float, O
 use Rattle.serde_json.specs.Data.{Data, Members, no_members, member}
 use Rattle.serde_json.specs.Find.{get_member}
 
--- why a value is refused: a number in it is a float, or none is and one is no Int (3.5.1)
+-- why a value is refused: a number in it is no integer, or each is one and one is no Int (3.5.1)
 abbrev pub refusal_of : Data → Option VariablesError
 refusal_of d = cond (all_numbers (is_wanted Integer) d) (cond (all_numbers (is_wanted Int) d) None (Some OutOfRange)) (Some Float)
 

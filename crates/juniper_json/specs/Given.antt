@@ -1,5 +1,7 @@
 -- The values of variables that a JSON text gives (6.1.2).
-use Rattle.std.specs.Prelude.{◌≡◌, ◌&&◌, not, is_some, cond, Bool, true, ℤ, Option, Some, None, option_map, Result, Ok, Err}
+use Rattle.std.specs.Prelude.{◌≡◌, ◌&&◌, ◌||◌, not, is_some, cond, Bool, true, ℤ, pos, Option, Some, None, option_map, Result, Ok, Err}
+use Rattle.std.specs.Float.{float_zero, is_sign_negative}
+use Rattle.std.specs.Float.Ieee.{eq}
 use Rattle.std.specs.Option.{option_and_then}
 use Rattle.std.specs.Str.{bytes_eq}
 use Rattle.std.specs.HashMap.{HashMap}
@@ -17,10 +19,18 @@ use Rattle.juniper_json.specs.declared.read.VariablesError.TheVariants.{NotAnObj
 use Rattle.std.specs.declared.string.String.{String}
 use Rattle.std.specs.declared.alloc.Global.{Global}
 use Rattle.serde_json.specs.Data.{Num, Data, null, boolean, number, string, array, object, Items, no_items, item, Members, no_members, member}
-use Rattle.serde_json.specs.Find.{as_i64, as_object, get_member, is_float}
+use Rattle.serde_json.specs.Find.{as_i64, as_object, get_member, is_float, to_float}
 use Rattle.serde_json.specs.Read.{read}
 
 -- ## Numbers
+
+-- `-0`: an integer as GraphQL reads it (2.9.1), though a float as JSON is read
+unfoldable pub is_minus_zero : Num → Bool
+is_minus_zero n = eq (to_float n) float_zero && is_sign_negative (to_float n)
+
+-- a number that is written without a fraction and an exponent (2.9.1), and that 64 bits hold
+abbrev pub is_integer : Num → Bool
+is_integer n = not (is_float n) || is_minus_zero n
 
 -- the Int that a number is (3.5.1)
 abbrev pub as_int : ℤ → Option ℤ
@@ -28,7 +38,7 @@ as_int z = cond (fits_int z) (Some z) None
 
 -- the same of a number of JSON
 abbrev pub int_in : Num → Option ℤ
-int_in n = option_and_then as_int (as_i64 n)
+int_in n = cond (is_minus_zero n) (Some (pos 0)) (option_and_then as_int (as_i64 n))
 
 -- each number in a value passes a test
 unfoldable mutual
@@ -90,7 +100,7 @@ put_value k d old n = cond (bytes_eq k n) (Some (input_of d)) (old n)
 -- what the members of an object give
 abbrev pub variables_in : Members → Result Variables VariablesError
 variables_in ms =
-    cond (all_members (λ n. not (is_float n)) ms) (cond (all_members (λ n. is_some (int_in n)) ms) (Ok (values_of ms)) (Err OutOfRange)) (Err Float)
+    cond (all_members is_integer ms) (cond (all_members (λ n. is_some (int_in n)) ms) (Ok (values_of ms)) (Err OutOfRange)) (Err Float)
 
 -- what a text gives, by the JSON value that it is, if it is one
 abbrev pub variables_from : Option Members → Result Variables VariablesError

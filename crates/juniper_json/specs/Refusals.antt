@@ -8,15 +8,15 @@ use Rattle.juniper_json.specs.RefusalText.{Refusal}
 
 -- the error of a rule, with its place (5)
 abbrev pub rule_refusal : RuleError → Refusal
-rule_refusal e = record { message = e.message; place = Some e.start }
+rule_refusal e = record { message = e.message; place = Some e.start; rule = None }
 
 -- an error of no place
 abbrev pub unplaced : RequestError → List Refusal
-unplaced e = record { message = request_error_text e; place = None } ∷ []
+unplaced e = record { message = request_error_text e; place = None; rule = None } ∷ []
 
 -- one error, of validation one for each rule that is broken
 abbrev pub refusals_of : RequestError → List Refusal
-refusals_of (not_parsed e) = record { message = parser.refusal_text e.item; place = Some e.span.start } ∷ []
+refusals_of (not_parsed e) = record { message = parser.refusal_text e.item; place = Some e.span.start; rule = None } ∷ []
 refusals_of (not_valid es) = map rule_refusal es
 refusals_of no_operation = unplaced no_operation
 refusals_of multiple_operations = unplaced multiple_operations

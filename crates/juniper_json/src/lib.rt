@@ -12,5 +12,5 @@ mod response;
 pub use given::{GivenVariables, RefusedVariable, given_variables};
 pub use line::answer_line;
 pub use read::{VariablesError, read_variables};
-pub use refusals::Refusal;
+pub use refusals::{BrokenRule, Refusal};
 pub use response::{explained_line, response_line};

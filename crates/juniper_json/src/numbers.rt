@@ -1,7 +1,7 @@
 //! Which numbers stand in a JSON value.
 
 ghost use Rattle.std.specs.Prelude.{◌≡◌};
-ghost use Rattle.juniper_json.specs.Given.{all_items, all_members, all_numbers, as_int, int_in};
+ghost use Rattle.juniper_json.specs.Given.{all_items, all_members, all_numbers, as_int, int_in, is_integer, is_minus_zero};
 ghost use Rattle.juniper_json.specs.Wanted.{is_wanted};
 ghost use Rattle.serde_json.specs.View.{items_view, members_view, number_view, view};
 
@@ -11,7 +11,7 @@ use serde_json::{Number, Value};
 /// What a number should be.
 #[derive(Clone, Copy, Drop)]
 pub enum Wanted {
-    /// No float.
+    /// An integer: no float, or `-0`.
     Integer,
     /// An Int (3.5.1).
     Int,
@@ -21,6 +21,9 @@ pub enum Wanted {
 pub fn int_in(number: &Number) -> Option<i32>
     ensures { result ≡ int_in (number_view number.now) }
 {
+    if is_minus_zero(number) {
+        return Some(0);
+    }
     match number.as_i64() {
         Some(wide) => as_int(wide),
         None => None,
@@ -34,13 +37,31 @@ fn as_int(wide: i64) -> Option<i32>
     i32::try_from(wide).ok()
 }
 
+/// Whether a number is `-0`, which is read as a float.
+#[tactic(auto, unfolding(crate::specs::Given::is_minus_zero))]
+fn is_minus_zero(number: &Number) -> bool
+    ensures { result ≡ is_minus_zero (number_view number.now) }
+{
+    match number.as_f64() {
+        Some(float) => float == 0.0 && float.is_sign_negative(),
+        None => false,
+    }
+}
+
+/// Whether a number is written as an integer that 64 bits hold.
+fn is_integer(number: &Number) -> bool
+    ensures { result ≡ is_integer (number_view number.now) }
+{
+    !number.is_f64() || is_minus_zero(number)
+}
+
 /// Whether a number is what it should be.
 #[tactic(auto, unfolding(crate::specs::Wanted::is_wanted))]
 fn is_wanted(wanted: Wanted, number: &Number) -> bool
     ensures { result ≡ is_wanted wanted (number_view number.now) }
 {
     match wanted {
-        Wanted::Integer => !number.is_f64(),
+        Wanted::Integer => is_integer(number),
         Wanted::Int => int_in(number).is_some(),
     }
 }

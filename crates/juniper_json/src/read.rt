@@ -19,9 +19,9 @@ use std::alloc::{AllocError, Global};
 pub enum VariablesError {
     /// It is no JSON, or no object.
     NotAnObject,
-    /// A number in it is a float, or an integer that 64 bits do not hold.
+    /// A number in it has a fraction or an exponent, or is an integer that 64 bits do not hold.
     Float,
-    /// A number in it is no Int (3.5.1), and none is a float.
+    /// A number in it is no Int (3.5.1), and each is an integer.
     OutOfRange,
 }
 

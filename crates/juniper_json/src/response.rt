@@ -1,6 +1,6 @@
 //! Responses as lines of JSON, whatever came of a request (sections 7.1 and 7.2.2 of the Specification).
 
-ghost use Rattle.std.specs.Prelude.{◌≡◌, ◌∷◌, [], IfOk, MatchResult, map, option_map, string_bytes};
+ghost use Rattle.std.specs.Prelude.{◌≡◌, ◌∷◌, [], IfOk, MatchResult, None, map, option_map, string_bytes};
 ghost use Rattle.juniper_conversions.specs.ErrorView.{view_listed};
 ghost use Rattle.juniper_syntax.specs.Positions.{view_position};
 ghost use Rattle.juniper_syntax.specs.RuleView.{view_rule_error};
@@ -30,13 +30,14 @@ pub fn response_line<S: ScalarValue>(
 {
     match outcome {
         Ok((data, errors)) => answer_line(alloc, data, errors.as_slice()),
-        Err(error) => explained_line(alloc, error, &[]),
+        Err(error) => unexplained_line(alloc, error),
     }
 }
 
-/// The line of a response to a request that has no answer, as [`response_line`] writes it, but that these explanations stand beside the
-/// errors, as the member `explanations` of the response's `extensions`. Where there are none it is that line, byte for byte. An error where
-/// memory is refused.
+/// The line of a response to a request that has no answer: where there are explanations they are its errors, each with its message, its
+/// place in the text and what is broken; else it is the line that [`response_line`] writes, byte for byte. So some error is told. An error
+/// where memory is refused.
+#[tactic(auto, unfolding(crate::specs::RefusalText::told_errors))]
 pub fn explained_line(
     alloc: Global,
     error: &GraphQLError,
@@ -44,8 +45,18 @@ pub fn explained_line(
 ) -> Result<String, AllocError>
     ensures { IfOk result (λ line. string_bytes line ≡ explained_text (refusals_of (view_request_error error.now)) (map view_refusal explanations.now)) }
 {
+    match explanations {
+        [] => unexplained_line(alloc, error),
+        _ => refusal_line(alloc, explanations),
+    }
+}
+
+/// The line of a response to a request that has no answer: its errors.
+fn unexplained_line(alloc: Global, error: &GraphQLError) -> Result<String, AllocError>
+    ensures { IfOk result (λ line. string_bytes line ≡ refusals_text (refusals_of (view_request_error error.now))) }
+{
     let refusals = refusals_of(alloc, error)?;
-    refusal_line(alloc, refusals.as_slice(), explanations)
+    refusal_line(alloc, refusals.as_slice())
 }
 
 /// The errors of a request that has no answer.
@@ -83,10 +94,15 @@ fn one(
     message: String,
     place: Option<SourcePosition>,
 ) -> Result<Vec<Refusal>, AllocError>
-    ensures { IfOk result (λ made. map view_refusal made.items ≡ record { message = string_bytes message; place = option_map view_position place } ∷ []) }
+    ensures { IfOk result (λ made. map view_refusal made.items
+        ≡ record { message = string_bytes message; place = option_map view_position place; rule = None } ∷ []) }
 {
     let mut refusals = Vec::new(alloc);
-    refusals.push(Refusal { message, place })?;
+    refusals.push(Refusal {
+        message,
+        place,
+        rule: None,
+    })?;
     Ok(refusals)
 }
 
@@ -108,5 +124,6 @@ fn of_rule(alloc: Global, error: &RuleError) -> Result<Refusal, AllocError>
     Ok(Refusal {
         message: String::from_str(alloc, error.message())?,
         place: error.locations().first().copied(),
+        rule: None,
     })
 }

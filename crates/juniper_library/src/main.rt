@@ -11,8 +11,8 @@ use juniper::words::served;
 use juniper::{
     DefaultScalarValue, GraphQLError, SchemaType, Variables, execute_sync, parse_document_source,
 };
-use juniper_explain::explain;
-use juniper_json::{Refusal, explained_line, response_line};
+use juniper_explain::{Explanation, explain};
+use juniper_json::{BrokenRule, Refusal, explained_line, response_line};
 use resolvers::{Mutation, Query};
 use std::alloc::{AllocError, Global};
 use std::{env, io};
@@ -63,15 +63,23 @@ fn explanations(
         return Ok(refusals);
     };
     for explanation in explain(alloc, &document, schema, false)? {
-        refusals.push(Refusal {
-            message: explanation.message,
-            place: Some(explanation.location),
-        })?;
+        refusals.push(refusal(alloc, explanation)?)?;
     }
     Ok(refusals)
 }
 
-/// The response to a request, as a line of JSON; where the request is not valid, with what explains it.
+/// An explanation as an error: its text, its place, and its rule with the number, which is the place of the rule in their order.
+fn refusal(alloc: Global, explanation: Explanation) -> Result<Refusal, AllocError> {
+    let text = String::from_str(alloc, explanation.rule.message())?;
+    let number = Some(explanation.rule as usize + 1);
+    Ok(Refusal {
+        message: explanation.message,
+        place: Some(explanation.location),
+        rule: Some(BrokenRule { text, number }),
+    })
+}
+
+/// The response to a request, as a line of JSON; where the request is not valid, its errors are what explains it.
 fn respond(alloc: Global, request: &str, library: &mut Library) -> Result<String, AllocError> {
     let root = match served::<_, _, DefaultScalarValue>(alloc, Query, Mutation, &types::TYPES) {
         Ok(root) => root,

@@ -5,37 +5,36 @@
 mod members;
 mod server;
 
-use http_server::Config;
-use juniper::Bounds;
 use juniper::words::served_query;
-use juniper_endpoint::{GuardedEndpoint, RootEndpoint};
-use juniper_http::{GuardedService, Limits, serve_connection};
+use juniper_endpoint::{
+    GuardedEndpoint, RootEndpoint, ServerLimits, report, serve_http,
+};
+use juniper_http::GuardedService;
 use members::{Door, Visitor};
 use server::{Query, TYPES};
-use std::hash::RandomState;
-use std::io;
+use std::process::ExitCode;
 
-fn main(rt: HostRuntime) -> io::Result<()> {
+fn main(rt: HostRuntime) -> ExitCode {
     let alloc = rt.alloc();
+    let limits = ServerLimits::DEFAULT;
     let root = match served_query(alloc, Query, &TYPES) {
         Ok(root) => root,
-        Err(error) => return eprintln!(rt; "{error}"),
+        Err(error) => return report(&rt, error),
     };
     let endpoint = RootEndpoint {
         root: &root,
         context: Visitor { member: None },
-        bounds: Bounds::DEFAULT,
-        entered_fields: Some(1_000),
-        explained_bytes: 1_000,
+        bounds: limits.bounds,
+        entered_fields: limits.entered_fields,
+        explained_bytes: limits.explained_bytes,
     };
     let guarded = GuardedEndpoint {
         endpoint,
         guard: Door,
     };
-    let mut service = GuardedService::new(alloc, guarded, Limits::DEFAULT);
-    let keys = RandomState::new(&rt)?;
-    let config = Config::default();
-    let mut reader = rt.reader();
-    let mut writer = io::writer(&rt);
-    serve_connection(alloc, keys, config, &mut service, &mut reader, &mut writer)
+    let service = GuardedService::new(alloc, guarded, limits.http);
+    match serve_http(&rt, service, &limits) {
+        Ok(()) => ExitCode::from(0),
+        Err(error) => report(&rt, error),
+    }
 }

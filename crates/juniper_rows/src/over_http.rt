@@ -28,6 +28,20 @@ const BOUNDS: Bounds = Bounds {
     levels: 4,
 };
 
+/// Which requests the demo takes.
+const WIDE: Limits = Limits {
+    max_body_len: 200,
+    max_batch_len: 2,
+    max_answer_len: 1_000,
+};
+
+/// Which requests are taken where what is asked is shown.
+const NARROW: Limits = Limits {
+    max_body_len: 80,
+    max_batch_len: 2,
+    max_answer_len: 10,
+};
+
 /// What the demo sent, and how often its context was added to.
 #[derive(Drop)]
 struct DemoSent {
@@ -160,7 +174,7 @@ fn sent_on(
         entered_fields: Some(8),
         explained_bytes: 100,
     };
-    let mut service = service_over(alloc, endpoint, 200, AllowedOrigins::Own);
+    let mut service = service_over(alloc, endpoint, WIDE, AllowedOrigins::Own);
     let text = sent_by(alloc, keys, &mut service, received)?;
     let count = service.endpoint.context.count;
     Ok(DemoSent { text, count })
@@ -229,7 +243,7 @@ fn answers_of_service(
 
 /// What the service sends over an endpoint that shows what it is asked.
 fn service_sent(alloc: Global, keys: RandomState, received: &[u8]) -> Result<String, AllocError> {
-    let mut service = service_over(alloc, Shows { count: 0 }, 80, AllowedOrigins::Own);
+    let mut service = service_over(alloc, Shows { count: 0 }, NARROW, AllowedOrigins::Own);
     sent_by(alloc, keys, &mut service, received)
 }
 
@@ -253,7 +267,7 @@ fn head_for(
 ) -> Result<String, AllocError> {
     let listed = origins.split(' ').collect::<Vec<&str>>(alloc)?;
     let allowed = allowed_origins(origins, listed.as_slice());
-    let mut service = service_over(alloc, Shows { count: 0 }, 80, allowed);
+    let mut service = service_over(alloc, Shows { count: 0 }, NARROW, allowed);
     let sent = sent_by(alloc, keys, &mut service, received)?;
     head_in(alloc, sent.as_str())
 }
@@ -267,17 +281,13 @@ fn allowed_origins<'o>(name: &str, listed: &'o [&'o str]) -> AllowedOrigins<'o> 
     }
 }
 
-/// A service that takes bodies of so many bytes, and batches of two.
+/// A service with these limits.
 fn service_over<E: Endpoint>(
     alloc: Global,
     endpoint: E,
-    max_body_len: usize,
+    limits: Limits,
     origins: AllowedOrigins<'_>,
 ) -> GraphQLService<'_, E> {
-    let limits = Limits {
-        max_body_len,
-        max_batch_len: 2,
-    };
     GraphQLService {
         alloc,
         endpoint,

@@ -1,4 +1,4 @@
-use Rattle.std.proofs.Common.{◌≡◌, ℕ, List, ◌++◌, codes, map, take, string_bytes, IfOk}
+use Rattle.std.proofs.Common.{◌≡◌, ℕ, List, ◌++◌, codes, map, take, string_bytes, IfOk, Some}
 use Rattle.std.specs.List.{join_with_byte}
 use denote.Text.{Utf8}
 use denote.Shadow.{shadow}
@@ -12,6 +12,6 @@ abbrev pub invariant-loop-member : goal.invariant-loop-member
 invariant-loop-member g l =
     shadow (Utf8 l.separator)
     × ((texts : List (List ℕ))
-    × PutsEach g.E.Endpoint.replies (map view (take l.member-index l.member-items)) l.initial.endpoint texts l.endpoint
+    × PutsEach g.E.Endpoint.replies (Some l.most) (map view (take l.member-index l.member-items)) l.initial.endpoint texts l.endpoint l.left
     × IfOk l.text (λ t. string_bytes t ≡ codes "[" ++ join_with_byte 44 texts)
     × (l.separator ≡ before_next texts))

@@ -4,4 +4,4 @@ use Rattle.juniper_json.proofs.Floatless.{refusals_have_none}
 use Rattle.juniper_json.proofs.refusals.refusal_line.Goals as goal
 
 pub returns-in-Ok : goal.returns-in-Ok
-returns-in-Ok c = let h = c.in-Ok.ensures.events in text_of_value _ h.0 _ h.1 h.2 (refusals_have_none _ _)
+returns-in-Ok c = let h = c.in-Ok.ensures.events in text_of_value _ h.0 _ h.1 h.2 (refusals_have_none _)
