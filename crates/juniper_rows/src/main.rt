@@ -6,7 +6,6 @@
 #![tactic(auto)]
 
 mod asked;
-mod bytes;
 mod caches;
 mod conversions;
 mod demo;
@@ -23,6 +22,7 @@ mod parsed;
 mod pieces;
 mod registry;
 mod requests;
+mod row_bytes;
 mod rules;
 mod samples;
 mod schemas;

@@ -4,8 +4,8 @@ mod guards;
 mod responses;
 mod shows;
 
-use crate::bytes::bytes_of;
 use crate::kinds::unknown;
+use crate::row_bytes::bytes_of;
 use crate::table::Row;
 use guards::{ShowsWho, Totals};
 use http_server::{Config, Service};

@@ -83,9 +83,7 @@ impl Guard for Totals {
         context: &mut DemoContext,
     ) -> Result<(), Denial> {
         match number_of(request) {
-            None => Err(Denial::Unauthorized(HeaderValue::from_static(
-                "Bearer realm=\"demo\"",
-            ))),
+            None => Err(Denial::Unauthorized(HeaderValue::from_static("Bearer realm=\"demo\""))),
             Some(total) if total < 0 => Err(Denial::Forbidden),
             Some(total) => {
                 context.total = total;
