@@ -20,7 +20,7 @@ module _ {S K : Type 0} (admits : S → Request (List ℕ) → Result (Unit {0})
     (leaves : (verdict : Result (Unit {0}) Denial) (next : S) → admits s request verdict next → OnErr verdict (kept next ≡ kept s)) where
   verdict-leaves : (most : ℕ) (before : List Header) (media : MediaType) (p : Plan) (verdict : Result (Unit {0}) Denial) (next : S) (r : Response) (t : S) →
       admits s request verdict next → FollowsVerdict replies most before media p verdict next r t → kept t ≡ kept s
-  verdict-leaves most before media p (Ok admitted) next r t a f = absurd (denied (Ok admitted) next a)
+  verdict-leaves most before media p (Ok admitted) next r t a f = absurd (cc (denied (Ok admitted) next a))
   verdict-leaves most before media p (Err why) next r t a (same, told) = ap kept same ∙ leaves (Err why) next a
 
   follows-leave : (most : ℕ) (before : List Header) (p : Plan) (r : Response) (t : S) →
@@ -32,11 +32,11 @@ module _ {S K : Type 0} (admits : S → Request (List ℕ) → Result (Unit {0})
       verdict-leaves most before media (Ask media parts may_write) verdict next r t a f
   follows-leave most before (Post media requests) r t (verdict, next, a, f) = verdict-leaves most before media (Post media requests) verdict next r t a f
 
-pub service-leaves : {S K : Type 0} (admits : S → Request (List ℕ) → Result (Unit {0}) Denial → S → Type 0)
-    (replies : S → Asked → Bool → Reply → S → Type 0) (kept : S → K) (request : Request (List ℕ)) (s : GuardedService S) (r : Response) (t : GuardedService S) →
+pub service-leaves : {S K : Type 0} (s t : GuardedService S) (admits : S → Request (List ℕ) → Result (Unit {0}) Denial → S → Type 0)
+    (replies : S → Asked → Bool → Reply → S → Type 0) (kept : S → K) (request : Request (List ℕ)) (r : Response) → ServesGuarded admits replies s request r t →
     ((verdict : Result (Unit {0}) Denial) (next : S) → admits s.service.endpoint request verdict next → IsErr verdict) →
     ((verdict : Result (Unit {0}) Denial) (next : S) → admits s.service.endpoint request verdict next → OnErr verdict (kept next ≡ kept s.service.endpoint)) →
-    ServesGuarded admits replies s request r t → kept t.service.endpoint ≡ kept s.service.endpoint
-service-leaves admits replies kept request s r t denied leaves (new, is, (p, plan, follows)) =
+    kept t.service.endpoint ≡ kept s.service.endpoint
+service-leaves s t admits replies kept request r (new, is, (p, plan, follows)) denied leaves =
     ap (λ x. kept x.service.endpoint) is
     ∙ follows-leave admits replies kept request s.service.endpoint denied leaves _ (first_fields s.service request) p r new follows

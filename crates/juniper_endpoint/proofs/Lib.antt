@@ -1,4 +1,5 @@
 pub mod Chosen
+mod Denying
 pub mod Explaining
 pub mod Leaving
 pub mod Looking

@@ -226,7 +226,7 @@ fn head_guarded(alloc: Global, keys: RandomState, received: &[u8]) -> Result<Str
 fn guarded_sent(alloc: Global, keys: RandomState, received: &[u8]) -> Result<String, AllocError> {
     let origins = AllowedOrigins::Listed(&["https://a.example"]);
     let mut service = GuardedService {
-        service: service_over(alloc, ShowsWho::new(alloc), 80, origins),
+        service: service_over(alloc, ShowsWho::new(alloc), NARROW, origins),
     };
     sent_by(alloc, keys, &mut service, received)
 }
