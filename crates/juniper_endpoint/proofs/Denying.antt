@@ -1,5 +1,5 @@
 -- A request that is denied leaves what a denial leaves.
-use Rattle.std.proofs.Common.{◌≡◌, ℕ, Bool, List, Option, Some, Result, Ok, Err, OnErr, IsErr, ap, ◌∙◌}
+use Rattle.std.proofs.Common.{◌≡◌, ℕ, Bool, List, Result, Ok, Err, OnErr, IsErr, ap, ◌∙◌}
 use Rattle.http.specs.declared.request.Request.{Request}
 use Rattle.http_server.specs.declared.response.Response.{Response}
 use Rattle.juniper_http.specs.Guards.{FollowsGuarded, FollowsVerdict, ServesGuarded, asked_media}
