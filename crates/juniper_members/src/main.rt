@@ -6,9 +6,7 @@ mod members;
 mod server;
 
 use juniper::words::served_query;
-use juniper_endpoint::{
-    GuardedEndpoint, RootEndpoint, ServerLimits, report, serve_http,
-};
+use juniper_endpoint::{GuardedEndpoint, RootEndpoint, ServerLimits, report, serve_http};
 use juniper_http::GuardedService;
 use members::{Door, Visitor};
 use server::{Query, TYPES};
