@@ -1,7 +1,7 @@
 //! JSON of requests: what a body asks, and the values of variables that an object gives.
 
+use crate::bytes::bytes_of;
 use crate::kinds::unknown;
-use crate::row_bytes::bytes_of;
 use crate::table::Row;
 use juniper_json::{GivenVariables, given_variables};
 use juniper_request::{GraphQLBatchRequest, Members, read_request, request_of};

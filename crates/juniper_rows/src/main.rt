@@ -6,6 +6,7 @@
 #![tactic(auto)]
 
 mod asked;
+mod bytes;
 mod caches;
 mod conversions;
 mod demo;
@@ -22,7 +23,6 @@ mod parsed;
 mod pieces;
 mod registry;
 mod requests;
-mod row_bytes;
 mod rules;
 mod samples;
 mod schemas;

@@ -1,20 +1,18 @@
 //! Bytes of HTTP/1.1, and what is answered to them: by the demo, and by an endpoint that shows what it is asked.
 
-mod guards;
 mod responses;
 mod shows;
 
+use crate::bytes::bytes_of;
 use crate::kinds::unknown;
-use crate::row_bytes::bytes_of;
 use crate::table::Row;
-use guards::{ShowsWho, Totals};
-use http_server::{Config, Service};
+use http_server::Config;
 use juniper::Bounds;
 use juniper_demo_server::{DemoContext, DemoRoot, made_root};
-use juniper_endpoint::{GuardedEndpoint, RootEndpoint};
+use juniper_endpoint::RootEndpoint;
 use juniper_http::{
-    AllowedOrigins, Endpoint, GraphQLService, GuardedService, Limits, MediaType, add_ranges,
-    choose, serve_connection,
+    AllowedOrigins, Endpoint, GraphQLService, Limits, MediaType, add_ranges, choose,
+    serve_connection,
 };
 use responses::{head_in, responses_in};
 use shows::Shows;
@@ -75,9 +73,6 @@ fn told_of(
         "service" => answers_of_service(alloc, keys, received),
         "service by default" => answers_by_default(alloc, keys, received),
         "sent by the service" => service_sent(alloc, keys, received),
-        "guarded service" => answers_guarded(alloc, keys, received),
-        "head from the guarded service" => head_guarded(alloc, keys, received),
-        "guarded demo" => answers_of_guarded_demo(alloc, keys, received),
         _ => unknown(alloc),
     }
 }
@@ -180,57 +175,6 @@ fn sent_on(
     Ok(DemoSent { text, count })
 }
 
-/// What the demo answers behind a guard, and behind a bar how often its context was added to.
-fn answers_of_guarded_demo(
-    alloc: Global,
-    keys: RandomState,
-    received: &[u8],
-) -> Result<String, AllocError> {
-    let root = root_of_demo(alloc, false)?;
-    let endpoint = RootEndpoint {
-        root: &root,
-        context: DemoContext::new(),
-        bounds: BOUNDS,
-        entered_fields: Some(8),
-        explained_bytes: 100,
-    };
-    let guarded = GuardedEndpoint {
-        endpoint,
-        guard: Totals,
-    };
-    let mut service = GuardedService::new(alloc, guarded, Limits::DEFAULT);
-    let sent = sent_by(alloc, keys, &mut service, received)?;
-    let count = service.service.endpoint.endpoint.context.count;
-    let mut shown = responses_in(alloc, sent.as_str())?;
-    write!(shown, " | {count}")?;
-    Ok(shown)
-}
-
-/// What the service answers over an endpoint that shows who asks.
-fn answers_guarded(
-    alloc: Global,
-    keys: RandomState,
-    received: &[u8],
-) -> Result<String, AllocError> {
-    let sent = guarded_sent(alloc, keys, received)?;
-    responses_in(alloc, sent.as_str())
-}
-
-/// The head of what the service answers over an endpoint that shows who asks.
-fn head_guarded(alloc: Global, keys: RandomState, received: &[u8]) -> Result<String, AllocError> {
-    let sent = guarded_sent(alloc, keys, received)?;
-    head_in(alloc, sent.as_str())
-}
-
-/// What the service sends over an endpoint that shows who asks; the pages of `https://a.example` may read it.
-fn guarded_sent(alloc: Global, keys: RandomState, received: &[u8]) -> Result<String, AllocError> {
-    let origins = AllowedOrigins::Listed(&["https://a.example"]);
-    let mut service = GuardedService {
-        service: service_over(alloc, ShowsWho::new(alloc), NARROW, origins),
-    };
-    sent_by(alloc, keys, &mut service, received)
-}
-
 /// What the service answers over an endpoint that shows what it is asked.
 fn answers_of_service(
     alloc: Global,
@@ -298,10 +242,10 @@ fn service_over<E: Endpoint>(
 }
 
 /// The text that a service sends over a new connection which receives these bytes.
-fn sent_by<S: Service>(
+fn sent_by<E: Endpoint>(
     alloc: Global,
     keys: RandomState,
-    service: &mut S,
+    service: &mut GraphQLService<'_, E>,
     received: &[u8],
 ) -> Result<String, AllocError> {
     let config = Config {
